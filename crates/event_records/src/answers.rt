@@ -1,0 +1,147 @@
+// Questions with their answers, and the return events that stamps give.
+ghost use Rattle.std.specs.Prelude.{◌≡◌, ◌<◌, Contains};
+ghost use Rattle.tickets.specs.Views.{DrawsOne};
+ghost use Rattle.event_records.specs.Question.{return_event};
+ghost use Rattle.event_records.specs.declared.kind.Kind.TheVariants.{Enq, Deq};
+ghost use Rattle.event_records.specs.declared.kind.Answer.TheVariants.{Taken, NotTaken, Got, Empty};
+
+use crate::event::{Event, What};
+use crate::noted::Noted;
+use crate::questions::{AskDeq, AskEnq};
+use std::marker::Model;
+use tickets::{Pass, Tickets};
+
+/// An enqueue with its answer. It holds the question, and so is one-use too.
+#[derive(Drop)]
+pub struct AnsweredEnq {
+    ask: AskEnq,
+    taken: bool,
+}
+
+impl Model for AnsweredEnq {
+    ghost use Rattle.std.specs.Prelude.{if◌then◌else◌};
+    ghost use Rattle.event_records.specs.Question.{Answered};
+    ghost use Rattle.event_records.specs.declared.kind.Answer.TheVariants.{Taken, NotTaken};
+
+    ghost Value = { Answered };
+
+    ghost view = { λ a. record { question = a.ask; answer = (if a.taken then Taken else NotTaken) } };
+}
+
+/// A dequeue with its answer. It holds the question, and so is one-use too.
+#[derive(Drop)]
+pub struct AnsweredDeq {
+    ask: AskDeq,
+    got: Option<u64>,
+}
+
+impl Model for AnsweredDeq {
+    ghost use Rattle.event_records.specs.Question.{Answered, dequeued};
+
+    ghost Value = { Answered };
+
+    ghost view = { λ a. record { question = a.ask; answer = dequeued a.got } };
+}
+
+impl AskEnq {
+    /// The queue took the value.
+    pub fn taken(self) -> AnsweredEnq
+        ensures answered { result ≡ record { question = self; answer = Taken } }
+        ensures kind { self.kind ≡ Enq }
+    {
+        AnsweredEnq {
+            ask: self,
+            taken: true,
+        }
+    }
+
+    /// The queue did not take the value: it was full, or had no memory.
+    pub fn not_taken(self) -> AnsweredEnq
+        ensures answered { result ≡ record { question = self; answer = NotTaken } }
+        ensures kind { self.kind ≡ Enq }
+    {
+        AnsweredEnq {
+            ask: self,
+            taken: false,
+        }
+    }
+}
+
+impl AskDeq {
+    /// The queue gave `value`.
+    pub fn got(self, value: u64) -> AnsweredDeq
+        ensures answered { result ≡ record { question = self; answer = Got value } }
+        ensures kind { self.kind ≡ Deq }
+    {
+        AnsweredDeq {
+            ask: self,
+            got: Some(value),
+        }
+    }
+
+    /// The queue was empty.
+    pub fn empty(self) -> AnsweredDeq
+        ensures answered { result ≡ record { question = self; answer = Empty } }
+        ensures kind { self.kind ≡ Deq }
+    {
+        AnsweredDeq {
+            ask: self,
+            got: None,
+        }
+    }
+}
+
+// The return event of a thread, at a ticket that is drawn for it.
+fn note_return(thread: u8, what: What, pass: &mut Pass, tickets: &Tickets) -> Noted
+    requires key { pass.old.key ≡ tickets.now.key }
+    requires some_left { 0 < pass.old.left }
+    ensures noted { result ≡ record { ticket = result.ticket; thread = thread; what = what } }
+    ensures drawn { DrawsOne pass.old result.ticket pass.new }
+{
+    let drawn = pass.draw(tickets);
+    Noted::of(Event {
+        ticket: drawn.ticket(),
+        thread,
+        what,
+    })
+}
+
+impl AnsweredEnq {
+    /// Draws the return ticket, and notes the return.
+    ///
+    /// The answer is used up, so it was there before the ticket. The pass is that of the question's thread, which drew
+    /// the call ticket.
+    pub fn stamp(self, pass: &mut Pass, tickets: &Tickets) -> Noted
+        requires key { (pass.old.key ≡ tickets.now.key) × (self.question.key ≡ tickets.now.key) }
+        requires drew { Contains pass.old.drawn self.question.call }
+        requires some_left { 0 < pass.old.left }
+        ensures noted { result ≡ return_event self result.ticket }
+        ensures later { self.question.call < result.ticket }
+        ensures drawn { DrawsOne pass.old result.ticket pass.new }
+    {
+        let what = if self.taken {
+            What::RetEnq
+        } else {
+            What::RetNot
+        };
+        note_return(self.ask.thread(), what, pass, tickets)
+    }
+}
+
+impl AnsweredDeq {
+    /// Draws the return ticket, and notes the return, as that of an enqueue.
+    pub fn stamp(self, pass: &mut Pass, tickets: &Tickets) -> Noted
+        requires key { (pass.old.key ≡ tickets.now.key) × (self.question.key ≡ tickets.now.key) }
+        requires drew { Contains pass.old.drawn self.question.call }
+        requires some_left { 0 < pass.old.left }
+        ensures noted { result ≡ return_event self result.ticket }
+        ensures later { self.question.call < result.ticket }
+        ensures drawn { DrawsOne pass.old result.ticket pass.new }
+    {
+        let what = match self.got {
+            Some(value) => What::RetDeq(value),
+            None => What::RetEmpty,
+        };
+        note_return(self.ask.thread(), what, pass, tickets)
+    }
+}

@@ -1,0 +1,25 @@
+//! The events of a recorded run: what one thread called or was answered, and when; and the one-use questions and answers
+//! that they record.
+#![tactic(auto)]
+
+mod answers;
+mod event;
+mod kind;
+mod limits;
+mod lists;
+mod noted;
+mod questions;
+#[cfg(test)]
+mod tests;
+mod thread_no;
+mod turns;
+
+pub use answers::{AnsweredDeq, AnsweredEnq};
+pub use event::{Event, What};
+pub use kind::{Answer, Kind};
+pub use limits::{MAX_EVENTS, MAX_OPERATIONS, MAX_THREAD, MAX_THREAD_OPERATIONS, MAX_TICKET};
+pub use lists::Lists;
+pub use noted::Noted;
+pub use questions::{AskDeq, AskEnq, Namer};
+pub use thread_no::ThreadNo;
+pub use turns::alternates;

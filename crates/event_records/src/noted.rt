@@ -1,0 +1,36 @@
+// Events that a question or a stamp noted.
+ghost use Rattle.std.specs.Prelude.{◌≡◌};
+
+use crate::event::Event;
+use std::marker::Model;
+
+/// One event that a question or a stamp noted, to be pushed once.
+///
+/// It is not `Clone`, and only a question and a stamp make one, so the return that it holds was answered.
+#[derive(Debug, Drop)]
+pub struct Noted {
+    event: Event,
+}
+
+impl Model for Noted {
+    ghost use Rattle.event_records.specs.declared.event.Event.{Event};
+
+    ghost Value = { Event };
+
+    ghost view = { λ n. n.event };
+}
+
+impl Noted {
+    pub(crate) fn of(event: Event) -> Noted
+        ensures { result ≡ event }
+    {
+        Noted { event }
+    }
+
+    /// The event.
+    pub fn event(&self) -> Event
+        ensures { result ≡ self.now }
+    {
+        self.event
+    }
+}

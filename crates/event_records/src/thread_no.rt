@@ -1,0 +1,42 @@
+ghost use Rattle.std.specs.Prelude.{◌≡◌, ◌<◌, SomeIff};
+
+use std::marker::Model;
+
+/// The number of a thread: 0 to 63.
+#[derive(Clone, Copy, Debug, PartialEq, Eq)]
+pub struct ThreadNo {
+    number: u8,
+}
+
+impl Model for ThreadNo {
+    ghost use Rattle.std.specs.Prelude.{ℕ, ◌<◌};
+
+    ghost Value = { ℕ };
+
+    ghost view = { λ a. a.number };
+
+    ghost invariant = { λ a. a.number < 64 };
+
+    ghost inverse = { λ n. record { number = n } };
+}
+
+impl ThreadNo {
+    /// The thread of this number, or none where the number is above 63.
+    pub fn new(number: u8) -> Option<ThreadNo>
+        ensures { SomeIff result (number < 64) number }
+    {
+        if number < 64 {
+            Some(ThreadNo { number })
+        } else {
+            None
+        }
+    }
+
+    /// The number.
+    pub fn get(self) -> u8
+        ensures number { result ≡ self }
+        ensures in_range { result < 64 }
+    {
+        self.number
+    }
+}

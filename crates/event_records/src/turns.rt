@@ -1,0 +1,51 @@
+ghost use Rattle.std.specs.Prelude.{◌≡◌, ◌↔◌, IsTrue};
+ghost use Rattle.event_records.specs.Turns.{Alternates, TakesTurns, TicketsRise, answers};
+
+use crate::event::{Event, What};
+
+/// Whether the events of one thread are whole operations in order: calls and returns take turns, a call first and a return
+/// last, each return of its call's kind, and each ticket is above the one before. True of no events.
+///
+/// Takes time in proportion to the events, and no memory.
+pub fn alternates(events: &[Event]) -> bool
+    ensures { IsTrue result ↔ Alternates events.now }
+{
+    let in_turn = takes_turns(events);
+    let rising = tickets_rise(events);
+    in_turn && rising
+}
+
+fn takes_turns(events: &[Event]) -> bool
+    ensures { IsTrue result ↔ TakesTurns events.now }
+{
+    let mut rest = events;
+    while let [call, answer, tail @ ..] = rest {
+        if !is_answer(call.what, answer.what) {
+            return false;
+        }
+        rest = tail;
+    }
+    rest.is_empty()
+}
+
+fn tickets_rise(events: &[Event]) -> bool
+    ensures { IsTrue result ↔ TicketsRise events.now }
+{
+    for i in 1..events.len() {
+        if events[i].ticket <= events[i - 1].ticket {
+            return false;
+        }
+    }
+    true
+}
+
+/// Whether the second is a return of the kind of the first, a call.
+pub fn is_answer(call: What, answer: What) -> bool
+    ensures { result ≡ answers call answer }
+{
+    match (call, answer) {
+        (What::CallEnq(_), What::RetEnq | What::RetNot) => true,
+        (What::CallDeq, What::RetDeq(_) | What::RetEmpty) => true,
+        _ => false,
+    }
+}

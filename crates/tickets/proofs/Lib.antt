@@ -1,0 +1,3 @@
+pub mod Once
+mod Rising
+mod Steps

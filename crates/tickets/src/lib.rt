@@ -1,0 +1,27 @@
+//! Numbers that threads draw from one word by single atomic steps, each number once.
+//!
+//! `Tickets` owns the word, which is the next number. A thread draws by a `Pass`, which has a share of the budget and
+//! keeps the list of what it drew. A pass may be split for another thread and joined again.
+//! The pass that has the whole budget again holds each number below the word once.
+//!
+//! Nothing here takes a lock or waits, and nothing but `Tickets::new` takes memory or can be refused.
+//! There are six kinds of step. Making sets the word to 0, and gives the first pass the whole budget. Splitting, drawing
+//! and joining change the view of the pass that steps; a pass that was joined to another is left with the empty view.
+//! A join is followed by a look at the word, which changes no view. Closing reads the word.
+#![tactic(auto)]
+
+mod account;
+mod drawn;
+mod laws;
+mod pass;
+mod source;
+#[cfg(test)]
+mod tests;
+
+pub use drawn::Drawn;
+pub use laws::each_ticket_is_drawn_once;
+pub use pass::Pass;
+pub use source::Tickets;
+
+/// Every ticket is below this number, and no budget is above it.
+pub const TICKET_LIMIT: u64 = 1_000_000_000_000;

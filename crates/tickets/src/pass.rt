@@ -1,0 +1,142 @@
+// The right of one thread to draw.
+ghost use Rattle.std.specs.Prelude.{◌≡◌, ◌-◌, ◌≤◌, []};
+ghost use Rattle.tickets.specs.Account.{holding};
+
+use crate::account::{Draws, Holding, Looks, Together};
+use crate::drawn::Drawn;
+use crate::source::Tickets;
+use atomic_table::{Seat, Split};
+use std::marker::{Brand, Model};
+use std::snapshot::Snapshot;
+
+/// A share of the budget, and the tickets that were drawn on it.
+///
+/// A thread draws by a pass of its own. Contracts see the list of the tickets that it drew, which takes no memory.
+/// A pass that is dropped takes its share with it, so that no other pass can have the whole budget any more.
+#[derive(Drop)]
+pub struct Pass {
+    pub(crate) seat: Seat<(), Holding>,
+    pub(crate) share: u64,
+    pub(crate) left: u64,
+}
+
+impl Model for Pass {
+    ghost use Rattle.tickets.specs.Views.{PassView};
+
+    ghost Value = { PassView };
+
+    ghost use Rattle.std.specs.Prelude.{◌≡◌, ◌+◌, length, []};
+
+    ghost view = { λ p. record { key = p.seat.table_id; left = p.left; drawn = p.seat.me.0.drawn } };
+
+    ghost invariant = { λ p. (p.seat.me.0.left ≡ p.left) × (p.left + length p.seat.me.0.drawn ≡ p.share) × (p.seat.me.1 ≡ []) };
+}
+
+// Cuts n tickets off the seat's share, for a new seat. The caller picks `M` for its n.
+fn cut_off<M: Split<Holding>>(
+    tickets: &Tickets,
+    seat: &mut Seat<(), Holding>,
+    n: u64,
+) -> Seat<(), Holding>
+    requires key { seat.old.table_id ≡ tickets.now.key }
+    requires room { n ≤ seat.old.me.0.left }
+    requires left { M.left seat.old.me.0 ≡ holding (seat.old.me.0.left - n) seat.old.me.0.drawn }
+    requires right { M.right seat.old.me.0 ≡ holding n [] }
+    ensures key { seat.new.table_id ≡ tickets.now.key }
+    ensures left { seat.new.me ≡ (holding (seat.old.me.0.left - n) seat.old.me.0.drawn, seat.old.me.1) }
+    ensures new_key { result.table_id ≡ tickets.now.key }
+    ensures right { result.me ≡ (holding n [], []) }
+{
+    tickets.table.shared.split_seat::<M>(seat)
+}
+
+impl Pass {
+    ghost use Rattle.std.specs.Prelude.{◌≡◌, ◌+◌, ◌-◌, ◌<◌, ◌≤◌, [], ◌++◌, IsPermutation};
+    ghost use Rattle.std.specs.List.Sorted.{IsStrictlyIncreasing};
+    ghost use Rattle.tickets.specs.Views.{share_of, DrawsOne};
+    ghost use Rattle.tickets.specs.Account.{holding};
+
+    // The seat that the pass steps with, its share, and what is left of the share.
+    pub(crate) fn into_parts(self) -> (Seat<(), Holding>, u64, u64)
+        ensures key { result.0.table_id ≡ self.key }
+        ensures seat { result.0.me ≡ (holding self.left self.drawn, []) }
+        ensures share { result.1 ≡ share_of self }
+        ensures left { result.2 ≡ self.left }
+    {
+        let Pass { seat, share, left } = self;
+        (seat, share, left)
+    }
+
+    /// How many tickets the pass may draw in all, those that it has drawn among them.
+    pub fn share(&self) -> u64
+        ensures { result ≡ share_of self.now }
+    {
+        self.share
+    }
+
+    /// How many tickets the pass may still draw.
+    pub fn left(&self) -> u64
+        ensures { result ≡ self.now.left }
+    {
+        self.left
+    }
+
+    /// Takes the next ticket, by one `fetch_add` on the word that all passes share.
+    pub fn draw(&mut self, tickets: &Tickets) -> Drawn
+        requires pass_key { self.old.key ≡ tickets.now.key }
+        requires some_left { 0 < self.old.left }
+        ensures drawn { DrawsOne self.old result.ticket self.new }
+        ensures key { result.key ≡ tickets.now.key }
+    {
+        let word = &tickets.table.shared;
+        let ticket = word.fetch_add::<Draws>(&mut self.seat, 0, 1);
+        self.left -= 1;
+        Drawn {
+            ticket,
+            tickets: Snapshot::of(tickets),
+        }
+    }
+
+    /// Cuts n tickets off the share, for a second pass, mostly that of another thread. It takes no memory.
+    pub fn split(self, tickets: &Tickets, n: u64) -> (Pass, Pass)
+        requires key { self.key ≡ tickets.now.key }
+        requires room { n ≤ self.left }
+        ensures first { result.0 ≡ record self { left = self.left - n } }
+        ensures second { result.1 ≡ record { key = self.key; left = n; drawn = [] } }
+    {
+        let (mut seat, share, left) = self.into_parts();
+        let cut = cut_off::<Brand>(tickets, &mut seat, n);
+        let first = Pass {
+            seat,
+            share: share - n,
+            left: left - n,
+        };
+        let second = Pass {
+            seat: cut,
+            share: n,
+            left: n,
+        };
+        (first, second)
+    }
+
+    /// Puts two passes together: their shares, and the tickets that they drew. It takes no memory.
+    pub fn join(self, tickets: &Tickets, other: Pass) -> Pass
+        requires key { self.key ≡ tickets.now.key }
+        requires other_key { other.key ≡ tickets.now.key }
+        ensures same { result.key ≡ self.key }
+        ensures left { result.left ≡ self.left + other.left }
+        ensures drawn { IsPermutation (self.drawn ++ other.drawn) result.drawn }
+        ensures rising { IsStrictlyIncreasing result.drawn }
+    {
+        let (mut seat, share, left) = self.into_parts();
+        let (other_seat, other_share, other_left) = other.into_parts();
+        let table = &tickets.table.shared;
+        table.join_seat::<Together>(&mut seat, other_seat);
+        table.load::<Looks>(&mut seat, 0);
+        Pass {
+            seat,
+            share: share + other_share,
+            left: left + other_left,
+        }
+    }
+}

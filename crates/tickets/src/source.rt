@@ -1,0 +1,70 @@
+// The word that all passes draw from.
+use crate::account::{Account, Holding};
+use crate::pass::Pass;
+use atomic_table::Table;
+use std::alloc::{AllocError, Global};
+use std::marker::Model;
+
+/// The word that tickets are drawn from: the next number, from 0.
+///
+/// Threads share it by reference. Contracts see which word it is, as its key, and the budget: how many tickets may be
+/// drawn in all.
+#[derive(Drop)]
+pub struct Tickets {
+    pub(crate) table: Table<(), Holding, u64, Account, Global>,
+}
+
+impl Model for Tickets {
+    ghost use Rattle.tickets.specs.Views.{TicketsView};
+
+    ghost Value = { TicketsView };
+
+    ghost use Rattle.std.specs.Prelude.{◌≡◌};
+
+    ghost view = { λ t. record { key = t.table.shared.table_id; budget = t.table.shared.key } };
+
+    ghost invariant = { λ t. (t.table.shared.table_id.words ≡ 1) × (t.table.shared.table_id.slots ≡ 0) };
+}
+
+impl Tickets {
+    ghost use Rattle.std.specs.Prelude.{◌≡◌, ◌≤◌, [], IfOk};
+    ghost use Rattle.tickets.specs.declared.TheConstants.{TICKET_LIMIT};
+    ghost use Rattle.tickets.specs.Views.{share_of, numbers_below};
+
+    /// A new word, and a pass that has the whole budget as its share.
+    ///
+    /// It takes one block of memory, of the same size for every budget, and is refused only where that is.
+    pub fn new(alloc: Global, budget: u64) -> Result<(Tickets, Pass), AllocError>
+        requires { budget ≤ TICKET_LIMIT }
+        ensures budget { IfOk result (λ t. t.0.budget ≡ budget) }
+        ensures key { IfOk result (λ t. t.1.key ≡ t.0.key) }
+        ensures left { IfOk result (λ t. t.1.left ≡ budget) }
+        ensures drawn { IfOk result (λ t. t.1.drawn ≡ []) }
+    {
+        let (table, seat) = Table::of_words(alloc, &[0], &budget)?;
+        Ok((
+            Tickets { table },
+            Pass {
+                seat,
+                share: budget,
+                left: budget,
+            },
+        ))
+    }
+
+    /// How many tickets were drawn.
+    ///
+    /// The pass has the whole budget as its share, so no other pass can draw any more. It takes no memory.
+    pub fn close(self, pass: Pass) -> u64
+        requires key { pass.key ≡ self.key }
+        requires whole { share_of pass ≡ self.budget }
+        ensures { pass.drawn ≡ numbers_below result }
+    {
+        let Tickets { table } = self;
+        let (seat, _, _) = pass.into_parts();
+        let closed = table.close_with(seat);
+        let next = closed.word(0);
+        closed.free();
+        next
+    }
+}
