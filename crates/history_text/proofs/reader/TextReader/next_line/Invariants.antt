@@ -1,0 +1,15 @@
+use Rattle.std.proofs.Common.{◌≡◌, ◌+◌, ◌-◌, length}
+use Rattle.history_text.specs.Input.{Takes}
+use Rattle.history_text.specs.Taking.{IsPartOfLine}
+use Rattle.history_text.proofs.reader.TextReader.next_line.Given as goal
+
+abbrev pub invariant-loop-line : goal.invariant-loop-line
+invariant-loop-line g l = record {
+  taken : Takes l.fn.self.left l.self.left l.line;
+  part : IsPartOfLine l.line;
+  lines : l.self.lines ≡ l.fn.self.lines + 1;
+  is_stopped : l.self.is_stopped ≡ l.fn.self.is_stopped;
+}
+
+abbrev pub decreases-loop-line : goal.decreases-loop-line
+decreases-loop-line g l = 81 - length l.line

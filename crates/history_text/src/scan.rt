@@ -1,0 +1,45 @@
+//! What stands at the front of some bytes, found in one pass.
+ghost use Rattle.std.specs.Prelude.{◌≡◌, ◌++◌, IfSome, decimal};
+
+/// The number at the front, of at most 19 digits, and the bytes after it.
+pub(crate) fn number_front(bytes: &[u8]) -> Option<(u64, &[u8])>
+    ensures { IfSome result (λ p. bytes.now ≡ decimal p.0 ++ p.1.now) }
+{
+    let mut value = 0u64;
+    let mut count = 0;
+    while count < bytes.len() {
+        let byte = bytes[count];
+        if !byte.is_ascii_digit() {
+            break;
+        }
+        if value >= 1_000_000_000_000_000_000 {
+            return None;
+        }
+        value = value * 10 + u64::from(byte - b'0');
+        count += 1;
+    }
+    if count == 0 {
+        return None;
+    }
+    if count > 1 && bytes[0] == b'0' {
+        return None;
+    }
+    Some((value, &bytes[count..]))
+}
+
+/// The bytes after the word that they begin with.
+pub(crate) fn after_word<'a>(bytes: &'a [u8], word: &[u8]) -> Option<&'a [u8]>
+    ensures { IfSome result (λ rest. bytes.now ≡ word.now ++ rest.now) }
+{
+    if bytes.len() < word.len() {
+        return None;
+    }
+    let mut is_same = true;
+    for i in 0..word.len() {
+        is_same &= bytes[i] == word[i];
+    }
+    if !is_same {
+        return None;
+    }
+    Some(&bytes[word.len()..])
+}
