@@ -1,0 +1,50 @@
+-- What contracts see of the two ends of a ring and of a close token.
+use Rattle.std.specs.Prelude.{ℕ, List}
+use Rattle.std.specs.declared.alloc.Global.{Global}
+use denote.RawPtr.{Ptr}
+use Rattle.rtrb.specs.Shared.{Names}
+use Rattle.rtrb.specs.declared.end.End.{End}
+use Rattle.rtrb.specs.declared.producer.Producer.{Producer}
+use Rattle.rtrb.specs.declared.consumer.Consumer.{Consumer}
+use Rattle.rtrb.specs.declared.finished.Finished.{Finished}
+use Rattle.event_records.specs.declared.event.Event.{Event}
+
+-- which ring it is: what the two ends of one ring have in common
+abbrev pub RingName : Type 0
+RingName = Ptr × Ptr × Names × Global
+
+module _ {T P : Type 0} where
+  -- the name of the ring that this is an end of
+  abbrev pub name_of : End T Global P → RingName
+  name_of e = (e.words, e.slots, e.names, e.heap)
+
+  -- the ring of a producer
+  abbrev pub ring_of_producer : Producer T Global P → RingName
+  ring_of_producer p = name_of p.end
+
+  -- the ring of a consumer
+  abbrev pub ring_of_consumer : Consumer T Global P → RingName
+  ring_of_consumer c = name_of c.end
+
+  -- the ring of a producer that was finished
+  abbrev pub ring_of_finished : Finished T Global P → RingName
+  ring_of_finished f = name_of f.end
+
+-- the end that pushes: all that it has sent, oldest first, and how many more events it knows to have room for
+pub record PushView : Type 0 where
+  pub ring : RingName
+  pub thread : ℕ
+  pub sent : List Event
+  pub room : ℕ
+
+-- the end that drains: all that it has received, oldest first
+pub record DrainView : Type 0 where
+  pub ring : RingName
+  pub thread : ℕ
+  pub received : List Event
+
+-- a closed ring: all that was ever sent
+pub record TokenView : Type 0 where
+  pub ring : RingName
+  pub thread : ℕ
+  pub sent : List Event

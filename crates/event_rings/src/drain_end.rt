@@ -1,0 +1,142 @@
+// The end of a ring that the collector drains, and seals with the close token.
+ghost use Rattle.std.specs.Prelude.{◌≡◌, ◌≤◌, ◌+◌, ◌++◌, length, take, vec_len, vec_capacity};
+ghost use Rattle.rtrb.specs.Ring.{received, known_items, SameConsumer};
+
+use crate::push_end::CloseToken;
+use event_records::{Event, Noted, ThreadNo};
+use rtrb::Consumer;
+use std::alloc::{AllocError, Global};
+use std::marker::Model;
+
+/// The end of a thread's ring that drains events. A collector holds it.
+#[derive(Drop)]
+pub struct DrainEnd {
+    alloc: Global,
+    thread: ThreadNo,
+    consumer: Consumer<Noted>,
+}
+
+impl Model for DrainEnd {
+    ghost use Rattle.event_rings.specs.Ring.{DrainView, ring_of_consumer};
+    ghost use Rattle.rtrb.specs.Ring.{received};
+
+    ghost Value = { DrainView };
+
+    ghost view = { λ d. record { ring = ring_of_consumer d.consumer; thread = d.thread; received = received d.consumer } };
+}
+
+/// All that was sent through a closed ring and not drained before, oldest first.
+#[derive(Drop)]
+pub struct Sealed {
+    events: Vec<Event>,
+}
+
+impl Model for Sealed {
+    ghost use Rattle.std.specs.Prelude.{List};
+    ghost use Rattle.event_records.specs.declared.event.Event.{Event};
+
+    ghost Value = { List Event };
+
+    ghost view = { λ s. s.events.items };
+}
+
+/// Why a ring was not sealed. What was left in it is lost.
+#[derive(Debug, Drop)]
+pub enum FinishFault {
+    /// The token is of another thread's ring.
+    Uncertified,
+    /// There was no memory for the events that are left.
+    Memory,
+}
+
+impl Sealed {
+    /// The events, oldest first.
+    pub fn into_events(self) -> Vec<Event>
+        ensures { result.items ≡ self }
+    {
+        let Sealed { events } = self;
+        events
+    }
+}
+
+impl DrainEnd {
+    ghost use Rattle.std.specs.Prelude.{◌≡◌, ◌≤◌, ◌++◌, vec_len, IfOk, IfErr, OnErr, length, ◌≢◌};
+    ghost use Rattle.event_rings.specs.Ring.{ring_of_consumer};
+    ghost use Rattle.event_rings.specs.declared.drain_end.FinishFault.TheVariants.{Uncertified, Memory};
+    ghost use Rattle.event_rings.specs.declared.TheConstants.{MAX_CAPACITY};
+    ghost use Rattle.rtrb.specs.Ring.{received};
+
+    pub(crate) fn over(alloc: Global, thread: ThreadNo, consumer: Consumer<Noted>) -> DrainEnd
+        ensures { result ≡ record { ring = ring_of_consumer consumer; thread = thread; received = received consumer } }
+    {
+        DrainEnd {
+            alloc,
+            thread,
+            consumer,
+        }
+    }
+
+    /// The thread whose ring it is.
+    pub fn thread(&self) -> ThreadNo
+        ensures { result ≡ self.now.thread }
+    {
+        self.thread
+    }
+
+    /// Takes events out of the ring, oldest first: all that it sees there, but at most `max`.
+    ///
+    /// It reserves room for them first, so where that is refused they are all still in the ring.
+    pub fn drain(&mut self, max: usize) -> Result<Vec<Event>, AllocError>
+        requires { max ≤ MAX_CAPACITY }
+        ensures drained { IfOk result (λ events. self.new ≡ record self.old { received = self.old.received ++ events.items }) }
+        ensures most { IfOk result (λ events. vec_len events ≤ max) }
+        ensures refused { OnErr result (self.new ≡ self.old) }
+    {
+        let count = self.consumer.slots().min(max);
+        let mut events = Vec::with_capacity(self.alloc, count)?;
+        pop_into(&mut self.consumer, &mut events, count);
+        Ok(events)
+    }
+
+    /// Takes all that is left, certified by the token that closed the ring.
+    ///
+    /// `Uncertified` comes exactly where the token is of another thread's ring, and `Memory` where room for the events
+    /// that are left is refused. After either the end is gone.
+    pub fn finish(self, token: CloseToken) -> Result<Sealed, FinishFault>
+        requires { token.thread ≡ self.thread → token.ring ≡ self.ring }
+        ensures sealed { IfOk result (λ sealed. self.received ++ sealed ≡ token.sent) }
+        ensures certified { IfOk result (λ _. token.thread ≡ self.thread) }
+        ensures uncertified { IfErr result (λ fault. fault ≡ Uncertified → token.thread ≢ self.thread) }
+        ensures memory { IfErr result (λ fault. fault ≡ Memory → token.thread ≡ self.thread) }
+    {
+        let DrainEnd {
+            alloc,
+            thread,
+            mut consumer,
+        } = self;
+        let (closed, mut finished) = token.into_parts();
+        if closed.get() != thread.get() {
+            return Err(FinishFault::Uncertified);
+        }
+        let count = consumer.slots_after(&mut finished);
+        let Ok(mut events) = Vec::with_capacity(alloc, count) else {
+            return Err(FinishFault::Memory);
+        };
+        pop_into(&mut consumer, &mut events, count);
+        Ok(Sealed { events })
+    }
+}
+
+// Moves `count` events out of the ring, for which there is room.
+fn pop_into(consumer: &mut Consumer<Noted>, events: &mut Vec<Event>, count: usize)
+    requires known { count ≤ length (known_items consumer.old) }
+    requires room { vec_len events.old + count ≤ vec_capacity events.old }
+    ensures ring { SameConsumer consumer.old consumer.new }
+    ensures moved { events.new.items ≡ events.old.items ++ take count (known_items consumer.old) }
+    ensures received { received consumer.new ≡ received consumer.old ++ take count (known_items consumer.old) }
+{
+    for _ in 0..count {
+        let noted = consumer.pop_known();
+        events.push_reserved(noted.event());
+    }
+}

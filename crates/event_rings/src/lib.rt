@@ -1,0 +1,44 @@
+//! A ring of events for each thread: one end pushes, the other drains, and a token closes it.
+//!
+//! Nothing here takes a lock or waits: each step on a ring is one of the two ends' own. What is received is always the
+//! front of what was sent, in order. A close token tells all that was sent, and nothing can be sent after it.
+#![tactic(auto)]
+
+ghost use Rattle.std.specs.Prelude.{◌≡◌, ◌≤◌, [], IfOk};
+
+mod drain_end;
+mod push_end;
+#[cfg(test)]
+mod tests;
+
+pub use drain_end::{DrainEnd, FinishFault, Sealed};
+use event_records::ThreadNo;
+pub use push_end::{CloseLost, CloseToken, PushEnd};
+use rtrb::RingBuffer;
+use std::alloc::{AllocError, Global};
+
+/// The fewest events that a ring has room for.
+pub const MIN_CAPACITY: usize = 2;
+
+/// The most events that a ring has room for.
+pub const MAX_CAPACITY: usize = 65_536;
+
+/// A new ring of a thread, with room for `capacity` events.
+///
+/// It takes memory for that many events at once, and is refused only where that is. Pushing takes none.
+pub fn ring(
+    alloc: Global,
+    thread: ThreadNo,
+    capacity: usize,
+) -> Result<(PushEnd, DrainEnd), AllocError>
+    requires { (MIN_CAPACITY ≤ capacity) × (capacity ≤ MAX_CAPACITY) }
+    ensures pair { IfOk result (λ ends. ends.1.ring ≡ ends.0.ring) }
+    ensures threads { IfOk result (λ ends. (ends.0.thread ≡ thread) × (ends.1.thread ≡ thread)) }
+    ensures empty { IfOk result (λ ends. (ends.0.sent ≡ []) × (ends.1.received ≡ [])) }
+    ensures room { IfOk result (λ ends. ends.0.room ≡ capacity) }
+{
+    let (producer, consumer) = RingBuffer::new(alloc, capacity)?;
+    let push = PushEnd::over(thread, producer);
+    let drain = DrainEnd::over(alloc, thread, consumer);
+    Ok((push, drain))
+}

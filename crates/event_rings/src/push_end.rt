@@ -1,0 +1,102 @@
+// The end of a ring that a worker pushes into, and the token that closes it.
+ghost use Rattle.std.specs.Prelude.{◌≡◌};
+
+use event_records::{Noted, ThreadNo};
+use rtrb::{Finished, Producer, PushError};
+use std::marker::Model;
+
+/// The end of a thread's ring that pushes events. The thread itself holds it.
+#[derive(Drop)]
+pub struct PushEnd {
+    thread: ThreadNo,
+    producer: Producer<Noted>,
+}
+
+impl Model for PushEnd {
+    ghost use Rattle.event_rings.specs.Ring.{PushView, ring_of_producer};
+    ghost use Rattle.rtrb.specs.Ring.{sent, known_free};
+
+    ghost Value = { PushView };
+
+    ghost view = { λ p. record { ring = ring_of_producer p.producer; thread = p.thread; sent = sent p.producer; room = known_free p.producer } };
+}
+
+/// Shows all that a thread pushed. Its ring's push end is gone, so nothing is pushed any more.
+#[derive(Drop)]
+pub struct CloseToken {
+    thread: ThreadNo,
+    finished: Finished<Noted>,
+}
+
+impl Model for CloseToken {
+    ghost use Rattle.event_rings.specs.Ring.{TokenView, ring_of_finished};
+    ghost use Rattle.rtrb.specs.Ring.{all_sent};
+
+    ghost Value = { TokenView };
+
+    ghost view = { λ t. record { ring = ring_of_finished t.finished; thread = t.thread; sent = all_sent t.finished } };
+}
+
+/// The ring gave no close token: its other end had left before. What was pushed is lost.
+#[derive(Debug, Drop)]
+pub struct CloseLost;
+
+impl CloseToken {
+    ghost use Rattle.event_rings.specs.Ring.{ring_of_finished};
+    ghost use Rattle.rtrb.specs.Ring.{all_sent};
+
+    pub(crate) fn into_parts(self) -> (ThreadNo, Finished<Noted>)
+        ensures { self ≡ record { ring = ring_of_finished result.1; thread = result.0; sent = all_sent result.1 } }
+    {
+        let CloseToken { thread, finished } = self;
+        (thread, finished)
+    }
+}
+
+impl PushEnd {
+    ghost use Rattle.std.specs.Prelude.{◌≡◌, ◌∷◌, ◌++◌, [], ◌+◌, ◌<◌, ◌≤◌, IfOk, IfErr, IsOk, OnOk};
+    ghost use Rattle.event_rings.specs.Ring.{ring_of_producer};
+    ghost use Rattle.rtrb.specs.Ring.{sent, known_free};
+
+    pub(crate) fn over(thread: ThreadNo, producer: Producer<Noted>) -> PushEnd
+        ensures { result ≡ record { ring = ring_of_producer producer; thread = thread; sent = sent producer; room = known_free producer } }
+    {
+        PushEnd { thread, producer }
+    }
+
+    /// The thread whose ring it is.
+    pub fn thread(&self) -> ThreadNo
+        ensures { result ≡ self.now.thread }
+    {
+        self.thread
+    }
+
+    /// Pushes an event of this thread, or gives it back where no room was seen. It takes no memory.
+    ///
+    /// The end learns of room that the other end made only when it knows of none itself.
+    pub fn push(&mut self, noted: Noted) -> Result<(), Noted>
+        requires { noted.thread ≡ self.old.thread }
+        ensures pushed { OnOk result (self.new ≡ record self.old { sent = self.old.sent ++ noted ∷ []; room = self.new.room }) }
+        ensures room { OnOk result (self.old.room ≤ self.new.room + 1) }
+        ensures full { IfErr result (λ back. (back ≡ noted) × (self.new ≡ self.old)) }
+        ensures succeeds { 0 < self.old.room → IsOk result }
+    {
+        match self.producer.push(noted) {
+            Ok(()) => Ok(()),
+            Err(PushError::Full(back)) => Err(back),
+        }
+    }
+
+    /// Closes the ring. The token tells all that was sent.
+    ///
+    /// `CloseLost` comes only where the drain end had left before. It takes no memory.
+    pub fn close(self) -> Result<CloseToken, CloseLost>
+        ensures { IfOk result (λ token. (token.ring ≡ self.ring) × (token.thread ≡ self.thread) × (token.sent ≡ self.sent)) }
+    {
+        let PushEnd { thread, producer } = self;
+        match producer.finish() {
+            Some(finished) => Ok(CloseToken { thread, finished }),
+            None => Err(CloseLost),
+        }
+    }
+}
