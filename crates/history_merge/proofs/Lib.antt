@@ -1,0 +1,10 @@
+pub mod Runs
+pub mod Places
+pub mod Completeness
+pub mod NextEvents
+pub mod Distinct
+pub mod Tracking
+pub mod DistinctValues
+pub mod Turns
+pub mod FirstFaults
+pub mod ExactFaults

@@ -1,0 +1,75 @@
+-- Calls and returns of one thread, event by event.
+use Rattle.std.proofs.Common.{◌≡◌, true, false, List, [], ◌∷◌, ◌++◌, Option, Some, None, refl, sym, ◌∙◌, ap, subst, append_assoc}
+use Rattle.std.specs.Prelude.{MatchOption}
+use Rattle.std.specs.Bool.{then_some}
+use Rattle.event_records.specs.declared.event.Event.{Event}
+use Rattle.event_records.specs.declared.event.What.{What}
+use Rattle.event_records.specs.declared.event.What.TheVariants.{CallEnq, RetEnq, RetNot, CallDeq, RetDeq, RetEmpty}
+use Rattle.event_records.specs.Turns.{TakesTurns, is_call, answers}
+use Rattle.history_merge.proofs.Tracking.{pending_in, pending_in-push}
+
+pub answered_is_call : (call answer : What) → answers call answer ≡ true → is_call call ≡ true
+answered_is_call (CallEnq v) answer h = refl
+answered_is_call CallDeq answer h = refl
+answered_is_call RetEnq answer h = cc
+answered_is_call RetNot answer h = cc
+answered_is_call (RetDeq v) answer h = cc
+answered_is_call RetEmpty answer h = cc
+
+pub answer_is_return : (call answer : What) → answers call answer ≡ true → is_call answer ≡ false
+answer_is_return call RetEnq h = refl
+answer_is_return call RetNot h = refl
+answer_is_return call (RetDeq v) h = refl
+answer_is_return call RetEmpty h = refl
+answer_is_return (CallEnq v) (CallEnq w) h = cc
+answer_is_return (CallEnq v) CallDeq h = cc
+answer_is_return CallDeq (CallEnq w) h = cc
+answer_is_return CallDeq CallDeq h = cc
+answer_is_return RetEnq _ h = cc
+answer_is_return RetNot _ h = cc
+answer_is_return (RetDeq v) _ h = cc
+answer_is_return RetEmpty _ h = cc
+
+-- the event may follow these events of its thread
+abbrev pub FitsTurn : Option Event → Event → Type 0
+FitsTurn pending e = MatchOption pending (is_call e.what ≡ true) (λ call. answers call.what e.what ≡ true)
+
+-- a call with its answer leaves what the events after it leave
+pending_in-pair : (call answer : Event) (rest : List Event) → is_call answer.what ≡ false → pending_in (call ∷ answer ∷ rest) ≡ pending_in rest
+pending_in-pair call answer [] is = ap (λ b. then_some b answer) is
+pending_in-pair call answer (e ∷ rest) is = refl
+
+pub nothing_after_turns : (events : List Event) → TakesTurns events → pending_in events ≡ None
+nothing_after_turns [] turns = refl
+nothing_after_turns (call ∷ []) turns = elim turns [ ]
+nothing_after_turns (call ∷ answer ∷ rest) turns = pending_in-pair call answer rest (answer_is_return call.what answer.what turns.0) ∙ nothing_after_turns rest turns.1
+
+-- each event of a list that takes turns fits
+pub fits_in_turns : (before : List Event) (e : Event) (later : List Event) → TakesTurns (before ++ e ∷ later) → FitsTurn (pending_in before) e
+fits_in_turns [] e [] turns = elim turns [ ]
+fits_in_turns [] e (answer ∷ later) turns = answered_is_call e.what answer.what turns.0
+fits_in_turns (call ∷ []) e later turns = let called : is_call call.what ≡ true = answered_is_call call.what e.what turns.0 in rw called turns.0
+fits_in_turns (call ∷ answer ∷ before) e later turns =
+    let same = pending_in-pair call answer before (answer_is_return call.what answer.what turns.0) in
+    subst (λ pending. FitsTurn pending e) (sym same) (fits_in_turns before e later turns.1)
+
+TakesTurns-append : (events later : List Event) → TakesTurns events → TakesTurns later → TakesTurns (events ++ later)
+TakesTurns-append [] later turns more = more
+TakesTurns-append (call ∷ []) later turns more = elim turns [ ]
+TakesTurns-append (call ∷ answer ∷ rest) later turns more = (turns.0, TakesTurns-append rest later turns.1 more)
+
+-- calls and returns take turns, but for a call at the end that may wait for its return
+abbrev pub TurnsSoFar : List Event → Type 0
+TurnsSoFar events = MatchOption (pending_in events) (TakesTurns events) (λ call. (done : List Event) × (events ≡ done ++ call ∷ []) × TakesTurns done)
+
+pub turns_push : (events : List Event) (e : Event) → TurnsSoFar events → FitsTurn (pending_in events) e → TurnsSoFar (events ++ e ∷ [])
+turns_push events e turns fits = join (pending_in events) turns fits
+  where
+    join : (pending : Option Event) → MatchOption pending (TakesTurns events) (λ call. (done : List Event) × (events ≡ done ++ call ∷ []) × TakesTurns done)
+        → FitsTurn pending e → TurnsSoFar (events ++ e ∷ [])
+    join None turns' fits' =
+        let left : pending_in (events ++ e ∷ []) ≡ Some e = pending_in-push events e ∙ ap (λ b. then_some b e) fits' in
+        rw left (events, refl, turns')
+    join (Some call) (done, is, turns') fits' =
+        let left : pending_in (events ++ e ∷ []) ≡ None = pending_in-push events e ∙ ap (λ b. then_some b e) (answer_is_return call.what e.what fits') in
+        rw (left, is, append_assoc) (TakesTurns-append done (call ∷ e ∷ []) turns' (fits', tt))

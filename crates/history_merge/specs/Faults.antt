@@ -1,0 +1,90 @@
+-- The first fault of a list of events that is no complete history.
+use Rattle.std.specs.Prelude.{◌≡◌, ℕ, ◌+◌, ◌<◌, ◌≤◌, Bool, false, ◌||◌, ◌&&◌, not, nat_le, nat_lt, nat_eq, List, length, take, slice_get, Option, Some, None, is_some, is_none, if◌then◌else◌, ⊤, true, All, option_map, slice_index_or, option_and_then}
+use Rattle.std.specs.Bool.{then_some}
+use Rattle.std.specs.Option.{option_map_or}
+use Rattle.std.specs.List.{last_or, list_any}
+use Rattle.event_records.specs.declared.event.Event.{Event}
+use Rattle.event_records.specs.Turns.{is_call, answers}
+use Rattle.event_records.specs.Projection.{projection}
+use Rattle.history_merge.specs.declared.progress.Progress.{Progress}
+use Rattle.history_merge.specs.declared.fault.HistoryFault.{HistoryFault}
+use Rattle.history_merge.specs.declared.fault.HistoryFault.TheVariants.{TicketOrder, BadThread, CallWhilePending, ReturnWithoutCall, WrongReturn, DuplicateValue, Pending, Memory}
+use Rattle.event_records.specs.declared.limits.TheConstants.{MAX_TICKET, MAX_THREAD}
+use Rattle.history_merge.specs.Complete.{called_value}
+
+-- the call of this thread that no event has answered yet: its last event, if that is a call
+abbrev pub pending_call : ℕ → List Event → Option Event
+pending_call thread events = option_and_then (λ e. then_some (is_call e.what) e) (last_or None (projection thread events))
+
+-- whether a call of these events enqueues this value
+abbrev pub was_called : List Event → ℕ → Bool
+was_called events v = list_any (λ e. option_map_or (λ w. nat_eq w v) (called_value e.what) false) events
+
+-- whether the event's ticket is out of range, or not above that of the last event before it
+abbrev pub breaks_ticket_order : List Event → Event → Bool
+breaks_ticket_order before e = nat_lt MAX_TICKET e.ticket || option_map_or (λ last. nat_le e.ticket last.ticket) (last_or None before) false
+
+-- whether the event answers the pending call
+abbrev pub answers_pending : Option Event → Event → Bool
+answers_pending pending e = option_map_or (λ call. answers call.what e.what) pending false
+
+-- whether the event calls with a value that was called before
+abbrev pub repeats_value : List Event → Event → Bool
+repeats_value before e = option_map_or (was_called before) (called_value e.what) false
+
+-- the first rule, in this order, that the event at this place breaks after the events before it
+abbrev pub fault_at : List Event → ℕ → Event → Option HistoryFault
+fault_at before i e =
+    let pending = pending_call e.thread before in
+    if breaks_ticket_order before e then Some (TicketOrder i) else
+    if nat_lt MAX_THREAD e.thread then Some (BadThread i) else
+    if is_call e.what && is_some pending then Some (CallWhilePending i) else
+    if not (is_call e.what) && is_none pending then Some (ReturnWithoutCall i) else
+    if not (is_call e.what) && not (answers_pending pending e) then Some (WrongReturn i) else
+    if repeats_value before e then Some (DuplicateValue i) else
+    None
+
+-- the events before place n have no fault
+abbrev pub NoFaultBefore : List Event → ℕ → Type 0
+NoFaultBefore events n = (i : ℕ) (e : Event) → i < n → slice_get events i ≡ Some e → fault_at (take i events) i e ≡ None
+
+-- the event at place i has this fault, and the events before it have none
+abbrev pub IsFirstFaultAt : List Event → ℕ → HistoryFault → Type 0
+IsFirstFaultAt events i fault = NoFaultBefore events i × ((e : Event) × (slice_get events i ≡ Some e) × (fault_at (take i events) i e ≡ Some fault))
+
+-- no call of any thread is without return
+abbrev pub NothingPending : List Event → Type 0
+NothingPending events = (thread : ℕ) → pending_call thread events ≡ None
+
+-- this is the least ticket of a call without return
+abbrev pub IsLeastPending : List Event → ℕ → Type 0
+IsLeastPending events ticket =
+    ((thread : ℕ) × (call : Event) × (pending_call thread events ≡ Some call) × (call.ticket ≡ ticket))
+    × ((thread : ℕ) (call : Event) → pending_call thread events ≡ Some call → ticket ≤ call.ticket)
+
+-- what is wrong with the events, the first in their order; running out of memory says nothing of them
+abbrev pub IsFirstFault : List Event → HistoryFault → Type 0
+IsFirstFault events (TicketOrder i) = IsFirstFaultAt events i (TicketOrder i)
+IsFirstFault events (BadThread i) = IsFirstFaultAt events i (BadThread i)
+IsFirstFault events (CallWhilePending i) = IsFirstFaultAt events i (CallWhilePending i)
+IsFirstFault events (ReturnWithoutCall i) = IsFirstFaultAt events i (ReturnWithoutCall i)
+IsFirstFault events (WrongReturn i) = IsFirstFaultAt events i (WrongReturn i)
+IsFirstFault events (DuplicateValue i) = IsFirstFaultAt events i (DuplicateValue i)
+IsFirstFault events (Pending ticket) = NoFaultBefore events (length events) × IsLeastPending events ticket
+IsFirstFault events Memory = ⊤
+
+-- the calls before place n enqueue different values
+abbrev pub NoRepeatBefore : List Event → ℕ → Type 0
+NoRepeatBefore events n = (i : ℕ) (e : Event) → i < n → slice_get events i ≡ Some e → repeats_value (take i events) e ≡ false
+
+-- the place is that of the first call with a value that was called before, if there is one
+abbrev pub IsFirstRepeat : List Event → Option ℕ → Type 0
+IsFirstRepeat events None = NoRepeatBefore events (length events)
+IsFirstRepeat events (Some i) = NoRepeatBefore events i × ((e : Event) × (slice_get events i ≡ Some e) × (repeats_value (take i events) e ≡ true))
+
+-- what the walk over these events has kept is their last ticket and the pending call of each thread
+pub record HasTracked (events : List Event) (progress : Progress) : Type 0 where
+  pub last_ticket : progress.last_ticket ≡ option_map (λ e. e.ticket) (last_or None events)
+  pub one_per_thread : length progress.pending ≡ MAX_THREAD + 1
+  pub pending : (thread : ℕ) → thread ≤ MAX_THREAD → slice_index_or progress.pending thread None ≡ pending_call thread events
+  pub threads_in_range : All (λ e. e.thread ≤ MAX_THREAD) events

@@ -1,0 +1,63 @@
+ghost use Rattle.std.specs.Prelude.{◌≡◌};
+
+use std::marker::Model;
+
+/// What an operation did.
+#[derive(Clone, Copy, Debug, PartialEq, Eq)]
+pub enum OpKind {
+    /// An enqueue of this value, which the queue took.
+    Enq(u64),
+    /// A dequeue that gave this value.
+    Deq(u64),
+    /// A dequeue that found the queue empty.
+    Empty,
+    /// An enqueue of this value, which the queue did not take: it was full, or had no memory.
+    Not(u64),
+}
+
+/// A call with its return (Herlihy and Wing 1990, section 2.1).
+///
+/// Plain data: only in the operations of a history is it known that `call` is below `ret`.
+#[derive(Clone, Copy, Debug, PartialEq, Eq)]
+pub struct Operation {
+    /// The ticket of the call.
+    pub call: u64,
+    /// The ticket of the return.
+    pub ret: u64,
+    /// The number of the thread.
+    pub thread: u8,
+    /// What was called and answered.
+    pub kind: OpKind,
+}
+
+/// The place of an operation in the list of a history's operations, from 0, seen as that number.
+#[derive(Clone, Copy, Debug, PartialEq, Eq)]
+pub struct OpId {
+    place: usize,
+}
+
+impl Model for OpId {
+    ghost use Rattle.std.specs.Prelude.{ℕ};
+
+    ghost Value = { ℕ };
+
+    ghost view = { λ a. a.place };
+
+    ghost inverse = { λ n. record { place = n } };
+}
+
+impl OpId {
+    /// The name of the operation at this place.
+    pub fn new(place: usize) -> OpId
+        ensures { result ≡ place }
+    {
+        OpId { place }
+    }
+
+    /// The place.
+    pub fn place(self) -> usize
+        ensures { result ≡ self }
+    {
+        self.place
+    }
+}

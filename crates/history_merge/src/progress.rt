@@ -1,0 +1,73 @@
+ghost use Rattle.std.specs.Prelude.{◌≡◌, ◌++◌, ◌∷◌, ◌≤◌, List, [], MatchOption};
+ghost use Rattle.event_records.specs.declared.event.Event.{Event};
+ghost use Rattle.history_merge.specs.Faults.{HasTracked, IsLeastPending, NothingPending, fault_at, repeats_value};
+
+use crate::fault::HistoryFault;
+use crate::matching::{is_call, kind_of, no_events};
+use event_records::{Event, MAX_THREAD, MAX_TICKET};
+
+/// What the next event is judged by: the last ticket, and the call of each thread that is not answered yet.
+#[derive(Drop)]
+pub struct Progress {
+    last_ticket: Option<u64>,
+    pending: [Option<Event>; 64],
+}
+
+impl Progress {
+    pub fn new() -> Progress
+        ensures { HasTracked [] result }
+    {
+        Progress {
+            last_ticket: None,
+            pending: no_events(),
+        }
+    }
+
+    /// The fault of the event at this place, after the events so far; `repeats` tells whether it calls with a value
+    /// that one of these called with.
+    pub fn fault_of(&self, event: Event, place: usize, repeats: bool) -> Option<HistoryFault>
+        ensures { (before : List Event) → HasTracked before self.now → repeats ≡ repeats_value before event → result ≡ fault_at before place event }
+    {
+        if event.ticket > MAX_TICKET || self.last_ticket.is_some_and(|last| event.ticket <= last) {
+            return Some(HistoryFault::TicketOrder(place));
+        }
+        if event.thread > MAX_THREAD {
+            return Some(HistoryFault::BadThread(place));
+        }
+        let pending = self.pending[usize::from(event.thread)];
+        match pending {
+            Some(_) if is_call(event.what) => Some(HistoryFault::CallWhilePending(place)),
+            Some(call) if kind_of(call.what, event.what).is_none() => {
+                Some(HistoryFault::WrongReturn(place))
+            }
+            None if !is_call(event.what) => Some(HistoryFault::ReturnWithoutCall(place)),
+            None if repeats => Some(HistoryFault::DuplicateValue(place)),
+            _ => None,
+        }
+    }
+
+    /// Goes on past an event.
+    pub fn add(&mut self, event: Event)
+        requires { event.thread ≤ MAX_THREAD }
+        ensures { (before : List Event) → HasTracked before self.old → HasTracked (before ++ event ∷ []) self.new }
+    {
+        let call = is_call(event.what).then_some(event);
+        self.pending[usize::from(event.thread)] = call;
+        self.last_ticket = Some(event.ticket);
+    }
+
+    /// The least ticket of a call that is not answered yet.
+    pub fn least_pending(&self) -> Option<u64>
+        ensures { (before : List Event) → HasTracked before self.now → MatchOption result (NothingPending before) (IsLeastPending before) }
+    {
+        let mut least = None;
+        for call in &self.pending {
+            if let Some(call) = call
+                && least.is_none_or(|ticket| call.ticket < ticket)
+            {
+                least = Some(call.ticket);
+            }
+        }
+        least
+    }
+}
