@@ -1,12 +1,11 @@
 -- The first fault of a list of events that is no complete history.
-use Rattle.std.specs.Prelude.{◌≡◌, ℕ, ◌+◌, ◌<◌, ◌≤◌, Bool, false, ◌||◌, ◌&&◌, not, nat_le, nat_lt, nat_eq, List, length, take, slice_get, Option, Some, None, is_some, is_none, if◌then◌else◌, ⊤, true, All, option_map, slice_index_or, option_and_then}
+use Rattle.std.specs.Prelude.{◌≡◌, ℕ, ◌<◌, ◌≤◌, Bool, false, ◌||◌, ◌&&◌, not, nat_le, nat_lt, nat_eq, List, length, take, slice_get, Option, Some, None, is_some, is_none, if◌then◌else◌, ⊤, true, option_and_then}
 use Rattle.std.specs.Bool.{then_some}
 use Rattle.std.specs.Option.{option_map_or}
 use Rattle.std.specs.List.{last_or, list_any}
 use Rattle.event_records.specs.declared.event.Event.{Event}
 use Rattle.event_records.specs.Turns.{is_call, answers}
 use Rattle.event_records.specs.Projection.{projection}
-use Rattle.history_merge.specs.declared.progress.Progress.{Progress}
 use Rattle.history_merge.specs.declared.fault.HistoryFault.{HistoryFault}
 use Rattle.history_merge.specs.declared.fault.HistoryFault.TheVariants.{TicketOrder, BadThread, CallWhilePending, ReturnWithoutCall, WrongReturn, DuplicateValue, Pending, Memory}
 use Rattle.event_records.specs.declared.limits.TheConstants.{MAX_TICKET, MAX_THREAD}
@@ -81,10 +80,3 @@ NoRepeatBefore events n = (i : ℕ) (e : Event) → i < n → slice_get events i
 abbrev pub IsFirstRepeat : List Event → Option ℕ → Type 0
 IsFirstRepeat events None = NoRepeatBefore events (length events)
 IsFirstRepeat events (Some i) = NoRepeatBefore events i × ((e : Event) × (slice_get events i ≡ Some e) × (repeats_value (take i events) e ≡ true))
-
--- what the walk over these events has kept is their last ticket and the pending call of each thread
-pub record HasTracked (events : List Event) (progress : Progress) : Type 0 where
-  pub last_ticket : progress.last_ticket ≡ option_map (λ e. e.ticket) (last_or None events)
-  pub one_per_thread : length progress.pending ≡ MAX_THREAD + 1
-  pub pending : (thread : ℕ) → thread ≤ MAX_THREAD → slice_index_or progress.pending thread None ≡ pending_call thread events
-  pub threads_in_range : All (λ e. e.thread ≤ MAX_THREAD) events

@@ -1,6 +1,6 @@
-ghost use Rattle.std.specs.Prelude.{◌≤◌, ◌≡◌, length, MatchResult, IfOk, IfErr, vec_len};
+ghost use Rattle.std.specs.Prelude.{◌≤◌, ◌≡◌, MatchResult, IfOk, IfErr, vec_len};
 ghost use Rattle.history_merge.specs.Complete.{IsCompleteHistory};
-ghost use Rattle.history_merge.specs.Faults.{IsFirstFault, IsFirstRepeat, NoFaultBefore, NothingPending};
+ghost use Rattle.history_merge.specs.Faults.{IsFirstFault, IsFirstRepeat};
 
 use crate::complete::History;
 use crate::fault::HistoryFault;

@@ -1,6 +1,7 @@
 ghost use Rattle.std.specs.Prelude.{◌≡◌, ◌++◌, ◌∷◌, ◌≤◌, List, [], MatchOption};
 ghost use Rattle.event_records.specs.declared.event.Event.{Event};
-ghost use Rattle.history_merge.specs.Faults.{HasTracked, IsLeastPending, NothingPending, fault_at, repeats_value};
+ghost use Rattle.history_merge.specs.Faults.{IsLeastPending, NothingPending, fault_at, repeats_value};
+ghost use Rattle.history_merge.specs.Progress.{HasTracked};
 
 use crate::fault::HistoryFault;
 use crate::matching::{is_call, kind_of, no_events};

@@ -3,7 +3,8 @@ use Rattle.std.proofs.lemmas.List.{take_more}
 use Rattle.std.proofs.lemmas.Option.{slice_get-get_or}
 use Rattle.event_records.specs.declared.event.Event.{Event}
 use Rattle.event_records.specs.declared.event.What.TheVariants.{CallEnq}
-use Rattle.history_merge.specs.Faults.{HasTracked, fault_at}
+use Rattle.history_merge.specs.Progress.{HasTracked}
+use Rattle.history_merge.specs.Faults.{fault_at}
 use Rattle.history_merge.proofs.DistinctValues.{each_more}
 use Rattle.history_merge.proofs.FirstFaults.{may_follow}
 use Rattle.history_merge.proofs.ExactFaults.{complete_after_walk, first_fault_at, repeats_at}

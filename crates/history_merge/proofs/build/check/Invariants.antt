@@ -1,5 +1,6 @@
 use Rattle.std.proofs.Common.{take}
-use Rattle.history_merge.specs.Faults.{HasTracked, NoFaultBefore}
+use Rattle.history_merge.specs.Progress.{HasTracked}
+use Rattle.history_merge.specs.Faults.{NoFaultBefore}
 use Rattle.history_merge.proofs.build.check.Given as goal
 
 abbrev pub invariant-loop-i : goal.invariant-loop-i

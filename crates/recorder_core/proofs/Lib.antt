@@ -1,0 +1,10 @@
+pub mod Runs
+pub mod Counts
+pub mod Threads
+pub mod Closing
+pub mod Steps
+pub mod Totals
+pub mod Starting
+pub mod Finished
+pub mod Precedence
+pub mod Effects

@@ -1,0 +1,69 @@
+-- What a machine holds after a schedule.
+use Rattle.std.specs.Prelude.{◌≡◌, ℕ, ◌<◌, Bool, true, false, nat_lt, if◌then◌else◌, List, ◌∷◌, length, take, drop, Option, None, Some, Result, Ok, Err, OnErr, slice_get}
+use Rattle.std.specs.Option.{option_map}
+use Rattle.recorder_core.specs.declared.step.Step.{Step}
+use Rattle.recorder_core.specs.declared.pending.Pending.{Pending}
+use Rattle.recorder_core.specs.declared.step.Done.{Done}
+use Rattle.recorder_core.specs.declared.step.StepRefused.{StepRefused}
+use Rattle.recorder_core.specs.declared.step.StepRefused.TheVariants.{Memory}
+use Rattle.recorder_core.specs.Setting.{Setting}
+use Rattle.recorder_core.specs.Schedule.{Attempt, accepted, answer_to, asks, all_asks, answers, returns, pushes, drained, tickets, events, question, answered, is_closed, queue}
+use Rattle.recorder_core.specs.View.{ThreadView, MachineView}
+
+-- the operation of t that has no return yet, with its answer if it has one
+abbrev pub pending : Setting → ℕ → List Step → Option Pending
+pending setting t steps =
+    if nat_lt (returns t steps) (asks t steps)
+    then option_map (λ asked. record { question = asked; answer = if nat_lt (returns t steps) (answers t steps) then answered setting t steps else None }) (question t steps)
+    else None
+
+-- what a machine holds for t after these accepted steps: of its events the first are collected,
+-- the next ones are in its ring, and the one after those is held
+abbrev pub thread_after : Setting → ℕ → List Step → ThreadView
+thread_after setting t steps = record {
+  closed = is_closed t steps;
+  asked = asks t steps;
+  pending = pending setting t steps;
+  held = slice_get (events setting t steps) (pushes t steps);
+  ring = drop (drained t steps) (take (pushes t steps) (events setting t steps));
+  collected = take (drained t steps) (events setting t steps);
+}
+
+-- the machine is what these accepted steps leave
+pub record IsLeftBy (setting : Setting) (machine : MachineView) (steps : List Step) : Type 0 where
+  pub threads : length machine.threads ≡ setting.threads
+  pub capacity : machine.capacity ≡ setting.ring
+  pub each : (t : ℕ) → t < setting.threads → slice_get machine.threads t ≡ Some (thread_after setting t steps)
+  pub asked : machine.asked ≡ all_asks steps
+  pub next_ticket : machine.next_ticket ≡ tickets steps
+  pub queue_is : machine.queue ≡ queue setting steps
+
+-- the machine is what this schedule leaves
+abbrev pub IsAfter : Setting → MachineView → List Attempt → Type 0
+IsAfter setting machine schedule = IsLeftBy setting machine (accepted setting schedule)
+
+-- some schedule leaves this machine
+abbrev pub IsReachable : MachineView → Type 0
+IsReachable machine = (setting : Setting) × (schedule : List Attempt) × IsAfter setting machine schedule
+
+-- whether this refusal is that of a growth
+abbrev pub is_memory : StepRefused → Bool
+is_memory Memory = true
+is_memory _ = false
+
+-- whether growth was refused
+abbrev pub is_out_of_memory : {A : Type 0} → Result A StepRefused → Bool
+is_out_of_memory (Ok x) = false
+is_out_of_memory (Err refused) = is_memory refused
+
+-- the attempt at a step, by its answer: growth was refused where the answer says so
+abbrev pub attempt_at : {A : Type 0} → Step → Result A StepRefused → Attempt
+attempt_at step result = record { step = step; starved = is_out_of_memory result }
+
+-- what it means that a machine takes a step: it answers what the schedule says, whichever schedule left it,
+-- and is then what that schedule leaves with this attempt added
+pub record TakesStep (old : MachineView) (step : Step) (result : Result Done StepRefused) (new : MachineView) : Type 0 where
+  pub answered : (setting : Setting) (schedule : List Attempt) → IsAfter setting old schedule → result ≡ answer_to setting schedule (attempt_at step result)
+  pub goes_on : (setting : Setting) (schedule : List Attempt) → IsAfter setting old schedule → IsAfter setting new (attempt_at step result ∷ schedule)
+  pub unchanged : OnErr result (new ≡ old)
+  pub threads : length new.threads ≡ length old.threads

@@ -1,0 +1,48 @@
+-- The words of what holds of every schedule.
+use Rattle.std.specs.Prelude.{◌≡◌, ℕ, ◌<◌, ◌++◌, true, List, ◌∷◌, Some, None}
+use Rattle.event_records.specs.declared.event.Event.{Event}
+use Rattle.recorder_core.specs.declared.step.Step.{Step}
+use Rattle.recorder_core.specs.declared.step.Step.TheVariants.{Drain}
+use Rattle.recorder_core.specs.Setting.{Setting}
+use Rattle.recorder_core.specs.Schedule.{Attempt, accepted, refusal, events, event_of, pushes, drained, is_closed}
+use Rattle.recorder_core.specs.After.{thread_after}
+
+-- the whole list begins with the first one
+abbrev pub IsPrefix : {X : Type 0} → List X → List X → Type 0
+IsPrefix {X} first whole = (rest : List X) × (first ++ rest ≡ whole)
+
+-- the events of t
+abbrev pub events_in : Setting → List Attempt → ℕ → List Event
+events_in setting schedule t = events setting t (accepted setting schedule)
+
+-- those of them that are collected
+abbrev pub collected_in : Setting → List Attempt → ℕ → List Event
+collected_in setting schedule t = (thread_after setting t (accepted setting schedule)).collected
+
+-- every thread is closed, and everything pushed is drained
+abbrev pub IsDone : Setting → List Attempt → Type 0
+IsDone setting schedule =
+    let steps = accepted setting schedule in
+    (t : ℕ) → t < setting.threads → (is_closed t steps ≡ true) × (pushes t steps ≡ drained t steps)
+
+-- the step is for open threads alone: it is any but a drain
+abbrev pub NeedsOpenThread : Step → Type 0
+NeedsOpenThread (Drain t k) = ⊥
+NeedsOpenThread _ = Unit {0}
+
+-- the attempt, tried after this schedule, is accepted and gives this event
+abbrev pub Gives : Setting → List Attempt → Attempt → Event → Type 0
+Gives setting before attempt event =
+    let steps = accepted setting before in
+    (refusal setting steps attempt ≡ None) × (event_of setting event.thread attempt.step steps ≡ Some event)
+
+-- the step that gives the first event stands before the step that gives the second
+pub record StandsBefore (setting : Setting) (schedule : List Attempt) (first second : Event) : Type 0 where
+  pub before : List Attempt
+  pub one : Attempt
+  pub between : List Attempt
+  pub other : Attempt
+  pub later : List Attempt
+  pub schedule_is : schedule ≡ later ++ other ∷ (between ++ one ∷ before)
+  pub gives_first : Gives setting before one first
+  pub gives_second : Gives setting (between ++ one ∷ before) other second

@@ -1,0 +1,8 @@
+pub mod Setting
+pub mod View
+pub mod Schedule
+pub mod After
+pub mod Laws
+pub mod Replay
+pub mod Seen
+pub mod Asked

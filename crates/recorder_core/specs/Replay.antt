@@ -1,0 +1,123 @@
+-- Recorded lists, schedules that collect them, and the histories to which they merge.
+use Rattle.std.specs.Prelude.{◌≡◌, ℕ, ◌+◌, ◌*◌, ◌≤◌, Bool, true, false, not, IsTrue, List, [], ◌∷◌, ◌++◌, length, map, All, filter_map, flat_map, slice_get, Option, Some, None, IsPermutation}
+use Rattle.std.specs.List.{range_with_len, list_all}
+use Rattle.std.specs.Option.{option_map}
+use Rattle.event_records.specs.declared.event.Event.{Event}
+use Rattle.event_records.specs.declared.event.What.TheVariants.{CallEnq}
+use Rattle.event_records.specs.declared.limits.TheConstants.{MAX_THREAD_OPERATIONS, MAX_OPERATIONS}
+use Rattle.event_records.specs.Question.{value_name}
+use Rattle.event_records.specs.Turns.{Alternates}
+use Rattle.history_merge.specs.Complete.{IsCompleteHistory}
+use Rattle.history_merge.specs.Merge.{IsMerged}
+use Rattle.history_merge.specs.Operations.{operations_of, operation_of}
+use Rattle.history_merge.specs.Legal.{IsLegalOrder}
+use Rattle.history_merge.specs.declared.operation.Operation.{Operation}
+use Rattle.history_merge.specs.declared.operation.OpKind.{OpKind}
+use Rattle.history_merge.specs.declared.operation.OpKind.TheVariants.{Enq, Deq, Empty, Not}
+use Rattle.recorder_core.specs.declared.limits.TheConstants.{MAX_THREADS, MIN_RING, MAX_RING}
+use Rattle.recorder_core.specs.declared.step.Step.{Step}
+use Rattle.recorder_core.specs.declared.step.Step.TheVariants.{Effect, Say}
+use Rattle.recorder_core.specs.declared.step.Answer.{Answer}
+use Rattle.recorder_core.specs.declared.step.Answer.TheVariants.{Taken, Got}
+use Rattle.recorder_core.specs.declared.pending.Question.{Question}
+use Rattle.recorder_core.specs.declared.pending.Question.TheVariants.{Enqueue, Dequeue}
+use Rattle.recorder_core.specs.Setting.{Setting}
+use Rattle.recorder_core.specs.Schedule.{Attempt, accepted, question, effect_answer, with_last, answers, events}
+use Rattle.recorder_core.specs.Laws.{collected_in, IsDone}
+
+-- ---- honest schedules, and the lists that a schedule collects
+
+-- whether a step is an effect
+abbrev pub is_effect : Step → Bool
+is_effect (Effect t) = true
+is_effect _ = false
+
+-- whether it tells an answer
+abbrev pub is_say : Step → Bool
+is_say (Say t answer) = true
+is_say _ = false
+
+-- no accepted step tells an answer: each is that of the sequential queue
+abbrev pub IsHonest : Setting → List Attempt → Type 0
+IsHonest setting schedule = IsTrue (list_all (λ step. not (is_say step)) (accepted setting schedule))
+
+-- the lists that a schedule collects, of threads 0, 1, 2 and so on
+abbrev pub collected_lists : Setting → List Attempt → List (List Event)
+collected_lists setting schedule = map (λ t. collected_in setting schedule t) (range_with_len 0 setting.threads)
+
+-- ---- recorded lists
+
+-- the list of thread t: its events alone, in turn; an enqueue by its n-th operation, from 0, is called with the name of n
+pub record IsListOf (t : ℕ) (events : List Event) : Type 0 where
+  pub own : All (λ event. event.thread ≡ t) events
+  pub alternates : Alternates events
+  pub names : (n value : ℕ) (call : Event) → slice_get events (2 * n) ≡ Some call → call.what ≡ CallEnq value → value ≡ value_name t n
+  pub not_too_long : length events ≤ 2 * MAX_THREAD_OPERATIONS
+
+-- one list for each of 1 to 64 threads, whose tickets together are the numbers below their total, each once
+pub record AreRecorded (lists : List (List Event)) : Type 0 where
+  pub some : 1 ≤ length lists
+  pub not_too_many : length lists ≤ MAX_THREADS
+  pub each : (t : ℕ) (events : List Event) → slice_get lists t ≡ Some events → IsListOf t events
+  pub tickets : let all = flat_map (λ list. list) lists in IsPermutation (map (λ event. event.ticket) all) (range_with_len 0 (length all))
+  pub not_too_long : length (flat_map (λ list. list) lists) ≤ 2 * MAX_OPERATIONS
+
+-- some schedule without effects, each of whose steps is accepted, is done and collects these lists
+pub record Replays (ring : ℕ) (lists : List (List Event)) : Type 0 where
+  pub schedule : List Attempt
+  pub without_effects : IsTrue (list_all (λ attempt. not (is_effect attempt.step)) schedule)
+  pub all_accepted : accepted (record { threads = length lists; ring = ring }) schedule ≡ map (λ attempt. attempt.step) schedule
+  pub is_done : IsDone (record { threads = length lists; ring = ring }) schedule
+  pub collects : collected_lists (record { threads = length lists; ring = ring }) schedule ≡ lists
+
+-- ---- effects
+
+-- the thread and the number of the operation of each effect, in the order of the effects
+abbrev pub effected : List Step → List (ℕ × ℕ)
+effected [] = []
+effected (Effect t ∷ before) = effected before ++ (t, answers t before) ∷ []
+effected (_ ∷ before) = effected before
+
+-- the operation with number n of thread t: its call and return are events 2n and 2n + 1 of t
+abbrev pub operation_at : Setting → List Step → ℕ × ℕ → Option Operation
+operation_at setting steps (t, n) = elim (slice_get (events setting t steps) (2 * n)) [
+  | None ↦ None
+  | Some call ↦ operation_of call (slice_get (events setting t steps) (2 * n + 1))
+]
+
+-- the operations in the order of their effects
+abbrev pub effects_order : Setting → List Step → List Operation
+effects_order setting steps = filter_map (operation_at setting steps) (effected steps)
+
+-- what an operation did that asked this and was told that
+abbrev pub kind_told : Question → Answer → OpKind
+kind_told (Enqueue value) Taken = Enq value
+kind_told (Enqueue value) _ = Not value
+kind_told Dequeue (Got value) = Deq value
+kind_told Dequeue _ = Empty
+
+-- what the effects did, in their order
+abbrev pub effect_kinds : Setting → List Step → List OpKind
+effect_kinds setting [] = []
+effect_kinds setting (Effect t ∷ before) =
+    with_last (effect_kinds setting before) (option_map (λ asked. kind_told asked (effect_answer setting t before)) (question t before))
+effect_kinds setting (_ ∷ before) = effect_kinds setting before
+
+-- ---- the laws
+
+-- recorded lists are collected by some schedule, for every capacity of the rings
+abbrev pub recorded_lists_replay : Type 0
+recorded_lists_replay = (lists : List (List Event)) (ring : ℕ) → AreRecorded lists → MIN_RING ≤ ring → ring ≤ MAX_RING → Replays ring lists
+
+-- they merge to a complete history
+abbrev pub recorded_lists_are_complete : Type 0
+recorded_lists_are_complete = (lists : List (List Event)) (merged : List Event) → AreRecorded lists → IsMerged lists merged → IsCompleteHistory merged
+
+-- and so do the lists that a done schedule collects
+abbrev pub done_schedules_are_complete : Type 0
+done_schedules_are_complete = (setting : Setting) (schedule : List Attempt) (merged : List Event) → setting.threads ≤ MAX_THREADS → IsDone setting schedule → IsMerged (collected_lists setting schedule) merged → IsCompleteHistory merged
+
+-- the order of the effects of an honest schedule that is done is a legal order of the collected history
+abbrev pub honest_schedules_are_legal : Type 0
+honest_schedules_are_legal = (setting : Setting) (schedule : List Attempt) (merged : List Event) → setting.threads ≤ MAX_THREADS → IsHonest setting schedule → IsDone setting schedule → IsMerged (collected_lists setting schedule) merged →
+    IsLegalOrder (operations_of merged) (effects_order setting (accepted setting schedule))

@@ -1,0 +1,274 @@
+-- What a schedule means: which of its steps are accepted, and what each accepted step gives.
+-- In every list of attempts or of steps the latest stands first, so the rest of a list is what came before.
+-- Whatever a thread's queue, answers and events are is read off the accepted steps by counts and filters: there is no ring,
+-- no held event and no state.
+use Rattle.std.specs.Prelude.{ℕ, ◌+◌, ◌-◌, min, Bool, true, false, not, ◌||◌, ◌==◌, nat_lt, nat_le, if◌then◌else◌, List, [], ◌∷◌, ◌++◌, length, filter, find, drop, Option, None, Some, Result, Ok, Err}
+use Rattle.std.specs.List.{list_any}
+use Rattle.std.specs.Option.{option_map, option_map_or, is_none}
+use Rattle.event_records.specs.declared.event.Event.{Event}
+use Rattle.event_records.specs.declared.event.What.{What}
+use Rattle.event_records.specs.declared.event.What.TheVariants.{CallEnq, RetEnq, RetNot, CallDeq, RetDeq, RetEmpty}
+use Rattle.event_records.specs.declared.limits.TheConstants.{MAX_THREAD_OPERATIONS, MAX_OPERATIONS}
+use Rattle.event_records.specs.Question.{value_name}
+use Rattle.recorder_core.specs.declared.step.Step.{Step}
+use Rattle.recorder_core.specs.declared.step.Step.TheVariants.{AskEnq, AskDeq, Push, Effect, Say, Ret, Drain, Close}
+use Rattle.recorder_core.specs.declared.step.Answer.{Answer}
+use Rattle.recorder_core.specs.declared.step.Answer.TheVariants.{Taken, Not, Got, Empty}
+use Rattle.recorder_core.specs.declared.pending.Question.{Question}
+use Rattle.recorder_core.specs.declared.pending.Question.TheVariants.{Enqueue, Dequeue}
+use Rattle.recorder_core.specs.declared.step.Done.{Done}
+use Rattle.recorder_core.specs.declared.step.Done.TheVariants.{Ticket, Pushed, Answered, Drained, Closed as CloseDone}
+use Rattle.recorder_core.specs.Setting.{Setting}
+use Rattle.recorder_core.specs.declared.step.StepRefused.{StepRefused}
+use Rattle.recorder_core.specs.declared.step.StepRefused.TheVariants.{NoThread, Closed, Held, NothingHeld, RingFull, Pending, NotPending, NoAnswer, AnswerTaken, WrongAnswer, Limit, Memory}
+
+-- a step that is tried, and whether its growth is refused; only a push, an effect and a drain grow
+pub record Attempt : Type 0 where
+  pub step : Step
+  pub starved : Bool
+
+-- ---- counts over accepted steps
+
+-- whether a step is an ask of t
+abbrev pub is_ask : ℕ → Step → Bool
+is_ask t (AskEnq u) = u == t
+is_ask t (AskDeq u) = u == t
+is_ask t _ = false
+
+-- whether it gives the pending operation of t an answer
+abbrev pub is_answer : ℕ → Step → Bool
+is_answer t (Effect u) = u == t
+is_answer t (Say u answer) = u == t
+is_answer t _ = false
+
+-- whether it is a return of t
+abbrev pub is_return : ℕ → Step → Bool
+is_return t (Ret u) = u == t
+is_return t _ = false
+
+-- whether it is a push of t
+abbrev pub is_push : ℕ → Step → Bool
+is_push t (Push u) = u == t
+is_push t _ = false
+
+-- whether it is a close of t
+abbrev pub is_close : ℕ → Step → Bool
+is_close t (Close u) = u == t
+is_close t _ = false
+
+-- whether it is an ask of any thread
+abbrev pub is_any_ask : Step → Bool
+is_any_ask (AskEnq u) = true
+is_any_ask (AskDeq u) = true
+is_any_ask _ = false
+
+-- whether it takes a ticket, as asks and returns do
+abbrev pub is_ticket_step : Step → Bool
+is_ticket_step (AskEnq u) = true
+is_ticket_step (AskDeq u) = true
+is_ticket_step (Ret u) = true
+is_ticket_step _ = false
+
+-- how many of the steps pass a test
+abbrev pub count_of : (Step → Bool) → List Step → ℕ
+count_of test steps = length (filter test steps)
+
+-- how many operations t asked
+abbrev pub asks : ℕ → List Step → ℕ
+asks t steps = count_of (is_ask t) steps
+
+-- how many of them were answered
+abbrev pub answers : ℕ → List Step → ℕ
+answers t steps = count_of (is_answer t) steps
+
+-- how many of them returned
+abbrev pub returns : ℕ → List Step → ℕ
+returns t steps = count_of (is_return t) steps
+
+-- how many events t pushed
+abbrev pub pushes : ℕ → List Step → ℕ
+pushes t steps = count_of (is_push t) steps
+
+-- how many operations all threads asked
+abbrev pub all_asks : List Step → ℕ
+all_asks steps = count_of is_any_ask steps
+
+-- how many tickets are taken, and so the next ticket
+abbrev pub tickets : List Step → ℕ
+tickets steps = count_of is_ticket_step steps
+
+-- the sum of what the drains of t took, each the lesser of its number and what was pushed and not yet drained
+abbrev pub drained : ℕ → List Step → ℕ
+drained t [] = 0
+drained t (Drain u k ∷ before) =
+    if u == t then drained t before + min k (pushes t before - drained t before) else drained t before
+drained t (_ ∷ before) = drained t before
+
+-- how many events of t are pushed and not yet drained
+abbrev pub in_ring : ℕ → List Step → ℕ
+in_ring t steps = pushes t steps - drained t steps
+
+-- whether t is closed
+abbrev pub is_closed : ℕ → List Step → Bool
+is_closed t steps = list_any (is_close t) steps
+
+-- ---- questions, answers and the sequential queue
+
+-- what t asked last
+abbrev pub question : ℕ → List Step → Option Question
+question t [] = None
+question t (AskEnq u ∷ before) = if u == t then Some (Enqueue (value_name t (asks t before))) else question t before
+question t (AskDeq u ∷ before) = if u == t then Some Dequeue else question t before
+question t (_ ∷ before) = question t before
+
+-- what the sequential queue answers
+abbrev pub queue_answer : Question → List ℕ → Answer
+queue_answer (Enqueue value) queue = Taken
+queue_answer Dequeue [] = Empty
+queue_answer Dequeue (first ∷ rest) = Got first
+
+-- what the sequential queue contains after a question
+abbrev pub queue_after : Question → List ℕ → List ℕ
+queue_after (Enqueue value) queue = queue ++ value ∷ []
+queue_after Dequeue queue = drop 1 queue
+
+-- the sequential queue after the effects among these steps
+abbrev pub queue : Setting → List Step → List ℕ
+queue setting [] = []
+queue setting (Effect u ∷ before) =
+    option_map_or (λ asked. queue_after asked (queue setting before)) (question u before) (queue setting before)
+queue setting (_ ∷ before) = queue setting before
+
+-- the answer of an effect of t: that of the sequential queue after the effects before
+abbrev pub effect_answer : Setting → ℕ → List Step → Answer
+effect_answer setting t before = option_map_or (λ asked. queue_answer asked (queue setting before)) (question t before) Empty
+
+-- what t was answered last
+abbrev pub answered : Setting → ℕ → List Step → Option Answer
+answered setting t [] = None
+answered setting t (Effect u ∷ before) = if u == t then Some (effect_answer setting t before) else answered setting t before
+answered setting t (Say u answer ∷ before) = if u == t then Some answer else answered setting t before
+answered setting t (_ ∷ before) = answered setting t before
+
+-- ---- events
+
+-- the return of an operation with this answer
+abbrev pub return_of : Answer → What
+return_of Taken = RetEnq
+return_of Not = RetNot
+return_of (Got value) = RetDeq value
+return_of Empty = RetEmpty
+
+-- the event that a step gives thread t, if it does, with the next ticket
+abbrev pub event_of : Setting → ℕ → Step → List Step → Option Event
+event_of setting t (AskEnq u) before =
+    if u == t then Some (record { ticket = tickets before; thread = t; what = CallEnq (value_name t (asks t before)) }) else None
+event_of setting t (AskDeq u) before =
+    if u == t then Some (record { ticket = tickets before; thread = t; what = CallDeq }) else None
+event_of setting t (Ret u) before =
+    if u == t
+    then option_map (λ answer. record { ticket = tickets before; thread = t; what = return_of answer }) (answered setting t before)
+    else None
+event_of setting t _ before = None
+
+-- a list with one more item at its end, if there is one
+abbrev pub with_last : {X : Type 0} → List X → Option X → List X
+with_last items None = items
+with_last items (Some item) = items ++ item ∷ []
+
+-- the events of t: its asks and returns, in their order
+abbrev pub events : Setting → ℕ → List Step → List Event
+events setting t [] = []
+events setting t (step ∷ before) = with_last (events setting t before) (event_of setting t step before)
+
+-- ---- refusals
+
+-- the thread whose step it is
+abbrev pub thread_of : Step → ℕ
+thread_of (AskEnq t) = t
+thread_of (AskDeq t) = t
+thread_of (Push t) = t
+thread_of (Effect t) = t
+thread_of (Say t answer) = t
+thread_of (Ret t) = t
+thread_of (Drain t k) = t
+thread_of (Close t) = t
+
+-- whether an enqueue may be answered this
+abbrev pub is_enqueue_answer : Answer → Bool
+is_enqueue_answer Taken = true
+is_enqueue_answer Not = true
+is_enqueue_answer _ = false
+
+-- whether this answer is of the other kind than the operation that was asked
+abbrev pub is_wrong : Answer → Option Question → Bool
+is_wrong answer None = false
+is_wrong answer (Some (Enqueue value)) = not (is_enqueue_answer answer)
+is_wrong answer (Some Dequeue) = is_enqueue_answer answer
+
+-- whether a step tells an operation an answer of the other kind
+abbrev pub is_told_wrong : Step → Option Question → Bool
+is_told_wrong (Say t answer) asked = is_wrong answer asked
+is_told_wrong _ asked = false
+
+-- whether an attempt meets a refusal, after these accepted steps
+abbrev pub meets : Setting → List Step → Attempt → StepRefused → Bool
+meets setting before attempt NoThread = nat_le setting.threads (thread_of attempt.step)
+meets setting before attempt Closed = is_closed (thread_of attempt.step) before
+meets setting before attempt Held = let t = thread_of attempt.step in nat_lt (pushes t before) (asks t before + returns t before)
+meets setting before attempt NothingHeld = let t = thread_of attempt.step in nat_le (asks t before + returns t before) (pushes t before)
+meets setting before attempt RingFull = nat_le setting.ring (in_ring (thread_of attempt.step) before)
+meets setting before attempt Pending = let t = thread_of attempt.step in nat_lt (returns t before) (asks t before)
+meets setting before attempt NotPending = let t = thread_of attempt.step in nat_le (asks t before) (returns t before)
+meets setting before attempt NoAnswer = let t = thread_of attempt.step in nat_le (answers t before) (returns t before)
+meets setting before attempt AnswerTaken = let t = thread_of attempt.step in nat_lt (returns t before) (answers t before)
+meets setting before attempt WrongAnswer = is_told_wrong attempt.step (question (thread_of attempt.step) before)
+meets setting before attempt Limit = nat_le MAX_THREAD_OPERATIONS (asks (thread_of attempt.step) before) || nat_le MAX_OPERATIONS (all_asks before)
+meets setting before attempt Memory = attempt.starved
+
+-- the refusals that a step can give, in the order in which they are looked for
+abbrev pub refusals_of : Step → List StepRefused
+refusals_of (AskEnq t) = NoThread ∷ Closed ∷ Held ∷ Pending ∷ Limit ∷ []
+refusals_of (AskDeq t) = NoThread ∷ Closed ∷ Held ∷ Pending ∷ Limit ∷ []
+refusals_of (Push t) = NoThread ∷ Closed ∷ NothingHeld ∷ RingFull ∷ Memory ∷ []
+refusals_of (Effect t) = NoThread ∷ Closed ∷ NotPending ∷ AnswerTaken ∷ Memory ∷ []
+refusals_of (Say t answer) = NoThread ∷ Closed ∷ NotPending ∷ AnswerTaken ∷ WrongAnswer ∷ []
+refusals_of (Ret t) = NoThread ∷ Closed ∷ Held ∷ NotPending ∷ NoAnswer ∷ []
+refusals_of (Drain t k) = NoThread ∷ Memory ∷ []
+refusals_of (Close t) = NoThread ∷ Closed ∷ Held ∷ Pending ∷ []
+
+-- the first refusal that an attempt meets, if any
+abbrev pub refusal : Setting → List Step → Attempt → Option StepRefused
+refusal setting before attempt = find (meets setting before attempt) (refusals_of attempt.step)
+
+-- ---- accepted steps, and what a step is answered
+
+-- the accepted steps of a schedule: those that meet no refusal after the accepted steps before them
+abbrev pub accepted : Setting → List Attempt → List Step
+accepted setting [] = []
+accepted setting (attempt ∷ before) =
+    if is_none (refusal setting (accepted setting before) attempt)
+    then attempt.step ∷ accepted setting before
+    else accepted setting before
+
+-- what an accepted step is answered
+abbrev pub done_of : Setting → Step → List Step → Done
+done_of setting (AskEnq t) before = Ticket (tickets before)
+done_of setting (AskDeq t) before = Ticket (tickets before)
+done_of setting (Push t) before = Pushed
+done_of setting (Effect t) before = Answered (effect_answer setting t before)
+done_of setting (Say t answer) before = Answered answer
+done_of setting (Ret t) before = Ticket (tickets before)
+done_of setting (Drain t k) before = Drained (min k (in_ring t before))
+done_of setting (Close t) before = CloseDone
+
+-- the answer that goes with a refusal, or with none
+abbrev pub reply : Option StepRefused → Done → Result Done StepRefused
+reply None done = Ok done
+reply (Some refused) done = Err refused
+
+-- what an attempt is answered after a schedule
+abbrev pub answer_to : Setting → List Attempt → Attempt → Result Done StepRefused
+answer_to setting schedule attempt =
+    let before = accepted setting schedule in
+    reply (refusal setting before attempt) (done_of setting attempt.step before)

@@ -1,0 +1,36 @@
+//! What holds of every schedule, whatever steps are tried in whatever order. These functions do nothing; the law is what
+//! each of them ensures, and its words stand in `specs/Laws.antt` and `specs/Replay.antt`.
+ghost use Rattle.std.specs.Prelude.{◌≡◌, ℕ, ◌<◌, ◌++◌, ◌∷◌, List, Contains, Err, None, Some, [], ◌↔◌};
+ghost use Rattle.event_records.specs.declared.event.Event.{Event};
+ghost use Rattle.history_merge.specs.Queue.{accept_all};
+ghost use Rattle.recorder_core.specs.declared.step.Step.TheVariants.{Close};
+ghost use Rattle.recorder_core.specs.declared.step.StepRefused.TheVariants.{Closed};
+ghost use Rattle.recorder_core.specs.Setting.{Setting};
+ghost use Rattle.recorder_core.specs.Schedule.{Attempt, accepted, refusal, answer_to, thread_of, queue};
+ghost use Rattle.recorder_core.specs.Laws.{IsPrefix, events_in, collected_in, IsDone, NeedsOpenThread, StandsBefore};
+ghost use Rattle.recorder_core.specs.Replay.{effect_kinds};
+
+/// Each thread's collected list is a prefix of its events.
+pub fn collected_is_a_prefix()
+    ensures { (setting : Setting) (schedule : List Attempt) (t : ℕ) → IsPrefix (collected_in setting schedule t) (events_in setting schedule t) }
+{}
+
+/// It is all of them where the schedule is done.
+pub fn done_collects_all()
+    ensures { (setting : Setting) (schedule : List Attempt) → IsDone setting schedule → (t : ℕ) → t < setting.threads → collected_in setting schedule t ≡ events_in setting schedule t }
+{}
+
+/// After an accepted close, each step of that thread but a drain is refused as closed.
+pub fn nothing_after_close()
+    ensures { (setting : Setting) (before later : List Attempt) (close attempt : Attempt) → close.step ≡ Close (thread_of attempt.step) → refusal setting (accepted setting before) close ≡ None → NeedsOpenThread attempt.step → answer_to setting (later ++ close ∷ before) attempt ≡ Err Closed }
+{}
+
+/// Of two collected events the one with the lower ticket is the one whose step stands first.
+pub fn precedence_as_ticketed()
+    ensures { (setting : Setting) (schedule : List Attempt) (t u : ℕ) (first second : Event) → Contains (collected_in setting schedule t) first → Contains (collected_in setting schedule u) second → (first.ticket < second.ticket) ↔ StandsBefore setting schedule first second }
+{}
+
+/// The sequential queue accepts the effects in their order, from the empty queue on, and is then the schedule's.
+pub fn effects_are_accepted()
+    ensures { (setting : Setting) (schedule : List Attempt) → accept_all [] (effect_kinds setting (accepted setting schedule)) ≡ Some (queue setting (accepted setting schedule)) }
+{}

@@ -1,0 +1,24 @@
+//! The recorder of a run as a pure machine: what it holds after any list of its atomic steps, in any order.
+//!
+//! The steps are those of the threads of a recorded run: tickets are drawn, events pushed and drained, rings closed, and the
+//! tested queue takes effect or answers. A [`Machine`] takes one step at a time; what a list of steps means stands in
+//! `specs/Schedule.antt`, without rings and without states, and the functions of `laws` say what holds of every list.
+#![tactic(auto)]
+
+mod laws;
+mod limits;
+mod machine;
+mod pending;
+mod step;
+#[cfg(test)]
+mod tests;
+mod thread;
+
+pub use laws::{
+    collected_is_a_prefix, done_collects_all, effects_are_accepted, nothing_after_close,
+    precedence_as_ticketed,
+};
+pub use limits::{MAX_RING, MAX_THREADS, MIN_RING};
+pub use machine::Machine;
+pub use pending::{Pending, Question};
+pub use step::{Answer, Done, Step, StepRefused};

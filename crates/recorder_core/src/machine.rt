@@ -1,0 +1,299 @@
+//! The machine.
+ghost use Rattle.std.specs.Prelude.{◌≡◌, ℕ, ◌+◌, ◌≤◌, ◌<◌, ◌↔◌, IfOk, OnOk, OnErr, IsTrue, [], ◌∷◌, List, Some, length};
+ghost use Rattle.std.specs.List.{list_all};
+ghost use Rattle.recorder_core.specs.declared.step.Step.TheVariants.{Push, Effect, Say, Ret, Drain, Close};
+ghost use Rattle.recorder_core.specs.Setting.{Setting};
+ghost use Rattle.recorder_core.specs.Asked.{ask_of, asked_for, call_of, is_limited};
+ghost use Rattle.recorder_core.specs.Seen.{is_thread_done};
+ghost use Rattle.recorder_core.specs.Schedule.{Attempt, answer_to, queue_answer, queue_after, is_wrong, return_of};
+
+use crate::limits::{MAX_RING, MAX_THREADS, MIN_RING};
+use crate::pending::Question;
+use crate::step::{Answer, Done, Step, StepRefused};
+use crate::thread::Thread;
+use event_records::{Event, Kind, MAX_OPERATIONS, MAX_THREAD_OPERATIONS, What};
+use std::alloc::{AllocError, Global};
+use std::collections::VecDeque;
+use std::marker::Model;
+
+/// How many values are kept for the names of each thread.
+const NAMES: u64 = 1 << 32;
+
+/// What the recorder holds after a list of steps.
+///
+/// For each thread: whether it is closed, how many operations it asked, the pending one, the held event, the events in its
+/// ring and those collected. For all together: the next ticket, and the sequential queue, a list of values, its front first.
+/// The memory is in proportion to what is held.
+#[derive(Debug, Drop)]
+pub struct Machine {
+    capacity: usize,
+    threads: Vec<Thread>,
+    asked: u64,
+    next_ticket: u64,
+    queue: VecDeque<u64>,
+}
+
+impl Model for Machine {
+    ghost use Rattle.recorder_core.specs.View.{MachineView};
+    ghost use Rattle.recorder_core.specs.After.{IsReachable};
+
+    ghost Value = { MachineView };
+
+    ghost view = { λ a. record { capacity = a.capacity; threads = a.threads.items; asked = a.asked; next_ticket = a.next_ticket; queue = a.queue.items } };
+
+    ghost invariant = { λ a. IsReachable (record { capacity = a.capacity; threads = a.threads.items; asked = a.asked; next_ticket = a.next_ticket; queue = a.queue.items }) };
+}
+
+impl Machine {
+    ghost use Rattle.recorder_core.specs.After.{IsAfter, TakesStep, attempt_at};
+    ghost use Rattle.recorder_core.specs.Laws.{collected_in, IsDone};
+
+    /// A machine that nothing has happened to, with threads 0, 1, 2 and so on, each with a ring of this capacity.
+    ///
+    /// Rings take memory as they are filled, and not here.
+    pub fn new(alloc: Global, threads: usize, ring: usize) -> Result<Machine, AllocError>
+        requires threads { (1 ≤ threads) × (threads ≤ MAX_THREADS) }
+        requires ring { (MIN_RING ≤ ring) × (ring ≤ MAX_RING) }
+        ensures { IfOk result (λ machine. IsAfter (record { threads = threads; ring = ring }) machine []) }
+    {
+        let mut list = Vec::with_capacity(alloc, threads)?;
+        for _ in 0..threads {
+            list.push(Thread::new(alloc))?;
+        }
+        Ok(Machine {
+            capacity: ring,
+            threads: list,
+            asked: 0,
+            next_ticket: 0,
+            queue: VecDeque::new(alloc),
+        })
+    }
+
+    /// Takes one step. A refused step changes nothing.
+    ///
+    /// A drain takes time in proportion to what it collects; every other step takes a constant time, where a list that
+    /// grows is counted over all steps.
+    pub fn step(&mut self, step: Step) -> Result<Done, StepRefused>
+        // Whichever schedule left the machine, the answer is what that schedule says. `Memory` is read off the answer: the
+        // attempt is one whose growth is refused exactly where the answer says so.
+        ensures answered { (setting : Setting) (schedule : List Attempt) → IsAfter setting self.old schedule → result ≡ answer_to setting schedule (attempt_at step result) }
+
+        // And the machine is then what that schedule leaves with this attempt added.
+        ensures goes_on { (setting : Setting) (schedule : List Attempt) → IsAfter setting self.old schedule → IsAfter setting self.new (attempt_at step result ∷ schedule) }
+        ensures refused { OnErr result (self.new ≡ self.old) }
+        ensures threads { length self.new.threads ≡ length self.old.threads }
+    {
+        match step {
+            Step::AskEnq(thread) => self.ask(thread, Kind::Enq),
+            Step::AskDeq(thread) => self.ask(thread, Kind::Deq),
+            Step::Push(thread) => self.push(thread),
+            Step::Effect(thread) => self.effect(thread),
+            Step::Say(thread, answer) => self.say(thread, answer),
+            Step::Ret(thread) => self.ret(thread),
+            Step::Drain(thread, most) => self.drain(thread, most),
+            Step::Close(thread) => self.close(thread),
+        }
+    }
+
+    fn ask(&mut self, number: u8, kind: Kind) -> Result<Done, StepRefused>
+        ensures { TakesStep self.old (ask_of kind number) result self.new }
+    {
+        let Some(thread) = self.threads.get_mut(usize::from(number)) else {
+            return Err(StepRefused::NoThread);
+        };
+        thread.idle()?;
+        if is_limited(thread.asked(), self.asked) {
+            return Err(StepRefused::Limit);
+        }
+        let question = question_of(kind, number, thread.asked());
+        let call = take_ticket(&mut self.next_ticket);
+        self.asked += 1;
+        thread.begin(
+            question,
+            Event {
+                ticket: call,
+                thread: number,
+                what: call_with(question),
+            },
+        );
+        Ok(Done::Ticket(call))
+    }
+
+    fn push(&mut self, number: u8) -> Result<Done, StepRefused>
+        ensures { TakesStep self.old (Push number) result self.new }
+    {
+        let Some(thread) = self.threads.get_mut(usize::from(number)) else {
+            return Err(StepRefused::NoThread);
+        };
+        thread.push(self.capacity)?;
+        Ok(Done::Pushed)
+    }
+
+    fn effect(&mut self, number: u8) -> Result<Done, StepRefused>
+        ensures { TakesStep self.old (Effect number) result self.new }
+    {
+        let Some(thread) = self.threads.get_mut(usize::from(number)) else {
+            return Err(StepRefused::NoThread);
+        };
+        let question = thread.unanswered()?;
+        let Ok(answer) = take_effect(&mut self.queue, question) else {
+            return Err(StepRefused::Memory);
+        };
+        thread.answer(question, answer);
+        Ok(Done::Answered(answer))
+    }
+
+    fn say(&mut self, number: u8, told: Answer) -> Result<Done, StepRefused>
+        ensures { TakesStep self.old (Say number told) result self.new }
+    {
+        let Some(thread) = self.threads.get_mut(usize::from(number)) else {
+            return Err(StepRefused::NoThread);
+        };
+        let question = thread.unanswered()?;
+        if is_of_other_kind(told, question) {
+            return Err(StepRefused::WrongAnswer);
+        }
+        thread.answer(question, told);
+        Ok(Done::Answered(told))
+    }
+
+    fn ret(&mut self, number: u8) -> Result<Done, StepRefused>
+        ensures { TakesStep self.old (Ret number) result self.new }
+    {
+        let Some(thread) = self.threads.get_mut(usize::from(number)) else {
+            return Err(StepRefused::NoThread);
+        };
+        let answer = thread.answered()?;
+        let ret = take_ticket(&mut self.next_ticket);
+        thread.end(Event {
+            ticket: ret,
+            thread: number,
+            what: return_with(answer),
+        });
+        Ok(Done::Ticket(ret))
+    }
+
+    fn drain(&mut self, number: u8, most: u32) -> Result<Done, StepRefused>
+        ensures { TakesStep self.old (Drain number most) result self.new }
+    {
+        let Some(thread) = self.threads.get_mut(usize::from(number)) else {
+            return Err(StepRefused::NoThread);
+        };
+        let Ok(count) = thread.drain(most) else {
+            return Err(StepRefused::Memory);
+        };
+        Ok(Done::Drained(count))
+    }
+
+    fn close(&mut self, number: u8) -> Result<Done, StepRefused>
+        ensures { TakesStep self.old (Close number) result self.new }
+    {
+        let Some(thread) = self.threads.get_mut(usize::from(number)) else {
+            return Err(StepRefused::NoThread);
+        };
+        thread.close()?;
+        Ok(Done::Closed)
+    }
+
+    /// What was collected of a thread, oldest first.
+    pub fn collected(&self, number: u8) -> &[Event]
+        requires { number < length self.now.threads }
+        ensures { (setting : Setting) (schedule : List Attempt) → IsAfter setting self.now schedule → result.now ≡ collected_in setting schedule number }
+    {
+        self.threads[usize::from(number)].collected()
+    }
+
+    /// Whether all threads are closed and all rings are empty. It looks at each thread once.
+    pub fn done(&self) -> bool
+        ensures { (setting : Setting) (schedule : List Attempt) → IsAfter setting self.now schedule → IsTrue result ↔ IsDone setting schedule }
+    {
+        all_done(&self.threads)
+    }
+}
+
+/// Whether nothing more can come from any of these threads.
+fn all_done(threads: &[Thread]) -> bool
+    ensures { result ≡ list_all is_thread_done threads.now }
+{
+    threads.iter().all(|thread| thread.is_done())
+}
+
+/// Whether a thread that asked so many operations, of so many in all, may ask no more.
+fn is_limited(asked: u64, all: u64) -> bool
+    ensures { result ≡ is_limited asked all }
+{
+    asked >= MAX_THREAD_OPERATIONS || all >= MAX_OPERATIONS
+}
+
+/// The next ticket, which is then taken.
+fn take_ticket(next: &mut u64) -> u64
+    requires { next.old < u64.MAX }
+    ensures ticket { result ≡ next.old }
+    ensures taken { next.new ≡ next.old + 1 }
+{
+    let ticket = *next;
+    *next += 1;
+    ticket
+}
+
+/// What a thread asks with this kind of operation, after so many others.
+fn question_of(kind: Kind, thread: u8, number: u64) -> Question
+    requires { number < MAX_THREAD_OPERATIONS }
+    ensures { result ≡ asked_for kind thread number }
+{
+    match kind {
+        Kind::Enq => Question::Enqueue(u64::from(thread) * NAMES + number),
+        Kind::Deq => Question::Dequeue,
+    }
+}
+
+/// The call of an operation with this question.
+fn call_with(question: Question) -> What
+    ensures { result ≡ call_of question }
+{
+    match question {
+        Question::Enqueue(value) => What::CallEnq(value),
+        Question::Dequeue => What::CallDeq,
+    }
+}
+
+/// The return of an operation with this answer.
+fn return_with(answer: Answer) -> What
+    ensures { result ≡ return_of answer }
+{
+    match answer {
+        Answer::Taken => What::RetEnq,
+        Answer::Not => What::RetNot,
+        Answer::Got(value) => What::RetDeq(value),
+        Answer::Empty => What::RetEmpty,
+    }
+}
+
+/// The sequential queue's answer, after which it contains what the operation leaves.
+fn take_effect(queue: &mut VecDeque<u64>, question: Question) -> Result<Answer, AllocError>
+    ensures ok { IfOk result (λ answer. answer ≡ queue_answer question queue.old.items) }
+    ensures after { OnOk result (queue.new.items ≡ queue_after question queue.old.items) }
+    ensures err { OnErr result (queue.new.items ≡ queue.old.items) }
+{
+    match question {
+        Question::Enqueue(value) => {
+            queue.push_back(value)?;
+            Ok(Answer::Taken)
+        }
+        Question::Dequeue => match queue.pop_front() {
+            Some(value) => Ok(Answer::Got(value)),
+            None => Ok(Answer::Empty),
+        },
+    }
+}
+
+/// Whether an answer is of the other kind than its question.
+fn is_of_other_kind(answer: Answer, question: Question) -> bool
+    ensures { result ≡ is_wrong answer (Some question) }
+{
+    match (question, answer) {
+        (Question::Enqueue(_), Answer::Taken | Answer::Not) => false,
+        (Question::Dequeue, Answer::Got(_) | Answer::Empty) => false,
+        _ => true,
+    }
+}

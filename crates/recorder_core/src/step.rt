@@ -1,0 +1,92 @@
+use thiserror::Error;
+
+/// The answer of an operation.
+#[derive(Clone, Copy, Debug, PartialEq, Eq)]
+pub enum Answer {
+    /// The value of an enqueue was taken.
+    Taken,
+    /// The value of an enqueue was not taken.
+    Not,
+    /// A dequeue got this value.
+    Got(u64),
+    /// A dequeue found the queue empty.
+    Empty,
+}
+
+/// One atomic step of one thread, whose number comes first.
+#[derive(Clone, Copy, Debug, PartialEq, Eq)]
+pub enum Step {
+    /// Draws a ticket and begins an enqueue; its call event is held. The value is `thread * 2^32 + n`, where `n` counts
+    /// all operations of the thread from 0.
+    AskEnq(u8),
+    /// Draws a ticket and begins a dequeue; its call event is held.
+    AskDeq(u8),
+    /// Puts the held event last into the ring.
+    Push(u8),
+    /// The pending operation takes effect on the sequential queue, and has its answer.
+    Effect(u8),
+    /// The pending operation is told this answer; the sequential queue stays as it is.
+    Say(u8, Answer),
+    /// Draws a ticket and ends the pending operation; its return event is held.
+    Ret(u8),
+    /// Collects the first events of the ring, at most this many.
+    Drain(u8, u32),
+    /// Closes the thread.
+    Close(u8),
+}
+
+/// What a step did.
+#[derive(Clone, Copy, Debug, PartialEq, Eq)]
+pub enum Done {
+    /// An ask or a return drew this ticket.
+    Ticket(u64),
+    /// The held event was pushed.
+    Pushed,
+    /// The pending operation has this answer.
+    Answered(Answer),
+    /// This many events were collected.
+    Drained(u32),
+    /// The thread was closed.
+    Closed,
+}
+
+/// Why a step is refused: the first reason of this list that the step can give and that is there.
+#[derive(Clone, Copy, Debug, PartialEq, Eq, Error)]
+pub enum StepRefused {
+    /// The machine has no thread of this number.
+    #[error("NoThread")]
+    NoThread,
+    /// The thread is closed.
+    #[error("Closed")]
+    Closed,
+    /// The thread holds an event that is not pushed yet.
+    #[error("Held")]
+    Held,
+    /// The thread holds no event to push.
+    #[error("NothingHeld")]
+    NothingHeld,
+    /// The thread's ring has no room.
+    #[error("RingFull")]
+    RingFull,
+    /// An operation of the thread is pending.
+    #[error("Pending")]
+    Pending,
+    /// No operation of the thread is pending.
+    #[error("NotPending")]
+    NotPending,
+    /// The pending operation has no answer to return with.
+    #[error("NoAnswer")]
+    NoAnswer,
+    /// The pending operation has its answer.
+    #[error("AnswerTaken")]
+    AnswerTaken,
+    /// An enqueue is told an answer of a dequeue, or a dequeue one of an enqueue.
+    #[error("WrongAnswer")]
+    WrongAnswer,
+    /// The thread has asked 100,000 operations, or all threads together 1,000,000.
+    #[error("Limit")]
+    Limit,
+    /// A growth was refused: of a ring by a push, of the queue by an effect, of the collected events by a drain.
+    #[error("Memory")]
+    Memory,
+}
