@@ -13,11 +13,11 @@ use Rattle.recorder_core.specs.Laws.{IsDone, NeedsOpenThread, events_in, collect
 use Rattle.recorder_core.proofs.Runs.{same_number, after_each, may_ask, may_push, may_return, may_close}
 use Rattle.recorder_core.proofs.Counts.{Counted, counted}
 
--- where a thread is closed, no event of it is held
-abbrev pub ClosedWithoutHeld : ℕ → List Step → Type 0
-ClosedWithoutHeld t steps = is_closed t steps ≡ true → asks t steps + returns t steps ≤ pushes t steps
+-- where a thread is closed, no event of it is held and no operation is pending
+abbrev pub ClosedIdle : ℕ → List Step → Type 0
+ClosedIdle t steps = is_closed t steps ≡ true → (asks t steps + returns t steps ≤ pushes t steps) × (asks t steps ≤ returns t steps)
 
-other_closed : (t : ℕ) (step : Step) (before : List Step) → (thread_of step ≡ t → ⊥) → ClosedWithoutHeld t before → ClosedWithoutHeld t (step ∷ before)
+other_closed : (t : ℕ) (step : Step) (before : List Step) → (thread_of step ≡ t → ⊥) → ClosedIdle t before → ClosedIdle t (step ∷ before)
 other_closed t (AskEnq u) before ne k = rw (ne_eqb u t ne) k
 other_closed t (AskDeq u) before ne k = rw (ne_eqb u t ne) k
 other_closed t (Push u) before ne k = rw (ne_eqb u t ne) k
@@ -30,7 +30,7 @@ other_closed t (Close u) before ne k = rw (ne_eqb u t ne) k
 no_way : {A : Type 0} (b : Bool) → b ≡ false → b ≡ true → A
 no_way b p q = cc
 
-own_closed : (setting : Setting) (step : Step) (starved : Bool) (before : List Step) → ClosedWithoutHeld (thread_of step) before → refusal setting before (record { step = step; starved = starved }) ≡ None → ClosedWithoutHeld (thread_of step) (step ∷ before)
+own_closed : (setting : Setting) (step : Step) (starved : Bool) (before : List Step) → ClosedIdle (thread_of step) before → refusal setting before (record { step = step; starved = starved }) ≡ None → ClosedIdle (thread_of step) (step ∷ before)
 own_closed setting (AskEnq u) starved before k none closed = no_way (is_closed u before) (may_ask setting before u starved none).open_still closed
 own_closed setting (AskDeq u) starved before k none closed = no_way (is_closed u before) (may_ask setting before u starved none).open_still closed
 own_closed setting (Push u) starved before k none closed = no_way (is_closed u before) (may_push setting before u starved none).open_still closed
@@ -38,25 +38,25 @@ own_closed setting (Effect u) starved before k none closed = k closed
 own_closed setting (Say u answer) starved before k none closed = k closed
 own_closed setting (Ret u) starved before k none closed = no_way (is_closed u before) (may_return setting before u starved none).open_still closed
 own_closed setting (Drain u n) starved before k none closed = k closed
-own_closed setting (Close u) starved before k none closed = (may_close setting before u starved none).none_held
+own_closed setting (Close u) starved before k none closed = let m = may_close setting before u starved none in (m.none_held, m.none_pending)
 
-closed_goes_on : (setting : Setting) (t : ℕ) (before : List Step) (attempt : Attempt) → ClosedWithoutHeld t before → refusal setting before attempt ≡ None → ClosedWithoutHeld t (attempt.step ∷ before)
+closed_goes_on : (setting : Setting) (t : ℕ) (before : List Step) (attempt : Attempt) → ClosedIdle t before → refusal setting before attempt ≡ None → ClosedIdle t (attempt.step ∷ before)
 closed_goes_on setting t before attempt k none = elim (cases_eq (thread_of attempt.step) t) [
   | inl same ↦
-      let P : ℕ → Type 0 = λ v. ClosedWithoutHeld v before → ClosedWithoutHeld v (attempt.step ∷ before) in
+      let P : ℕ → Type 0 = λ v. ClosedIdle v before → ClosedIdle v (attempt.step ∷ before) in
       subst P same (λ own. own_closed setting attempt.step attempt.starved before own none) k
   | inr other ↦ other_closed t attempt.step before other k
 ]
 
-pub closed_without_held : (setting : Setting) (t : ℕ) (schedule : List Attempt) → ClosedWithoutHeld t (accepted setting schedule)
-closed_without_held setting t schedule = after_each setting (ClosedWithoutHeld t) (λ closed. omega arith) (closed_goes_on setting t) schedule
+pub closed_idle : (setting : Setting) (t : ℕ) (schedule : List Attempt) → ClosedIdle t (accepted setting schedule)
+closed_idle setting t schedule = after_each setting (ClosedIdle t) (λ closed. (omega arith, omega arith)) (closed_goes_on setting t) schedule
 
 pub all_collected : (setting : Setting) (schedule : List Attempt) → IsDone setting schedule → (t : ℕ) → t < setting.threads → collected_in setting schedule t ≡ events_in setting schedule t
 all_collected setting schedule done t within =
     let steps = accepted setting schedule in
     let d = done t within in
     let k : Counted setting t steps = counted setting t schedule in
-    let c : asks t steps + returns t steps ≤ pushes t steps = closed_without_held setting t schedule d.0 in
+    let c = (closed_idle setting t schedule d.0).0 in
     take_all (drained t steps) (events setting t steps) (omega (arith, k.events_are, d.1, c))
 
 -- what is closed stays closed

@@ -24,7 +24,7 @@ Counted setting t steps = AreCounts setting.ring (asks t steps) (answers t steps
 
 -- ---- how the counts go on
 
-counts_none : (ring : ℕ) → AreCounts ring 0 0 0 0 0 0
+pub counts_none : (ring : ℕ) → AreCounts ring 0 0 0 0 0 0
 counts_none ring = record {
   events_are = refl;
   pushed_below = omega arith;

@@ -8,3 +8,8 @@ pub mod Starting
 pub mod Finished
 pub mod Precedence
 pub mod Effects
+pub mod Members
+pub mod Blocks
+pub mod Fitting
+pub mod Events
+pub mod Collecting

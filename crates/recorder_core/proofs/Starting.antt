@@ -14,7 +14,7 @@ untouched = record { closed = false; asked = 0; pending = None; held = None; rin
 pub starts : (setting : Setting) (threads : List ThreadView) → length threads ≡ setting.threads → ((k : ℕ) → k < setting.threads → slice_get threads k ≡ Some untouched) → IsLeftBy setting (record { capacity = setting.ring; threads = threads; asked = 0; next_ticket = 0; queue = [] }) []
 starts setting threads many each = record { threads = many; capacity = refl; each = each; asked = refl; next_ticket = refl; queue_is = refl }
 
-slice_get_front : {X : Type 0} (xs : List X) (x : X) (k : ℕ) → k < length xs → slice_get (xs ++ x ∷ []) k ≡ slice_get xs k
+pub slice_get_front : {X : Type 0} (xs : List X) (x : X) (k : ℕ) → k < length xs → slice_get (xs ++ x ∷ []) k ≡ slice_get xs k
 slice_get_front [] x k h = absurd (omega arith)
 slice_get_front (y ∷ xs) x zero h = refl
 slice_get_front (y ∷ xs) x (suc k) h = slice_get_front xs x k (omega arith)

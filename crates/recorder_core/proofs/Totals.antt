@@ -81,11 +81,15 @@ added setting schedule = after_each setting (Added setting)
     (record { asks_are = none_yet setting.threads; tickets_are = omega (arith, none_yet setting.threads); limited = omega arith })
     (λ before attempt k none. adds_step setting attempt.step attempt.starved before k none) schedule
 
--- a machine that some schedule leaves has asked no more than it may, and has taken at most two tickets for each
-pub is_small : (machine : MachineView) → IsReachable machine → (machine.asked ≤ MAX_OPERATIONS) × (machine.next_ticket ≤ 2 * MAX_OPERATIONS)
-is_small machine (setting, schedule, after) =
+-- no schedule takes more than two tickets for each operation that may be asked
+pub tickets_limited : (setting : Setting) (schedule : List Attempt) → tickets (accepted setting schedule) ≤ 2 * MAX_OPERATIONS
+tickets_limited setting schedule =
     let k = added setting schedule in
     let steps = accepted setting schedule in
     let b : total (λ t. returns t steps) setting.threads ≤ total (λ t. asks t steps) setting.threads =
     total_below _ _ setting.threads (λ t. let c : Counted setting t steps = counted setting t schedule in omega (arith, c.returned_below, c.answered_below)) in
-    (omega (arith, after.asked, k.limited), omega (arith, after.next_ticket, k.limited, k.tickets_are, k.asks_are, b))
+    omega (arith, k.limited, k.tickets_are, k.asks_are, b)
+
+-- a machine that some schedule leaves has asked no more than it may, and has taken at most two tickets for each
+pub is_small : (machine : MachineView) → IsReachable machine → (machine.asked ≤ MAX_OPERATIONS) × (machine.next_ticket ≤ 2 * MAX_OPERATIONS)
+is_small machine (setting, schedule, after) = (omega (arith, after.asked, (added setting schedule).limited), omega (arith, after.next_ticket, tickets_limited setting schedule))

@@ -7,14 +7,11 @@ use Rattle.event_records.specs.declared.event.What.TheVariants.{CallEnq}
 use Rattle.event_records.specs.declared.limits.TheConstants.{MAX_THREAD_OPERATIONS, MAX_OPERATIONS}
 use Rattle.event_records.specs.Question.{value_name}
 use Rattle.event_records.specs.Turns.{Alternates}
-use Rattle.history_merge.specs.Complete.{IsCompleteHistory}
-use Rattle.history_merge.specs.Merge.{IsMerged}
-use Rattle.history_merge.specs.Operations.{operations_of, operation_of}
-use Rattle.history_merge.specs.Legal.{IsLegalOrder}
+use Rattle.history_merge.specs.Operations.{operation_of}
 use Rattle.history_merge.specs.declared.operation.Operation.{Operation}
 use Rattle.history_merge.specs.declared.operation.OpKind.{OpKind}
 use Rattle.history_merge.specs.declared.operation.OpKind.TheVariants.{Enq, Deq, Empty, Not}
-use Rattle.recorder_core.specs.declared.limits.TheConstants.{MAX_THREADS, MIN_RING, MAX_RING}
+use Rattle.recorder_core.specs.declared.limits.TheConstants.{MAX_THREADS}
 use Rattle.recorder_core.specs.declared.step.Step.{Step}
 use Rattle.recorder_core.specs.declared.step.Step.TheVariants.{Effect, Say}
 use Rattle.recorder_core.specs.declared.step.Answer.{Answer}
@@ -102,22 +99,3 @@ effect_kinds setting [] = []
 effect_kinds setting (Effect t ∷ before) =
     with_last (effect_kinds setting before) (option_map (λ asked. kind_told asked (effect_answer setting t before)) (question t before))
 effect_kinds setting (_ ∷ before) = effect_kinds setting before
-
--- ---- the laws
-
--- recorded lists are collected by some schedule, for every capacity of the rings
-abbrev pub recorded_lists_replay : Type 0
-recorded_lists_replay = (lists : List (List Event)) (ring : ℕ) → AreRecorded lists → MIN_RING ≤ ring → ring ≤ MAX_RING → Replays ring lists
-
--- they merge to a complete history
-abbrev pub recorded_lists_are_complete : Type 0
-recorded_lists_are_complete = (lists : List (List Event)) (merged : List Event) → AreRecorded lists → IsMerged lists merged → IsCompleteHistory merged
-
--- and so do the lists that a done schedule collects
-abbrev pub done_schedules_are_complete : Type 0
-done_schedules_are_complete = (setting : Setting) (schedule : List Attempt) (merged : List Event) → setting.threads ≤ MAX_THREADS → IsDone setting schedule → IsMerged (collected_lists setting schedule) merged → IsCompleteHistory merged
-
--- the order of the effects of an honest schedule that is done is a legal order of the collected history
-abbrev pub honest_schedules_are_legal : Type 0
-honest_schedules_are_legal = (setting : Setting) (schedule : List Attempt) (merged : List Event) → setting.threads ≤ MAX_THREADS → IsHonest setting schedule → IsDone setting schedule → IsMerged (collected_lists setting schedule) merged →
-    IsLegalOrder (operations_of merged) (effects_order setting (accepted setting schedule))

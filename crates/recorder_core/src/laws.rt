@@ -1,6 +1,6 @@
 //! What holds of every schedule, whatever steps are tried in whatever order. These functions do nothing; the law is what
 //! each of them ensures, and its words stand in `specs/Laws.antt` and `specs/Replay.antt`.
-ghost use Rattle.std.specs.Prelude.{◌≡◌, ℕ, ◌<◌, ◌++◌, ◌∷◌, List, Contains, Err, None, Some, [], ◌↔◌};
+ghost use Rattle.std.specs.Prelude.{◌≡◌, ℕ, ◌<◌, ◌≤◌, ◌++◌, ◌∷◌, List, Contains, Err, None, Some, [], ◌↔◌};
 ghost use Rattle.event_records.specs.declared.event.Event.{Event};
 ghost use Rattle.history_merge.specs.Queue.{accept_all};
 ghost use Rattle.recorder_core.specs.declared.step.Step.TheVariants.{Close};
@@ -8,7 +8,11 @@ ghost use Rattle.recorder_core.specs.declared.step.StepRefused.TheVariants.{Clos
 ghost use Rattle.recorder_core.specs.Setting.{Setting};
 ghost use Rattle.recorder_core.specs.Schedule.{Attempt, accepted, refusal, answer_to, thread_of, queue};
 ghost use Rattle.recorder_core.specs.Laws.{IsPrefix, events_in, collected_in, IsDone, NeedsOpenThread, StandsBefore};
-ghost use Rattle.recorder_core.specs.Replay.{effect_kinds};
+ghost use Rattle.history_merge.specs.Complete.{IsCompleteHistory};
+ghost use Rattle.history_merge.specs.Merge.{IsMerged};
+ghost use Rattle.recorder_core.specs.Replay.{AreRecorded, collected_lists, effect_kinds};
+
+use crate::limits::MAX_THREADS;
 
 /// Each thread's collected list is a prefix of its events.
 pub fn collected_is_a_prefix()
@@ -33,4 +37,14 @@ pub fn precedence_as_ticketed()
 /// The sequential queue accepts the effects in their order, from the empty queue on, and is then the schedule's.
 pub fn effects_are_accepted()
     ensures { (setting : Setting) (schedule : List Attempt) → accept_all [] (effect_kinds setting (accepted setting schedule)) ≡ Some (queue setting (accepted setting schedule)) }
+{}
+
+/// Recorded lists merge to a complete history.
+pub fn recorded_lists_are_complete()
+    ensures { (lists : List (List Event)) (merged : List Event) → AreRecorded lists → IsMerged lists merged → IsCompleteHistory merged }
+{}
+
+/// And so do the lists that a done schedule collects.
+pub fn done_schedules_are_complete()
+    ensures { (setting : Setting) (schedule : List Attempt) (merged : List Event) → setting.threads ≤ MAX_THREADS → IsDone setting schedule → IsMerged (collected_lists setting schedule) merged → IsCompleteHistory merged }
 {}

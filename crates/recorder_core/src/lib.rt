@@ -15,8 +15,8 @@ mod tests;
 mod thread;
 
 pub use laws::{
-    collected_is_a_prefix, done_collects_all, effects_are_accepted, nothing_after_close,
-    precedence_as_ticketed,
+    collected_is_a_prefix, done_collects_all, done_schedules_are_complete, effects_are_accepted,
+    nothing_after_close, precedence_as_ticketed, recorded_lists_are_complete,
 };
 pub use limits::{MAX_RING, MAX_THREADS, MIN_RING};
 pub use machine::Machine;

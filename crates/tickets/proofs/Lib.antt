@@ -1,3 +1,3 @@
 pub mod Once
-mod Rising
+pub mod Rising
 mod Steps

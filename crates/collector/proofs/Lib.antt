@@ -1,0 +1,3 @@
+mod Draining
+pub mod Rings
+mod Sealing

@@ -1,0 +1,52 @@
+-- Drain ends and close tokens, one for each thread.
+use Rattle.std.specs.Prelude.{◌≡◌, ◌≢◌, ℕ, ◌≤◌, List, [], ◌∷◌, ◌++◌, length, map, All, sum_by}
+use Rattle.tickets.specs.Views.{numbers_below}
+use Rattle.event_rings.specs.Ring.{RingName, DrainView, TokenView}
+use Rattle.event_records.specs.declared.event.Event.{Event}
+
+-- the threads of these ends, in their order
+abbrev pub threads_of : List DrainView → List ℕ
+threads_of ends = map (λ e. e.thread) ends
+
+-- the threads of these tokens, in their order
+abbrev pub threads_of_tokens : List TokenView → List ℕ
+threads_of_tokens tokens = map (λ t. t.thread) tokens
+
+-- which rings these ends are of, and of which threads
+abbrev pub rings_of : List DrainView → List (RingName × ℕ)
+rings_of ends = map (λ e. (e.ring, e.thread)) ends
+
+-- which rings these tokens close, and of which threads
+abbrev pub rings_of_tokens : List TokenView → List (RingName × ℕ)
+rings_of_tokens tokens = map (λ t. (t.ring, t.thread)) tokens
+
+-- the ends of threads 0, 1, 2 and so on
+abbrev pub AreInOrder : List DrainView → Type 0
+AreInOrder ends = threads_of ends ≡ numbers_below (length ends)
+
+-- nothing was drained from these ends
+abbrev pub AreFresh : List DrainView → Type 0
+AreFresh ends = All (λ e. e.received ≡ []) ends
+
+-- a token of the end's thread is of the end's ring
+abbrev pub Fits : DrainView → TokenView → Type 0
+Fits end token = token.thread ≡ end.thread → token.ring ≡ end.ring
+
+-- at most `max` events more were received, and nothing that was received is lost
+pub record Drains (max : ℕ) (before after : DrainView) : Type 0 where
+  pub ring : after.ring ≡ before.ring
+  pub thread : after.thread ≡ before.thread
+  pub drained : List Event
+  pub few : length drained ≤ max
+  pub received : after.received ≡ before.received ++ drained
+
+-- how many events were received in all
+abbrev pub count_received : List DrainView → ℕ
+count_received ends = sum_by (λ e. length e.received) ends
+
+-- the token at this place is not of its place's thread, and each one before it is
+pub record IsFirstForeign (tokens : List TokenView) (place : ℕ) : Type 0 where
+  pub other : ℕ
+  pub rest : List ℕ
+  pub threads : threads_of_tokens tokens ≡ numbers_below place ++ other ∷ rest
+  pub foreign : other ≢ place

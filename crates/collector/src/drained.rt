@@ -1,0 +1,87 @@
+// One thread's ring, with what was drained from it.
+ghost use Rattle.std.specs.Prelude.{◌≡◌, ◌≢◌, ◌≤◌, ◌<◌, ◌+◌, ◌++◌, IfOk, IfErr, [], length, vec_len, vec_capacity};
+ghost use Rattle.collector.specs.Ends.{Fits, Drains};
+ghost use Rattle.event_rings.specs.declared.drain_end.FinishFault.TheVariants.{Uncertified};
+ghost use Rattle.event_rings.specs.declared.TheConstants.{MAX_CAPACITY};
+
+use event_records::Event;
+use event_rings::{CloseToken, DrainEnd, FinishFault};
+use std::alloc::{AllocError, Global};
+use std::marker::Model;
+
+/// One thread's ring, with all that was drained from it, oldest first.
+#[derive(Drop)]
+pub(crate) struct Drained {
+    end: DrainEnd,
+    events: Vec<Event>,
+}
+
+impl Model for Drained {
+    ghost use Rattle.std.specs.Prelude.{◌≡◌};
+    ghost use Rattle.event_rings.specs.Ring.{DrainView};
+
+    ghost Value = { DrainView };
+
+    ghost view = { λ d. d.end };
+
+    ghost invariant = { λ d. d.events.items ≡ d.end.received };
+}
+
+impl Drained {
+    pub(crate) fn of(alloc: Global, end: DrainEnd) -> Drained
+        requires { end.received ≡ [] }
+        ensures { result ≡ end }
+    {
+        Drained {
+            end,
+            events: Vec::new(alloc),
+        }
+    }
+
+    // The thread whose ring it is.
+    pub(crate) fn thread(&self) -> u8
+        ensures value { result ≡ self.now.thread }
+        ensures small { result < 64 }
+    {
+        self.end.thread().get()
+    }
+
+    // Drains at most `max` events, and tells how many. There is room for them before any leaves the ring.
+    pub(crate) fn drain(&mut self, max: usize) -> Result<u64, AllocError>
+        requires { max ≤ MAX_CAPACITY }
+        ensures drains { Drains max self.old self.new }
+        ensures count { IfOk result (λ n. length self.new.received ≡ length self.old.received + n) }
+        ensures few { IfOk result (λ n. n ≤ MAX_CAPACITY) }
+    {
+        self.events.reserve(max)?;
+        let drained = self.end.drain(max)?;
+        append_reserved(&mut self.events, &drained);
+        Ok(drained.len() as u64)
+    }
+
+    // All that the thread pushed, by its close token.
+    pub(crate) fn seal(self, token: CloseToken) -> Result<Vec<Event>, FinishFault>
+        requires { Fits self token }
+        ensures sealed { IfOk result (λ events. events.items ≡ token.sent) }
+        ensures certified { IfOk result (λ _. token.thread ≡ self.thread) }
+        ensures uncertified { IfErr result (λ fault. fault ≡ Uncertified → token.thread ≢ self.thread) }
+    {
+        let Drained { end, mut events } = self;
+        let sealed = end.finish(token)?;
+        let mut rest = sealed.into_events();
+        match events.append(&mut rest) {
+            Ok(()) => Ok(events),
+            Err(_) => Err(FinishFault::Memory),
+        }
+    }
+}
+
+// Puts events for which there is room behind the others.
+fn append_reserved(events: &mut Vec<Event>, more: &[Event])
+    requires { vec_len events.old + length more.now ≤ vec_capacity events.old }
+    ensures { events.new.items ≡ events.old.items ++ more.now }
+{
+    for event in more {
+        events.push_reserved(*event);
+    }
+}

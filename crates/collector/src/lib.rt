@@ -1,0 +1,11 @@
+//! Drains the rings of all threads while they push, and seals them once they are closed.
+//!
+//! Nothing here takes a lock or waits. A sealed list is all that its thread pushed, in order, whatever was drained before.
+#![tactic(auto)]
+
+mod drained;
+mod rounds;
+#[cfg(test)]
+mod tests;
+
+pub use rounds::{CollectError, Collector};

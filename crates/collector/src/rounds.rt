@@ -1,0 +1,152 @@
+// All rings together: rounds of draining, and the seal.
+ghost use Rattle.std.specs.Prelude.{◌≡◌, ◌≢◌, ◌≤◌, ◌+◌, IfOk, IfErr, map, ℕ};
+ghost use Rattle.std.specs.List.{AllZip};
+ghost use Rattle.collector.specs.Ends.{AreInOrder, AreFresh, Drains, Fits, IsFirstForeign, count_received, rings_of, threads_of, threads_of_tokens};
+ghost use Rattle.collector.specs.declared.rounds.CollectError.TheVariants.{Uncertified};
+ghost use Rattle.event_rings.specs.declared.TheConstants.{MAX_CAPACITY};
+
+use crate::drained::Drained;
+use event_records::{Event, Lists};
+use event_rings::{CloseToken, DrainEnd, FinishFault};
+use std::alloc::{AllocError, Global};
+use std::marker::Model;
+
+/// Drains the rings of threads 0, 1, 2 and on, and keeps what it drained.
+///
+/// Contracts see the list of the drain ends, each with all that was received from it.
+#[derive(Drop)]
+pub struct Collector {
+    alloc: Global,
+    rings: Vec<Drained>,
+}
+
+impl Model for Collector {
+    ghost use Rattle.std.specs.Prelude.{List};
+    ghost use Rattle.event_rings.specs.Ring.{DrainView};
+    ghost use Rattle.collector.specs.Ends.{AreInOrder};
+
+    ghost Value = { List DrainView };
+
+    ghost view = { λ c. c.rings.items };
+
+    ghost invariant = { λ c. AreInOrder c.rings.items };
+}
+
+/// Why the rings were not sealed. No list is given, and the rings are gone.
+#[derive(Debug, Drop)]
+pub enum CollectError {
+    /// There was no memory for the lists.
+    Memory,
+    /// The token at this thread's place is of another thread's ring, and no token before it is.
+    Uncertified(u8),
+}
+
+impl Collector {
+    /// A collector of the rings of threads 0, 1, 2 and on, from which nothing was drained yet.
+    pub fn new(alloc: Global, ends: Vec<DrainEnd>) -> Result<Collector, AllocError>
+        requires order { AreInOrder ends.items }
+        requires fresh { AreFresh ends.items }
+        ensures { IfOk result (λ collector. collector ≡ ends.items) }
+    {
+        let rings = all_drained(alloc, ends)?;
+        Ok(Collector { alloc, rings })
+    }
+
+    /// Drains at most `max` events from each ring, in order of thread, and tells how many.
+    ///
+    /// Where room for a ring's events is refused, the round ends there. What was drained before is kept, and that ring
+    /// and those after it are as they were: no event is lost.
+    pub fn drain_round(&mut self, max: usize) -> Result<u64, AllocError>
+        requires { max ≤ MAX_CAPACITY }
+        ensures rings { rings_of self.new ≡ rings_of self.old }
+        ensures drains { AllZip (Drains max) self.old self.new }
+        ensures count { IfOk result (λ n. count_received self.new ≡ count_received self.old + n) }
+    {
+        drain_each(&mut self.rings, max)
+    }
+
+    /// The events of each thread, all that it pushed, by the close tokens of the rings in order of thread.
+    ///
+    /// Each list is what was drained before, and what was left in the ring.
+    pub fn seal(self, tokens: Vec<CloseToken>) -> Result<Lists, CollectError>
+        requires { AllZip Fits self tokens.items }
+        ensures sealed { IfOk result (λ lists. lists ≡ map (λ token. token.sent) tokens.items) }
+        ensures certified { IfOk result (λ _. threads_of_tokens tokens.items ≡ threads_of self) }
+        ensures uncertified { IfErr result (λ fault. (thread : ℕ) → fault ≡ Uncertified thread → IsFirstForeign tokens.items thread) }
+    {
+        let Collector { alloc, rings } = self;
+        let lists = seal_each(alloc, rings, tokens)?;
+        Ok(Lists::from_vec(lists))
+    }
+}
+
+// Each end, with nothing drained from it yet.
+fn all_drained(alloc: Global, ends: Vec<DrainEnd>) -> Result<Vec<Drained>, AllocError>
+    requires { AreFresh ends.items }
+    ensures { IfOk result (λ rings. rings.items ≡ ends.items) }
+{
+    let mut rings = Vec::new(alloc);
+    for end in ends {
+        rings.push(Drained::of(alloc, end))?;
+    }
+    Ok(rings)
+}
+
+// Drains at most `max` events from each ring.
+fn drain_each(rings: &mut Vec<Drained>, max: usize) -> Result<u64, AllocError>
+    requires few { max ≤ MAX_CAPACITY }
+    requires order { AreInOrder rings.old.items }
+    ensures drains { AllZip (Drains max) rings.old.items rings.new.items }
+    ensures order { AreInOrder rings.new.items }
+    ensures count { IfOk result (λ n. count_received rings.new.items ≡ count_received rings.old.items + n) }
+{
+    let mut total = 0;
+    for place in 0..rings.len() {
+        // The place is its thread, and so below 64: the sum fits.
+        let _thread = rings[place].thread();
+        total += rings[place].drain(max)?;
+    }
+    Ok(total)
+}
+
+// Seals each ring with the token at its place, up to the first that refuses.
+fn seal_each(
+    alloc: Global,
+    rings: Vec<Drained>,
+    tokens: Vec<CloseToken>,
+) -> Result<Vec<Vec<Event>>, CollectError>
+    requires fits { AllZip Fits rings.items tokens.items }
+    requires order { AreInOrder rings.items }
+    ensures sealed { IfOk result (λ lists. map (λ list. list.items) lists.items ≡ map (λ token. token.sent) tokens.items) }
+    ensures certified { IfOk result (λ _. threads_of_tokens tokens.items ≡ threads_of rings.items) }
+    ensures uncertified { IfErr result (λ fault. (thread : ℕ) → fault ≡ Uncertified thread → IsFirstForeign tokens.items thread) }
+{
+    let mut lists = Vec::new(alloc);
+    let mut left = tokens.into_iter();
+    for ring in rings {
+        let Some(token) = left.next() else {
+            break;
+        };
+        let events = match seal_one(ring, token) {
+            Ok(events) => events,
+            Err(fault) => return Err(fault),
+        };
+        lists.push(events).map_err(|_| CollectError::Memory)?;
+    }
+    Ok(lists)
+}
+
+// All that the ring's thread pushed, by its close token.
+fn seal_one(ring: Drained, token: CloseToken) -> Result<Vec<Event>, CollectError>
+    requires { Fits ring token }
+    ensures sealed { IfOk result (λ events. events.items ≡ token.sent) }
+    ensures certified { IfOk result (λ _. token.thread ≡ ring.thread) }
+    ensures uncertified { IfErr result (λ fault. (thread : ℕ) → fault ≡ Uncertified thread → (thread ≡ ring.thread) × (token.thread ≢ ring.thread)) }
+{
+    let thread = ring.thread();
+    match ring.seal(token) {
+        Ok(events) => Ok(events),
+        Err(FinishFault::Memory) => Err(CollectError::Memory),
+        Err(FinishFault::Uncertified) => Err(CollectError::Uncertified(thread)),
+    }
+}
