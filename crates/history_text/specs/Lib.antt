@@ -2,6 +2,7 @@ pub mod Input
 pub mod Pieces
 pub mod Lines
 pub mod Histories
+pub mod Verdicts
 pub mod Reading
 pub mod Taking
 pub mod Watching

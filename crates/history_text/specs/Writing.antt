@@ -14,3 +14,9 @@ pub record AppendsFront (old new : Option (List ℕ)) (text : List ℕ) : Type 0
   pub rest : List ℕ
   pub whole : text ≡ front ++ rest
   pub written : Appends old new front
+
+-- the text comes after what is kept back, and the writer got a front of both, so that the rest is kept back now
+pub record Puts (old new : Option (List ℕ)) (kept rest text : List ℕ) : Type 0 where
+  pub out : List ℕ
+  pub whole : kept ++ text ≡ out ++ rest
+  pub written : Appends old new out

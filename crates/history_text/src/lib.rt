@@ -8,6 +8,8 @@
 mod event_line;
 mod fault;
 mod field;
+mod history_writer;
+mod kept;
 mod laws;
 mod line;
 mod memory;
@@ -17,10 +19,13 @@ mod sink;
 mod source;
 #[cfg(test)]
 mod tests;
+mod verdict_writer;
 
 pub use fault::TextFault;
-pub use laws::{a_text_has_one_history, no_text_begins_another};
+pub use history_writer::write_history;
+pub use laws::{a_text_has_one_history, evidence_is_a_true_claim, no_text_begins_another};
 pub use memory::MemorySource;
 pub use reader::{TextReader, at_end, read_history};
-pub use sink::{TextSink, WriteFailed, write_piece};
+pub use sink::{TextSink, WriteFault, write_piece};
 pub use source::{ReadFailed, TextSource, Watched};
+pub use verdict_writer::write_verdict;

@@ -5,11 +5,17 @@ ghost use Rattle.history_text.specs.Writing.{is_refusal, AppendsFront};
 use crate::source::Watched;
 use std::io::Write;
 
-/// A write or a flush failed.
+/// Why a text isn't written whole.
 #[derive(Clone, Copy, Debug, PartialEq, Eq)]
-pub struct WriteFailed;
+pub enum WriteFault {
+    /// The writer failed, or took no byte of a piece that wasn't empty.
+    Write,
+}
 
-/// What texts are written to: a writer that also tells contracts whether it has refused bytes.
+/// What texts are written to.
+///
+/// Beside std's `Write` it tells contracts whether it has refused bytes. With the bytes alone, a body that always answers a
+/// failed write would meet every contract of a writer.
 pub trait TextSink {
     /// The bytes that the writer holds, where they are known.
     ghost contents: { Self → Option (List ℕ) };
@@ -17,12 +23,14 @@ pub trait TextSink {
     /// A call has failed, or took no byte of a piece that wasn't empty.
     ghost has_refused: { Self → Bool };
 
-    fn write(&mut self, piece: &[u8]) -> Result<usize, WriteFailed>
+    /// Takes bytes from the front of the piece, and tells how many.
+    fn write(&mut self, piece: &[u8]) -> Result<usize, WriteFault>
         ensures bound { IfOk result (λ n. n ≤ length piece.now) }
         ensures bytes { WriteAppends (contents self.old) (contents self.new) result piece.now }
         ensures refused { has_refused self.new ≡ (has_refused self.old || is_refusal result piece.now) };
 
-    fn flush(&mut self) -> Result<(), WriteFailed>
+    /// Passes on what the writer holds back.
+    fn flush(&mut self) -> Result<(), WriteFault>
         ensures bytes { Keeps (contents self.old) (contents self.new) }
         ensures refused { has_refused self.new ≡ (has_refused self.old || is_err result) };
 }
@@ -32,7 +40,7 @@ impl<W: Write> TextSink for Watched<W> {
 
     ghost has_refused = { λ w. w.has_refused };
 
-    fn write(&mut self, piece: &[u8]) -> Result<usize, WriteFailed> {
+    fn write(&mut self, piece: &[u8]) -> Result<usize, WriteFault> {
         match self.inner.write(piece) {
             Ok(count) => {
                 if count == 0 && !piece.is_empty() {
@@ -42,34 +50,33 @@ impl<W: Write> TextSink for Watched<W> {
             }
             Err(_) => {
                 self.has_refused = true;
-                Err(WriteFailed)
+                Err(WriteFault::Write)
             }
         }
     }
 
-    fn flush(&mut self) -> Result<(), WriteFailed> {
+    fn flush(&mut self) -> Result<(), WriteFault> {
         match self.inner.flush() {
             Ok(()) => Ok(()),
             Err(_) => {
                 self.has_refused = true;
-                Err(WriteFailed)
+                Err(WriteFault::Write)
             }
         }
     }
 }
 
-/// Writes all of the bytes, or fails after a front of them.
-pub fn write_piece<W: TextSink>(writer: &mut W, piece: &[u8]) -> Result<(), WriteFailed>
+/// Writes all of the bytes, in as many calls as the writer needs, or fails after a front of them.
+pub fn write_piece<W: TextSink>(writer: &mut W, piece: &[u8]) -> Result<(), WriteFault>
     ensures ok { OnOk result (Appends (W.contents writer.old) (W.contents writer.new) piece.now) }
     ensures err { OnErr result (AppendsFront (W.contents writer.old) (W.contents writer.new) piece.now) }
     ensures refused { W.has_refused writer.new ≡ (W.has_refused writer.old || is_err result) }
 {
     let mut done = 0;
     while done < piece.len() {
-        match writer.write(&piece[done..]) {
-            Ok(0) => return Err(WriteFailed),
-            Ok(count) => done += count,
-            Err(WriteFailed) => return Err(WriteFailed),
+        match writer.write(&piece[done..])? {
+            0 => return Err(WriteFault::Write),
+            count => done += count,
         }
     }
     Ok(())

@@ -1,7 +1,17 @@
-use crate::{MemorySource, TextFault, TextReader, at_end, read_history};
+ghost use Rattle.std.specs.Prelude.{◌≡◌, ◌<◌, [], ◌∷◌, length, All, IfOk};
+ghost use Rattle.history_merge.specs.Operations.{operations_of};
+ghost use Rattle.history_text.specs.Verdicts.{places_of};
+
+use crate::{
+    MemorySource, TextFault, TextReader, Watched, WriteFault, at_end, read_history, write_history,
+    write_verdict,
+};
 use event_records::{Event, What};
+use history_merge::{History, OpId, history};
 use std::alloc::{AllocError, Global};
 use std::test::Fail;
+use value_match::{Cover, CoverStep, Violation};
+use verdicts::{Order, Verdict};
 
 /// How many events a history alone in its input has, or the fault of that input. Want of memory is an error of its own.
 fn outcome(
@@ -226,5 +236,102 @@ fn lines_count_on(rt: HostRuntime) -> Result<(), Fail> {
             Err(TextFault::Number(5))
         ),
     }
+    Ok(())
+}
+
+/// The history that a text tells.
+fn history_of(alloc: Global, text: &[u8]) -> Result<History, Fail> {
+    let mut reader = TextReader::new(MemorySource::new(text));
+    let events = read_history(alloc, &mut reader)?;
+    Ok(history(alloc, events)?)
+}
+
+/// The text of a verdict on a history.
+fn written(alloc: Global, history: &History, verdict: &Verdict) -> Result<Vec<u8>, Fail>
+    requires { All (λ place. place < length (operations_of history.now)) (places_of verdict.now) }
+{
+    let mut writer = Watched::new(Vec::new(alloc));
+    write_verdict(history, verdict, &mut writer)?;
+    Ok(writer.into_inner())
+}
+
+/// A yes: the second operation, the first, the third and the fourth.
+fn second_first(alloc: Global) -> Result<Verdict, AllocError>
+    ensures { IfOk result (λ v. places_of v ≡ 1 ∷ 0 ∷ 2 ∷ 3 ∷ []) }
+{
+    let places = Vec::from_array(
+        alloc,
+        [OpId::new(1), OpId::new(0), OpId::new(2), OpId::new(3)],
+    )?;
+    Ok(Verdict::Yes(Order::from_vec(places)))
+}
+
+/// A no: the second operation found the queue empty, though two values covered it.
+fn covered_by_two(alloc: Global) -> Result<Verdict, AllocError>
+    ensures { IfOk result (λ v. places_of v ≡ 1 ∷ 0 ∷ 3 ∷ 2 ∷ 4 ∷ []) }
+{
+    let first = CoverStep {
+        enqueue: OpId::new(0),
+        dequeue: Some(OpId::new(3)),
+    };
+    let second = CoverStep {
+        enqueue: OpId::new(2),
+        dequeue: Some(OpId::new(4)),
+    };
+    let cover = Cover::from_vec(Vec::from_array(alloc, [first, second])?);
+    Ok(Verdict::No(Violation::Witness {
+        empty: OpId::new(1),
+        cover,
+    }))
+}
+
+#[test]
+fn writes_what_it_reads(rt: HostRuntime) -> Result<(), Fail> {
+    let texts: [&[u8]; 3] = [
+        TEXT,
+        b"fifo-history 1\nend 0\n",
+        b"fifo-history 1\n999999999998 63 call-enq 0\n999999999999 63 ret-enq\nend 2\n",
+    ];
+    for text in texts {
+        let history = history_of(rt.alloc(), text)?;
+        let mut writer = Watched::new(Vec::new(rt.alloc()));
+        write_history(&history, &mut writer)?;
+        assert_eq!(rt; writer.into_inner().as_slice(), text);
+    }
+    let history = history_of(rt.alloc(), TEXT)?;
+    let mut few = [0u8; 20];
+    let mut writer = Watched::new(&mut few[..]);
+    assert_eq!(rt;
+        write_history(&history, &mut writer),
+        Err(WriteFault::Write)
+    );
+    assert_eq!(rt; few.as_slice(), &TEXT[..20]);
+    Ok(())
+}
+
+#[test]
+fn writes_verdicts(rt: HostRuntime) -> Result<(), Fail> {
+    let overlapping = history_of(
+        rt.alloc(),
+        b"fifo-history 1\n0 0 call-enq 7\n1 1 call-enq 9\n2 0 ret-enq\n3 1 ret-enq\n\
+        4 0 call-deq\n5 0 ret-deq 9\n6 0 call-deq\n7 0 ret-deq 7\nend 8\n",
+    )?;
+    assert_eq!(rt; overlapping.operations().len(), 4);
+    let text = written(rt.alloc(), &overlapping, &second_first(rt.alloc())?)?;
+    assert_eq!(rt;
+        text.as_slice(),
+        b"YES\n1 3 1 enq 9\n0 2 0 enq 7\n4 5 0 deq 9\n6 7 0 deq 7\n".as_slice()
+    );
+    let covered = history_of(
+        rt.alloc(),
+        b"fifo-history 1\n0 0 call-enq 7\n1 0 ret-enq\n2 1 call-deq\n3 0 call-enq 9\n4 0 ret-enq\n\
+        5 0 call-deq\n6 0 ret-deq 7\n9 1 ret-empty\n10 0 call-deq\n11 0 ret-deq 9\nend 10\n",
+    )?;
+    assert_eq!(rt; covered.operations().len(), 5);
+    let text = written(rt.alloc(), &covered, &covered_by_two(rt.alloc())?)?;
+    assert_eq!(rt;
+        text.as_slice(),
+        b"NO VWit\n2 9 1 empty\n0 1 0 enq 7\n5 6 0 deq 7\n3 4 0 enq 9\n10 11 0 deq 9\n".as_slice()
+    );
     Ok(())
 }

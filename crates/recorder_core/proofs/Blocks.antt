@@ -24,6 +24,11 @@ blocks_same {X} f g (suc n) same = ap (λ (l : List X). l ++ f n) (blocks_same f
 pub same_permutation : {X : Type 0} (xs ys : List X) → xs ≡ ys → IsPermutation xs ys
 same_permutation xs ys same = subst (IsPermutation xs) same (IsPermutation-refl xs)
 
+-- no thread has anything
+pub no_blocks : {X : Type 0} (n : ℕ) → [] ≡ blocks (λ (t : ℕ). let none : List X = [] in none) n
+no_blocks zero = refl
+no_blocks (suc n) = no_blocks n ∙ sym (append-nil _)
+
 -- one block is longer at its end, and the others are the same
 pub blocks_grow : {X : Type 0} (f g : ℕ → List X) (u n : ℕ) (more : List X) → u < n → g u ≡ f u ++ more → ((t : ℕ) → (u ≡ t → ⊥) → g t ≡ f t) → IsPermutation (blocks f n ++ more) (blocks g n)
 blocks_grow f g u zero more within here others = absurd (omega arith)

@@ -3,29 +3,25 @@ use Rattle.std.proofs.Common.{◌≡◌, ℕ, zero, suc, ◌<◌, ◌≤◌, Boo
 use Rattle.std.specs.Prelude.{IsPermutation, slice_get, flat_map}
 use Rattle.std.specs.List.{range_with_len}
 use Rattle.std.proofs.lemmas.Bool.{ne_eqb}
-use Rattle.std.proofs.lemmas.List.{map_push, map-append, append-nil, length-map}
+use Rattle.std.proofs.lemmas.List.{map_push, map-append, length-map}
 use Rattle.std.proofs.lemmas.List.FromFn.{length-range_with_len, length-map-range_with_len, get_or-map-range_with_len}
 use Rattle.std.proofs.lemmas.List.Sorted.{IsPermutation-sym, IsPermutation-trans, IsPermutation-append_left, length_permutation}
 use Rattle.std.proofs.lemmas.Option.{slice_get_within, get_or_from_slice_get}
-use Rattle.event_records.specs.declared.event.Event.{Event}
 use Rattle.recorder_core.specs.declared.limits.TheConstants.{MAX_THREADS}
 use Rattle.recorder_core.specs.declared.step.Step.{Step}
 use Rattle.recorder_core.specs.declared.step.Step.TheVariants.{AskEnq, AskDeq, Push, Effect, Say, Ret, Drain, Close}
 use Rattle.recorder_core.specs.Setting.{Setting}
 use Rattle.recorder_core.specs.Schedule.{Attempt, refusal, accepted, asks, returns, tickets, events}
-use Rattle.recorder_core.specs.Laws.{IsDone, collected_in, events_in}
-use Rattle.recorder_core.specs.Replay.{IsListOf, collected_lists}
+use Rattle.recorder_core.specs.Laws.{IsDone, collected_in, events_in, collected_lists}
+use Rattle.recorder_core.specs.Replay.{IsListOf}
 use Rattle.recorder_core.proofs.Runs.{same_number, after_each, may_ask, may_return}
-use Rattle.recorder_core.proofs.Blocks.{blocks, blocks_same, blocks_grow, range_more, joined_blocks, same_permutation}
+use Rattle.recorder_core.proofs.Blocks.{no_blocks, blocks, blocks_same, blocks_grow, range_more, joined_blocks, same_permutation}
 use Rattle.recorder_core.proofs.Closing.{all_collected, closed_idle}
 use Rattle.recorder_core.proofs.Events.{CountedAndRecorded, recorded, recorded_goes_on, told_last}
-use Rattle.recorder_core.proofs.Fitting.{AreFit}
+use Rattle.recorder_core.proofs.Fitting.{ticket_of, AreFit}
 use Rattle.recorder_core.proofs.Totals.{tickets_limited}
 
 -- ---- the tickets of all threads
-
-abbrev ticket_of : Event → ℕ
-ticket_of e = e.ticket
 
 abbrev pub tickets_of : Setting → List Step → ℕ → List ℕ
 tickets_of setting steps t = map ticket_of (events setting t steps)
@@ -57,10 +53,6 @@ tickets_step setting (Effect u) starved before k none = k.1
 tickets_step setting (Say u answer) starved before k none = k.1
 tickets_step setting (Drain u n) starved before k none = k.1
 tickets_step setting (Close u) starved before k none = k.1
-
-no_blocks : (n : ℕ) → [] ≡ blocks (λ (t : ℕ). let none : List ℕ = [] in none) n
-no_blocks zero = refl
-no_blocks (suc n) = no_blocks n ∙ sym (append-nil _)
 
 pub tickets_are : (setting : Setting) (schedule : List Attempt) → TicketsAre setting (accepted setting schedule)
 tickets_are setting schedule = after_each setting (TicketsAre setting)

@@ -83,7 +83,7 @@ answer_fits Dequeue Not right = cc
 answer_fits Dequeue (Got w) right = refl
 answer_fits Dequeue Empty right = refl
 
-queue_is_right : (asked : Question) (items : List ℕ) → is_wrong (queue_answer asked items) (Some asked) ≡ false
+pub queue_is_right : (asked : Question) (items : List ℕ) → is_wrong (queue_answer asked items) (Some asked) ≡ false
 queue_is_right (Enqueue v) items = refl
 queue_is_right Dequeue [] = refl
 queue_is_right Dequeue (x ∷ items) = refl

@@ -24,7 +24,7 @@ use Rattle.recorder_core.proofs.Blocks.{Once, once_apart, once_permutation, once
 pub place_in : {X : Type 0} (xs : List X) (x : X) → Contains xs x → (k : ℕ) × (slice_get xs k ≡ Some x)
 place_in xs x among = (among.0, slice_get_read xs (length xs) among.0 x refl among.1 (sym among.2))
 
-no_call : (call answer : What) → answers call answer ≡ true → is_call answer ≡ false
+pub no_call : (call answer : What) → answers call answer ≡ true → is_call answer ≡ false
 no_call (CallEnq v) RetEnq e = refl
 no_call (CallEnq v) RetNot e = refl
 no_call CallDeq (RetDeq v) e = refl
@@ -56,7 +56,7 @@ pub record AreFit (lists : List (List Event)) : Type 0 where
   pub tickets : let all = flat_map (λ list. list) lists in IsPermutation (map (λ event. event.ticket) all) (range_with_len 0 (length all))
   pub not_too_long : length (flat_map (λ list. list) lists) ≤ 2 * MAX_OPERATIONS
 
-abbrev ticket_of : Event → ℕ
+abbrev pub ticket_of : Event → ℕ
 ticket_of e = e.ticket
 
 -- no two events of fitting lists have one ticket
@@ -78,7 +78,7 @@ module _ (lists : List (List Event)) (merged : List Event) (fit : AreFit lists) 
   joined e among = Contains-permutation merged (flat_map (λ list. list) lists) e (IsPermutation-sym _ _ is.holds_each_once) among
 
   -- and stands in the list of its thread
-  owned : (e : Event) → Contains merged e → (list : List Event) × (slice_get lists e.thread ≡ Some list) × Contains list e
+  pub owned : (e : Event) → Contains merged e → (list : List Event) × (slice_get lists e.thread ≡ Some list) × Contains list e
   owned e among =
       let m = joined_contains lists e (joined e among) in
       let own = All-contains (λ (x : Event). x.thread ≡ m.0) m.1 e (fit.each m.0 m.1 m.2).own m.3 in

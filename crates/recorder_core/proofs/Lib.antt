@@ -13,3 +13,11 @@ pub mod Blocks
 pub mod Fitting
 pub mod Events
 pub mod Collecting
+pub mod Granted
+pub mod Turns
+pub mod Replaying
+pub mod Replayed
+pub mod Operating
+pub mod Honest
+pub mod Legal
+pub mod Ticketed

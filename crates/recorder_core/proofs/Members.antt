@@ -1,6 +1,7 @@
 -- Lists by what they contain: numbers that stand once in a list, and lists whose tickets rise.
-use Rattle.std.proofs.Common.{◌≡◌, ℕ, zero, suc, ◌+◌, ◌<◌, ◌⊎◌, Bool, true, false, cond, List, [], ◌∷◌, get_or, map, Option, Some, None, refl, sym, ◌∙◌, ap, subst, inl, inr, arith}
-use Rattle.std.specs.Prelude.{AllPairs, Contains, filter, filter_map, slice_get, flat_map}
+use Rattle.std.proofs.lemmas.Bool.{cases_eq}
+use Rattle.std.proofs.Common.{◌≡◌, ℕ, zero, suc, ◌+◌, ◌<◌, ◌⊎◌, Bool, true, false, cond, List, [], ◌∷◌, get_or, map, Option, Some, None, refl, sym, ◌∙◌, ap, subst, inl, inr, arith, ◌≤◌, ◌++◌}
+use Rattle.std.specs.Prelude.{All, AllPairs, Contains, filter, filter_map, slice_get, flat_map}
 use Rattle.std.specs.List.{range_with_len, cons_option}
 use Rattle.std.proofs.lemmas.List.Elements.{Contains-append_left, Contains-append_right, Contains-append_cases, Contains-get_or}
 use Rattle.event_records.specs.declared.event.Event.{Event}
@@ -161,3 +162,25 @@ pairs_filter_map {X} {Y} R S h (x ∷ xs) turn pairs =
         (λ y among.
         let m = filter_map_contains h xs y among in
         turn x m.0 w y (contains_head x xs) (contains_tail x xs m.0 m.1) (pairs_first R x xs m.0 pairs m.1) is m.2) more
+
+pub map_contains : {X Y : Type 0} (f : X → Y) (xs : List X) (y : Y) → Contains (map f xs) y → (x : X) × Contains xs x × (f x ≡ y)
+map_contains f [] y among = absurd (none_in_nil y among)
+map_contains f (x ∷ xs) y among = elim (contains_cons (f x) (map f xs) y among) [
+  | inl same ↦ (x, contains_head x xs, same)
+  | inr later ↦ let m = map_contains f xs y later in (m.0, contains_tail x xs m.0 m.1, m.2)
+]
+
+pub in_range : (a n v : ℕ) → a ≤ v → v < a + n → Contains (range_with_len a n) v
+in_range a zero v above below = absurd (omega arith)
+in_range a (suc n) v above below = elim (cases_eq a v) [
+  | inl same ↦ subst (λ (z : ℕ). Contains (a ∷ range_with_len (a + 1) n) z) same (contains_head a (range_with_len (a + 1) n))
+  | inr other ↦ contains_tail a (range_with_len (a + 1) n) v (in_range (a + 1) n v (omega arith) (omega arith))
+]
+
+pub pairs_suffix : {X : Type 0} (R : X → X → Type 0) (xs ys : List X) → AllPairs R (xs ++ ys) → AllPairs R ys
+pairs_suffix R [] ys pairs = pairs
+pairs_suffix R (x ∷ xs) ys pairs = pairs_suffix R xs ys (pairs_tail R x (xs ++ ys) pairs)
+
+-- what holds of each member holds of all
+pub all_from_members : {X : Type 0} (P : X → Type 0) (xs : List X) → ((x : X) → Contains xs x → P x) → All P xs
+all_from_members P xs each k d within = each (get_or xs k d) (Contains-get_or xs k d within)

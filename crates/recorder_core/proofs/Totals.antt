@@ -1,5 +1,5 @@
 -- The counts of all threads together.
-use Rattle.std.proofs.Common.{◌≡◌, ℕ, zero, suc, ◌+◌, ◌*◌, ◌<◌, ◌≤◌, Bool, true, false, cond, List, ◌∷◌, length, None, refl, sym, ap, ◌∙◌, inl, inr, arith, eqb}
+use Rattle.std.proofs.Common.{◌≡◌, ℕ, zero, suc, ◌+◌, ◌*◌, ◌<◌, ◌≤◌, Bool, true, false, cond, List, ◌∷◌, length, None, refl, sym, ap, ◌∙◌, inl, inr, arith, eqb, subst}
 use Rattle.std.proofs.lemmas.Bool.{ne_eqb, cases_eq}
 use Rattle.event_records.specs.declared.limits.TheConstants.{MAX_OPERATIONS}
 use Rattle.recorder_core.specs.declared.step.Step.{Step}
@@ -93,3 +93,19 @@ tickets_limited setting schedule =
 -- a machine that some schedule leaves has asked no more than it may, and has taken at most two tickets for each
 pub is_small : (machine : MachineView) → IsReachable machine → (machine.asked ≤ MAX_OPERATIONS) × (machine.next_ticket ≤ 2 * MAX_OPERATIONS)
 is_small machine (setting, schedule, after) = (omega (arith, after.asked, (added setting schedule).limited), omega (arith, after.next_ticket, tickets_limited setting schedule))
+
+-- ---- sums of two kinds, thread by thread
+
+pub total_doubled : (f g : ℕ → ℕ) (n : ℕ) → ((t : ℕ) → t < n → 2 * f t ≤ g t) → 2 * total f n ≤ total g n
+total_doubled f g zero h = omega arith
+total_doubled f g (suc n) h = omega (arith, total_doubled f g n (λ t below. h t (omega arith)), h n (omega arith))
+
+-- the same, with two to spare at one thread
+pub total_doubled_less : (f g : ℕ → ℕ) (u n : ℕ) → ((t : ℕ) → t < n → 2 * f t ≤ g t) → u < n → 2 * f u + 2 ≤ g u → 2 * total f n + 2 ≤ total g n
+total_doubled_less f g u zero h within more = absurd (omega arith)
+total_doubled_less f g u (suc n) h within more = elim (cases_eq u n) [
+  | inl same ↦
+      let here : 2 * f n + 2 ≤ g n = subst (λ (t : ℕ). 2 * f t + 2 ≤ g t) same more in
+      omega (arith, total_doubled f g n (λ t below. h t (omega arith)), here)
+  | inr other ↦ omega (arith, total_doubled_less f g u n (λ t below. h t (omega arith)) (omega arith) more, h n (omega arith))
+]

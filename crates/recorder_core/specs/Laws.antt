@@ -1,6 +1,12 @@
 -- The words of what holds of every schedule.
-use Rattle.std.specs.Prelude.{◌≡◌, ℕ, ◌<◌, ◌++◌, true, List, ◌∷◌, Some, None}
+use Rattle.std.specs.Prelude.{map, ◌≡◌, ℕ, ◌<◌, ◌++◌, true, List, ◌∷◌, Some, None}
+use Rattle.std.specs.List.{range_with_len}
 use Rattle.event_records.specs.declared.event.Event.{Event}
+use Rattle.event_records.specs.declared.event.What.{What}
+use Rattle.event_records.specs.declared.event.What.TheVariants.{CallEnq, RetEnq, RetNot, CallDeq, RetDeq, RetEmpty}
+use Rattle.history_merge.specs.declared.operation.Operation.{Operation}
+use Rattle.history_merge.specs.declared.operation.OpKind.{OpKind}
+use Rattle.history_merge.specs.declared.operation.OpKind.TheVariants.{Enq, Deq, Empty, Not}
 use Rattle.recorder_core.specs.declared.step.Step.{Step}
 use Rattle.recorder_core.specs.declared.step.Step.TheVariants.{Drain}
 use Rattle.recorder_core.specs.Setting.{Setting}
@@ -46,3 +52,33 @@ pub record StandsBefore (setting : Setting) (schedule : List Attempt) (first sec
   pub schedule_is : schedule ≡ later ++ other ∷ (between ++ one ∷ before)
   pub gives_first : Gives setting before one first
   pub gives_second : Gives setting (between ++ one ∷ before) other second
+
+-- what the call of an operation asks that did this
+abbrev pub call_what : OpKind → What
+call_what (Enq v) = CallEnq v
+call_what (Not v) = CallEnq v
+call_what (Deq v) = CallDeq
+call_what Empty = CallDeq
+
+-- what its return answers
+abbrev pub return_what : OpKind → What
+return_what (Enq v) = RetEnq
+return_what (Not v) = RetNot
+return_what (Deq v) = RetDeq v
+return_what Empty = RetEmpty
+
+-- the event with which an operation was called
+abbrev pub operation_call : Operation → Event
+operation_call o = record { ticket = o.call; thread = o.thread; what = call_what o.kind }
+
+-- the event with which it returned
+abbrev pub operation_return : Operation → Event
+operation_return o = record { ticket = o.ret; thread = o.thread; what = return_what o.kind }
+
+-- the return step of the first operation stands before the ask of the second
+abbrev pub ReturnsBeforeAsk : Setting → List Attempt → Operation → Operation → Type 0
+ReturnsBeforeAsk setting schedule x y = StandsBefore setting schedule (operation_return x) (operation_call y)
+
+-- the lists that a schedule collects, of threads 0, 1, 2 and so on
+abbrev pub collected_lists : Setting → List Attempt → List (List Event)
+collected_lists setting schedule = map (λ t. collected_in setting schedule t) (range_with_len 0 setting.threads)

@@ -20,9 +20,9 @@ use Rattle.recorder_core.specs.declared.pending.Question.{Question}
 use Rattle.recorder_core.specs.declared.pending.Question.TheVariants.{Enqueue, Dequeue}
 use Rattle.recorder_core.specs.Setting.{Setting}
 use Rattle.recorder_core.specs.Schedule.{Attempt, accepted, question, effect_answer, with_last, answers, events}
-use Rattle.recorder_core.specs.Laws.{collected_in, IsDone}
+use Rattle.recorder_core.specs.Laws.{collected_lists, IsDone}
 
--- ---- honest schedules, and the lists that a schedule collects
+-- ---- honest schedules
 
 -- whether a step is an effect
 abbrev pub is_effect : Step → Bool
@@ -38,20 +38,18 @@ is_say _ = false
 abbrev pub IsHonest : Setting → List Attempt → Type 0
 IsHonest setting schedule = IsTrue (list_all (λ step. not (is_say step)) (accepted setting schedule))
 
--- the lists that a schedule collects, of threads 0, 1, 2 and so on
-abbrev pub collected_lists : Setting → List Attempt → List (List Event)
-collected_lists setting schedule = map (λ t. collected_in setting schedule t) (range_with_len 0 setting.threads)
-
 -- ---- recorded lists
 
--- the list of thread t: its events alone, in turn; an enqueue by its n-th operation, from 0, is called with the name of n
+-- the list of thread t: its events alone, in turn, of no more operations than a thread may ask; where its n-th operation, from 0, is an
+-- enqueue, the call has the value that is named by t and n
 pub record IsListOf (t : ℕ) (events : List Event) : Type 0 where
   pub own : All (λ event. event.thread ≡ t) events
   pub alternates : Alternates events
   pub names : (n value : ℕ) (call : Event) → slice_get events (2 * n) ≡ Some call → call.what ≡ CallEnq value → value ≡ value_name t n
   pub not_too_long : length events ≤ 2 * MAX_THREAD_OPERATIONS
 
--- one list for each of 1 to 64 threads, whose tickets together are the numbers below their total, each once
+-- one list for each of 1 to 64 threads, of no more operations together than a machine may be asked, whose tickets together are the
+-- numbers below their total, each once
 pub record AreRecorded (lists : List (List Event)) : Type 0 where
   pub some : 1 ≤ length lists
   pub not_too_many : length lists ≤ MAX_THREADS
@@ -75,12 +73,16 @@ effected [] = []
 effected (Effect t ∷ before) = effected before ++ (t, answers t before) ∷ []
 effected (_ ∷ before) = effected before
 
--- the operation with number n of thread t: its call and return are events 2n and 2n + 1 of t
-abbrev pub operation_at : Setting → List Step → ℕ × ℕ → Option Operation
-operation_at setting steps (t, n) = elim (slice_get (events setting t steps) (2 * n)) [
+-- the operation with number n in the list of one thread: its call and its return are the events at places 2n and 2n + 1
+abbrev pub operation_in : List Event → ℕ → Option Operation
+operation_in events n = elim (slice_get events (2 * n)) [
   | None ↦ None
-  | Some call ↦ operation_of call (slice_get (events setting t steps) (2 * n + 1))
+  | Some call ↦ operation_of call (slice_get events (2 * n + 1))
 ]
+
+-- the operation of this thread and number
+abbrev pub operation_at : Setting → List Step → ℕ × ℕ → Option Operation
+operation_at setting steps (t, n) = operation_in (events setting t steps) n
 
 -- the operations in the order of their effects
 abbrev pub effects_order : Setting → List Step → List Operation

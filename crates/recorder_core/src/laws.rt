@@ -2,49 +2,82 @@
 //! each of them ensures, and its words stand in `specs/Laws.antt` and `specs/Replay.antt`.
 ghost use Rattle.std.specs.Prelude.{◌≡◌, ℕ, ◌<◌, ◌≤◌, ◌++◌, ◌∷◌, List, Contains, Err, None, Some, [], ◌↔◌};
 ghost use Rattle.event_records.specs.declared.event.Event.{Event};
+ghost use Rattle.history_merge.specs.declared.operation.Operation.{Operation};
+ghost use Rattle.history_merge.specs.Legal.{IsLegalOrder};
+ghost use Rattle.history_merge.specs.Operations.{Precedes, operations_of};
 ghost use Rattle.history_merge.specs.Queue.{accept_all};
 ghost use Rattle.recorder_core.specs.declared.step.Step.TheVariants.{Close};
 ghost use Rattle.recorder_core.specs.declared.step.StepRefused.TheVariants.{Closed};
 ghost use Rattle.recorder_core.specs.Setting.{Setting};
 ghost use Rattle.recorder_core.specs.Schedule.{Attempt, accepted, refusal, answer_to, thread_of, queue};
-ghost use Rattle.recorder_core.specs.Laws.{IsPrefix, events_in, collected_in, IsDone, NeedsOpenThread, StandsBefore};
+ghost use Rattle.recorder_core.specs.Laws.{IsPrefix, events_in, collected_in, IsDone, NeedsOpenThread, ReturnsBeforeAsk, StandsBefore, collected_lists};
 ghost use Rattle.history_merge.specs.Complete.{IsCompleteHistory};
 ghost use Rattle.history_merge.specs.Merge.{IsMerged};
-ghost use Rattle.recorder_core.specs.Replay.{AreRecorded, collected_lists, effect_kinds};
+ghost use Rattle.recorder_core.specs.Replay.{AreRecorded, Replays, IsHonest, effect_kinds, effects_order};
 
-use crate::limits::MAX_THREADS;
+use crate::limits::{MAX_RING, MAX_THREADS, MIN_RING};
 
 /// Each thread's collected list is a prefix of its events.
 pub fn collected_is_a_prefix()
-    ensures { (setting : Setting) (schedule : List Attempt) (t : ℕ) → IsPrefix (collected_in setting schedule t) (events_in setting schedule t) }
+    ensures { (setting : Setting) (schedule : List Attempt) (t : ℕ)
+        → IsPrefix (collected_in setting schedule t) (events_in setting schedule t) }
 {}
 
 /// It is all of them where the schedule is done.
 pub fn done_collects_all()
-    ensures { (setting : Setting) (schedule : List Attempt) → IsDone setting schedule → (t : ℕ) → t < setting.threads → collected_in setting schedule t ≡ events_in setting schedule t }
+    ensures { (setting : Setting) (schedule : List Attempt) → IsDone setting schedule
+        → (t : ℕ) → t < setting.threads → collected_in setting schedule t ≡ events_in setting schedule t }
 {}
 
 /// After an accepted close, each step of that thread but a drain is refused as closed.
 pub fn nothing_after_close()
-    ensures { (setting : Setting) (before later : List Attempt) (close attempt : Attempt) → close.step ≡ Close (thread_of attempt.step) → refusal setting (accepted setting before) close ≡ None → NeedsOpenThread attempt.step → answer_to setting (later ++ close ∷ before) attempt ≡ Err Closed }
+    ensures { (setting : Setting) (before later : List Attempt) (close attempt : Attempt)
+        → close.step ≡ Close (thread_of attempt.step) → refusal setting (accepted setting before) close ≡ None
+        → NeedsOpenThread attempt.step → answer_to setting (later ++ close ∷ before) attempt ≡ Err Closed }
 {}
 
-/// Of two collected events the one with the lower ticket is the one whose step stands first.
+/// One operation precedes another in the collected history exactly where its return step stands before the other's ask. More
+/// than that, of any two collected events the one with the lower ticket is the one whose step stands first.
 pub fn precedence_as_ticketed()
-    ensures { (setting : Setting) (schedule : List Attempt) (t u : ℕ) (first second : Event) → Contains (collected_in setting schedule t) first → Contains (collected_in setting schedule u) second → (first.ticket < second.ticket) ↔ StandsBefore setting schedule first second }
+    ensures operations { (setting : Setting) (schedule : List Attempt) (merged : List Event) (x y : Operation)
+        → IsMerged (collected_lists setting schedule) merged → Contains (operations_of merged) x → Contains (operations_of merged) y
+        → Precedes x y ↔ ReturnsBeforeAsk setting schedule x y }
+    ensures events { (setting : Setting) (schedule : List Attempt) (t u : ℕ) (first second : Event)
+        → Contains (collected_in setting schedule t) first → Contains (collected_in setting schedule u) second
+        → (first.ticket < second.ticket) ↔ StandsBefore setting schedule first second }
 {}
 
 /// The sequential queue accepts the effects in their order, from the empty queue on, and is then the schedule's.
 pub fn effects_are_accepted()
-    ensures { (setting : Setting) (schedule : List Attempt) → accept_all [] (effect_kinds setting (accepted setting schedule)) ≡ Some (queue setting (accepted setting schedule)) }
+    ensures { (setting : Setting) (schedule : List Attempt)
+        → accept_all [] (effect_kinds setting (accepted setting schedule)) ≡ Some (queue setting (accepted setting schedule)) }
+{}
+
+/// Recorded lists replay: for every capacity of the rings, some schedule without effects, each of whose steps is accepted, is
+/// done and collects them.
+pub fn recorded_lists_replay()
+    ensures { (lists : List (List Event)) (ring : ℕ)
+        → AreRecorded lists → MIN_RING ≤ ring → ring ≤ MAX_RING → Replays ring lists }
 {}
 
 /// Recorded lists merge to a complete history.
 pub fn recorded_lists_are_complete()
-    ensures { (lists : List (List Event)) (merged : List Event) → AreRecorded lists → IsMerged lists merged → IsCompleteHistory merged }
+    ensures { (lists : List (List Event)) (merged : List Event)
+        → AreRecorded lists → IsMerged lists merged → IsCompleteHistory merged }
 {}
 
 /// And so do the lists that a done schedule collects.
 pub fn done_schedules_are_complete()
-    ensures { (setting : Setting) (schedule : List Attempt) (merged : List Event) → setting.threads ≤ MAX_THREADS → IsDone setting schedule → IsMerged (collected_lists setting schedule) merged → IsCompleteHistory merged }
+    ensures { (setting : Setting) (schedule : List Attempt) (merged : List Event)
+        → setting.threads ≤ MAX_THREADS → IsDone setting schedule → IsMerged (collected_lists setting schedule) merged
+        → IsCompleteHistory merged }
+{}
+
+/// The order of the effects of an honest schedule that is done is a legal order of the collected history, which is therefore
+/// linearizable.
+pub fn honest_schedules_are_legal()
+    ensures { (setting : Setting) (schedule : List Attempt) (merged : List Event)
+        → setting.threads ≤ MAX_THREADS → IsHonest setting schedule → IsDone setting schedule
+        → IsMerged (collected_lists setting schedule) merged
+        → IsLegalOrder (operations_of merged) (effects_order setting (accepted setting schedule)) }
 {}

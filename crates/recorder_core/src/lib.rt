@@ -16,7 +16,8 @@ mod thread;
 
 pub use laws::{
     collected_is_a_prefix, done_collects_all, done_schedules_are_complete, effects_are_accepted,
-    nothing_after_close, precedence_as_ticketed, recorded_lists_are_complete,
+    honest_schedules_are_legal, nothing_after_close, precedence_as_ticketed,
+    recorded_lists_are_complete, recorded_lists_replay,
 };
 pub use limits::{MAX_RING, MAX_THREADS, MIN_RING};
 pub use machine::Machine;

@@ -39,9 +39,21 @@ impl Model for Machine {
 
     ghost Value = { MachineView };
 
-    ghost view = { λ a. record { capacity = a.capacity; threads = a.threads.items; asked = a.asked; next_ticket = a.next_ticket; queue = a.queue.items } };
+    ghost view = { λ a. record {
+      capacity = a.capacity;
+      threads = a.threads.items;
+      asked = a.asked;
+      next_ticket = a.next_ticket;
+      queue = a.queue.items;
+    } };
 
-    ghost invariant = { λ a. IsReachable (record { capacity = a.capacity; threads = a.threads.items; asked = a.asked; next_ticket = a.next_ticket; queue = a.queue.items }) };
+    ghost invariant = { λ a. IsReachable (record {
+      capacity = a.capacity;
+      threads = a.threads.items;
+      asked = a.asked;
+      next_ticket = a.next_ticket;
+      queue = a.queue.items;
+    }) };
 }
 
 impl Machine {
@@ -71,15 +83,16 @@ impl Machine {
 
     /// Takes one step. A refused step changes nothing.
     ///
-    /// A drain takes time in proportion to what it collects; every other step takes a constant time, where a list that
-    /// grows is counted over all steps.
+    /// A drain takes time in proportion to what it collects, and every other step amortised constant time.
     pub fn step(&mut self, step: Step) -> Result<Done, StepRefused>
         // Whichever schedule left the machine, the answer is what that schedule says. `Memory` is read off the answer: the
         // attempt is one whose growth is refused exactly where the answer says so.
-        ensures answered { (setting : Setting) (schedule : List Attempt) → IsAfter setting self.old schedule → result ≡ answer_to setting schedule (attempt_at step result) }
+        ensures answered { (setting : Setting) (schedule : List Attempt) → IsAfter setting self.old schedule
+            → result ≡ answer_to setting schedule (attempt_at step result) }
 
         // And the machine is then what that schedule leaves with this attempt added.
-        ensures goes_on { (setting : Setting) (schedule : List Attempt) → IsAfter setting self.old schedule → IsAfter setting self.new (attempt_at step result ∷ schedule) }
+        ensures goes_on { (setting : Setting) (schedule : List Attempt) → IsAfter setting self.old schedule
+            → IsAfter setting self.new (attempt_at step result ∷ schedule) }
         ensures refused { OnErr result (self.new ≡ self.old) }
         ensures threads { length self.new.threads ≡ length self.old.threads }
     {
@@ -198,14 +211,16 @@ impl Machine {
     /// What was collected of a thread, oldest first.
     pub fn collected(&self, number: u8) -> &[Event]
         requires { number < length self.now.threads }
-        ensures { (setting : Setting) (schedule : List Attempt) → IsAfter setting self.now schedule → result.now ≡ collected_in setting schedule number }
+        ensures { (setting : Setting) (schedule : List Attempt) → IsAfter setting self.now schedule
+            → result.now ≡ collected_in setting schedule number }
     {
         self.threads[usize::from(number)].collected()
     }
 
     /// Whether all threads are closed and all rings are empty. It looks at each thread once.
     pub fn done(&self) -> bool
-        ensures { (setting : Setting) (schedule : List Attempt) → IsAfter setting self.now schedule → IsTrue result ↔ IsDone setting schedule }
+        ensures { (setting : Setting) (schedule : List Attempt) → IsAfter setting self.now schedule
+            → IsTrue result ↔ IsDone setting schedule }
     {
         all_done(&self.threads)
     }

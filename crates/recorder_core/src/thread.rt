@@ -28,7 +28,14 @@ impl Model for Thread {
 
     ghost Value = { ThreadView };
 
-    ghost view = { λ a. record { closed = a.closed; asked = a.asked; pending = a.pending; held = a.held; ring = a.ring.items; collected = a.collected.items } };
+    ghost view = { λ a. record {
+      closed = a.closed;
+      asked = a.asked;
+      pending = a.pending;
+      held = a.held;
+      ring = a.ring.items;
+      collected = a.collected.items;
+    } };
 }
 
 impl Thread {
@@ -100,7 +107,11 @@ impl Thread {
     /// Begins an operation with this call.
     pub(crate) fn begin(&mut self, question: Question, call: Event)
         requires { self.old.asked < MAX_THREAD_OPERATIONS }
-        ensures { self.new ≡ record self.old { asked = self.old.asked + 1; pending = Some (record { question = question; answer = None }); held = Some call } }
+        ensures { self.new ≡ record self.old {
+          asked = self.old.asked + 1;
+          pending = Some (record { question = question; answer = None });
+          held = Some call;
+        } }
     {
         self.asked += 1;
         self.pending = Some(Pending {
@@ -112,7 +123,8 @@ impl Thread {
 
     /// Puts the held event last into the ring.
     pub(crate) fn push(&mut self, capacity: usize) -> Result<(), StepRefused>
-        ensures refused { result_err result ≡ find (seen self.old (when_pushing (nat_le capacity (length self.old.ring)) (is_out_of_memory result))) (Closed ∷ NothingHeld ∷ RingFull ∷ Memory ∷ []) }
+        ensures refused { let full = nat_le capacity (length self.old.ring) in result_err result
+            ≡ find (seen self.old (when_pushing full (is_out_of_memory result))) (Closed ∷ NothingHeld ∷ RingFull ∷ Memory ∷ []) }
         ensures ok { OnOk result (self.new ≡ record self.old { held = None; ring = with_last self.old.ring self.old.held }) }
         ensures err { OnErr result (self.new ≡ self.old) }
     {
@@ -178,7 +190,10 @@ impl Thread {
     /// Collects the first events of the ring.
     pub(crate) fn drain(&mut self, most: u32) -> Result<u32, AllocError>
         ensures count { IfOk result (λ n. n ≡ min most (length self.old.ring)) }
-        ensures ok { IfOk result (λ n. self.new ≡ record self.old { ring = drop n self.old.ring; collected = self.old.collected ++ take n self.old.ring }) }
+        ensures ok { IfOk result (λ n. self.new ≡ record self.old {
+          ring = drop n self.old.ring;
+          collected = self.old.collected ++ take n self.old.ring;
+        }) }
         ensures err { OnErr result (self.new ≡ self.old) }
     {
         collect_first(&mut self.ring, &mut self.collected, most)

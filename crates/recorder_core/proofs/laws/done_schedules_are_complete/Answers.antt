@@ -1,4 +1,4 @@
-use Rattle.recorder_core.specs.Replay.{collected_lists}
+use Rattle.recorder_core.specs.Laws.{collected_lists}
 use Rattle.recorder_core.proofs.Collecting.{collected_is_fit}
 use Rattle.recorder_core.proofs.Fitting.{merged_is_complete}
 use Rattle.recorder_core.proofs.laws.done_schedules_are_complete.Goals as goal

@@ -1,0 +1,10 @@
+//! Gaps at which the queue may have been empty, and values that together leave none.
+#![tactic(auto)]
+
+mod answer;
+mod cover;
+mod gaps;
+mod search;
+
+pub use answer::{GapAnswer, Gaps, WitnessAnswer};
+pub use search::{find_witness, gap_for};

@@ -1,0 +1,18 @@
+use Rattle.std.proofs.Common.{codes}
+use Rattle.std.specs.Prelude.{decimal}
+use Rattle.std.proofs.KnownBytes.{Appends-trans}
+use Rattle.fifobench.proofs.Fronts.{front_first, front_next, on_err, on_err_too}
+use Rattle.fifobench.proofs.print.write_numbered.Goals as goal
+
+pub returns-in_err-write_piece-clause-err : goal.returns-in_err-write_piece-clause-err
+returns-in_err-write_piece-clause-err g c =
+    on_err c.from_residual.result _ (front_first _ _ _ (codes "\n") (front_first _ _ c.args.words.now (decimal c.args.number) c.in_err-write_piece.ensures.err))
+
+pub returns-in_err-write_number-clause-err : goal.returns-in_err-write_number-clause-err
+returns-in_err-write_number-clause-err g c =
+    on_err c.from_residual-in_err-write_number.result _ (front_first _ _ _ (codes "\n") (front_next _ _ _ c.args.words.now (decimal c.args.number) c.in_ok-write_piece.ensures.ok c.in_err-write_number.ensures.err))
+
+pub returns-clause-err : goal.returns-clause-err
+returns-clause-err g c =
+    let before = Appends-trans _ _ _ c.args.words.now (decimal c.args.number) c.in_ok-write_piece.ensures.ok c.in_ok-write_number.ensures.ok in
+    on_err_too c.write_piece-2.result _ _ (λ h. front_next _ _ _ _ (codes "\n") before h) c.write_piece-2.ensures.err

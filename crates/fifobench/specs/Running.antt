@@ -1,0 +1,58 @@
+-- What a run of the program leaves behind.
+use Rattle.std.specs.Prelude.{◌≡◌, ◌≢◌, ℕ, Bool, true, false, List, Option, ◌⊎◌}
+use Rattle.std.specs.Io.KnownBytes.{Appends}
+use Rattle.history_text.specs.Input.{Ahead}
+use Rattle.history_text.specs.Writing.{AppendsFront}
+use Rattle.clap.specs.Kinds.{Kinds, IsAmong}
+use Rattle.clap.specs.declared.error.kind.ErrorKind.{ErrorKind}
+use Rattle.clap.specs.declared.error.kind.ErrorKind.TheVariants as kind
+use Rattle.fifobench.specs.declared.cli.Task.{Task}
+use Rattle.fifobench.specs.declared.cli.Task.TheVariants.{Check}
+use Rattle.fifobench.specs.Answers.{Answer, memory_fault, answer_text, answer_status}
+use Rattle.fifobench.specs.Judging.{AnswersFor, Judges}
+
+-- where the writer refused nothing the text is written whole, with this status; else a front of it is, and the status is 3
+abbrev pub Prints : Option (List ℕ) → Option (List ℕ) → Bool → ℕ → List ℕ → ℕ → Type 0
+Prints old new false result text status = Appends old new text × (result ≡ status)
+Prints old new true result text status = AppendsFront old new text × (result ≡ 3)
+
+-- the answer's text is printed, with its status
+abbrev pub PrintsAnswer : Option (List ℕ) → Option (List ℕ) → Bool → ℕ → Answer → Type 0
+PrintsAnswer old new refused result answer = Prints old new refused result (answer_text answer) (answer_status answer)
+
+-- what a task answers of an input
+abbrev pub AnswersOf : Task → Ahead → Answer → Type 0
+AnswersOf Check input answer = AnswersFor Judges input answer
+
+-- a run of a task over an input
+pub record RunsOver (task : Task) (input : Ahead) (old new : Option (List ℕ)) (refused : Bool) (result : ℕ) : Type 0 where
+  pub answer : Answer
+  pub right : AnswersOf task input answer
+  pub printed : PrintsAnswer old new refused result answer
+
+-- a help or a version, or a mistake in the words
+abbrev pub usage_status : ErrorKind → ℕ
+usage_status kind.DisplayHelp = 0
+usage_status kind.DisplayVersion = 0
+usage_status _ = 2
+
+-- a text about the use of the program, of one of these kinds
+pub record PrintsUsage (kinds : Kinds) (old new : Option (List ℕ)) (refused : Bool) (result : ℕ) : Type 0 where
+  pub reason : ErrorKind
+  pub among : IsAmong reason kinds
+  pub text : List ℕ
+  pub printed : Prints old new refused result text (usage_status reason)
+
+-- words that are no command have a text about the use of the program, or memory ran out
+abbrev pub ExplainsUse : Kinds → Option (List ℕ) → Option (List ℕ) → Bool → ℕ → Type 0
+ExplainsUse kinds old new refused result = PrintsUsage kinds old new refused result ⊎ PrintsAnswer old new refused result memory_fault
+
+-- some text, with the status of this kind of error
+pub record PrintsText (reason : ErrorKind) (old new : Option (List ℕ)) (refused : Bool) (result : ℕ) : Type 0 where
+  pub usual : reason ≢ kind.OutOfMemory
+  pub text : List ℕ
+  pub printed : Prints old new refused result text (usage_status reason)
+
+-- an error of this kind prints its text, or memory ran out
+abbrev pub Explains : ErrorKind → Option (List ℕ) → Option (List ℕ) → Bool → ℕ → Type 0
+Explains reason old new refused result = PrintsText reason old new refused result ⊎ PrintsAnswer old new refused result memory_fault

@@ -1,0 +1,95 @@
+//! What is written, and the status that goes with it.
+ghost use Rattle.std.specs.Prelude.{◌≡◌, ◌++◌, ◌||◌, OnOk, OnErr, is_err, false, decimal};
+ghost use Rattle.std.specs.Io.KnownBytes.{Appends};
+ghost use Rattle.history_text.specs.Lines.{line};
+ghost use Rattle.history_text.specs.Writing.{AppendsFront};
+ghost use Rattle.fifobench.specs.Answers.{answer_text, answer_status};
+ghost use Rattle.fifobench.specs.Outcomes.{answer_of, NamesPlaces};
+ghost use Rattle.fifobench.specs.Running.{Prints, PrintsAnswer};
+
+use crate::faults::{write_history_refusal, write_text_refusal};
+use crate::outcome::Outcome;
+use history_text::{TextSink, WriteFault, write_piece, write_verdict};
+use verdicts::Verdict;
+
+/// A line of words and a number.
+pub fn write_numbered<W: TextSink>(
+    writer: &mut W,
+    words: &[u8],
+    number: u64,
+) -> Result<(), WriteFault>
+    ensures ok { OnOk result (Appends (W.contents writer.old) (W.contents writer.new) (line (words.now ++ decimal number))) }
+    ensures err { OnErr result (AppendsFront (W.contents writer.old) (W.contents writer.new) (line (words.now ++ decimal number))) }
+    ensures refused { W.has_refused writer.new ≡ (W.has_refused writer.old || is_err result) }
+{
+    write_piece(writer, words)?;
+    write_number(writer, number)?;
+    write_piece(writer, b"\n")
+}
+
+fn write_number<W: TextSink>(writer: &mut W, number: u64) -> Result<(), WriteFault>
+    ensures ok { OnOk result (Appends (W.contents writer.old) (W.contents writer.new) (decimal number)) }
+    ensures err { OnErr result (AppendsFront (W.contents writer.old) (W.contents writer.new) (decimal number)) }
+    ensures refused { W.has_refused writer.new ≡ (W.has_refused writer.old || is_err result) }
+{
+    let mut buffer = itoa::Buffer::new();
+    write_piece(writer, buffer.format(number).as_bytes())
+}
+
+/// Writes what a command found.
+fn write_outcome<W: TextSink>(writer: &mut W, outcome: &Outcome) -> Result<(), WriteFault>
+    requires { NamesPlaces outcome.now }
+    ensures ok { OnOk result (Appends (W.contents writer.old) (W.contents writer.new) (answer_text (answer_of outcome.now))) }
+    ensures err { OnErr result (AppendsFront (W.contents writer.old) (W.contents writer.new) (answer_text (answer_of outcome.now))) }
+    ensures refused { W.has_refused writer.new ≡ (W.has_refused writer.old || is_err result) }
+{
+    match outcome {
+        Outcome::Judged(history, verdict) => return write_verdict(history, verdict, writer),
+        Outcome::TextRefused(fault) => return write_text_refusal(writer, *fault),
+        Outcome::HistoryRefused(fault) => return write_history_refusal(writer, *fault),
+        Outcome::ReadFault => return write_piece(writer, b"FAULT Read\n"),
+        Outcome::MemoryFault => return write_piece(writer, b"FAULT Memory\n"),
+    }
+}
+
+fn status_of(outcome: &Outcome) -> u8
+    ensures { result ≡ answer_status (answer_of outcome.now) }
+{
+    match outcome {
+        Outcome::Judged(_, Verdict::Yes(_)) => return 0,
+        Outcome::Judged(_, Verdict::No(_)) => return 1,
+        Outcome::TextRefused(_) => return 2,
+        Outcome::HistoryRefused(_) => return 2,
+        Outcome::ReadFault => return 3,
+        Outcome::MemoryFault => return 3,
+    }
+}
+
+/// Writes what a command found and flushes the writer; answers the status.
+pub fn print_outcome<W: TextSink>(writer: &mut W, outcome: &Outcome) -> u8
+    requires fresh { W.has_refused writer.old ≡ false }
+    requires places { NamesPlaces outcome.now }
+    ensures { PrintsAnswer (W.contents writer.old) (W.contents writer.new) (W.has_refused writer.new) result (answer_of outcome.now) }
+{
+    if write_outcome(writer, outcome).is_err() {
+        return 3;
+    }
+    if writer.flush().is_err() {
+        return 3;
+    }
+    status_of(outcome)
+}
+
+/// Writes a text and flushes the writer; answers the status.
+pub fn print_text<W: TextSink>(writer: &mut W, text: &[u8], status: u8) -> u8
+    requires fresh { W.has_refused writer.old ≡ false }
+    ensures { Prints (W.contents writer.old) (W.contents writer.new) (W.has_refused writer.new) result text.now status }
+{
+    if write_piece(writer, text).is_err() {
+        return 3;
+    }
+    if writer.flush().is_err() {
+        return 3;
+    }
+    status
+}

@@ -1,0 +1,18 @@
+use Rattle.std.proofs.lemmas.Result.{on_ok_weaker, on_err_weaker}
+use Rattle.history_text.proofs.Appending.{on_ok, puts_all, puts_front}
+use Rattle.history_text.proofs.Written.{complete_has_text}
+use Rattle.history_text.proofs.history_writer.write_history.Goals as goal
+
+pub returns-clause-ok : goal.returns-clause-ok
+returns-clause-ok g c =
+    let put = rw c.events.ensures.events at c.in_ok-put_history.ensures.ok in
+    on_ok_weaker c.write_piece.result (puts_all _ _ _ _ _ put) (rw c.as_slice.ensures at c.write_piece.ensures.ok)
+
+pub returns-clause-err : goal.returns-clause-err
+returns-clause-err g c =
+    let put = rw c.events.ensures.events at c.in_ok-put_history.ensures.ok in
+    on_err_weaker c.write_piece.result (puts_front _ _ _ _ _ put) (rw c.as_slice.ensures at c.write_piece.ensures.err)
+
+pub returns-clause-readable : goal.returns-clause-readable
+returns-clause-readable g c =
+    on_ok c.write_piece.result _ (complete_has_text c.args.history.now c.events.ensures.complete (rw c.events.ensures.events at c.in_ok-put_history.ensures.fits))

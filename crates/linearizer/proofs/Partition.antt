@@ -1,0 +1,124 @@
+-- Each operation is an enqueue or the dequeue of one value, an empty answer, or a refused enqueue.
+use Rattle.std.proofs.Common.{◌≡◌, zero, ◌<◌, Bool, true, false, cond, List, [], ◌∷◌, ◌++◌, Option, None, Some, refl, sym, ◌∙◌, ap, subst, inl, inr, arith}
+use Rattle.std.specs.Prelude.{AllPairs, Contains, IsPermutation, MatchOption, filter, flat_map, option_to_list}
+use Rattle.std.proofs.lemmas.List.Sorted.{IsPermutation-append_left, IsPermutation-cons, IsPermutation-middle, IsPermutation-refl, IsPermutation-sym, IsPermutation-trans}
+use Rattle.history_merge.specs.declared.operation.Operation.{Operation}
+use Rattle.history_merge.specs.declared.operation.OpKind.{OpKind}
+use Rattle.history_merge.specs.declared.operation.OpKind.TheVariants.{Enq, Deq, Empty, Not}
+use Rattle.history_merge.specs.Operations.{Did, NoneDid}
+use Rattle.history_merge.proofs.Distinct.{contains_cons, not_in_none}
+use Rattle.value_match.specs.declared.life.Life.{Life}
+use Rattle.value_match.specs.Lives.{IsLife, is_empty_answer, is_empty_kind, is_refused, is_refused_kind}
+use Rattle.value_match.specs.Violations.{IsClear}
+use Rattle.linearizer.specs.Values.{IsValueOrder}
+use Rattle.linearizer.specs.Placement.{operations_in}
+use Rattle.linearizer.proofs.Keys.{one_place}
+use Rattle.linearizer.proofs.Opposites.{is_life, one_deeper, stands_in_order}
+use Rattle.linearizer.proofs.DifferentTimes.{IsOf, not_both_kinds, one_life_of_operation, one_place_of_life}
+use Rattle.linearizer.proofs.EachPosition.{life_of_dequeue, life_of_enqueue}
+use Rattle.linearizer.proofs.NoneTwice.{NoneTwice, from_flat_map, into_flat_map, none_twice-append, none_twice-filter, none_twice_from_places, passed_filter, passes_filter, same_elements_permute}
+
+abbrev moves_kind : OpKind → Bool
+moves_kind (Enq v) = true
+moves_kind (Deq v) = true
+moves_kind Empty = false
+moves_kind (Not v) = false
+
+-- whether the operation enqueued a value or dequeued one
+abbrev moves_value : Operation → Bool
+moves_value o = moves_kind o.kind
+
+split_by_kind : (operations : List Operation) → IsPermutation operations (filter moves_value operations ++ filter is_empty_answer operations ++ filter is_refused operations)
+split_by_kind [] = IsPermutation-refl []
+split_by_kind (o ∷ operations) =
+    step (filter moves_value operations) (filter is_empty_answer operations) (filter is_refused operations) (split_by_kind operations) o.kind
+  where
+    step : (xs ys zs : List Operation) → IsPermutation operations (xs ++ ys ++ zs) → (k : OpKind)
+        → IsPermutation (o ∷ operations) (cond (moves_kind k) (o ∷ xs) xs ++ cond (is_empty_kind k) (o ∷ ys) ys ++ cond (is_refused_kind k) (o ∷ zs) zs)
+    step xs ys zs moved (Enq v) = IsPermutation-cons o operations (xs ++ ys ++ zs) moved
+    step xs ys zs moved (Deq v) = IsPermutation-cons o operations (xs ++ ys ++ zs) moved
+    step xs ys zs moved Empty =
+        IsPermutation-trans (o ∷ operations) (o ∷ (xs ++ ys ++ zs)) (xs ++ (o ∷ ys) ++ zs) (IsPermutation-cons o operations (xs ++ ys ++ zs) moved)
+        (IsPermutation-append_left zs (o ∷ (xs ++ ys)) (xs ++ (o ∷ ys)) (IsPermutation-sym (xs ++ (o ∷ ys)) (o ∷ (xs ++ ys)) (IsPermutation-middle xs o ys)))
+    step xs ys zs moved (Not v) =
+        IsPermutation-trans (o ∷ operations) (o ∷ (xs ++ ys ++ zs)) (xs ++ ys ++ (o ∷ zs)) (IsPermutation-cons o operations (xs ++ ys ++ zs) moved)
+        (IsPermutation-sym (xs ++ ys ++ (o ∷ zs)) (o ∷ (xs ++ ys ++ zs)) (IsPermutation-middle (xs ++ ys) o zs))
+
+none_twice_by_calls : (operations : List Operation) → AllPairs (λ x y. x.call < y.call) operations → NoneTwice operations
+none_twice_by_calls operations rise =
+    none_twice_from_places operations (λ i j x y at_x at_y same. one_place (λ o. o.call) operations operations i j x y rise (IsPermutation-refl operations) at_x at_y (ap (λ o. o.call) same))
+
+-- the operations in a life are those of it
+of_life : (life : Life) (o : Operation) → Contains (operations_in life) o → IsOf life o
+of_life life o among = elim (contains_cons life.enqueue (option_to_list life.dequeue) o among) [ inl enqueues ↦ inl enqueues | inr there ↦ inr (dequeues life.dequeue there) ]
+  where
+    dequeues : (dequeue : Option Operation) → Contains (option_to_list dequeue) o → dequeue ≡ Some o
+    dequeues None there = absurd (not_in_none o there)
+    dequeues (Some d) there = elim (contains_cons d [] o there) [ inl same ↦ ap (λ x. Some x) same | inr nowhere ↦ absurd (not_in_none o nowhere) ]
+
+in_life : (life : Life) (o : Operation) → IsOf life o → Contains (operations_in life) o
+in_life life o (inl enqueues) = (zero, omega arith, enqueues)
+in_life life o (inr dequeues) = one_deeper life.enqueue (option_to_list life.dequeue) o (subst (λ d. Contains (option_to_list d) o) (sym dequeues) (zero, omega arith, refl))
+
+module _ (operations : List Operation) (clear : IsClear operations) where
+  none_twice_in_life : (life : Life) → IsLife operations life → NoneTwice (operations_in life)
+  none_twice_in_life life is = (
+    λ among. elim (apart life.dequeue refl among) [ ],
+    alone life.dequeue,
+  )
+    where
+      apart : (dequeue : Option Operation) → life.dequeue ≡ dequeue → Contains (option_to_list dequeue) life.enqueue → ⊥
+      apart None same there = not_in_none life.enqueue there
+      apart (Some d) same there = elim (contains_cons d [] life.enqueue there) [
+        | inl here ↦ not_both_kinds operations life life life.enqueue is is refl (same ∙ ap (λ x. Some x) here)
+        | inr nowhere ↦ not_in_none life.enqueue nowhere
+      ]
+
+      alone : (dequeue : Option Operation) → NoneTwice (option_to_list dequeue)
+      alone None = tt
+      alone (Some d) = (not_in_none d, tt)
+
+  none_twice_in_lives : (lives : List Life) → NoneTwice lives → ((x : Life) → Contains lives x → IsLife operations x) → NoneTwice (flat_map operations_in lives)
+  none_twice_in_lives [] none are = tt
+  none_twice_in_lives (life ∷ lives) none are =
+      none_twice-append (operations_in life) (flat_map operations_in lives) (none_twice_in_life life (are life (zero, omega arith, refl))) (none_twice_in_lives lives none.1 (λ x among. are x (one_deeper life lives x among)))
+      (λ o here there. shared o (of_life life o here) (from_flat_map operations_in lives o there))
+    where
+      shared : (o : Operation) → IsOf life o → (x : Life) × Contains lives x × Contains (operations_in x) o → ⊥
+      shared o of (x, among, at) =
+          let one = one_life_of_operation operations life x o clear (are life (zero, omega arith, refl)) (are x (one_deeper life lives x among)) of (of_life x o at) in
+          none.0 (subst (Contains lives) (sym one) among)
+
+  module _ (lives : List Life) (order : IsValueOrder operations lives) where
+    into_lives : (o : Operation) → Contains (filter moves_value operations) o → Contains (flat_map operations_in lives) o
+    into_lives o among = let passed = passed_filter moves_value operations o among in by_kind passed.0 o.kind refl passed.1
+      where
+        stands : (life : Life) → IsLife operations life → IsOf life o → Contains (flat_map operations_in lives) o
+        stands life is of = into_flat_map operations_in lives life o (stands_in_order operations lives clear order life is) (in_life life o of)
+
+        by_kind : Contains operations o → (k : OpKind) → o.kind ≡ k → moves_kind k ≡ true → Contains (flat_map operations_in lives) o
+        by_kind in_o (Enq v) is moves = let life = life_of_enqueue operations o v (in_o, is) in stands life.0 life.1 (inl life.2)
+        by_kind in_o (Deq v) is moves = let life = life_of_dequeue operations o v clear (in_o, is) in stands life.0 life.1 (inr life.2)
+        by_kind in_o Empty is moves = cc
+        by_kind in_o (Not v) is moves = cc
+
+    from_lives : (o : Operation) → Contains (flat_map operations_in lives) o → Contains (filter moves_value operations) o
+    from_lives o among = let found = from_flat_map operations_in lives o among in moved found.0 (is_life operations lives order found.0 found.1) (of_life found.0 o found.2)
+      where
+        moved : (life : Life) → IsLife operations life → IsOf life o → Contains (filter moves_value operations) o
+        moved life is (inl enqueues) =
+            let did : Did operations o (Enq is.0) = subst (λ x. Did operations x (Enq is.0)) enqueues is.1 in
+            passes_filter moves_value operations o (ap moves_kind did.1) did.0
+        moved life is (inr dequeues) =
+            let did : Did operations o (Deq is.0) = subst (λ e. MatchOption e (NoneDid operations (Deq is.0)) (λ d. Did operations d (Deq is.0))) dequeues is.2 in
+            passes_filter moves_value operations o (ap moves_kind did.1) did.0
+
+    -- the operations, value by value and then by kind
+    pub each_once : AllPairs (λ x y. x.call < y.call) operations → IsPermutation operations (flat_map operations_in lives ++ filter is_empty_answer operations ++ filter is_refused operations)
+    each_once rise =
+        let here = filter moves_value operations in
+        let there = flat_map operations_in lives in
+        let lives_once = none_twice_from_places lives (λ i j x y at_x at_y same. one_place_of_life operations lives i j x y clear order at_x at_y same) in
+        let moved = same_elements_permute here there (none_twice-filter moves_value operations (none_twice_by_calls operations rise)) (none_twice_in_lives lives lives_once (is_life operations lives order)) into_lives from_lives in
+        IsPermutation-trans operations (here ++ filter is_empty_answer operations ++ filter is_refused operations) (there ++ filter is_empty_answer operations ++ filter is_refused operations) (split_by_kind operations)
+        (IsPermutation-append_left (filter is_refused operations) (here ++ filter is_empty_answer operations) (there ++ filter is_empty_answer operations) (IsPermutation-append_left (filter is_empty_answer operations) here there moved))

@@ -1,0 +1,164 @@
+-- There is one order of the values, and one only.
+use Rattle.std.proofs.Common.{◌≡◌, ℕ, zero, suc, ◌<◌, ◌≤◌, ◌⊎◌, List, [], ◌∷◌, length, Some, refl, sym, ◌∙◌, ap, subst, inl, inr, arith, rules}
+use Rattle.std.specs.Prelude.{Contains, IsPermutation, remove, slice_get}
+use Rattle.std.proofs.lemmas.List.Elements.{All-cons, All-nil, All-weaker}
+use Rattle.std.proofs.lemmas.List.Sorted.{IsPermutation-refl, IsPermutation-sym, IsPermutation-cons, IsPermutation-trans, IsPermutation-remove, Contains-permutation, All-permutation, length_permutation}
+use Rattle.history_merge.specs.declared.operation.Operation.{Operation}
+use Rattle.history_merge.proofs.Distinct.{contains_cons, not_in_none, place_of}
+use Rattle.value_match.specs.declared.life.Life.{Life}
+use Rattle.value_match.specs.declared.life.TheConstants.{NEVER}
+use Rattle.value_match.specs.Lives.{IsLife, lives_of, entered_by, leaves_from, dequeue_return}
+use Rattle.value_match.specs.Violations.{IsClear}
+use Rattle.linearizer.specs.Values.{IsLeastBy, IsChoice, EachIsChoice, IsValueOrder}
+use Rattle.linearizer.proofs.Choices.{made, least_at}
+use Rattle.linearizer.proofs.Times.{leaves_in_time, times_of_life, returned_by_never}
+use Rattle.linearizer.proofs.Opposites.{is_life, one_deeper}
+use Rattle.linearizer.proofs.DifferentTimes.{one_life_of_entering, one_life_of_dequeue_return, one_place_of_life}
+
+least_by : (number : Life → ℕ) (x : Life) (xs : List Life) → (life : Life) × IsLeastBy number (x ∷ xs) life
+least_by number x [] = (x, ((zero, omega arith, refl), All-cons (λ other. number x ≤ number other) x [] (omega arith) (All-nil (λ other. number x ≤ number other))))
+least_by number x (y ∷ xs) =
+    let rest = least_by number y xs in
+    let cases : (number rest.0 < number x) ⊎ (number x ≤ number rest.0) = grind arith in
+    elim cases [
+      | inl less ↦ (rest.0, (one_deeper x (y ∷ xs) rest.0 rest.1.0, All-cons (λ other. number rest.0 ≤ number other) x (y ∷ xs) (omega arith) rest.1.1))
+      | inr first ↦ (
+        x,
+        (
+          (zero, omega arith, refl),
+          All-cons (λ other. number x ≤ number other) x (y ∷ xs) (omega arith)
+              (All-weaker (λ other. number rest.0 ≤ number other) (λ other. number x ≤ number other) (λ other le. omega arith) (y ∷ xs) rest.1.1),
+        ),
+      )
+    ]
+
+choice_of : (x : Life) (xs : List Life) → (life : Life) × IsChoice (x ∷ xs) life
+choice_of x xs =
+    let a = least_by entered_by x xs in
+    let b = least_by dequeue_return x xs in
+    let cases : (dequeue_return b.0 < leaves_from a.0) ⊎ (leaves_from a.0 ≤ dequeue_return b.0) = grind arith in
+    elim cases [
+      | inl less ↦ (b.0, record { first_entered = a.0; first_dequeued = b.0; enters_first = a.1; dequeued_first = b.1; takes_dequeued = λ _. refl; takes_entered = λ more. absurd (omega arith) })
+      | inr more ↦ (a.0, record { first_entered = a.0; first_dequeued = b.0; enters_first = a.1; dequeued_first = b.1; takes_dequeued = λ less. absurd (omega arith); takes_entered = λ _. refl })
+    ]
+
+least_in_other_order : (number : Life → ℕ) (xs ys : List Life) (life : Life) → IsPermutation xs ys → IsLeastBy number xs life → IsLeastBy number ys life
+least_in_other_order number xs ys life moved is = (Contains-permutation xs ys life moved is.0, All-permutation (λ other. number life ≤ number other) xs ys moved is.1)
+
+pub choice_in_other_order : (xs ys : List Life) (life : Life) → IsPermutation xs ys → IsChoice xs life → IsChoice ys life
+choice_in_other_order xs ys life moved is = record {
+  first_entered = is.first_entered;
+  first_dequeued = is.first_dequeued;
+  enters_first = least_in_other_order entered_by xs ys is.first_entered moved is.enters_first;
+  dequeued_first = least_in_other_order dequeue_return xs ys is.first_dequeued moved is.dequeued_first;
+  takes_dequeued = is.takes_dequeued;
+  takes_entered = is.takes_entered;
+}
+
+-- a choice is one of the values
+is_among : (xs : List Life) (life : Life) → IsChoice xs life → Contains xs life
+is_among xs life is = elim (made xs life is) [
+  | inl taken ↦ subst (Contains xs) (sym taken.1) is.dequeued_first.0
+  | inr taken ↦ subst (Contains xs) (sym taken.1) is.enters_first.0
+]
+
+in_order : (n : ℕ) (xs : List Life) → length xs ≡ n → (ys : List Life) × IsPermutation xs ys × EachIsChoice ys
+in_order n [] long = ([], IsPermutation-refl [], search rules)
+in_order zero (x ∷ xs) long = absurd (omega arith)
+in_order (suc n) (x ∷ xs) long =
+    let choice = choice_of x xs in
+    let among = is_among (x ∷ xs) choice.0 choice.1 in
+    let moved = IsPermutation-remove (x ∷ xs) among.0 choice.0 among.1 (sym among.2) in
+    let shorter = length_permutation (x ∷ xs) (choice.0 ∷ remove (x ∷ xs) among.0) moved in
+    let rest = in_order n (remove (x ∷ xs) among.0) (omega arith) in
+    let all_moved = IsPermutation-trans (x ∷ xs) (choice.0 ∷ remove (x ∷ xs) among.0) (choice.0 ∷ rest.0) moved (IsPermutation-cons choice.0 (remove (x ∷ xs) among.0) rest.0 rest.1) in
+    (choice.0 ∷ rest.0, all_moved, (choice_in_other_order (x ∷ xs) (choice.0 ∷ rest.0) choice.0 all_moved choice.1, rest.2))
+
+pub values_have_order : (operations : List Operation) → IsClear operations → (lives : List Life) × IsValueOrder operations lives
+values_have_order operations clear =
+    let found = in_order (length (lives_of operations)) (lives_of operations) refl in
+    (found.0, record { holds_each_once = found.1; each_is_choice = found.2 })
+
+-- lists that have the same elements, each at one place
+pub record AreSame {X : Type 0} (xs ys : List X) : Type 0 where
+  pub into : (x : X) → Contains xs x → Contains ys x
+  pub back : (x : X) → Contains ys x → Contains xs x
+  pub first_once : (i j : ℕ) (x y : X) → slice_get xs i ≡ Some x → slice_get xs j ≡ Some y → x ≡ y → i ≡ j
+  pub second_once : (i j : ℕ) (x y : X) → slice_get ys i ≡ Some x → slice_get ys j ≡ Some y → x ≡ y → i ≡ j
+
+least_alike : (number : Life → ℕ) (xs ys : List Life) (a b : Life) → AreSame xs ys → IsLeastBy number xs a → IsLeastBy number ys b → number a ≡ number b
+least_alike number xs ys a b same is_a is_b =
+    let first = least_at number xs a b is_a (same.back b is_b.0) in
+    let second = least_at number ys b a is_b (same.into a is_a.0) in
+    omega arith
+
+one_choice : (operations : List Operation) (xs ys : List Life) (c d : Life) → IsClear operations → ((x : Life) → Contains xs x → IsLife operations x) → AreSame xs ys → IsChoice xs c → IsChoice ys d → c ≡ d
+one_choice operations xs ys c d clear are same is_c is_d =
+    let a = is_c.first_entered in let a' = is_d.first_entered in
+    let b = is_c.first_dequeued in let b' = is_d.first_dequeued in
+    let is_a = are a is_c.enters_first.0 in
+    let is_a' = are a' (same.back a' is_d.enters_first.0) in
+    let is_b = are b is_c.dequeued_first.0 in
+    let is_b' = are b' (same.back b' is_d.dequeued_first.0) in
+    let entries = least_alike entered_by xs ys a a' same is_c.enters_first is_d.enters_first in
+    let returns = least_alike dequeue_return xs ys b b' same is_c.dequeued_first is_d.dequeued_first in
+    let one = one_life_of_entering operations a a' clear is_a is_a' entries in
+    let leaves : leaves_from a ≡ leaves_from a' = ap leaves_from one in
+    let in_time = leaves_in_time a (times_of_life operations a clear is_a) (returned_by_never operations a clear is_a) in
+    elim (made xs c is_c) [
+      | inl taken ↦ elim (made ys d is_d) [
+        | inl taken' ↦ elim (one_life_of_dequeue_return operations b b' clear is_b is_b' returns) [
+          | inl one_b ↦ taken.1 ∙ one_b ∙ sym taken'.1
+          | inr never ↦ absurd (late b (leaves_from a) taken.0 never in_time)
+        ]
+        | inr taken' ↦ absurd (clash (dequeue_return b) (dequeue_return b') (leaves_from a) (leaves_from a') returns leaves taken.0 taken'.0)
+      ]
+      | inr taken ↦ elim (made ys d is_d) [
+        | inl taken' ↦ absurd (clash (dequeue_return b') (dequeue_return b) (leaves_from a') (leaves_from a) (sym returns) (sym leaves) taken'.0 taken.0)
+        | inr taken' ↦ taken.1 ∙ one ∙ sym taken'.1
+      ]
+    ]
+  where
+    late : (b : Life) (n : ℕ) → dequeue_return b < n → dequeue_return b ≡ NEVER → n ≤ NEVER → ⊥
+    late b n less never le = omega arith
+
+    clash : (r s m n : ℕ) → r ≡ s → m ≡ n → r < m → n ≤ s → ⊥
+    clash r s m n returns leaves less more = omega arith
+
+pub rest_alike : {X : Type 0} (x y : X) (xs ys : List X) → x ≡ y → AreSame (x ∷ xs) (y ∷ ys) → AreSame xs ys
+rest_alike {X} x y xs ys one same = record {
+  into = λ z among. pass z x y xs ys one same.first_once (same.into z (deeper x xs z among)) among;
+  back = λ z among. pass z y x ys xs (sym one) same.second_once (same.back z (deeper y ys z among)) among;
+  first_once = λ i j u v at_u at_v is. let places = same.first_once (suc i) (suc j) u v at_u at_v is in omega arith;
+  second_once = λ i j u v at_u at_v is. let places = same.second_once (suc i) (suc j) u v at_u at_v is in omega arith;
+}
+  where
+    deeper : (x : X) (xs : List X) (z : X) → Contains xs z → Contains (x ∷ xs) z
+    deeper x xs z among = (suc among.0, omega (arith, among.1), among.2)
+
+    pass : (z x y : X) (xs ys : List X) → x ≡ y → ((i j : ℕ) (u v : X) → slice_get (x ∷ xs) i ≡ Some u → slice_get (x ∷ xs) j ≡ Some v → u ≡ v → i ≡ j) → Contains (y ∷ ys) z → Contains xs z → Contains ys z
+    pass z x y xs ys one once there among = elim (contains_cons y ys z there) [
+      | inl here ↦
+          let place = place_of xs z among in
+          let same_place = once zero (suc place.0) x z refl place.1 (one ∙ here) in
+          absurd (omega arith)
+      | inr later ↦ later
+    ]
+
+one_order : (operations : List Operation) (xs ys : List Life) → IsClear operations → ((x : Life) → Contains xs x → IsLife operations x) → AreSame xs ys → EachIsChoice xs → EachIsChoice ys → xs ≡ ys
+one_order operations [] [] clear are same each each' = refl
+one_order operations [] (y ∷ ys) clear are same each each' = absurd (not_in_none y (same.back y (zero, omega arith, refl)))
+one_order operations (x ∷ xs) [] clear are same each each' = absurd (not_in_none x (same.into x (zero, omega arith, refl)))
+one_order operations (x ∷ xs) (y ∷ ys) clear are same each each' =
+    let one = one_choice operations (x ∷ xs) (y ∷ ys) x y clear are same each.0 each'.0 in
+    let rest = one_order operations xs ys clear (λ z among. are z (one_deeper x xs z among)) (rest_alike x y xs ys one same) each.1 each'.1 in
+    cc
+
+pub values_have_one_order : (operations : List Operation) (xs ys : List Life) → IsClear operations → IsValueOrder operations xs → IsValueOrder operations ys → xs ≡ ys
+values_have_one_order operations xs ys clear order order' =
+    one_order operations xs ys clear (is_life operations xs order) (record {
+      into = λ x among. Contains-permutation (lives_of operations) ys x order'.holds_each_once (Contains-permutation xs (lives_of operations) x (IsPermutation-sym (lives_of operations) xs order.holds_each_once) among);
+      back = λ x among. Contains-permutation (lives_of operations) xs x order.holds_each_once (Contains-permutation ys (lives_of operations) x (IsPermutation-sym (lives_of operations) ys order'.holds_each_once) among);
+      first_once = λ i j x y at_x at_y one. one_place_of_life operations xs i j x y clear order at_x at_y one;
+      second_once = λ i j x y at_x at_y one. one_place_of_life operations ys i j x y clear order' at_x at_y one;
+    }) order.each_is_choice order'.each_is_choice

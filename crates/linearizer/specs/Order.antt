@@ -1,0 +1,76 @@
+-- The chosen order of the operations of a history without violations.
+use Rattle.std.specs.Prelude.{◌≡◌, ℕ, ◌<◌, ◌⊎◌, List, AllPairs, IsPermutation, Some, slice_get, nat_lt, if◌then◌else◌}
+use Rattle.std.specs.List.{AllZip}
+use Rattle.history_merge.specs.declared.operation.Operation.{Operation}
+use Rattle.history_merge.specs.declared.operation.OpKind.{OpKind}
+use Rattle.history_merge.specs.declared.operation.OpKind.TheVariants.{Enq, Deq, Empty, Not}
+use Rattle.history_merge.specs.Legal.{IsLegalOrder, ArePlacesOf}
+use Rattle.value_match.specs.declared.life.Life.{Life}
+use Rattle.value_match.specs.Lives.{IsLeastFreeGap}
+use Rattle.linearizer.specs.Values.{IsValueOrder, enqueue_gap, dequeue_gap}
+
+-- where an operation stands: its gap, its class within the gap, and its rank within the class
+pub record Position : Type 0 where
+  pub gap : ℕ
+  pub class : ℕ
+  pub rank : ℕ
+
+-- the class of the dequeues of values that were enqueued at an earlier gap
+abbrev pub earlier_dequeues : ℕ
+earlier_dequeues = 0
+
+-- the class of the empty answers and the refused enqueues
+abbrev pub idle_answers : ℕ
+idle_answers = 1
+
+-- the class of the accepted enqueues
+abbrev pub enqueues : ℕ
+enqueues = 2
+
+-- the class of the other dequeues, of values that were enqueued at the same gap
+abbrev pub other_dequeues : ℕ
+other_dequeues = 3
+
+-- where the enqueue of the i-th value stands
+abbrev pub enqueue_position : List Life → ℕ → Position
+enqueue_position lives i = record { gap = enqueue_gap lives i; class = enqueues; rank = i }
+
+-- where the dequeue of the i-th value stands
+abbrev pub dequeue_position : List Life → ℕ → Position
+dequeue_position lives i =
+    record { gap = dequeue_gap lives i; class = (if nat_lt (enqueue_gap lives i) (dequeue_gap lives i) then earlier_dequeues else other_dequeues); rank = i }
+
+-- an operation that changes nothing stands at this gap, by its call ticket
+abbrev pub idle_position : Operation → ℕ → Position
+idle_position o c = record { gap = c; class = idle_answers; rank = o.call }
+
+-- where the operation stands, by what it did
+abbrev pub IsPositionFor : List Operation → List Life → Operation → OpKind → Position → Type 0
+IsPositionFor operations lives o (Enq v) position =
+    (i : ℕ) × (life : Life) × (slice_get lives i ≡ Some life) × (life.enqueue ≡ o) × (position ≡ enqueue_position lives i)
+IsPositionFor operations lives o (Deq v) position =
+    (i : ℕ) × (life : Life) × (slice_get lives i ≡ Some life) × (life.dequeue ≡ Some o) × (position ≡ dequeue_position lives i)
+IsPositionFor operations lives o Empty position = (c : ℕ) × IsLeastFreeGap operations o c × (position ≡ idle_position o c)
+IsPositionFor operations lives o (Not v) position = position ≡ idle_position o o.call
+
+-- where the operation stands
+abbrev pub IsPositionOf : List Operation → List Life → Operation → Position → Type 0
+IsPositionOf operations lives o position = IsPositionFor operations lives o o.kind position
+
+-- by gap, then by class, then by rank
+abbrev pub StandsBefore : Position → Position → Type 0
+StandsBefore p q = (p.gap < q.gap) ⊎ ((p.gap ≡ q.gap) × ((p.class < q.class) ⊎ ((p.class ≡ q.class) × (p.rank < q.rank))))
+
+-- all operations by rising position
+pub record IsChosenOrder (operations order : List Operation) : Type 0 where
+  pub lives : List Life
+  pub positions : List Position
+  pub values_in_order : IsValueOrder operations lives
+  pub holds_each_once : IsPermutation operations order
+  pub each_has_position : AllZip (λ o position. IsPositionOf operations lives o position) order positions
+  pub positions_rise : AllPairs StandsBefore positions
+
+-- the places are those of the chosen order, which is legal
+abbrev pub AreChosenAndLegal : List Operation → List ℕ → Type 0
+AreChosenAndLegal operations places =
+    (order : List Operation) × ArePlacesOf operations places order × IsChosenOrder operations order × IsLegalOrder operations order

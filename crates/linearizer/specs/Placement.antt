@@ -1,0 +1,65 @@
+-- What the steps on the way to the chosen order give.
+use Rattle.std.specs.Prelude.{◌≡◌, ℕ, ◌<◌, ◌++◌, List, ◌∷◌, AllPairs, IsPermutation, length, map, flat_map, option_to_list, slice_index}
+use Rattle.std.specs.List.{AllZip}
+use Rattle.history_merge.specs.declared.operation.Operation.{Operation}
+use Rattle.history_merge.specs.Operations.{IsAt}
+use Rattle.value_match.specs.declared.life.Life.{Life}
+use Rattle.value_match.specs.declared.life.MatchedValue.{MatchedValue}
+use Rattle.value_match.specs.Lives.{IsMaybeAt}
+use Rattle.linearizer.specs.declared.position.Class.{Class}
+use Rattle.linearizer.specs.declared.position.Class.TheVariants.{EarlierDequeue, Idle, Enqueue, OtherDequeue}
+use Rattle.linearizer.specs.declared.position.Position.{Position as Stored}
+use Rattle.linearizer.specs.declared.position.Placed.{Placed}
+use Rattle.linearizer.specs.Values.{IsValueOrder, enqueue_gap}
+use Rattle.linearizer.specs.Order.{Position, StandsBefore, IsPositionOf, earlier_dequeues, idle_answers, enqueues, other_dequeues}
+
+-- the values without their places
+abbrev pub lives_in : List MatchedValue → List Life
+lives_in values = map (λ m. m.life) values
+
+-- the places of the value are those of its operations
+abbrev pub HasPlaces : List Operation → MatchedValue → Type 0
+HasPlaces operations m = IsAt operations m.enqueue m.life.enqueue × IsMaybeAt operations m.dequeue m.life.dequeue
+
+-- the gaps are those of the enqueues of the values, one by one
+pub record AreEnqueueGaps (lives : List Life) (gaps : List ℕ) : Type 0 where
+  pub one_each : length gaps ≡ length lives
+  pub at_each : (i : ℕ) → i < length lives → slice_index gaps i ≡ enqueue_gap lives i
+
+-- the class by its number
+abbrev pub class_number : Class → ℕ
+class_number EarlierDequeue = earlier_dequeues
+class_number Idle = idle_answers
+class_number Enqueue = enqueues
+class_number OtherDequeue = other_dequeues
+
+-- the position that is meant
+abbrev pub position_of : Stored → Position
+position_of p = record { gap = p.gap; class = class_number p.class; rank = p.rank }
+
+-- o is the operation, and stands at its position
+abbrev pub IsPlaced : List Operation → List Life → Operation → Placed → Type 0
+IsPlaced operations lives o placed = IsAt operations placed.operation o × IsPositionOf operations lives o (position_of placed.position)
+
+-- the enqueue, and the dequeue if there is one
+abbrev pub operations_in : Life → List Operation
+operations_in life = life.enqueue ∷ option_to_list life.dequeue
+
+-- the operations of the accepted values, each at its position in the order of the values
+pub record HoldsValues (operations : List Operation) (placed : List Placed) : Type 0 where
+  pub lives : List Life
+  pub in_order : IsValueOrder operations lives
+  pub each_placed : AllZip (IsPlaced operations lives) (flat_map operations_in lives) placed
+
+-- the listed operations are added, each at its position, whatever the order of the values
+pub record Adds (operations listed : List Operation) (old new : List Placed) : Type 0 where
+  pub added : List Placed
+  pub after : new ≡ old ++ added
+  pub each_placed : (lives : List Life) → AllZip (IsPlaced operations lives) listed added
+
+-- the places of what was listed, by positions that never fall
+pub record AreByPosition (placed : List Placed) (places : List ℕ) : Type 0 where
+  pub sorted : List Placed
+  pub holds_each_once : IsPermutation placed sorted
+  pub never_falls : AllPairs (λ p q. ¬ (StandsBefore (position_of q.position) (position_of p.position))) sorted
+  pub places_are : places ≡ map (λ p. p.operation) sorted

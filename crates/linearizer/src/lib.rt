@@ -1,0 +1,10 @@
+//! The legal order of a history in which nothing is violated.
+#![tactic(auto)]
+
+mod choice;
+mod life_times;
+mod order;
+mod placing;
+mod position;
+
+pub use order::linearize;

@@ -1,0 +1,90 @@
+ghost use Rattle.std.specs.Prelude.{◌≡◌, if◌then◌else◌, nat_lt};
+ghost use Rattle.linearizer.specs.Order.{earlier_dequeues, enqueues, idle_answers, other_dequeues};
+
+use history_merge::OpId;
+
+/// The order of operations within one gap.
+#[derive(Clone, Copy, PartialEq, Eq, PartialOrd, Ord)]
+pub(crate) enum Class {
+    /// Dequeues of values that were enqueued at an earlier gap.
+    EarlierDequeue,
+    /// Empty answers and refused enqueues.
+    Idle,
+    /// Enqueues of accepted values.
+    Enqueue,
+    /// Dequeues of values that were enqueued at this gap.
+    OtherDequeue,
+}
+
+/// Where an operation stands: its gap, its class within the gap, and its rank within the class.
+#[derive(Clone, Copy, PartialEq, Eq, PartialOrd, Ord)]
+pub(crate) struct Position {
+    pub(crate) gap: u64,
+    pub(crate) class: Class,
+    pub(crate) rank: u64,
+}
+
+/// An operation, and where it stands.
+#[derive(Clone, Copy)]
+pub(crate) struct Placed {
+    pub(crate) operation: OpId,
+    pub(crate) position: Position,
+}
+
+impl Placed {
+    ghost use Rattle.linearizer.specs.Placement.{position_of};
+
+    /// The enqueue of the value at this place of the order of values.
+    pub(crate) fn enqueue(operation: OpId, gap: u64, place: usize) -> Placed
+        ensures operation { result.operation ≡ operation }
+        ensures position { position_of result.position ≡ record { gap = gap; class = enqueues; rank = place } }
+    {
+        Placed {
+            operation,
+            position: Position {
+                gap,
+                class: Class::Enqueue,
+                rank: place as u64,
+            },
+        }
+    }
+
+    /// The dequeue of the value at this place of the order of values.
+    pub(crate) fn dequeue(operation: OpId, enqueue_gap: u64, gap: u64, place: usize) -> Placed
+        ensures operation { result.operation ≡ operation }
+        ensures position { position_of result.position ≡ record {
+          gap = gap;
+          class = (if nat_lt enqueue_gap gap then earlier_dequeues else other_dequeues);
+          rank = place;
+        } }
+    {
+        let class = if enqueue_gap < gap {
+            Class::EarlierDequeue
+        } else {
+            Class::OtherDequeue
+        };
+        Placed {
+            operation,
+            position: Position {
+                gap,
+                class,
+                rank: place as u64,
+            },
+        }
+    }
+
+    /// An operation that changes nothing.
+    pub(crate) fn idle(operation: OpId, gap: u64, call: u64) -> Placed
+        ensures operation { result.operation ≡ operation }
+        ensures position { position_of result.position ≡ record { gap = gap; class = idle_answers; rank = call } }
+    {
+        Placed {
+            operation,
+            position: Position {
+                gap,
+                class: Class::Idle,
+                rank: call,
+            },
+        }
+    }
+}

@@ -1,0 +1,54 @@
+-- Which answers a queue may give.
+use Rattle.std.specs.Prelude.{ℕ, List, Option, Some, None, slice_get}
+use Rattle.std.specs.Option.{option_and_then}
+use Rattle.event_records.specs.Question.{Question}
+use Rattle.event_records.specs.declared.kind.Kind.{Kind}
+use Rattle.event_records.specs.declared.kind.Kind.TheVariants.{Enq, Deq}
+use Rattle.event_records.specs.declared.kind.Answer.{Answer}
+use Rattle.event_records.specs.declared.kind.Answer.TheVariants.{Taken, NotTaken, Got, Empty}
+use Rattle.queue_interface.specs.declared.script.Entry.{Entry}
+use Rattle.queue_interface.specs.declared.script.Entry.TheVariants.{Taken as SaysTaken, NotTaken as SaysNotTaken, Got as SaysGot, Empty as SaysEmpty}
+
+-- an answer of the question's kind
+abbrev pub IsOfKind : Kind → Answer → Type 0
+IsOfKind Enq Taken = Unit {0}
+IsOfKind Enq NotTaken = Unit {0}
+IsOfKind Enq (Got v) = ⊥
+IsOfKind Enq Empty = ⊥
+IsOfKind Deq Taken = ⊥
+IsOfKind Deq NotTaken = ⊥
+IsOfKind Deq (Got v) = Unit {0}
+IsOfKind Deq Empty = Unit {0}
+
+-- every answer of the question's kind
+abbrev pub AnswersInKind : Question → Answer → Type 0
+AnswersInKind question answer = IsOfKind question.kind answer
+
+-- the answer that changes nothing: an enqueue is not taken, and a dequeue finds nothing
+abbrev pub refusal : Kind → Answer
+refusal Enq = NotTaken
+refusal Deq = Empty
+
+-- what an entry says to a question of this kind; an entry of the other kind says that nothing happened
+abbrev pub said : Kind → Entry → Answer
+said Enq SaysTaken = Taken
+said Enq SaysNotTaken = NotTaken
+said Enq (SaysGot v) = NotTaken
+said Enq SaysEmpty = NotTaken
+said Deq SaysTaken = Empty
+said Deq SaysNotTaken = Empty
+said Deq (SaysGot v) = Got v
+said Deq SaysEmpty = Empty
+
+-- what an entry says if there is one, and else that nothing happened
+abbrev pub said_if : Kind → Option Entry → Answer
+said_if k None = refusal k
+said_if k (Some e) = said k e
+
+-- the entry of a thread's n-th operation, from 0
+abbrev pub entry_at : List (List Entry) → ℕ → ℕ → Option Entry
+entry_at rows thread n = option_and_then (λ row. slice_get row n) (slice_get rows thread)
+
+-- what the script says to a question
+abbrev pub scripted : List (List Entry) → Question → Answer
+scripted rows q = said_if q.kind (entry_at rows q.thread q.number)

@@ -1,0 +1,73 @@
+// Queues without a lock, of the crate crossbeam_queue.
+ghost use Rattle.std.specs.Prelude.{◌<◌};
+
+use crate::TestQueue;
+use crate::answers::{dequeued, enqueued};
+use crossbeam_queue::{ArrayQueue, SegQueue};
+use event_records::{AnsweredDeq, AnsweredEnq, AskDeq, AskEnq};
+use std::alloc::{AllocError, Global};
+use std::sync::Wait;
+
+/// A bounded queue: an `ArrayQueue`. Full, it answers `not_taken`.
+#[derive(Drop)]
+pub struct ArrayBack<R: Wait + Drop> {
+    rt: R,
+    queue: ArrayQueue<u64>,
+}
+
+impl<R: Wait + Drop> ArrayBack<R> {
+    /// An empty queue with room for `capacity` values, for which it takes memory at once.
+    pub fn new(alloc: Global, rt: R, capacity: usize) -> Result<ArrayBack<R>, AllocError>
+        requires { 0 < capacity }
+    {
+        let queue = ArrayQueue::new(alloc, capacity)?;
+        Ok(ArrayBack { rt, queue })
+    }
+}
+
+impl<R: Wait + Drop + Send + Sync> TestQueue for ArrayBack<R> {
+    ghost use Rattle.queue_interface.specs.Answers.{AnswersInKind};
+
+    ghost may = { λ _. AnswersInKind };
+
+    fn enqueue(&self, ask: AskEnq) -> AnsweredEnq {
+        let taken = self.queue.push(&self.rt, ask.value()).is_ok();
+        enqueued(ask, taken)
+    }
+
+    fn dequeue(&self, ask: AskDeq) -> AnsweredDeq {
+        let got = self.queue.pop(&self.rt);
+        dequeued(ask, got)
+    }
+}
+
+/// An unbounded queue: a `SegQueue`. Without memory for a further block of values, it answers `not_taken`.
+#[derive(Drop)]
+pub struct SegBack<R: Wait + Drop> {
+    rt: R,
+    queue: SegQueue<u64>,
+}
+
+impl<R: Wait + Drop> SegBack<R> {
+    /// An empty queue. It takes memory for its first block of values.
+    pub fn new(alloc: Global, rt: R) -> Result<SegBack<R>, AllocError> {
+        let queue = SegQueue::new(alloc)?;
+        Ok(SegBack { rt, queue })
+    }
+}
+
+impl<R: Wait + Drop + Send + Sync> TestQueue for SegBack<R> {
+    ghost use Rattle.queue_interface.specs.Answers.{AnswersInKind};
+
+    ghost may = { λ _. AnswersInKind };
+
+    fn enqueue(&self, ask: AskEnq) -> AnsweredEnq {
+        let taken = self.queue.push(&self.rt, ask.value()).is_ok();
+        enqueued(ask, taken)
+    }
+
+    fn dequeue(&self, ask: AskDeq) -> AnsweredDeq {
+        let got = self.queue.pop(&self.rt);
+        dequeued(ask, got)
+    }
+}

@@ -1,0 +1,77 @@
+// A queue in which calls wait for those of the other workers.
+ghost use Rattle.std.specs.Prelude.{◌≤◌, ◌<◌, ◌^◌};
+
+use crate::TestQueue;
+use event_records::{AnsweredDeq, AnsweredEnq, AskDeq, AskEnq};
+use std::sync::atomic::{AtomicU64, Ordering};
+use std::thread;
+
+/// A queue that takes nothing in, and shows that calls of all workers are inside it at once.
+///
+/// The n-th call of a thread, from 0, stays until all calls of all workers up to the n-th have arrived, or until it has
+/// yielded as often as `turns` says. So it waits for nobody for ever.
+#[derive(Drop)]
+pub struct GateQueue {
+    workers: u64,
+    turns: u64,
+    arrivals: AtomicU64,
+    passed: AtomicU64,
+    ghost few: { workers ≤ 64 },
+}
+
+impl GateQueue {
+    /// A gate for so many workers.
+    pub fn new(workers: u64, turns: u64) -> GateQueue
+        requires { (2 ≤ workers) × (workers ≤ 64) }
+    {
+        GateQueue {
+            workers,
+            turns,
+            arrivals: AtomicU64::new(0),
+            passed: AtomicU64::new(0),
+        }
+    }
+
+    /// How many calls saw the others arrive in time.
+    pub fn passed(&self) -> u64 {
+        self.passed.load(Ordering::SeqCst)
+    }
+
+    // Lets the n-th call of a thread pass.
+    fn pass(&self, number: u64)
+        requires { number < 2 ^ 32 }
+    {
+        self.arrivals.fetch_add(1, Ordering::SeqCst);
+        if self.sees_arrivals(self.workers * (number + 1)) {
+            self.passed.fetch_add(1, Ordering::SeqCst);
+        }
+    }
+
+    // Whether so many calls have arrived before the turns are used up.
+    fn sees_arrivals(&self, wanted: u64) -> bool {
+        for _ in 0..self.turns {
+            if self.arrivals.load(Ordering::SeqCst) >= wanted {
+                return true;
+            }
+            thread::yield_now();
+        }
+        self.arrivals.load(Ordering::SeqCst) >= wanted
+    }
+}
+
+impl TestQueue for GateQueue {
+    ghost use Rattle.std.specs.Prelude.{◌≡◌};
+    ghost use Rattle.queue_interface.specs.Answers.{refusal};
+
+    ghost may = { λ _ question answer. answer ≡ refusal question.kind };
+
+    fn enqueue(&self, ask: AskEnq) -> AnsweredEnq {
+        self.pass(ask.number());
+        ask.not_taken()
+    }
+
+    fn dequeue(&self, ask: AskDeq) -> AnsweredDeq {
+        self.pass(ask.number());
+        ask.empty()
+    }
+}

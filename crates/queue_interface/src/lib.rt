@@ -1,0 +1,50 @@
+//! Queues under test. Each consumes a question and gives it back with an answer that it may give.
+//!
+//! A queue of one's own is tested by an `impl` of `TestQueue`. The others are built in: four that keep the order,
+//! `LockedQueue`, `TwoLockQueue`, `ArrayBack` and `SegBack`; five that break it now and then, `Lifo`, `Doubling`,
+//! `Inventing`, `Shy` and `Losing`; and two for tests of the recorder, `ScriptQueue` and `GateQueue`.
+#![tactic(auto)]
+
+mod answers;
+mod backed;
+mod faulty;
+mod gate;
+mod locked;
+mod script;
+#[cfg(test)]
+mod tests;
+mod two_lock;
+
+ghost use Rattle.std.specs.Prelude.{◌≡◌};
+ghost use Rattle.event_records.specs.Question.{Question};
+ghost use Rattle.event_records.specs.declared.kind.Answer.{Answer};
+
+pub use backed::{ArrayBack, SegBack};
+use event_records::{AnsweredDeq, AnsweredEnq, AskDeq, AskEnq};
+pub use faulty::{
+    Doubling, DoublingList, Inventing, InventingList, Lifo, Losing, LosingList, Shy, ShyList, Stack,
+};
+pub use gate::GateQueue;
+pub use locked::{Fifo, Locked, LockedQueue, ValueList};
+pub use script::{Entry, ScriptQueue};
+pub use two_lock::TwoLockQueue;
+
+/// A queue that threads share, by what it may answer to a question.
+///
+/// A question is used up by the call, and the answered value holds it. So an answer is of the very question that was
+/// asked: of its thread, number, kind, call ticket and ticket word. Want of memory is answered by `not_taken`.
+///
+/// A queue that may wait for another thread holds the runtime that its `new` was given.
+pub trait TestQueue: Drop + Send + Sync {
+    ghost may: { Self → Question → Answer → Type 0 };
+
+    /// Answers a question to enqueue.
+    fn enqueue(&self, ask: AskEnq) -> AnsweredEnq
+        ensures question { result.question ≡ ask }
+        ensures allowed { may self.now ask result.answer };
+
+    /// Answers a question to dequeue.
+    fn dequeue(&self, ask: AskDeq) -> AnsweredDeq
+        ensures question { result.question ≡ ask }
+        ensures allowed { may self.now ask result.answer };
+}

@@ -1,0 +1,86 @@
+// A list of values under one lock.
+ghost use Rattle.std.specs.Prelude.{◌≡◌};
+
+use crate::TestQueue;
+use crate::answers::{dequeued, enqueued};
+use event_records::{AnsweredDeq, AnsweredEnq, AskDeq, AskEnq};
+use std::alloc::Global;
+use std::collections::VecDeque;
+use std::sync::{Mutex, Wait};
+
+/// Values that are put in and taken out, by one thread at a time.
+pub trait ValueList: Drop + Send {
+    /// With no value. It takes no memory.
+    fn empty(alloc: Global) -> Self;
+
+    /// Takes a value in, and tells whether it did. False for want of memory.
+    fn put(&mut self, value: u64) -> bool;
+
+    /// Gives a value out, or none.
+    fn take(&mut self) -> Option<u64>;
+}
+
+/// A queue that is a list under one lock, which it waits for by its own runtime.
+#[derive(Drop)]
+pub struct Locked<L: ValueList, R: Wait + Drop> {
+    rt: R,
+    list: Mutex<L>,
+}
+
+impl<L: ValueList, R: Wait + Drop> Locked<L, R> {
+    /// An empty queue. Its memory grows with its values.
+    pub fn new(alloc: Global, rt: R) -> Locked<L, R> {
+        Locked {
+            rt,
+            list: Mutex::new(L::empty(alloc)),
+        }
+    }
+}
+
+impl<L: ValueList, R: Wait + Drop + Send + Sync> TestQueue for Locked<L, R> {
+    ghost use Rattle.queue_interface.specs.Answers.{AnswersInKind};
+
+    ghost may = { λ _. AnswersInKind };
+
+    fn enqueue(&self, ask: AskEnq) -> AnsweredEnq {
+        let taken = self.list.lock(&self.rt).put(ask.value());
+        enqueued(ask, taken)
+    }
+
+    fn dequeue(&self, ask: AskDeq) -> AnsweredDeq {
+        let got = self.list.lock(&self.rt).take();
+        dequeued(ask, got)
+    }
+}
+
+/// Values in the order in which they were put in.
+#[derive(Drop)]
+pub struct Fifo {
+    values: VecDeque<u64>,
+}
+
+impl Fifo {
+    // The value that the next `take` gives.
+    pub(crate) fn first(&self) -> Option<u64> {
+        self.values.front().copied()
+    }
+}
+
+impl ValueList for Fifo {
+    fn empty(alloc: Global) -> Fifo {
+        Fifo {
+            values: VecDeque::new(alloc),
+        }
+    }
+
+    fn put(&mut self, value: u64) -> bool {
+        self.values.push_back(value).is_ok()
+    }
+
+    fn take(&mut self) -> Option<u64> {
+        self.values.pop_front()
+    }
+}
+
+/// A queue that keeps the order, under one lock.
+pub type LockedQueue<R> = Locked<Fifo, R>;

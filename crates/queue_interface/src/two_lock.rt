@@ -1,0 +1,49 @@
+// A queue with a lock for each end.
+use crate::TestQueue;
+use crate::answers::{dequeued, enqueued};
+use event_records::{AnsweredDeq, AnsweredEnq, AskDeq, AskEnq};
+use std::alloc::Global;
+use std::collections::VecDeque;
+use std::mem;
+use std::sync::{Mutex, Wait};
+
+/// A queue that keeps the order, with one lock for the values that come in and one for those that go out.
+///
+/// A dequeue that finds no value to go out exchanges the two lists, under both locks.
+#[derive(Drop)]
+pub struct TwoLockQueue<R: Wait + Drop> {
+    rt: R,
+    inbox: Mutex<VecDeque<u64>>,
+    outbox: Mutex<VecDeque<u64>>,
+}
+
+impl<R: Wait + Drop> TwoLockQueue<R> {
+    /// An empty queue. Its memory grows with its values.
+    pub fn new(alloc: Global, rt: R) -> TwoLockQueue<R> {
+        TwoLockQueue {
+            rt,
+            inbox: Mutex::new(VecDeque::new(alloc)),
+            outbox: Mutex::new(VecDeque::new(alloc)),
+        }
+    }
+}
+
+impl<R: Wait + Drop + Send + Sync> TestQueue for TwoLockQueue<R> {
+    ghost use Rattle.queue_interface.specs.Answers.{AnswersInKind};
+
+    ghost may = { λ _. AnswersInKind };
+
+    fn enqueue(&self, ask: AskEnq) -> AnsweredEnq {
+        let taken = self.inbox.lock(&self.rt).push_back(ask.value()).is_ok();
+        enqueued(ask, taken)
+    }
+
+    fn dequeue(&self, ask: AskDeq) -> AnsweredDeq {
+        let mut outbox = self.outbox.lock(&self.rt);
+        if outbox.is_empty() {
+            let mut inbox = self.inbox.lock(&self.rt);
+            mem::swap(&mut *outbox, &mut *inbox);
+        }
+        dequeued(ask, outbox.pop_front())
+    }
+}

@@ -1,0 +1,10 @@
+pub mod Lists
+pub mod Lives
+pub mod Longest
+pub mod CallPlaces
+pub mod TakenPlaces
+pub mod FreshDequeues
+pub mod ReturnOrder
+pub mod RepeatedDequeues
+pub mod MatchedDequeues
+pub mod SortedOut

@@ -1,0 +1,120 @@
+-- The lives that are listed are the lives that there are, and operations tell them apart.
+use Rattle.std.proofs.Common.{◌≡◌, ◌<◌, ◌⊎◌, Bool, true, false, cond, List, [], ◌∷◌, Option, Some, None, refl, sym, ◌∙◌, ap, subst, inl, inr, arith, ℕ}
+use Rattle.std.specs.Prelude.{Contains, find, MatchOption}
+use Rattle.std.proofs.lemmas.Bool.{eqb-true, eq-eqb}
+use Rattle.std.proofs.lemmas.List.Elements.{All-contains}
+use Rattle.history_merge.specs.declared.operation.Operation.{Operation}
+use Rattle.history_merge.specs.declared.operation.OpKind.{OpKind}
+use Rattle.history_merge.specs.declared.operation.OpKind.TheVariants.{Enq, Deq, Empty, Not}
+use Rattle.history_merge.specs.Operations.{Did, NoneDid, IsAt}
+use Rattle.history_merge.proofs.Distinct.{contains_cons, not_in_none, contains_at, found_first, same_return, same_enqueue}
+use Rattle.value_match.specs.declared.life.Life.{Life}
+use Rattle.value_match.specs.declared.life.MatchedValue.{MatchedValue}
+use Rattle.value_match.specs.declared.life.TheConstants.{NEVER}
+use Rattle.value_match.specs.Lives.{call_or_never, dequeue_call, IsLife, life_from, is_dequeue_of, dequeues_kind, lives_of, HoldsLives, IsMaybeAt}
+use Rattle.value_match.specs.Violations.{IsClear}
+use Rattle.value_match.proofs.Lists.{kept, keeps, mapped_from, mapped_to}
+
+-- what `find` tells where it gives nothing
+none_found : {X : Type 0} (p : X → Bool) (xs : List X) (x : X) → find p xs ≡ None → Contains xs x → p x ≡ false
+none_found p [] x none among = absurd (not_in_none x among)
+none_found {X} p (z ∷ xs) x none among = pick (λ h there. none_found p xs x h there) (p z) refl none (contains_cons z xs x among)
+  where
+    pick : (find p xs ≡ None → Contains xs x → p x ≡ false) → (b : Bool) → p z ≡ b → cond b (Some z) (find p xs) ≡ None → (z ≡ x) ⊎ Contains xs x → p x ≡ false
+    pick rest true is h here = cc
+    pick rest false is h (inl here) = sym (ap p here) ∙ is
+    pick rest false is h (inr there) = rest h there
+
+dequeues : (v : ℕ) (k : OpKind) → dequeues_kind v k ≡ true → k ≡ Deq v
+dequeues v (Deq w) is = ap (λ u. Deq u) (eqb-true w v is)
+dequeues v (Enq w) is = cc
+dequeues v Empty is = cc
+dequeues v (Not w) is = cc
+
+passes : (v : ℕ) (o : Operation) → o.kind ≡ Deq v → is_dequeue_of v o ≡ true
+passes v o is = rw (is, eq-eqb v v refl)
+
+-- the dequeue that is found is one, and where none is found there is none
+pub found_dequeue : (operations : List Operation) (v : ℕ) (found : Option Operation) → find (is_dequeue_of v) operations ≡ found → MatchOption found (NoneDid operations (Deq v)) (λ d. Did operations d (Deq v))
+found_dequeue operations v None none = λ o among is. let fails = none_found (is_dequeue_of v) operations o none among in let clash : true ≡ false = sym (passes v o is) ∙ fails in cc
+found_dequeue operations v (Some d) same = let first = found_first (is_dequeue_of v) operations d same in (contains_at operations first.place d first.at, dequeues v d.kind first.passes)
+
+pub life_of_contained : (operations : List Operation) (life : Life) → Contains (lives_of operations) life → IsLife operations life
+life_of_contained operations life among =
+    let o = kept (λ o. life_from operations o o.kind) operations life among in
+    begun o.0 o.1 o.0.kind refl o.2
+  where
+    begun : (o : Operation) → Contains operations o → (k : OpKind) → o.kind ≡ k → life_from operations o k ≡ Some life → IsLife operations life
+    begun o in_o (Enq v) is same =
+        let made : ◌≡◌ {A = Life} (record { enqueue = o; dequeue = find (is_dequeue_of v) operations }) life = cc in
+        subst (IsLife operations) made (v, (in_o, is), found_dequeue operations v (find (is_dequeue_of v) operations) refl)
+    begun o in_o (Deq v) is same = cc
+    begun o in_o Empty is same = cc
+    begun o in_o (Not v) is same = cc
+
+-- dequeues of one value are one, where the value was enqueued
+pub same_dequeue : (operations : List Operation) (enq x y : Operation) (v : ℕ) → IsClear operations → Did operations enq (Enq v) → Did operations x (Deq v) → Did operations y (Deq v) → x ≡ y
+same_dequeue operations enq x y v clear did did_x did_y =
+    let order : (x.ret < y.ret) ⊎ ((x.ret ≡ y.ret) ⊎ (y.ret < x.ret)) = grind arith in
+    elim order [
+      | inl less ↦ absurd (clear.no_repeat enq x y (record { value = v; enqueues = did; dequeues = did_x; dequeues_again = did_y; in_order = less }))
+      | inr (inl same) ↦ same_return operations x y clear.complete did_x.0 did_y.0 same
+      | inr (inr more) ↦ absurd (clear.no_repeat enq y x (record { value = v; enqueues = did; dequeues = did_y; dequeues_again = did_x; in_order = more }))
+    ]
+
+same_found : (operations : List Operation) (enq : Operation) (v : ℕ) (a b : Option Operation) → IsClear operations → Did operations enq (Enq v)
+    → MatchOption a (NoneDid operations (Deq v)) (λ d. Did operations d (Deq v)) → MatchOption b (NoneDid operations (Deq v)) (λ d. Did operations d (Deq v)) → a ≡ b
+same_found operations enq v None None clear did x y = refl
+same_found operations enq v None (Some d) clear did x y = absurd (x d y.0 y.1)
+same_found operations enq v (Some d) None clear did x y = absurd (y d x.0 x.1)
+same_found operations enq v (Some d) (Some e) clear did x y = ap (λ o. Some o) (same_dequeue operations enq d e v clear did x y)
+
+pub life_is_contained : (operations : List Operation) (life : Life) → IsClear operations → IsLife operations life → Contains (lives_of operations) life
+life_is_contained operations life clear is =
+    let v = is.0 in
+    let dequeue = same_found operations life.enqueue v (find (is_dequeue_of v) operations) life.dequeue clear is.1 (found_dequeue operations v (find (is_dequeue_of v) operations) refl) is.2 in
+    keeps (λ o. life_from operations o o.kind) operations life.enqueue life is.1.0 (begins dequeue)
+  where
+    begins : find (is_dequeue_of is.0) operations ≡ life.dequeue → life_from operations life.enqueue life.enqueue.kind ≡ Some life
+    begins same = subst (λ k. life_from operations life.enqueue k ≡ Some life) (sym is.1.1) (ap (λ d. Some (record { enqueue = life.enqueue; dequeue = d })) same)
+
+-- lives of one enqueue are one, and so are lives of one dequeue
+pub one_life_of_enqueue : (operations : List Operation) (x y : Life) → IsClear operations → IsLife operations x → IsLife operations y → x.enqueue ≡ y.enqueue → x ≡ y
+one_life_of_enqueue operations x y clear is_x is_y same =
+    let kinds : Enq is_x.0 ≡ Enq is_y.0 = sym is_x.1.1 ∙ ap (λ o. o.kind) same ∙ is_y.1.1 in
+    let values : is_x.0 ≡ is_y.0 = cc in
+    let y_dequeue = subst (λ v. MatchOption y.dequeue (NoneDid operations (Deq v)) (λ d. Did operations d (Deq v))) (sym values) is_y.2 in
+    let dequeues = same_found operations x.enqueue is_x.0 x.dequeue y.dequeue clear is_x.1 is_x.2 y_dequeue in
+    λ i. record { enqueue = same i; dequeue = dequeues i }
+
+pub one_life_of_dequeue : (operations : List Operation) (x y : Life) (d : Operation) → IsClear operations → IsLife operations x → IsLife operations y → x.dequeue ≡ Some d → y.dequeue ≡ Some d → x ≡ y
+one_life_of_dequeue operations x y d clear is_x is_y same_x same_y =
+    let did_x : Did operations d (Deq is_x.0) = subst (λ e. MatchOption e (NoneDid operations (Deq is_x.0)) (λ d. Did operations d (Deq is_x.0))) same_x is_x.2 in
+    let did_y : Did operations d (Deq is_y.0) = subst (λ e. MatchOption e (NoneDid operations (Deq is_y.0)) (λ d. Did operations d (Deq is_y.0))) same_y is_y.2 in
+    let kinds : Deq is_x.0 ≡ Deq is_y.0 = sym did_x.1 ∙ did_y.1 in
+    let values : is_x.0 ≡ is_y.0 = cc in
+    let enq_y : Did operations y.enqueue (Enq is_x.0) = subst (λ v. Did operations y.enqueue (Enq v)) (sym values) is_y.1 in
+    one_life_of_enqueue operations x y clear is_x is_y (same_enqueue operations x.enqueue y.enqueue is_x.0 clear.complete is_x.1 enq_y)
+
+-- a value that is called for before the last ticket is over is dequeued
+pub dequeued_if_called : (life : Life) → dequeue_call life < NEVER → (d : Operation) × (life.dequeue ≡ Some d)
+dequeued_if_called life less = go life.dequeue refl less
+  where
+    go : (o : Option Operation) → life.dequeue ≡ o → call_or_never o < NEVER → (d : Operation) × (life.dequeue ≡ Some d)
+    go None same less = absurd (omega arith)
+    go (Some d) same less = (d, same)
+
+-- each value that is held is a life, and each life is that of a value
+pub value_is_life : (operations : List Operation) (values : List MatchedValue) (value : MatchedValue) → HoldsLives operations values → Contains values value → IsLife operations value.life
+value_is_life operations values value holds among =
+    life_of_contained operations value.life (subst (λ lives. Contains lives value.life) holds.0 (mapped_to (λ m. m.life) values value among))
+
+pub value_of_life : (operations : List Operation) (values : List MatchedValue) (life : Life) → IsClear operations → HoldsLives operations values → IsLife operations life → (value : MatchedValue) × Contains values value × (value.life ≡ life)
+value_of_life operations values life clear holds is =
+    mapped_from (λ m. m.life) values life (subst (λ lives. Contains lives life) (sym holds.0) (life_is_contained operations life clear is))
+
+-- its places are those of its operations
+pub places_of_value : (operations : List Operation) (values : List MatchedValue) (value : MatchedValue) → HoldsLives operations values → Contains values value
+    → IsAt operations value.enqueue value.life.enqueue × IsMaybeAt operations value.dequeue value.life.dequeue
+places_of_value operations values value holds among =
+    All-contains (λ m. IsAt operations m.enqueue m.life.enqueue × IsMaybeAt operations m.dequeue m.life.dequeue) values value holds.1 among

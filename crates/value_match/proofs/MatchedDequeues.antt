@@ -1,0 +1,124 @@
+-- The one dequeue of each accepted value.
+use Rattle.std.proofs.Common.{◌≡◌, ℕ, ◌<◌, ◌⊎◌, Bool, true, false, cond, List, [], ◌∷◌, length, get_or, Option, Some, None, refl, sym, ◌∙◌, ap, subst, inl, inr, arith}
+use Rattle.std.specs.Prelude.{Contains, MatchOption, find}
+use Rattle.std.proofs.lemmas.Bool.{eqb-true, eq-eqb}
+use Rattle.std.proofs.lemmas.Option.{slice_get-get_or, slice_get_within}
+use Rattle.history_merge.specs.declared.operation.Operation.{Operation}
+use Rattle.history_merge.specs.declared.operation.OpKind.{OpKind}
+use Rattle.history_merge.specs.declared.operation.OpKind.TheVariants.{Enq, Deq, Empty, Not}
+use Rattle.history_merge.specs.Complete.{AreComplete}
+use Rattle.history_merge.specs.Operations.{Did, NoneDid, IsAt}
+use Rattle.history_merge.proofs.Distinct.{contains_cons, not_in_none, contains_at, found_first, place_of, one_at, same_return}
+use Rattle.value_match.specs.Lives.{is_dequeue_of, dequeues_kind, IsMaybeAt}
+use Rattle.value_match.specs.Violations.{IsClear, NoFreshViolation, NoRepeatViolation}
+use Rattle.value_match.specs.Sources.{HoldsSources, HoldsTakers, HoldsDequeues, IsDequeuePlace, TakesFrom}
+use Rattle.value_match.proofs.RepeatedDequeues.{taken_from, takes_from_enqueue}
+
+-- ---- the dequeues by their enqueues
+
+pub no_repeat : (operations : List Operation) (sources takers : List (Option ℕ)) → AreComplete operations → HoldsSources operations sources → HoldsTakers sources takers → NoRepeatViolation operations
+no_repeat operations sources takers complete holds taken enq first second r =
+    let p = place_of operations enq r.enqueues.0 in
+    let i = place_of operations first r.dequeues.0 in
+    let j = place_of operations second r.dequeues_again.0 in
+    let taker_i = taken.takes i.0 p.0 (takes_from_enqueue operations sources i.0 p.0 first enq r.value complete holds i.1 r.dequeues.1 p.1 r.enqueues.1) in
+    let taker_j = taken.takes j.0 p.0 (takes_from_enqueue operations sources j.0 p.0 second enq r.value complete holds j.1 r.dequeues_again.1 p.1 r.enqueues.1) in
+    let same : i.0 ≡ j.0 = let both : ◌≡◌ {A = Option ℕ} (Some i.0) (Some j.0) = sym taker_i ∙ taker_j in cc in
+    let one : first ≡ second = one_at operations j.0 first second (subst (λ k. IsAt operations k first) same i.1) j.1 in
+    let ret = ap (λ o. o.ret) one in
+    absurd (omega (arith, r.in_order))
+
+pub dequeues_by_enqueues : (operations : List Operation) (sources takers : List (Option ℕ)) → AreComplete operations → NoFreshViolation operations → HoldsSources operations sources → HoldsTakers sources takers
+    → HoldsDequeues operations takers
+dequeues_by_enqueues operations sources takers complete no_fresh holds taken = record {
+  one_each = taken.one_each ∙ holds.one_each;
+  each = λ i o v here is. at_place i o v here is (get_or takers i None) refl;
+}
+  where
+    at_place : (i : ℕ) (o : Operation) (v : ℕ) → IsAt operations i o → o.kind ≡ Enq v → (taker : Option ℕ) → get_or takers i None ≡ taker → IsDequeuePlace operations v taker
+    at_place i o v here is None none = λ x among dequeues.
+        let j = place_of operations x among in
+        let taker = taken.takes j.0 i (takes_from_enqueue operations sources j.0 i x o v complete holds j.1 dequeues here is) in
+        let clash : ◌≡◌ {A = Option ℕ} None (Some j.0) = sym none ∙ taker in cc
+    at_place i o v here is (Some j) some =
+        let from = taken.taken i j some in
+        let below : j < length operations = let inside = slice_get_within sources j (Some i) from in omega (arith, holds.one_each) in
+        let x = get_or operations j o in
+        let at_j = slice_get-get_or operations j o below in
+        let t = taken_from operations sources j i x holds no_fresh at_j from in
+        let calls = one_at operations i t.call o t.at_source here in
+        let kinds : Enq t.value ≡ Enq v = sym t.accepted ∙ ap (λ y. y.kind) calls ∙ is in
+        let value : t.value ≡ v = cc in
+        (x, at_j, t.dequeues ∙ ap Deq value)
+
+-- ---- what `find` finds
+
+-- what `find` tells where it gives nothing
+none_found : {X : Type 0} (p : X → Bool) (xs : List X) (x : X) → find p xs ≡ None → Contains xs x → p x ≡ false
+none_found p [] x none among = absurd (not_in_none x among)
+none_found {X} p (z ∷ xs) x none among = pick (λ h there. none_found p xs x h there) (p z) refl none (contains_cons z xs x among)
+  where
+    pick : (find p xs ≡ None → Contains xs x → p x ≡ false) → (b : Bool) → p z ≡ b → cond b (Some z) (find p xs) ≡ None → (z ≡ x) ⊎ Contains xs x → p x ≡ false
+    pick rest true is h here = cc
+    pick rest false is h (inl here) = sym (ap p here) ∙ is
+    pick rest false is h (inr there) = rest h there
+
+dequeues : (v : ℕ) (k : OpKind) → dequeues_kind v k ≡ true → k ≡ Deq v
+dequeues v (Deq w) is = ap (λ u. Deq u) (eqb-true w v is)
+dequeues v (Enq w) is = cc
+dequeues v Empty is = cc
+dequeues v (Not w) is = cc
+
+passes : (v : ℕ) (o : Operation) → o.kind ≡ Deq v → is_dequeue_of v o ≡ true
+passes v o is = rw (is, eq-eqb v v refl)
+
+-- the dequeue that is found is one, and where none is found there is none
+pub found_dequeue : (operations : List Operation) (v : ℕ) (found : Option Operation) → find (is_dequeue_of v) operations ≡ found → MatchOption found (NoneDid operations (Deq v)) (λ d. Did operations d (Deq v))
+found_dequeue operations v None none = λ o among is. let fails = none_found (is_dequeue_of v) operations o none among in let clash : true ≡ false = sym (passes v o is) ∙ fails in cc
+found_dequeue operations v (Some d) same = let first = found_first (is_dequeue_of v) operations d same in (contains_at operations first.place d first.at, dequeues v d.kind first.passes)
+
+-- dequeues of one value are one, where the value was enqueued
+pub same_dequeue : (operations : List Operation) (enq x y : Operation) (v : ℕ) → IsClear operations → Did operations enq (Enq v) → Did operations x (Deq v) → Did operations y (Deq v) → x ≡ y
+same_dequeue operations enq x y v clear did did_x did_y =
+    let order : (x.ret < y.ret) ⊎ ((x.ret ≡ y.ret) ⊎ (y.ret < x.ret)) = grind arith in
+    elim order [
+      | inl less ↦ absurd (clear.no_repeat enq x y (record { value = v; enqueues = did; dequeues = did_x; dequeues_again = did_y; in_order = less }))
+      | inr (inl same) ↦ same_return operations x y clear.complete did_x.0 did_y.0 same
+      | inr (inr more) ↦ absurd (clear.no_repeat enq y x (record { value = v; enqueues = did; dequeues = did_y; dequeues_again = did_x; in_order = more }))
+    ]
+
+pub same_found : (operations : List Operation) (enq : Operation) (v : ℕ) (a b : Option Operation) → IsClear operations → Did operations enq (Enq v)
+    → MatchOption a (NoneDid operations (Deq v)) (λ d. Did operations d (Deq v)) → MatchOption b (NoneDid operations (Deq v)) (λ d. Did operations d (Deq v)) → a ≡ b
+same_found operations enq v None None clear did x y = refl
+same_found operations enq v None (Some d) clear did x y = absurd (x d y.0 y.1)
+same_found operations enq v (Some d) None clear did x y = absurd (y d x.0 x.1)
+same_found operations enq v (Some d) (Some e) clear did x y = ap (λ o. Some o) (same_dequeue operations enq d e v clear did x y)
+
+-- the dequeue at the place is the one that is found
+pub found_at_place : (operations : List Operation) (enq : Operation) (v : ℕ) (place : Option ℕ) (dequeue : Option Operation) → IsClear operations → Did operations enq (Enq v) → IsDequeuePlace operations v place
+    → IsMaybeAt operations place dequeue → dequeue ≡ find (is_dequeue_of v) operations
+found_at_place operations enq v place dequeue clear did is at =
+    same_found operations enq v dequeue (find (is_dequeue_of v) operations) clear did (named place dequeue is at) (found_dequeue operations v (find (is_dequeue_of v) operations) refl)
+  where
+    named : (p : Option ℕ) (d : Option Operation) → IsDequeuePlace operations v p → IsMaybeAt operations p d → MatchOption d (NoneDid operations (Deq v)) (λ x. Did operations x (Deq v))
+    named None None none there = none
+    named None (Some d) none there = elim there [ ]
+    named (Some p) None at_p there = elim there [ ]
+    named (Some p) (Some d) at_p there =
+        let same = one_at operations p at_p.0 d at_p.1 there in
+        (contains_at operations p d there, subst (λ o. o.kind ≡ Deq v) same at_p.2)
+
+pub clear_from_takers : (operations : List Operation) (sources takers : List (Option ℕ)) → AreComplete operations → NoFreshViolation operations → HoldsSources operations sources → HoldsTakers sources takers → IsClear operations
+clear_from_takers operations sources takers complete no_fresh holds taken = record {
+  complete = complete;
+  no_fresh = no_fresh;
+  no_repeat = no_repeat operations sources takers complete holds taken;
+}
+
+pub sources_in_range : (operations : List Operation) (sources : List (Option ℕ)) → NoFreshViolation operations → HoldsSources operations sources → (i p : ℕ) → TakesFrom sources i p → p < length sources
+sources_in_range operations sources no_fresh holds i p from =
+    let d : Operation = record { call = 0; ret = 0; thread = 0; kind = Empty } in
+    let below : i < length operations = let inside = slice_get_within sources i (Some p) from in omega (arith, holds.one_each) in
+    let t = taken_from operations sources i p (get_or operations i d) holds no_fresh (slice_get-get_or operations i d below) from in
+    let inside = slice_get_within operations p t.call t.at_source in
+    omega (arith, holds.one_each)

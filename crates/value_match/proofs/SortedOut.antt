@@ -1,0 +1,123 @@
+-- The operations sorted out by what they did, met by a walk over them.
+use Rattle.std.proofs.Common.{◌≡◌, ℕ, ◌+◌, ◌<◌, ◌≤◌, Bool, true, false, cond, List, [], ◌∷◌, ◌++◌, length, get_or, take, Option, Some, None, refl, sym, ◌∙◌, ap, subst}
+use Rattle.std.specs.Prelude.{All, IfSome, find, filter, filter_map, map, slice_get}
+use Rattle.std.specs.List.{cons_option}
+use Rattle.std.proofs.lemmas.List.{take_more, take_all, append-nil, map-append}
+use Rattle.std.proofs.lemmas.List.Elements.{All-push, filter_map-append, filter-append}
+use Rattle.std.proofs.lemmas.Option.{slice_get_within, get_or_from_slice_get}
+use Rattle.history_merge.specs.declared.operation.Operation.{Operation}
+use Rattle.history_merge.specs.declared.operation.OpKind.TheVariants.{Enq, Deq, Empty, Not}
+use Rattle.history_merge.specs.Operations.{IsAt}
+use Rattle.history_merge.proofs.Distinct.{contains_at, one_at}
+use Rattle.value_match.specs.declared.life.Life.{Life}
+use Rattle.value_match.specs.declared.life.MatchedValue.{MatchedValue}
+use Rattle.value_match.specs.Lives.{IsMaybeAt, HoldsLives, HoldsPlaces, life_from, is_dequeue_of, is_empty_answer, is_refused}
+use Rattle.value_match.specs.Violations.{IsClear}
+use Rattle.value_match.specs.Sources.{HoldsDequeues, IsDequeuePlace}
+use Rattle.value_match.proofs.MatchedDequeues.{found_at_place}
+
+-- the value's places are those of its operations
+abbrev pub HasPlaces : List Operation → MatchedValue → Type 0
+HasPlaces operations m = IsAt operations m.enqueue m.life.enqueue × IsMaybeAt operations m.dequeue m.life.dequeue
+
+-- what the first n operations did
+pub record IsSortedOut (operations : List Operation) (n : ℕ) (values : List MatchedValue) (empties refused : List ℕ) : Type 0 where
+  pub lives : map (λ m. m.life) values ≡ filter_map (λ o. life_from operations o o.kind) (take n operations)
+  pub places : All (HasPlaces operations) values
+  pub empty_answers : map (slice_get operations) empties ≡ map Some (filter is_empty_answer (take n operations))
+  pub refused_enqueues : map (slice_get operations) refused ≡ map Some (filter is_refused (take n operations))
+
+-- ---- one more operation
+
+taken_more : (operations : List Operation) (i : ℕ) (o : Operation) → IsAt operations i o → take (i + 1) operations ≡ take i operations ++ o ∷ []
+taken_more operations i o here =
+    let last : get_or operations i o ≡ o = get_or_from_slice_get operations i o o here in
+    take_more operations i o (slice_get_within operations i o here) ∙ ap (λ x. take i operations ++ x ∷ []) last
+
+lives_more : (operations : List Operation) (i : ℕ) (o : Operation) (life : Option Life) (lives : List Life) → IsAt operations i o → life_from operations o o.kind ≡ life
+    → lives ≡ filter_map (λ o. life_from operations o o.kind) (take i operations) → lives ++ cons_option life [] ≡ filter_map (λ o. life_from operations o o.kind) (take (i + 1) operations)
+lives_more operations i o life lives here is known =
+    ap (λ ls. ls ++ cons_option life []) known ∙ ap (λ l. filter_map (λ o. life_from operations o o.kind) (take i operations) ++ cons_option l []) (sym is)
+    ∙ sym (ap (filter_map (λ o. life_from operations o o.kind)) (taken_more operations i o here) ∙ filter_map-append (λ o. life_from operations o o.kind) (take i operations) (o ∷ []))
+
+filter-taken : (operations : List Operation) (test : Operation → Bool) (i : ℕ) (o : Operation) (b : Bool) → IsAt operations i o → test o ≡ b
+    → filter test (take (i + 1) operations) ≡ filter test (take i operations) ++ cond b (o ∷ []) []
+filter-taken operations test i o b here is = ap (filter test) (taken_more operations i o here) ∙ filter-append test (take i operations) (o ∷ []) ∙ ap (λ c. filter test (take i operations) ++ cond c (o ∷ []) []) is
+
+places_more : (operations : List Operation) (test : Operation → Bool) (i : ℕ) (o : Operation) (places : List ℕ) → IsAt operations i o → test o ≡ true
+    → map (slice_get operations) places ≡ map Some (filter test (take i operations)) → map (slice_get operations) (places ++ i ∷ []) ≡ map Some (filter test (take (i + 1) operations))
+places_more operations test i o places here is known =
+    map-append (slice_get operations) places (i ∷ []) ∙ ap (λ ps. ps ++ slice_get operations i ∷ []) known ∙ ap (λ p. map Some (filter test (take i operations)) ++ p ∷ []) here
+    ∙ sym (ap (map Some) (filter-taken operations test i o true here is) ∙ map-append Some (filter test (take i operations)) (o ∷ []))
+
+places_same : (operations : List Operation) (test : Operation → Bool) (i : ℕ) (o : Operation) (places : List ℕ) → IsAt operations i o → test o ≡ false
+    → map (slice_get operations) places ≡ map Some (filter test (take i operations)) → map (slice_get operations) places ≡ map Some (filter test (take (i + 1) operations))
+places_same operations test i o places here is known = known ∙ sym (ap (map Some) (filter-taken operations test i o false here is ∙ append-nil (filter test (take i operations))))
+
+lives_same : (operations : List Operation) (i : ℕ) (o : Operation) (lives : List Life) → IsAt operations i o → life_from operations o o.kind ≡ None
+    → lives ≡ filter_map (λ o. life_from operations o o.kind) (take i operations) → lives ≡ filter_map (λ o. life_from operations o o.kind) (take (i + 1) operations)
+lives_same operations i o lives here is known = sym (append-nil lives) ∙ lives_more operations i o None lives here is known
+
+module _ (operations : List Operation) (i : ℕ) (o : Operation) (values : List MatchedValue) (empties refused : List ℕ) (here : IsAt operations i o) (known : IsSortedOut operations i values empties refused) where
+  pub sorted_enqueue : (v : ℕ) (m : MatchedValue) (place : Option ℕ) → o.kind ≡ Enq v → IsAt operations i m.life.enqueue → IsMaybeAt operations place m.life.dequeue → (m.enqueue ≡ i) × (m.dequeue ≡ place)
+      → IsClear operations → IsDequeuePlace operations v place → IsSortedOut operations (i + 1) (values ++ m ∷ []) empties refused
+  sorted_enqueue v m place is enqueue dequeue named clear from = record {
+    lives = map-append (λ m. m.life) values (m ∷ []) ∙ lives_more operations i o (Some m.life) (map (λ m. m.life) values) here life known.lives;
+    places = All-push (HasPlaces operations) values m known.places
+        (subst (λ p. IsAt operations p m.life.enqueue) (sym named.0) enqueue, subst (λ p. IsMaybeAt operations p m.life.dequeue) (sym named.1) dequeue);
+    empty_answers = places_same operations is_empty_answer i o empties here (rw is refl) known.empty_answers;
+    refused_enqueues = places_same operations is_refused i o refused here (rw is refl) known.refused_enqueues;
+  }
+    where
+      found : m.life.dequeue ≡ find (is_dequeue_of v) operations
+      found = found_at_place operations o v place m.life.dequeue clear (contains_at operations i o here, is) from dequeue
+
+      life : life_from operations o o.kind ≡ Some m.life
+      life =
+          let same : o ≡ m.life.enqueue = one_at operations i o m.life.enqueue here enqueue in
+          let made : ◌≡◌ {A = Life} (record { enqueue = o; dequeue = find (is_dequeue_of v) operations }) m.life = λ t. record { enqueue = same t; dequeue = sym found t } in
+          subst (λ kind. life_from operations o kind ≡ Some m.life) (sym is) (ap (λ l. Some l) made)
+
+  pub sorted_empty : o.kind ≡ Empty → IsSortedOut operations (i + 1) values (empties ++ i ∷ []) refused
+  sorted_empty is = record {
+    lives = lives_same operations i o (map (λ m. m.life) values) here (rw is refl) known.lives;
+    places = known.places;
+    empty_answers = places_more operations is_empty_answer i o empties here (rw is refl) known.empty_answers;
+    refused_enqueues = places_same operations is_refused i o refused here (rw is refl) known.refused_enqueues;
+  }
+
+  pub sorted_refused : (v : ℕ) → o.kind ≡ Not v → IsSortedOut operations (i + 1) values empties (refused ++ i ∷ [])
+  sorted_refused v is = record {
+    lives = lives_same operations i o (map (λ m. m.life) values) here (rw is refl) known.lives;
+    places = known.places;
+    empty_answers = places_same operations is_empty_answer i o empties here (rw is refl) known.empty_answers;
+    refused_enqueues = places_more operations is_refused i o refused here (rw is refl) known.refused_enqueues;
+  }
+
+  pub sorted_dequeue : (v : ℕ) → o.kind ≡ Deq v → IsSortedOut operations (i + 1) values empties refused
+  sorted_dequeue v is = record {
+    lives = lives_same operations i o (map (λ m. m.life) values) here (rw is refl) known.lives;
+    places = known.places;
+    empty_answers = places_same operations is_empty_answer i o empties here (rw is refl) known.empty_answers;
+    refused_enqueues = places_same operations is_refused i o refused here (rw is refl) known.refused_enqueues;
+  }
+
+-- ---- all operations
+
+pub lives_sorted : (operations : List Operation) (n : ℕ) (values : List MatchedValue) (empties refused : List ℕ) → length operations ≤ n → IsSortedOut operations n values empties refused → HoldsLives operations values
+lives_sorted operations n values empties refused all known = (known.lives ∙ ap (filter_map (λ o. life_from operations o o.kind)) (take_all n operations all), known.places)
+
+pub empties_sorted : (operations : List Operation) (n : ℕ) (values : List MatchedValue) (empties refused : List ℕ) → length operations ≤ n → IsSortedOut operations n values empties refused → HoldsPlaces operations is_empty_answer empties
+empties_sorted operations n values empties refused all known = known.empty_answers ∙ ap (λ os. map Some (filter is_empty_answer os)) (take_all n operations all)
+
+pub refused_sorted : (operations : List Operation) (n : ℕ) (values : List MatchedValue) (empties refused : List ℕ) → length operations ≤ n → IsSortedOut operations n values empties refused → HoldsPlaces operations is_refused refused
+refused_sorted operations n values empties refused all known = known.refused_enqueues ∙ ap (λ os. map Some (filter is_refused os)) (take_all n operations all)
+
+-- the dequeue's place is in range
+pub dequeue_in_range : (operations : List Operation) (dequeues : List (Option ℕ)) (i : ℕ) (o : Operation) (v : ℕ) → HoldsDequeues operations dequeues → IsAt operations i o → o.kind ≡ Enq v
+    → IfSome (get_or dequeues i None) (λ p. p < length operations)
+dequeue_in_range operations dequeues i o v holds here is = inside (get_or dequeues i None) (holds.each i o v here is)
+  where
+    inside : (place : Option ℕ) → IsDequeuePlace operations v place → IfSome place (λ p. p < length operations)
+    inside None none = tt
+    inside (Some p) at = slice_get_within operations p at.0 at.1

@@ -1,0 +1,5 @@
+use Rattle.value_match.proofs.SortedOut.{IsSortedOut}
+use Rattle.value_match.proofs.values.matching_of.Given as goal
+
+abbrev pub invariant-loop-place : goal.invariant-loop-place
+invariant-loop-place l = IsSortedOut l.operations l.place l.values.items l.empties.items l.refused.items

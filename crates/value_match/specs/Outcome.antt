@@ -1,0 +1,47 @@
+-- What a violation names, and what matching answers.
+use Rattle.std.specs.Prelude.{◌≡◌, List, Option}
+use Rattle.std.specs.List.{AllZip}
+use Rattle.history_merge.specs.declared.operation.Operation.{Operation}
+use Rattle.history_merge.specs.Operations.{IsAt}
+use Rattle.value_match.specs.declared.life.Life.{Life}
+use Rattle.value_match.specs.declared.violation.CoverStep.{CoverStep}
+use Rattle.value_match.specs.declared.violation.Violation.{Violation}
+use Rattle.value_match.specs.declared.violation.Violation.TheVariants.{Fresh, Repeat, Order, Witness}
+use Rattle.value_match.specs.declared.matching.Matched.{Matched}
+use Rattle.value_match.specs.declared.matching.Matched.TheVariants as matched
+use Rattle.value_match.specs.Lives.{IsMaybeAt}
+use Rattle.value_match.specs.Violations.{Breach, fresh, repeat, order, witness, IsClear}
+use Rattle.value_match.specs.Choice.{IsChosenBreach}
+
+-- the steps name these lives, one by one
+abbrev pub NamesCover : List Operation → List CoverStep → List Life → Type 0
+NamesCover operations steps cover = AllZip (λ step life. IsAt operations step.enqueue life.enqueue × IsMaybeAt operations step.dequeue life.dequeue) steps cover
+
+-- the places of the violation are those of the operations that show it
+abbrev pub Names : List Operation → Violation → Breach → Type 0
+Names operations (Fresh deq enq) (fresh d e) = IsAt operations deq d × IsMaybeAt operations enq e
+Names operations (Repeat enq first second) (repeat e d d') = IsAt operations enq e × IsAt operations first d × IsAt operations second d'
+Names operations (Order enq_a enq_b deq_b deq_a) (order a b d d') =
+    IsAt operations enq_a a × IsAt operations enq_b b × IsAt operations deq_b d × IsMaybeAt operations deq_a d'
+Names operations (Witness empty cover) (witness o lives) = IsAt operations empty o × NamesCover operations cover lives
+Names operations _ _ = ⊥
+
+-- the violation is the chosen one of these operations
+abbrev pub IsChosenViolation : List Operation → Violation → Type 0
+IsChosenViolation operations violation = (breach : Breach) × Names operations violation breach × IsChosenBreach operations breach
+
+-- the violation names the chosen dequeue of a value that was not there
+abbrev pub NamesChosenFresh : List Operation → Violation → Type 0
+NamesChosenFresh operations violation =
+    (deq : Operation) × (enq : Option Operation) × Names operations violation (fresh deq enq) × IsChosenBreach operations (fresh deq enq)
+
+-- the violation names the chosen two dequeues of one value, and no dequeue is of a value that was not there
+abbrev pub NamesChosenRepeat : List Operation → Violation → Type 0
+NamesChosenRepeat operations violation =
+    (enq : Operation) × (first : Operation) × (second : Operation) × Names operations violation (repeat enq first second) × IsChosenBreach operations (repeat enq first second)
+
+-- a matching where the first two kinds of violation are absent, else the chosen violation of the first of them
+abbrev pub IsMatchedOf : List Operation → Matched → Type 0
+IsMatchedOf operations (matched.Clear matching) = (matching ≡ operations) × IsClear operations
+IsMatchedOf operations (matched.Fresh violation) = NamesChosenFresh operations violation
+IsMatchedOf operations (matched.Repeat violation) = NamesChosenRepeat operations violation

@@ -1,0 +1,66 @@
+-- From each dequeue to the call that enqueued its value, and back.
+use Rattle.std.specs.Prelude.{◌≡◌, ◌≢◌, ℕ, ◌<◌, All, AllPairs, List, length, slice_get, slice_index_or, Option, Some, None, Contains}
+use Rattle.std.specs.List.Sorted.{IsNonDecreasingBy}
+use Rattle.history_merge.specs.declared.operation.Operation.{Operation}
+use Rattle.history_merge.specs.declared.operation.OpKind.{OpKind}
+use Rattle.history_merge.specs.declared.operation.OpKind.TheVariants.{Enq, Deq, Empty, Not}
+use Rattle.history_merge.specs.Operations.{IsAt, NoneDid}
+use Rattle.value_match.specs.Lives.{IsMaybeAt}
+use Rattle.value_match.specs.Violations.{IsFreshViolation}
+
+-- the value that the operation called to enqueue
+abbrev pub enqueued_value : OpKind → Option ℕ
+enqueued_value (Enq v) = Some v
+enqueued_value (Not v) = Some v
+enqueued_value (Deq v) = None
+enqueued_value Empty = None
+
+-- the place is that of an operation that called to enqueue this value; there is none only where none did
+abbrev pub IsCallPlace : List Operation → ℕ → Option ℕ → Type 0
+IsCallPlace operations v None = (o : Operation) → Contains operations o → ¬ (enqueued_value o.kind ≡ Some v)
+IsCallPlace operations v (Some place) = (o : Operation) × IsAt operations place o × (enqueued_value o.kind ≡ Some v)
+
+-- the place is that of the call for the value that a dequeue gave; other operations have none
+abbrev pub IsSourceOf : List Operation → OpKind → Option ℕ → Type 0
+IsSourceOf operations (Deq v) source = IsCallPlace operations v source
+IsSourceOf operations _ source = source ≡ None
+
+-- the places are the sources of the operations, one by one
+pub record HoldsSources (operations : List Operation) (sources : List (Option ℕ)) : Type 0 where
+  pub one_each : length sources ≡ length operations
+  pub each : (i : ℕ) (o : Operation) → IsAt operations i o → IsSourceOf operations o.kind (slice_index_or sources i None)
+
+-- the operation is a dequeue of a value that was not there; the call for its value, if there is one, is at the place
+abbrev pub IsFreshFrom : List Operation → Option ℕ → Operation → Type 0
+IsFreshFrom operations source deq = (enq : Option Operation) × IsMaybeAt operations source enq × IsFreshViolation operations deq enq
+
+-- the operation at place i has its source at place p
+abbrev pub TakesFrom : List (Option ℕ) → ℕ → ℕ → Type 0
+TakesFrom sources i p = slice_get sources i ≡ Some (Some p)
+
+-- two operations have one source
+abbrev pub IsTakenTwice : List (Option ℕ) → Type 0
+IsTakenTwice sources = (i : ℕ) × (j : ℕ) × (p : ℕ) × (i < j) × TakesFrom sources i p × TakesFrom sources j p
+
+-- at each place stands the one operation that has its source there, if there is one
+pub record HoldsTakers (sources takers : List (Option ℕ)) : Type 0 where
+  pub one_each : length takers ≡ length sources
+  pub taken : (p i : ℕ) → slice_index_or takers p None ≡ Some i → TakesFrom sources i p
+  pub takes : (i p : ℕ) → TakesFrom sources i p → slice_index_or takers p None ≡ Some i
+
+-- each operation once, as its return ticket and its place, by rising return
+pub record IsByReturn (operations : List Operation) (order : List (ℕ × ℕ)) : Type 0 where
+  pub names : All (λ e. (o : Operation) × IsAt operations e.1 o × (e.0 ≡ o.ret)) order
+  pub has_each : (i : ℕ) (o : Operation) → IsAt operations i o → Contains order (o.ret, i)
+  pub has_once : AllPairs (λ x y. x.1 ≢ y.1) order
+  pub rises : IsNonDecreasingBy (λ e. e.0) order
+
+-- the place is that of a dequeue of this value; there is none only where the value was never dequeued
+abbrev pub IsDequeuePlace : List Operation → ℕ → Option ℕ → Type 0
+IsDequeuePlace operations v None = NoneDid operations (Deq v)
+IsDequeuePlace operations v (Some place) = (o : Operation) × IsAt operations place o × (o.kind ≡ Deq v)
+
+-- at the place of each accepted enqueue stands that of the dequeue of its value, if there is one
+pub record HoldsDequeues (operations : List Operation) (dequeues : List (Option ℕ)) : Type 0 where
+  pub one_each : length dequeues ≡ length operations
+  pub each : (i : ℕ) (o : Operation) (v : ℕ) → IsAt operations i o → o.kind ≡ Enq v → IsDequeuePlace operations v (slice_index_or dequeues i None)

@@ -1,0 +1,78 @@
+ghost use Rattle.std.specs.Prelude.{◌≡◌, ◌||◌, ◌↔◌, ◌<◌, nat_lt, if◌then◌else◌, IsTrue, IfSome, MatchOption, None, length, slice_index_or};
+ghost use Rattle.history_merge.specs.declared.operation.Operation.{Operation};
+ghost use Rattle.history_merge.specs.Complete.{AreComplete};
+ghost use Rattle.history_merge.specs.Operations.{IsAt};
+ghost use Rattle.value_match.specs.Lives.{is_refused};
+ghost use Rattle.value_match.specs.Outcome.{NamesChosenFresh};
+ghost use Rattle.value_match.specs.Sources.{HoldsSources, IsFreshFrom};
+ghost use Rattle.value_match.specs.Violations.{NoFreshViolation};
+
+use crate::violation::Violation;
+use history_merge::{OpId, OpKind, Operation};
+
+/// The dequeue of least return ticket among those of a value that was not there, if there is one.
+pub fn find_fresh(operations: &[Operation], sources: &[Option<usize>]) -> Option<Violation>
+    requires complete { AreComplete operations.now }
+    requires sources { HoldsSources operations.now sources.now }
+    ensures { MatchOption result (NoFreshViolation operations.now) (NamesChosenFresh operations.now) }
+{
+    let mut first = None;
+    for place in 0..operations.len() {
+        if !is_fresh(operations, sources, place) {
+            continue;
+        }
+        first = Some(sooner(operations, first, place));
+    }
+    let deq = first?;
+    Some(fresh_at(sources, deq))
+}
+
+/// The dequeue at this place with the call for its value, if there is one.
+fn fresh_at(sources: &[Option<usize>], deq: usize) -> Violation
+    requires { deq < length sources.now }
+    ensures { result ≡ Violation.Fresh deq (slice_index_or sources.now deq None) }
+{
+    let enq = sources[deq];
+    Violation::Fresh {
+        deq: OpId::new(deq),
+        enq: enq.map(OpId::new),
+    }
+}
+
+/// Whether the operation at this place is a dequeue of a value that was not there.
+fn is_fresh(operations: &[Operation], sources: &[Option<usize>], place: usize) -> bool
+    requires place { place < length operations.now }
+    requires sources { HoldsSources operations.now sources.now }
+    ensures { (o : Operation) → IsAt operations.now place o → IsTrue result ↔ IsFreshFrom operations.now (slice_index_or sources.now place None) o }
+{
+    let operation = operations[place];
+    let OpKind::Deq(_) = operation.kind else {
+        return false;
+    };
+    let Some(source) = sources[place] else {
+        return true;
+    };
+    comes_too_soon(operations, operation, source)
+}
+
+/// Whether the dequeue returned before the call at this place, or that was refused.
+fn comes_too_soon(operations: &[Operation], deq: Operation, source: usize) -> bool
+    requires { source < length operations.now }
+    ensures { (call : Operation) → IsAt operations.now source call → result ≡ (is_refused call || nat_lt deq.ret call.call) }
+{
+    let call = operations[source];
+    matches!(call.kind, OpKind::Not(_)) || deq.ret < call.call
+}
+
+/// The place, if there is one, or the other, whichever operation returns first.
+fn sooner(operations: &[Operation], place: Option<usize>, other: usize) -> usize
+    requires place { IfSome place (λ p. p < length operations.now) }
+    requires other { other < length operations.now }
+    ensures none { place ≡ None → result ≡ other }
+    ensures some { IfSome place (λ p. (o x : Operation) → IsAt operations.now p o → IsAt operations.now other x → result ≡ (if nat_lt o.ret x.ret then p else other)) }
+{
+    match place {
+        Some(place) if operations[place].ret < operations[other].ret => place,
+        _ => other,
+    }
+}

@@ -1,0 +1,60 @@
+ghost use Rattle.std.specs.Prelude.{◌≡◌, ◌<◌, IfOk, None, length, slice_index_or};
+ghost use Rattle.history_merge.specs.Complete.{AreComplete};
+ghost use Rattle.value_match.specs.Outcome.{NamesChosenRepeat};
+ghost use Rattle.value_match.specs.Sources.{HoldsSources, IsByReturn, IsTakenTwice};
+ghost use Rattle.value_match.specs.Violations.{NoFreshViolation};
+
+use crate::violation::Violation;
+use history_merge::{OpId, Operation};
+use std::alloc::{AllocError, Global};
+
+/// Of the values that are dequeued twice the one whose second dequeue returns first, with these two dequeues.
+pub fn find_repeat(
+    alloc: Global,
+    operations: &[Operation],
+    sources: &[Option<usize>],
+) -> Result<Violation, AllocError>
+    requires complete { AreComplete operations.now }
+    requires sources { HoldsSources operations.now sources.now }
+    requires no_fresh { NoFreshViolation operations.now }
+    requires twice { IsTakenTwice sources.now }
+    ensures { IfOk result (NamesChosenRepeat operations.now) }
+{
+    let order = by_return(alloc, operations)?;
+    let mut takers = vec![in alloc; None; operations.len()]?;
+    for entry in &order {
+        let place = entry.1;
+        let Some(source) = place_at(sources, place) else {
+            continue;
+        };
+        if let Some(first) = place_at(takers.as_slice(), source) {
+            return Ok(Violation::Repeat {
+                enq: OpId::new(source),
+                first: OpId::new(first),
+                second: OpId::new(place),
+            });
+        }
+        takers[source] = Some(place);
+    }
+    unreachable!("some value is dequeued twice")
+}
+
+/// The place that stands at a place.
+fn place_at(places: &[Option<usize>], place: usize) -> Option<usize>
+    requires { place < length places.now }
+    ensures { result ≡ slice_index_or places.now place None }
+{
+    places[place]
+}
+
+/// The return tickets and places of the operations, by return ticket.
+fn by_return(alloc: Global, operations: &[Operation]) -> Result<Vec<(u64, usize)>, AllocError>
+    ensures { IfOk result (λ order. IsByReturn operations.now order.items) }
+{
+    let mut order = Vec::with_capacity(alloc, operations.len())?;
+    for (place, operation) in operations.iter().enumerate() {
+        order.push((operation.ret, place))?;
+    }
+    order.sort_unstable_by_key(|entry| entry.0);
+    Ok(order)
+}

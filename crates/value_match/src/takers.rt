@@ -1,0 +1,25 @@
+ghost use Rattle.std.specs.Prelude.{ℕ, ◌<◌, IfOk, MatchOption, length};
+ghost use Rattle.value_match.specs.Sources.{HoldsTakers, IsTakenTwice, TakesFrom};
+
+use std::alloc::{AllocError, Global};
+
+/// At each place that is a source the place of the operation that takes from it, unless two take from one.
+pub fn takers_of(
+    alloc: Global,
+    sources: &[Option<usize>],
+) -> Result<Option<Vec<Option<usize>>>, AllocError>
+    requires { (i p : ℕ) → TakesFrom sources.now i p → p < length sources.now }
+    ensures { IfOk result (λ takers. MatchOption takers (IsTakenTwice sources.now) (λ takers. HoldsTakers sources.now takers.items)) }
+{
+    let mut takers = vec![in alloc; None; sources.len()]?;
+    for (place, source) in sources.iter().enumerate() {
+        let Some(source) = *source else {
+            continue;
+        };
+        if takers[source].is_some() {
+            return Ok(None);
+        }
+        takers[source] = Some(place);
+    }
+    Ok(Some(takers))
+}

@@ -1,0 +1,18 @@
+-- A complete history has a legal order exactly where it has no violation.
+use Rattle.verdicts.specs.Laws.{LinearizableExactly}
+use Rattle.value_match.specs.Violations.{fresh, repeat, order, witness}
+use Rattle.verdicts.proofs.Linearizable.{linearizable_without_violations}
+use Rattle.verdicts.proofs.Excludes.{breach_excludes_order}
+
+pub linearizable_exactly : LinearizableExactly
+linearizable_exactly operations complete = (
+  λ linear breach violation. breach_excludes_order operations breach complete violation linear,
+  λ none. linearizable_without_violations operations
+      (record {
+        complete = complete;
+        no_fresh = λ deq enq. none (fresh deq enq);
+        no_repeat = λ enq first second. none (repeat enq first second);
+      })
+      (λ enq_a enq_b deq_b deq_a. none (order enq_a enq_b deq_b deq_a))
+      (λ empty cover. none (witness empty cover)),
+)

@@ -1,0 +1,275 @@
+-- Beside a violation no order is legal.
+use Rattle.std.proofs.Common.{◌≡◌, ℕ, zero, suc, ◌<◌, ◌≤◌, ◌⊎◌, List, [], ◌∷◌, ◌++◌, take, Option, Some, None, refl, sym, ◌∙◌, ap, append-nil, inl, inr, arith}
+use Rattle.std.specs.Prelude.{slice_get, map, Contains, IsSome, MatchOption, ⊤}
+use Rattle.std.proofs.lemmas.Bool.{eq-eqb}
+use Rattle.std.proofs.lemmas.List.Sorted.{Contains-permutation, IsPermutation-sym}
+use Rattle.history_merge.specs.declared.operation.Operation.{Operation}
+use Rattle.history_merge.specs.declared.operation.OpKind.{OpKind}
+use Rattle.history_merge.specs.declared.operation.OpKind.TheVariants.{Enq, Deq, Empty, Not}
+use Rattle.history_merge.specs.Operations.{Did, NoneDid, Precedes}
+use Rattle.history_merge.specs.Complete.{AreComplete}
+use Rattle.history_merge.specs.Queue.{accept, accept_all, IsAccepted}
+use Rattle.history_merge.specs.Legal.{IsLegalOrder}
+use Rattle.history_merge.proofs.Runs.{enqueued, dequeued, enqueued_is_dequeued, IsQueueBefore, queue_before}
+use Rattle.history_merge.proofs.Places.{Member, Member-right, StandsBefore, enqueue_of_member, dequeue_of_member, split_at_enqueue, split_at_dequeue, count, count-append, count_here, count-le-calls, calls_of_kind, same_place, same_front}
+use Rattle.history_merge.proofs.Distinct.{place_of as listed_place, contains_at, pairs_at}
+use Rattle.history_merge.proofs.Completeness.{called_once, returns_after_call, calls-IsPermutation}
+use Rattle.value_match.specs.declared.life.Life.{Life}
+use Rattle.value_match.specs.Violations.{Breach, fresh, repeat, order, witness, IsBreachOf, IsNeverEnqueued, IsEnqueuedTooLate, IsRepeatViolation, IsOrderViolation, CoversFrom}
+use Rattle.verdicts.specs.Laws.{BreachExcludesOrder}
+
+kind_at : (xs : List Operation) (i : ℕ) (o : Operation) → slice_get xs i ≡ Some o → slice_get (map (λ o. o.kind) xs) i ≡ Some o.kind
+kind_at [] i o at = cc
+kind_at (x ∷ xs) zero o at = let same : x ≡ o = cc in ap (λ y. Some y.kind) same
+kind_at (x ∷ xs) (suc i) o at = kind_at xs i o at
+
+operation_at : (xs : List Operation) (i : ℕ) (k : OpKind) → slice_get (map (λ o. o.kind) xs) i ≡ Some k → (o : Operation) × (slice_get xs i ≡ Some o) × (o.kind ≡ k)
+operation_at [] i k at = cc
+operation_at (x ∷ xs) zero k at = let same : x.kind ≡ k = cc in (x, refl, same)
+operation_at (x ∷ xs) (suc i) k at = operation_at xs i k at
+
+left_queue : (start : List ℕ) (kinds : List OpKind) → IsAccepted start kinds → (left : List ℕ) × (accept_all start kinds ≡ Some left)
+left_queue start kinds accepted = pick (accept_all start kinds) accepted
+  where
+    pick : (o : Option (List ℕ)) → IsSome o → (left : List ℕ) × (o ≡ Some left)
+    pick None h = cc
+    pick (Some left) h = (left, refl)
+
+dequeued_front : (queue next : List ℕ) (v : ℕ) → accept queue (Deq v) ≡ Some next → queue ≡ v ∷ next
+dequeued_front [] next v e = cc
+dequeued_front (front ∷ rest) next v e = grind (arith)
+
+empty_queue : (queue next : List ℕ) → accept queue Empty ≡ Some next → queue ≡ []
+empty_queue [] next e = refl
+empty_queue (front ∷ rest) next e = cc
+
+one : (v : ℕ) → calls_of_kind v (Enq v) ≡ 1
+one v = rw (eq-eqb v v refl)
+
+some_injective : {x y : Operation} → ◌≡◌ {A = Option Operation} (Some x) (Some y) → x ≡ y
+some_injective e = cc
+
+abbrev kinds_of : List Operation → List OpKind
+kinds_of listed = map (λ o. o.kind) listed
+
+module _ (operations listed : List Operation) (complete : AreComplete operations) (legal : IsLegalOrder operations listed) where
+  -- each operation of the history has a place in the order, and the order has no other
+  place_of : (o : Operation) → Contains operations o → (i : ℕ) × (slice_get listed i ≡ Some o)
+  place_of o is = listed_place listed o (Contains-permutation operations listed o legal.holds_each_once is)
+
+  is_operation : (i : ℕ) (o : Operation) → slice_get listed i ≡ Some o → Contains operations o
+  is_operation i o at = Contains-permutation listed operations o (IsPermutation-sym operations listed legal.holds_each_once) (contains_at listed i o at)
+
+  -- an operation does not stand before one that precedes it
+  not_later : (i j : ℕ) (x y : Operation) → slice_get listed i ≡ Some x → slice_get listed j ≡ Some y → i < j → ¬ (Precedes y x)
+  not_later i j x y at_i at_j below before = pairs_at (λ earlier later. ¬ (Precedes later earlier)) listed i j x y legal.extends_precedence below at_i at_j before
+
+  call_has_one_place : (i j v : ℕ) (x y : Operation) → slice_get listed i ≡ Some x → slice_get listed j ≡ Some y
+      → calls_of_kind v x.kind ≡ 1 → calls_of_kind v y.kind ≡ 1 → i ≡ j
+  call_has_one_place i j v x y at_i at_j is_x is_y =
+      let once = called_once operations v complete in
+      let moved = calls-IsPermutation v operations listed legal.holds_each_once in
+      same_place (kinds_of listed) i j v x.kind y.kind (kind_at listed i x at_i) (kind_at listed j y at_j) is_x is_y (omega arith)
+
+  -- the queue before the operation at a place, and what has gone through it
+  before : (j : ℕ) (o : Operation) → slice_get listed j ≡ Some o → IsQueueBefore [] (kinds_of listed) j o.kind
+  before j o at =
+      let left = left_queue [] (kinds_of listed) legal.is_accepted in
+      queue_before (kinds_of listed) [] left.0 j o.kind left.1 (kind_at listed j o at)
+
+  gone_through : (j : ℕ) (o : Operation) (at : slice_get listed j ≡ Some o) → enqueued (take j (kinds_of listed)) ≡ dequeued (take j (kinds_of listed)) ++ (before j o at).queue
+  gone_through j o at = enqueued_is_dequeued (take j (kinds_of listed)) [] (before j o at).queue (before j o at).reached
+
+  -- what was taken out and what comes next, at a dequeue
+  gone_at_dequeue : (j v : ℕ) (o : Operation) → slice_get listed j ≡ Some o → o.kind ≡ Deq v → (rest : List ℕ) × (enqueued (take j (kinds_of listed)) ≡ dequeued (take j (kinds_of listed)) ++ v ∷ rest)
+  gone_at_dequeue j v o at is =
+      let accepted : accept (before j o at).queue (Deq v) ≡ Some (before j o at).next = rw (← is) (before j o at).accepted in
+      let front = dequeued_front (before j o at).queue (before j o at).next v accepted in
+      ((before j o at).next, gone_through j o at ∙ ap (λ q. dequeued (take j (kinds_of listed)) ++ q) front)
+
+  -- before a dequeue stands an enqueue of its value
+  enqueue_before : (j v : ℕ) (o : Operation) → slice_get listed j ≡ Some o → o.kind ≡ Deq v → (i : ℕ) × (x : Operation) × (i < j) × (slice_get listed i ≡ Some x) × (x.kind ≡ Enq v)
+  enqueue_before j v o at is =
+      let gone = gone_at_dequeue j v o at is in
+      let member : Member v (enqueued (take j (kinds_of listed))) = rw gone.1 (Member-right v (dequeued (take j (kinds_of listed))) (v ∷ gone.0) (inl refl)) in
+      let stands = enqueue_of_member (kinds_of listed) j v member in
+      let found = operation_at listed stands.0 (Enq v) stands.2 in
+      (stands.0, found.0, stands.1, found.1, found.2)
+
+  calls_it : (v : ℕ) (k : OpKind) → (k ≡ Enq v) ⊎ (k ≡ Not v) → calls_of_kind v k ≡ 1
+  calls_it v k (inl e) = rw e (one v)
+  calls_it v k (inr e) = rw e (one v)
+
+  no_repeat : (i j v : ℕ) (x y : Operation) → slice_get listed i ≡ Some x → slice_get listed j ≡ Some y → x.kind ≡ Deq v → y.kind ≡ Deq v → i < j → ⊥
+  no_repeat i j v x y at_i at_j is_x is_y below =
+      let gone = gone_at_dequeue j v y at_j is_y in
+      let at_x : slice_get (kinds_of listed) i ≡ Some (Deq v) = kind_at listed i x at_i ∙ ap (λ k. Some k) is_x in
+      let taken = split_at_dequeue (kinds_of listed) i j v below at_x in
+      let once = called_once operations v complete in
+      let moved = calls-IsPermutation v operations listed legal.holds_each_once in
+      let few = count-le-calls (kinds_of listed) j v in
+      let all = ap (count v) gone.1 in
+      let parts = count-append v (dequeued (take j (kinds_of listed))) (v ∷ gone.0) in
+      let here = count_here v gone.0 in
+      let out = ap (count v) taken.1 in
+      let out_parts = count-append v (dequeued (take i (kinds_of listed))) (v ∷ taken.0) in
+      let out_here = count_here v taken.0 in
+      omega arith
+
+  dequeue_has_one_place : (i j v : ℕ) (x y : Operation) → slice_get listed i ≡ Some x → slice_get listed j ≡ Some y → x.kind ≡ Deq v → y.kind ≡ Deq v → i ≡ j
+  dequeue_has_one_place i j v x y at_i at_j is_x is_y =
+      let order : (i < j) ⊎ ((i ≡ j) ⊎ (j < i)) = grind arith in
+      elim order [
+        | inl below ↦ absurd (no_repeat i j v x y at_i at_j is_x is_y below)
+        | inr (inl same) ↦ same
+        | inr (inr above) ↦ absurd (no_repeat j i v y x at_j at_i is_y is_x above)
+      ]
+
+  excludes_never : (deq : Operation) → IsNeverEnqueued operations deq → ⊥
+  excludes_never deq violation =
+      let place = place_of deq violation.dequeues.0 in
+      let enq = enqueue_before place.0 violation.value deq place.1 violation.dequeues.1 in
+      violation.not_accepted enq.1 (is_operation enq.0 enq.1 enq.3) enq.4
+
+  excludes_late : (deq enq : Operation) → IsEnqueuedTooLate operations deq enq → ⊥
+  excludes_late deq enq violation =
+      let v = violation.value in
+      let place = place_of deq violation.dequeues.0 in
+      let first = enqueue_before place.0 v deq place.1 violation.dequeues.1 in
+      elim violation.enqueues [
+        | inl refused ↦
+            let there = place_of enq refused.0 in
+            let same = call_has_one_place first.0 there.0 v first.1 enq first.3 there.1 (calls_it v first.1.kind (inl first.4)) (calls_it v enq.kind (inr refused.1)) in
+            let kinds_differ : first.1 ≡ enq = some_injective (sym first.3 ∙ ap (slice_get listed) same ∙ there.1) in
+            let clash : Enq v ≡ Not v = sym first.4 ∙ ap (λ o. o.kind) kinds_differ ∙ refused.1 in
+            cc
+        | inr late ↦
+            let there = place_of enq late.0.0 in
+            let same = call_has_one_place first.0 there.0 v first.1 enq first.3 there.1 (calls_it v first.1.kind (inl first.4)) (calls_it v enq.kind (inl late.0.1)) in
+            not_later there.0 place.0 enq deq there.1 place.1 (omega (arith, first.2)) late.1
+      ]
+
+  excludes_repeat : (enq first second : Operation) → IsRepeatViolation operations enq first second → ⊥
+  excludes_repeat enq first second violation =
+      let v = violation.value in
+      let x = place_of first violation.dequeues.0 in
+      let y = place_of second violation.dequeues_again.0 in
+      let same = dequeue_has_one_place x.0 y.0 v first second x.1 y.1 violation.dequeues.1 violation.dequeues_again.1 in
+      let one : first ≡ second = some_injective (sym x.1 ∙ ap (slice_get listed) same ∙ y.1) in
+      let rets = ap (λ o. o.ret) one in
+      let later = violation.in_order in
+      omega arith
+
+  -- where a is enqueued before b, a dequeue of a stands before that of b
+  dequeued_before : (i j k a b : ℕ) (x y z : Operation) → slice_get listed i ≡ Some x → x.kind ≡ Enq a → slice_get listed j ≡ Some y → y.kind ≡ Enq b
+      → slice_get listed k ≡ Some z → z.kind ≡ Deq b → i < j → j < k → StandsBefore (kinds_of listed) k (Deq a)
+  dequeued_before i j k a b x y z at_x is_x at_y is_y at_z is_z first below =
+      let enq_a : slice_get (kinds_of listed) i ≡ Some (Enq a) = kind_at listed i x at_x ∙ ap (λ kind. Some kind) is_x in
+      let enq_b : slice_get (kinds_of listed) j ≡ Some (Enq b) = kind_at listed j y at_y ∙ ap (λ kind. Some kind) is_y in
+      let gone = gone_at_dequeue k b z at_z is_z in
+      let put_b = split_at_enqueue (kinds_of listed) j k b below enq_b in
+      let put_a = split_at_enqueue (kinds_of listed) i j a first enq_a in
+      let once = called_once operations b complete in
+      let moved = calls-IsPermutation b operations listed legal.holds_each_once in
+      let few = count-le-calls (kinds_of listed) k b in
+      let all = ap (count b) put_b.1 in
+      let fronts = same_front (enqueued (take j (kinds_of listed))) put_b.0 (dequeued (take k (kinds_of listed))) gone.0 b (sym put_b.1 ∙ gone.1) (omega arith) in
+      let member : Member a (dequeued (take k (kinds_of listed))) = rw (← fronts, put_a.1) (Member-right a (enqueued (take i (kinds_of listed))) (a ∷ put_a.0) (inl refl)) in
+      dequeue_of_member (kinds_of listed) k a member
+
+  enqueues_differ : (i j : ℕ) (x y : Operation) → slice_get listed i ≡ Some x → slice_get listed j ≡ Some y → Precedes x y → i < j
+  enqueues_differ i j x y at_x at_y precedes =
+      let order : (i < j) ⊎ ((i ≡ j) ⊎ (j < i)) = grind arith in
+      elim order [
+        | inl below ↦ below
+        | inr (inl same) ↦
+            let one : x ≡ y = some_injective (sym at_x ∙ ap (slice_get listed) same ∙ at_y) in
+            let within = is_operation i x at_x in
+            let ordered = returns_after_call operations complete within.0 x within.1 in
+            let here : x.call < x.ret = rw within.2 at ordered in
+            let calls_same = ap (λ o. o.call) one in
+            absurd (omega arith)
+        | inr (inr above) ↦ absurd (not_later j i y x at_y at_x above precedes)
+      ]
+
+  -- a dequeue of a that stands before that of b is not the later one, and there is no other
+  not_dequeued_later : (a : ℕ) (deq_b : Operation) (later : Option Operation) → MatchOption later (NoneDid operations (Deq a)) (λ d. Did operations d (Deq a) × Precedes deq_b d)
+      → (i k : ℕ) (o : Operation) → i < k → slice_get listed i ≡ Some o → o.kind ≡ Deq a → slice_get listed k ≡ Some deq_b → ⊥
+  not_dequeued_later a deq_b None none i k o below at is at_k = none o (is_operation i o at) is
+  not_dequeued_later a deq_b (Some d) said i k o below at is at_k =
+      let there = place_of d said.0.0 in
+      let same = dequeue_has_one_place i there.0 a o d at there.1 is said.0.1 in
+      not_later there.0 k d deq_b there.1 at_k (omega arith) said.1
+
+  excludes_order : (enq_a enq_b deq_b : Operation) (deq_a : Option Operation) → IsOrderViolation operations enq_a enq_b deq_b deq_a → ⊥
+  excludes_order enq_a enq_b deq_b deq_a violation =
+      let x = place_of enq_a violation.enqueues_a.0 in
+      let y = place_of enq_b violation.enqueues_b.0 in
+      let z = place_of deq_b violation.dequeues_b.0 in
+      let first = enqueues_differ x.0 y.0 enq_a enq_b x.1 y.1 violation.enqueued_first in
+      let put = enqueue_before z.0 violation.b deq_b z.1 violation.dequeues_b.1 in
+      let same = call_has_one_place put.0 y.0 violation.b put.1 enq_b put.3 y.1 (calls_it violation.b put.1.kind (inl put.4)) (calls_it violation.b enq_b.kind (inl violation.enqueues_b.1)) in
+      let stands = dequeued_before x.0 y.0 z.0 violation.a violation.b enq_a enq_b deq_b x.1 violation.enqueues_a.1 y.1 violation.enqueues_b.1 z.1 violation.dequeues_b.1 first (omega (arith, put.2)) in
+      let found = operation_at listed stands.0 (Deq violation.a) stands.2 in
+      not_dequeued_later violation.a deq_b deq_a violation.dequeued_later stands.0 z.0 found.0 stands.1 found.1 found.2 z.1
+
+  -- nothing that was put in before an empty answer is still there, so its dequeue stands before the answer
+  gone_at_empty : (j v : ℕ) (o : Operation) → slice_get listed j ≡ Some o → o.kind ≡ Empty → (i : ℕ) (x : Operation) → slice_get listed i ≡ Some x → x.kind ≡ Enq v → i < j
+      → StandsBefore (kinds_of listed) j (Deq v)
+  gone_at_empty j v o at is i x at_x is_x below =
+      let accepted : accept (before j o at).queue Empty ≡ Some (before j o at).next = rw (← is) (before j o at).accepted in
+      let none = empty_queue (before j o at).queue (before j o at).next accepted in
+      let enq : slice_get (kinds_of listed) i ≡ Some (Enq v) = kind_at listed i x at_x ∙ ap (λ kind. Some kind) is_x in
+      let put = split_at_enqueue (kinds_of listed) i j v below enq in
+      let gone = gone_through j o at ∙ ap (λ q. dequeued (take j (kinds_of listed)) ++ q) none ∙ append-nil (dequeued (take j (kinds_of listed))) in
+      let member : Member v (dequeued (take j (kinds_of listed))) = rw (← gone, put.1) (Member-right v (enqueued (take i (kinds_of listed))) (v ∷ put.0) (inl refl)) in
+      dequeue_of_member (kinds_of listed) j v member
+
+  -- the dequeue that stands before the empty answer is the named one, and so comes no later
+  not_dequeued_after : (v j : ℕ) (empty : Operation) → slice_get listed j ≡ Some empty → (dequeue : Option Operation)
+      → MatchOption dequeue (NoneDid operations (Deq v)) (λ d. Did operations d (Deq v)) → MatchOption dequeue ⊤ (λ d. Precedes empty d)
+      → (i : ℕ) (o : Operation) → i < j → slice_get listed i ≡ Some o → o.kind ≡ Deq v → ⊥
+  not_dequeued_after v j empty at None none after i o below at_i is = none o (is_operation i o at_i) is
+  not_dequeued_after v j empty at (Some d) did after i o below at_i is =
+      let there = place_of d did.0 in
+      let same = dequeue_has_one_place i there.0 v o d at_i there.1 is did.1 in
+      not_later there.0 j d empty there.1 at (omega arith) after
+
+  excludes_cover : (j : ℕ) (empty : Operation) → slice_get listed j ≡ Some empty → empty.kind ≡ Empty
+      → (cover : List Life) (p : ℕ) (prior : Operation) → slice_get listed p ≡ Some prior → p ≤ j → CoversFrom operations empty prior cover → ⊥
+  excludes_cover j empty at is [] p prior at_p near covers = covers
+  excludes_cover j empty at is (life ∷ []) p prior at_p near covers =
+      let v = covers.0.0 in
+      let enq = place_of life.enqueue covers.0.1.0 in
+      let below = enqueues_differ enq.0 p life.enqueue prior enq.1 at_p covers.1 in
+      let stands = gone_at_empty j v empty at is enq.0 life.enqueue enq.1 covers.0.1.1 (omega arith) in
+      let found = operation_at listed stands.0 (Deq v) stands.2 in
+      not_dequeued_after v j empty at life.dequeue covers.0.2 covers.2 stands.0 found.0 stands.1 found.1 found.2
+  excludes_cover j empty at is (life ∷ next ∷ rest) p prior at_p near covers =
+      let v = covers.0.0 in
+      let enq = place_of life.enqueue covers.0.1.0 in
+      let below = enqueues_differ enq.0 p life.enqueue prior enq.1 at_p covers.1 in
+      let stands = gone_at_empty j v empty at is enq.0 life.enqueue enq.1 covers.0.1.1 (omega arith) in
+      let found = operation_at listed stands.0 (Deq v) stands.2 in
+      step life.dequeue covers.0.2 covers.2 stands.0 found.0 stands.1 found.1 found.2 (excludes_cover j empty at is (next ∷ rest))
+    where
+      step : (dequeue : Option Operation) → MatchOption dequeue (NoneDid operations (Deq covers.0.0)) (λ d. Did operations d (Deq covers.0.0)) → MatchOption dequeue ⊥ (λ d. CoversFrom operations empty d (next ∷ rest))
+          → (i : ℕ) (o : Operation) → i < j → slice_get listed i ≡ Some o → o.kind ≡ Deq covers.0.0
+          → ((p : ℕ) (prior : Operation) → slice_get listed p ≡ Some prior → p ≤ j → CoversFrom operations empty prior (next ∷ rest) → ⊥) → ⊥
+      step None none unnamed i o below_j at_i is_i more = unnamed
+      step (Some d) did further i o below_j at_i is_i more =
+          let there = place_of d did.0 in
+          let same = dequeue_has_one_place i there.0 covers.0.0 o d at_i there.1 is_i did.1 in
+          more there.0 d there.1 (omega arith) further
+
+  excludes_breach : (breach : Breach) → IsBreachOf operations breach → ⊥
+  excludes_breach (fresh deq None) violation = excludes_never deq violation
+  excludes_breach (fresh deq (Some enq)) violation = excludes_late deq enq violation
+  excludes_breach (repeat enq first second) violation = excludes_repeat enq first second violation
+  excludes_breach (order enq_a enq_b deq_b deq_a) violation = excludes_order enq_a enq_b deq_b deq_a violation
+  excludes_breach (witness empty cover) violation =
+      let place = place_of empty violation.answers_empty.0 in
+      excludes_cover place.0 empty place.1 violation.answers_empty.1 cover place.0 empty place.1 (omega arith) violation.covers
+
+pub breach_excludes_order : BreachExcludesOrder
+breach_excludes_order operations breach complete violation linear = excludes_breach operations linear.0 complete linear.1 breach violation

@@ -1,0 +1,11 @@
+pub mod Excludes
+pub mod Rows
+pub mod Linearizable
+pub mod Exactly
+pub mod Chosen
+pub mod Decided
+pub mod Lookups
+pub mod ClaimedBreaches
+pub mod ClaimedCovers
+pub mod ClaimedOrders
+pub mod SameLists

@@ -1,0 +1,37 @@
+-- A history without violations is linearizable.
+use Rattle.std.proofs.Common.{zero, ℕ, List, [], ◌∷◌, refl, inl, inr, arith, rules}
+use Rattle.std.specs.Prelude.{Contains, filter}
+use Rattle.std.specs.List.{AllZip}
+use Rattle.history_merge.specs.declared.operation.Operation.{Operation}
+use Rattle.history_merge.specs.declared.operation.OpKind.TheVariants.{Empty}
+use Rattle.history_merge.specs.Operations.{Did}
+use Rattle.history_merge.specs.Legal.{IsLinearizable}
+use Rattle.value_match.specs.Lives.{IsLeastFreeGap, AreLeastFreeGaps, is_empty_answer}
+use Rattle.value_match.specs.Violations.{IsClear, NoOrderViolation, NoWitnessViolation}
+use Rattle.value_match.proofs.Lists.{one_deeper}
+use Rattle.empty_witness.proofs.Covers.{chosen_cover}
+use Rattle.empty_witness.proofs.FreeGaps.{free_gap_or_covered}
+use Rattle.empty_witness.proofs.Answers.{is_empty_did}
+use Rattle.linearizer.proofs.LegalOrder.{chosen_order_is_legal}
+use Rattle.linearizer.proofs.OneOrder.{chosen_order_exists}
+
+gaps_of : (operations answers : List Operation) → IsClear operations → NoWitnessViolation operations → ((o : Operation) → Contains answers o → Did operations o Empty) → (gaps : List ℕ) × AllZip (λ o c. IsLeastFreeGap operations o c) answers gaps
+gaps_of operations [] clear none each = ([], search rules)
+gaps_of operations (o ∷ answers) clear none each =
+    let did = each o (zero, omega arith, refl) in
+    let rest = gaps_of operations answers clear none (λ x among. each x (one_deeper o answers x among)) in
+    elim (free_gap_or_covered operations o clear did.0) [
+      | inl free ↦ (free.0 ∷ rest.0, (free.1, rest.1))
+      | inr covered ↦ let cover = chosen_cover operations o clear did covered in absurd (none o cover.0 cover.2)
+    ]
+
+pub free_gaps_exist : (operations : List Operation) → IsClear operations → NoWitnessViolation operations → (gaps : List ℕ) × AreLeastFreeGaps operations gaps
+free_gaps_exist operations clear none =
+    gaps_of operations (filter is_empty_answer operations) clear none
+    (λ o among. is_empty_did operations o among)
+
+pub linearizable_without_violations : (operations : List Operation) → IsClear operations → NoOrderViolation operations → NoWitnessViolation operations → IsLinearizable operations
+linearizable_without_violations operations clear no_order no_witness =
+    let gaps = free_gaps_exist operations clear no_witness in
+    let chosen = chosen_order_exists operations gaps.0 clear no_order gaps.1 in
+    (chosen.0, chosen_order_is_legal operations chosen.0 clear no_order chosen.1)

@@ -1,0 +1,5 @@
+use Rattle.verdicts.proofs.ClaimedOrders.{HasExtended}
+use Rattle.verdicts.proofs.claimed_order.extends_precedence.Given as goal
+
+abbrev pub invariant-loop-line : goal.invariant-loop-line
+invariant-loop-line l = HasExtended l.lines l.line-index l.greatest_call

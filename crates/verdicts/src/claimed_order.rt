@@ -1,0 +1,84 @@
+ghost use Rattle.std.specs.Prelude.{◌≡◌, ◌↔◌, [], IsTrue, IfOk, IsPermutation, AllPairs, map, MatchBool, Some, None};
+ghost use Rattle.history_merge.specs.Operations.{Precedes};
+ghost use Rattle.history_merge.specs.Queue.{IsAccepted, accept};
+ghost use Rattle.history_merge.specs.Legal.{IsLegalOrder};
+ghost use Rattle.verdicts.specs.Claims.{CallsRise};
+
+use history_merge::{OpKind, Operation};
+use std::alloc::{AllocError, Global};
+use std::collections::VecDeque;
+
+/// Whether the lines are a legal order of the operations.
+pub fn is_legal_order(
+    alloc: Global,
+    operations: &[Operation],
+    lines: &[Operation],
+) -> Result<bool, AllocError>
+    requires { CallsRise operations.now }
+    ensures { IfOk result (λ legal. IsTrue legal ↔ IsLegalOrder operations.now lines.now) }
+{
+    if !extends_precedence(lines) {
+        return Ok(false);
+    }
+    if !holds_each_once(alloc, operations, lines)? {
+        return Ok(false);
+    }
+    is_accepted(alloc, lines)
+}
+
+/// Whether the lines are the operations, each once: sorted by call, they are the same list.
+fn holds_each_once(
+    alloc: Global,
+    operations: &[Operation],
+    lines: &[Operation],
+) -> Result<bool, AllocError>
+    requires { CallsRise operations.now }
+    ensures { IfOk result (λ whole. IsTrue whole ↔ IsPermutation operations.now lines.now) }
+{
+    if lines.len() != operations.len() {
+        return Ok(false);
+    }
+    let mut by_call = Vec::from_slice(alloc, lines)?;
+    by_call.sort_unstable_by_key(|line| line.call);
+    Ok(by_call.as_slice() == operations)
+}
+
+/// Whether no line returned before an earlier one was called: each return is past the greatest call before it.
+fn extends_precedence(lines: &[Operation]) -> bool
+    ensures { IsTrue result ↔ AllPairs (λ earlier later. ¬ (Precedes later earlier)) lines.now }
+{
+    let mut greatest_call = 0;
+    for line in lines {
+        if line.ret < greatest_call {
+            return false;
+        }
+        greatest_call = greatest_call.max(line.call);
+    }
+    true
+}
+
+/// Whether the sequential queue, empty at first, accepts the lines in turn.
+fn is_accepted(alloc: Global, lines: &[Operation]) -> Result<bool, AllocError>
+    ensures { IfOk result (λ accepted. IsTrue accepted ↔ IsAccepted [] (map (λ o. o.kind) lines.now)) }
+{
+    let mut queue = VecDeque::new(alloc);
+    for line in lines {
+        if !takes(&mut queue, line.kind)? {
+            return Ok(false);
+        }
+    }
+    Ok(true)
+}
+
+/// Takes one operation, where the queue accepts it.
+fn takes(queue: &mut VecDeque<u64>, kind: OpKind) -> Result<bool, AllocError>
+    ensures { IfOk result (λ taken. MatchBool taken (accept queue.old.items kind ≡ Some queue.new.items) (accept queue.old.items kind ≡ None)) }
+{
+    match kind {
+        OpKind::Enq(value) => queue.push_back(value)?,
+        OpKind::Not(_) => {}
+        OpKind::Deq(value) => return Ok(queue.pop_front() == Some(value)),
+        OpKind::Empty => return Ok(queue.is_empty()),
+    }
+    Ok(true)
+}

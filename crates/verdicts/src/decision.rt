@@ -1,0 +1,62 @@
+ghost use Rattle.std.specs.Prelude.{◌≡◌, IfOk};
+ghost use Rattle.history_merge.specs.Operations.{operations_of};
+ghost use Rattle.value_match.specs.Violations.{IsClear};
+ghost use Rattle.verdicts.specs.Verdicts.{IsVerdictOf, IsEvidence, IsExact, IsDecided};
+
+use crate::verdict::{Order, Verdict};
+use empty_witness::{WitnessAnswer, find_witness};
+use history_merge::History;
+use linearizer::linearize;
+use order_violation::{OrderPair, find_order};
+use std::alloc::{AllocError, Global};
+use value_match::{Matched, Matching, Violation, match_values};
+
+/// Whether a history has a legal order (Herlihy and Wing 1990): yes with the chosen order, no with the chosen violation,
+/// which is of the first kind that is present: a value that was not there, a value dequeued twice, values dequeued
+/// against the order of their enqueues, an empty answer while the queue was never empty.
+///
+/// The four kinds are this project's own. `AllocError` comes only where a growth was refused.
+pub fn decide(alloc: Global, history: &History) -> Result<Verdict, AllocError>
+    ensures chosen { IfOk result (λ verdict. IsVerdictOf (operations_of history.now) verdict) }
+    ensures evidence { IfOk result (λ verdict. IsEvidence (operations_of history.now) verdict) }
+    ensures exact { IfOk result (λ verdict. IsExact (operations_of history.now) verdict) }
+{
+    // A history is complete, as its accessors say.
+    let _operations = history.operations();
+    match match_values(alloc, history)? {
+        Matched::Clear(matching) => decide_matching(alloc, &matching),
+        Matched::Fresh(violation) => Ok(Verdict::No(violation)),
+        Matched::Repeat(violation) => Ok(Verdict::No(violation)),
+    }
+}
+
+/// The verdict where each dequeue is of a value that was there, and no value is dequeued twice.
+fn decide_matching(alloc: Global, matching: &Matching) -> Result<Verdict, AllocError>
+    requires { IsClear matching.now }
+    ensures { IfOk result (λ verdict. IsDecided matching.now verdict) }
+{
+    if let Some(pair) = find_order(alloc, matching)? {
+        return Ok(Verdict::No(violation_of(pair)));
+    }
+    match find_witness(alloc, matching)? {
+        WitnessAnswer::Covered { empty, cover } => {
+            Ok(Verdict::No(Violation::Witness { empty, cover }))
+        }
+        WitnessAnswer::Gaps(gaps) => {
+            let places = linearize(alloc, matching, gaps.as_slice())?;
+            Ok(Verdict::Yes(Order::from_vec(places)))
+        }
+    }
+}
+
+/// The violation that a pair of values shows.
+fn violation_of(pair: OrderPair) -> Violation
+    ensures { result ≡ Violation.Order pair.enq_a pair.enq_b pair.deq_b pair.deq_a }
+{
+    Violation::Order {
+        enq_a: pair.enq_a,
+        enq_b: pair.enq_b,
+        deq_b: pair.deq_b,
+        deq_a: pair.deq_a,
+    }
+}

@@ -1,0 +1,61 @@
+//! Small histories for tests, written as their operations.
+
+use event_records::{Event, MAX_EVENTS, What};
+use history_merge::{History, OpKind, Operation, history};
+use std::alloc::Global;
+use std::test::Fail;
+
+/// An operation of thread 0.
+pub fn op(call: u64, ret: u64, kind: OpKind) -> Operation {
+    by(0, call, ret, kind)
+}
+
+/// An operation of this thread.
+pub fn by(thread: u8, call: u64, ret: u64, kind: OpKind) -> Operation {
+    Operation {
+        call,
+        ret,
+        thread,
+        kind,
+    }
+}
+
+/// The history of these operations.
+pub fn history_of(alloc: Global, operations: &[Operation]) -> Result<History, Fail> {
+    let mut events = Vec::new(alloc);
+    for operation in operations {
+        events.push(call_of(operation))?;
+        events.push(return_of(operation))?;
+    }
+    events.sort_by_key(|event| event.ticket)?;
+    if events.len() > MAX_EVENTS {
+        return Err("too many events")?;
+    }
+    Ok(history(alloc, events)?)
+}
+
+fn call_of(operation: &Operation) -> Event {
+    let what = match operation.kind {
+        OpKind::Enq(value) | OpKind::Not(value) => What::CallEnq(value),
+        OpKind::Deq(_) | OpKind::Empty => What::CallDeq,
+    };
+    Event {
+        ticket: operation.call,
+        thread: operation.thread,
+        what,
+    }
+}
+
+fn return_of(operation: &Operation) -> Event {
+    let what = match operation.kind {
+        OpKind::Enq(_) => What::RetEnq,
+        OpKind::Not(_) => What::RetNot,
+        OpKind::Deq(value) => What::RetDeq(value),
+        OpKind::Empty => What::RetEmpty,
+    };
+    Event {
+        ticket: operation.ret,
+        thread: operation.thread,
+        what,
+    }
+}

@@ -1,0 +1,4 @@
+pub mod FaultsOfTexts
+pub mod KindsOfWords
+pub mod Limits
+pub mod LinesOfTexts

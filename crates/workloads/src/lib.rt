@@ -1,0 +1,15 @@
+//! Plans: which kinds of operation each worker of a run makes, in order.
+#![tactic(auto)]
+
+mod plans;
+mod seeds;
+#[cfg(test)]
+mod tests;
+mod texts;
+
+pub use event_records::Kind;
+pub use plans::{Plan, Row};
+pub use texts::PlanFault;
+
+/// The most workers of a run.
+pub const MAX_WORKERS: usize = 16;
