@@ -1,7 +1,8 @@
 // Questions with their answers, and the return events that stamps give.
-ghost use Rattle.std.specs.Prelude.{◌≡◌, ◌<◌, Contains};
+ghost use Rattle.std.specs.Prelude.{◌≡◌, ◌<◌, Contains, IsTrue};
 ghost use Rattle.tickets.specs.Views.{DrawsOne};
-ghost use Rattle.event_records.specs.Question.{return_event};
+ghost use Rattle.event_records.specs.Question.{call_event, return_event};
+ghost use Rattle.event_records.specs.Turns.{answers};
 ghost use Rattle.event_records.specs.declared.kind.Kind.TheVariants.{Enq, Deq};
 ghost use Rattle.event_records.specs.declared.kind.Answer.TheVariants.{Taken, NotTaken, Got, Empty};
 
@@ -116,6 +117,7 @@ impl AnsweredEnq {
         requires drew { Contains pass.old.drawn self.question.call }
         requires some_left { 0 < pass.old.left }
         ensures noted { result ≡ return_event self result.ticket }
+        ensures kind { IsTrue (answers (call_event self.question).what result.what) }
         ensures later { self.question.call < result.ticket }
         ensures drawn { DrawsOne pass.old result.ticket pass.new }
     {
@@ -135,6 +137,7 @@ impl AnsweredDeq {
         requires drew { Contains pass.old.drawn self.question.call }
         requires some_left { 0 < pass.old.left }
         ensures noted { result ≡ return_event self result.ticket }
+        ensures kind { IsTrue (answers (call_event self.question).what result.what) }
         ensures later { self.question.call < result.ticket }
         ensures drawn { DrawsOne pass.old result.ticket pass.new }
     {

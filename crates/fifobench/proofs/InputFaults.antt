@@ -1,55 +1,76 @@
--- From the fault of a call on the reader to the fault of the input.
-use Rattle.std.proofs.Common.{ℕ, List, ◌++◌, Option, Some, None, inl, inr, ap, sym, ◌∙◌, refl, append-nil, IfSome}
+-- From the faults of calls on the reader to the fault of the input.
+use Rattle.std.proofs.Common.{◌≡◌, ℕ, ◌+◌, List, ◌++◌, ◌∷◌, length, Option, Some, None, inl, inr, ap, sym, ◌∙◌, refl, append-nil, IfSome, subst}
 use Rattle.event_records.specs.declared.event.Event.{Event}
 use Rattle.history_text.specs.declared.fault.TextFault.{TextFault}
 use Rattle.history_text.specs.declared.fault.TextFault.TheVariants.{Read, Header, Line, Number, Limit, Count, Cut, Trailing, Memory}
-use Rattle.history_text.specs.Histories.{history_text, HasHistoryText}
-use Rattle.history_text.specs.Input.{Ahead, Takes}
-use Rattle.history_text.specs.Reading.{HasHistoryTextFault, HasEndFault}
-use Rattle.fifobench.specs.Inputs.{IsFaultOfHistoryInput}
+use Rattle.history_text.specs.Histories.{history_text, HasHistoryText, IsHistoryTextFault, NoRoomFor}
+use Rattle.history_text.specs.Claims.{IsVerdictTextFault, NoRoomForVerdict}
+use Rattle.history_text.specs.Input.{Ahead, Ending, Takes}
+use Rattle.history_text.specs.Reading.{HasFirstFault, HasEndFault, HasHistoryTextFault, HasVerdictTextFault}
+use Rattle.fifobench.specs.Inputs.{IsFaultOfOneText, IsFaultOfClaimInput}
 
--- a fault of the text
-pub text_fault : (input : Option Ahead) (fault : TextFault) → HasHistoryTextFault 0 input fault → IfSome input (λ a. IsFaultOfHistoryInput a fault)
-text_fault None fault h = tt
-text_fault (Some a) Memory h = h
-text_fault (Some a) Read h = inl h
-text_fault (Some a) Header h = inl h
-text_fault (Some a) (Line n) h = inl h
-text_fault (Some a) (Number n) h = inl h
-text_fault (Some a) (Limit n) h = inl h
-text_fault (Some a) Count h = inl h
-text_fault (Some a) Cut h = inl h
-text_fault (Some a) Trailing h = inl h
+-- ---- one text
 
--- a fault of what comes after the text
-pub end_fault : (input left : Option Ahead) (events : List Event) (fault : TextFault) → HasHistoryText events → Takes input left (history_text events) → HasEndFault left fault → IfSome input (λ a. IsFaultOfHistoryInput a fault)
-end_fault None left events fault text taken h = tt
-end_fault (Some a) None events fault text taken h = absurd taken
-end_fault (Some a) (Some b) events Trailing text taken h =
-    inr (inl (
-      refl,
-      record {
-        events = events;
-        byte = h.0;
-        more = h.1;
-        texts = text;
-        bytes = taken.0 ∙ ap (λ (r : List ℕ). history_text events ++ r) h.2;
-      },
-    ))
-end_fault (Some a) (Some b) events Read text taken h =
-    inr (inr (
-      refl,
-      record {
-        events = events;
-        texts = text;
-        bytes = taken.0 ∙ ap (λ (r : List ℕ). history_text events ++ r) h.0 ∙ append-nil (history_text events);
-        ending = sym taken.1 ∙ h.1;
-      },
-    ))
-end_fault (Some a) (Some b) events Header text taken h = absurd h
-end_fault (Some a) (Some b) events (Line n) text taken h = absurd h
-end_fault (Some a) (Some b) events (Number n) text taken h = absurd h
-end_fault (Some a) (Some b) events (Limit n) text taken h = absurd h
-end_fault (Some a) (Some b) events Count text taken h = absurd h
-end_fault (Some a) (Some b) events Cut text taken h = absurd h
-end_fault (Some a) (Some b) events Memory text taken h = absurd h
+module _ {A : Type 0} (HasText : A → Type 0) (text_of : A → List ℕ) (IsTextFault : Ending → List ℕ → TextFault → Type 0) (LacksRoom : List ℕ → Type 0) where
+  -- a fault of the text
+  pub text_fault : (input : Option Ahead) (fault : TextFault) → HasFirstFault IsTextFault LacksRoom input fault → IfSome input (λ a. IsFaultOfOneText HasText text_of IsTextFault LacksRoom a fault)
+  text_fault None fault h = tt
+  text_fault (Some a) Memory h = h
+  text_fault (Some a) Read h = inl h
+  text_fault (Some a) Header h = inl h
+  text_fault (Some a) (Line n) h = inl h
+  text_fault (Some a) (Number n) h = inl h
+  text_fault (Some a) (Limit n) h = inl h
+  text_fault (Some a) Count h = inl h
+  text_fault (Some a) Cut h = inl h
+  text_fault (Some a) Trailing h = inl h
+
+  -- a fault of what comes after the text
+  pub end_fault : (input left : Option Ahead) (value : A) (fault : TextFault) → HasText value → Takes input left (text_of value) → HasEndFault left fault → IfSome input (λ a. IsFaultOfOneText HasText text_of IsTextFault LacksRoom a fault)
+  end_fault None left value fault text taken h = tt
+  end_fault (Some a) None value fault text taken h = absurd taken
+  end_fault (Some a) (Some b) value Trailing text taken h =
+      inr (value, text, inl (refl, record { byte = h.0; more = h.1; bytes = taken.0 ∙ ap (λ (r : List ℕ). text_of value ++ r) h.2 }))
+  end_fault (Some a) (Some b) value Read text taken h =
+      inr (value, text, inr (refl, record { bytes = taken.0 ∙ ap (λ (r : List ℕ). text_of value ++ r) h.0 ∙ append-nil (text_of value); ending = sym taken.1 ∙ h.1 }))
+  end_fault (Some a) (Some b) value Header text taken h = absurd h
+  end_fault (Some a) (Some b) value (Line n) text taken h = absurd h
+  end_fault (Some a) (Some b) value (Number n) text taken h = absurd h
+  end_fault (Some a) (Some b) value (Limit n) text taken h = absurd h
+  end_fault (Some a) (Some b) value Count text taken h = absurd h
+  end_fault (Some a) (Some b) value Cut text taken h = absurd h
+  end_fault (Some a) (Some b) value Memory text taken h = absurd h
+
+-- ---- a history, and a verdict on it
+
+-- a fault of the history's text
+pub history_fault : (input : Option Ahead) (fault : TextFault) → HasHistoryTextFault 0 input fault → IfSome input (λ a. IsFaultOfClaimInput a fault)
+history_fault None fault h = tt
+history_fault (Some a) Memory h = inl h
+history_fault (Some a) Read h = inl h
+history_fault (Some a) Header h = inl h
+history_fault (Some a) (Line n) h = inl h
+history_fault (Some a) (Number n) h = inl h
+history_fault (Some a) (Limit n) h = inl h
+history_fault (Some a) Count h = inl h
+history_fault (Some a) Cut h = inl h
+history_fault (Some a) Trailing h = inl h
+
+-- the same fault, in the words of the whole input
+later : (events : List Event) (a b : Ahead) (lines : ℕ) (fault : TextFault) → b.ending ≡ a.ending → lines ≡ length events + 2 → IsVerdictTextFault lines b.ending b.bytes fault → IsVerdictTextFault (length events + 2) a.ending b.bytes fault
+later events a b lines fault same is h = subst (λ (n : ℕ). IsVerdictTextFault n a.ending b.bytes fault) is (subst (λ (e : Ending). IsVerdictTextFault lines e b.bytes fault) same h)
+
+-- a fault of the verdict's text, after the history's
+pub verdict_fault : (input left : Option Ahead) (events : List Event) (lines : ℕ) (fault : TextFault) → HasHistoryText events → Takes input left (history_text events) → lines ≡ length events + 2 → HasVerdictTextFault lines left fault
+    → IfSome input (λ a. IsFaultOfClaimInput a fault)
+verdict_fault None left events lines fault text taken is h = tt
+verdict_fault (Some a) None events lines fault text taken is h = absurd taken
+verdict_fault (Some a) (Some b) events lines Memory text taken is h = inr (record { events = events; rest = b.bytes; history = text; front = taken.0; after = h })
+verdict_fault (Some a) (Some b) events lines Read text taken is h = inr (record { events = events; rest = b.bytes; history = text; front = taken.0; after = later events a b lines Read taken.1 is h })
+verdict_fault (Some a) (Some b) events lines Header text taken is h = inr (record { events = events; rest = b.bytes; history = text; front = taken.0; after = later events a b lines Header taken.1 is h })
+verdict_fault (Some a) (Some b) events lines (Line n) text taken is h = inr (record { events = events; rest = b.bytes; history = text; front = taken.0; after = later events a b lines (Line n) taken.1 is h })
+verdict_fault (Some a) (Some b) events lines (Number n) text taken is h = inr (record { events = events; rest = b.bytes; history = text; front = taken.0; after = later events a b lines (Number n) taken.1 is h })
+verdict_fault (Some a) (Some b) events lines (Limit n) text taken is h = inr (record { events = events; rest = b.bytes; history = text; front = taken.0; after = later events a b lines (Limit n) taken.1 is h })
+verdict_fault (Some a) (Some b) events lines Count text taken is h = inr (record { events = events; rest = b.bytes; history = text; front = taken.0; after = later events a b lines Count taken.1 is h })
+verdict_fault (Some a) (Some b) events lines Cut text taken is h = inr (record { events = events; rest = b.bytes; history = text; front = taken.0; after = later events a b lines Cut taken.1 is h })
+verdict_fault (Some a) (Some b) events lines Trailing text taken is h = inr (record { events = events; rest = b.bytes; history = text; front = taken.0; after = later events a b lines Trailing taken.1 is h })

@@ -1,5 +1,9 @@
 pub mod Fronts
+pub mod Rejections
 pub mod Printing
 pub mod InputFaults
 pub mod Runs
 pub mod Findings
+pub mod Honest
+pub mod Searched
+pub mod Played

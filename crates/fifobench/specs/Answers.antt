@@ -1,11 +1,19 @@
--- What the program answers: a text and a status.
-use Rattle.std.specs.Prelude.{ℕ, List, ◌++◌, codes, decimal}
+-- What the program answers: its text and its status.
+use Rattle.std.specs.Prelude.{ℕ, List, ◌++◌, Bool, true, false, codes, decimal}
+use Rattle.std.specs.List.{flat_map}
+use Rattle.event_records.specs.declared.event.Event.{Event}
 use Rattle.history_text.specs.declared.fault.TextFault.{TextFault}
 use Rattle.history_text.specs.declared.fault.TextFault.TheVariants as text
 use Rattle.history_text.specs.Lines.{line}
+use Rattle.history_text.specs.Histories.{history_text}
 use Rattle.history_text.specs.Verdicts.{verdict_text}
 use Rattle.history_merge.specs.declared.fault.HistoryFault.{HistoryFault}
 use Rattle.history_merge.specs.declared.fault.HistoryFault.TheVariants as history
+use Rattle.recorder_core.specs.declared.step.StepRefused.{StepRefused}
+use Rattle.recorder_core.specs.declared.step.StepRefused.TheVariants as step
+use Rattle.simulation.specs.declared.playing.Rejection.{Rejection}
+use Rattle.stress_run.specs.declared.faults.RunFault.{RunFault}
+use Rattle.stress_run.specs.declared.faults.RunFault.TheVariants as run
 use Rattle.verdicts.specs.declared.claim.Claimed.{Claimed}
 use Rattle.verdicts.specs.declared.claim.Claimed.TheVariants as claim
 
@@ -13,12 +21,26 @@ use Rattle.verdicts.specs.declared.claim.Claimed.TheVariants as claim
 pub data Answer : Type 0 where
   -- a verdict
   judged : Claimed → Answer
+  -- a history and its verdict
+  shown : List Event → Claimed → Answer
+  -- the refused steps of a schedule, after which the machine isn't done
+  left_open : List Rejection → Answer
+  -- the refused steps of a schedule, and the collected history and its verdict
+  played : List Rejection → List Event → Claimed → Answer
+  -- whether a verdict is evidence
+  verified : Bool → Answer
   -- the input is refused
   refused_text : TextFault → Answer
   refused_history : HistoryFault → Answer
-  -- a read failed, or memory ran out
+  -- the words are refused: no queue has this name, or there are too many operations
+  refused_queue : Answer
+  refused_limit : Answer
+  -- a read failed, memory ran out, or a run gave no history
   read_fault : Answer
   memory_fault : Answer
+  run_fault : RunFault → Answer
+
+-- ---- names
 
 -- the name of a text's fault, and its line where it has one
 abbrev pub text_fault_name : TextFault → List ℕ
@@ -43,26 +65,87 @@ history_fault_name (history.DuplicateValue i) = codes "DuplicateValue " ++ decim
 history_fault_name (history.Pending ticket) = codes "Pending " ++ decimal ticket
 history_fault_name history.Memory = codes "Memory"
 
+-- the name of a run's fault, and its thread where it has one
+abbrev pub run_fault_name : RunFault → List ℕ
+run_fault_name run.Limit = codes "Limit"
+run_fault_name run.Memory = codes "Memory"
+run_fault_name (run.Stalled thread) = codes "Stalled " ++ decimal thread
+run_fault_name (run.CloseLost thread) = codes "CloseLost " ++ decimal thread
+run_fault_name (run.Uncertified thread) = codes "Uncertified " ++ decimal thread
+
+-- the name of the reason why a step is refused
+abbrev pub reason_name : StepRefused → List ℕ
+reason_name step.NoThread = codes "NoThread"
+reason_name step.Closed = codes "Closed"
+reason_name step.Held = codes "Held"
+reason_name step.NothingHeld = codes "NothingHeld"
+reason_name step.RingFull = codes "RingFull"
+reason_name step.Pending = codes "Pending"
+reason_name step.NotPending = codes "NotPending"
+reason_name step.NoAnswer = codes "NoAnswer"
+reason_name step.AnswerTaken = codes "AnswerTaken"
+reason_name step.WrongAnswer = codes "WrongAnswer"
+reason_name step.Limit = codes "Limit"
+reason_name step.Memory = codes "Memory"
+
+-- ---- texts
+
+-- the line of a refused step: its place from 1, and the reason
+abbrev pub rejection_line : Rejection → List ℕ
+rejection_line rejection = line (codes "REJECTED " ++ decimal rejection.step ++ codes " " ++ reason_name rejection.reason)
+
+-- the lines of refused steps
+abbrev pub rejection_lines : List Rejection → List ℕ
+rejection_lines rejections = flat_map rejection_line rejections
+
+-- whether a verdict is evidence, in a word
+abbrev pub validity : Bool → List ℕ
+validity true = codes "VALID"
+validity false = codes "INVALID"
+
 -- the text of an answer
 abbrev pub answer_text : Answer → List ℕ
 answer_text (judged claimed) = verdict_text claimed
+answer_text (shown events claimed) = history_text events ++ verdict_text claimed
+answer_text (left_open rejections) = rejection_lines rejections ++ line (codes "OPEN")
+answer_text (played rejections events claimed) = rejection_lines rejections ++ (history_text events ++ verdict_text claimed)
+answer_text (verified valid) = line (validity valid)
 answer_text (refused_text fault) = line (codes "REFUSED " ++ text_fault_name fault)
 answer_text (refused_history fault) = line (codes "REFUSED " ++ history_fault_name fault)
+answer_text refused_queue = line (codes "REFUSED Queue")
+answer_text refused_limit = line (codes "REFUSED Limit")
 answer_text read_fault = line (codes "FAULT Read")
 answer_text memory_fault = line (codes "FAULT Memory")
+answer_text (run_fault fault) = line (codes "FAULT " ++ run_fault_name fault)
+
+-- ---- statuses
 
 -- the status of a verdict
 abbrev pub claim_status : Claimed → ℕ
 claim_status (claim.Yes lines) = 0
 claim_status (claim.No kind lines) = 1
 
+-- the status of whether a verdict is evidence
+abbrev pub validity_status : Bool → ℕ
+validity_status true = 0
+validity_status false = 1
+
 -- the status that goes with an answer
 abbrev pub answer_status : Answer → ℕ
 answer_status (judged claimed) = claim_status claimed
+answer_status (shown events claimed) = claim_status claimed
+answer_status (left_open rejections) = 0
+answer_status (played rejections events claimed) = claim_status claimed
+answer_status (verified valid) = validity_status valid
 answer_status (refused_text fault) = 2
 answer_status (refused_history fault) = 2
+answer_status refused_queue = 2
+answer_status refused_limit = 2
 answer_status read_fault = 3
 answer_status memory_fault = 3
+answer_status (run_fault fault) = 3
+
+-- ---- answers to faults
 
 -- a text's fault is refused input, a read that failed, or want of memory
 abbrev pub answer_of_text_fault : TextFault → Answer

@@ -1,35 +1,88 @@
 -- Inputs that should be one text, or one after another.
-use Rattle.std.specs.Prelude.{◌≡◌, ℕ, List, ◌∷◌, ◌++◌, ◌⊎◌}
+use Rattle.std.specs.Prelude.{◌≡◌, ℕ, ◌+◌, List, ◌∷◌, ◌++◌, ◌⊎◌, length}
 use Rattle.event_records.specs.declared.event.Event.{Event}
+use Rattle.verdicts.specs.declared.claim.Claimed.{Claimed}
 use Rattle.history_text.specs.declared.fault.TextFault.{TextFault}
 use Rattle.history_text.specs.declared.fault.TextFault.TheVariants as text
+use Rattle.history_text.specs.declared.schedule.Schedule.{Schedule}
 use Rattle.history_text.specs.Histories.{history_text, HasHistoryText, IsHistoryTextFault, NoRoomFor}
-use Rattle.history_text.specs.Input.{Ahead, EndOfInput, Failure}
+use Rattle.history_text.specs.Schedules.{schedule_text, HasScheduleText, IsScheduleTextFault, NoRoomForSchedule}
+use Rattle.history_text.specs.Verdicts.{verdict_text}
+use Rattle.history_text.specs.Claims.{HasVerdictText, IsVerdictTextFault, NoRoomForVerdict}
+use Rattle.history_text.specs.Input.{Ahead, Ending, EndOfInput, Failure}
 
--- the input is the text of these events and nothing more
-pub record IsHistoryOf (input : Ahead) (events : List Event) : Type 0 where
-  pub texts : HasHistoryText events
-  pub bytes : input.bytes ≡ history_text events
+-- ---- one text
+
+-- the input is these bytes and nothing more
+pub record IsWhole (written : List ℕ) (input : Ahead) : Type 0 where
+  pub bytes : input.bytes ≡ written
   pub ending : input.ending ≡ EndOfInput
 
--- the text of a history stands at the front, and at least one more byte
-pub record GoesOnAfterHistory (input : Ahead) : Type 0 where
-  pub events : List Event
+-- this text stands at the front, and at least one more byte
+pub record GoesOnAfter (written : List ℕ) (input : Ahead) : Type 0 where
   pub byte : ℕ
   pub more : List ℕ
-  pub texts : HasHistoryText events
-  pub bytes : input.bytes ≡ history_text events ++ byte ∷ more
+  pub bytes : input.bytes ≡ written ++ byte ∷ more
 
--- a read fails just after the text of a history
-pub record FailsAfterHistory (input : Ahead) : Type 0 where
-  pub events : List Event
-  pub texts : HasHistoryText events
-  pub bytes : input.bytes ≡ history_text events
+-- a read fails just after this text
+pub record FailsAfter (written : List ℕ) (input : Ahead) : Type 0 where
+  pub bytes : input.bytes ≡ written
   pub ending : input.ending ≡ Failure
 
--- the fault of input that should be the text of one history: that of the text, or what comes after it;
--- want of memory says that an event's line without fault was there
+-- the fault of input in which something comes after a whole text: another byte, or a read that fails
+abbrev pub IsFaultAfter : List ℕ → Ahead → TextFault → Type 0
+IsFaultAfter written input fault = ((fault ≡ text.Trailing) × GoesOnAfter written input) ⊎ ((fault ≡ text.Read) × FailsAfter written input)
+
+-- the fault of input that should be the text of one of these values: that of the text, or of what comes after it;
+-- want of memory says that a line without fault was there
+abbrev pub IsFaultOfOneText : {A : Type 0} → (A → Type 0) → (A → List ℕ) → (Ending → List ℕ → TextFault → Type 0) → (List ℕ → Type 0) → Ahead → TextFault → Type 0
+IsFaultOfOneText HasText text_of IsTextFault LacksRoom input text.Memory = LacksRoom input.bytes
+IsFaultOfOneText {A} HasText text_of IsTextFault LacksRoom input fault =
+    IsTextFault input.ending input.bytes fault ⊎ ((value : A) × HasText value × IsFaultAfter (text_of value) input fault)
+
+-- ---- histories
+
+-- the input is the text of these events and nothing more
+abbrev pub IsHistoryOf : Ahead → List Event → Type 0
+IsHistoryOf input events = HasHistoryText events × IsWhole (history_text events) input
+
+-- the fault of input that should be the text of one history
 abbrev pub IsFaultOfHistoryInput : Ahead → TextFault → Type 0
-IsFaultOfHistoryInput input text.Memory = NoRoomFor input.bytes
-IsFaultOfHistoryInput input fault = IsHistoryTextFault 0 input.ending input.bytes fault
-    ⊎ (((fault ≡ text.Trailing) × GoesOnAfterHistory input) ⊎ ((fault ≡ text.Read) × FailsAfterHistory input))
+IsFaultOfHistoryInput input fault = IsFaultOfOneText HasHistoryText history_text (IsHistoryTextFault 0) NoRoomFor input fault
+
+-- ---- schedules
+
+-- the input is the text of this schedule and nothing more
+abbrev pub IsScheduleOf : Ahead → Schedule → Type 0
+IsScheduleOf input schedule = HasScheduleText schedule × IsWhole (schedule_text schedule) input
+
+-- the fault of input that should be the text of one schedule
+abbrev pub IsFaultOfScheduleInput : Ahead → TextFault → Type 0
+IsFaultOfScheduleInput input fault = IsFaultOfOneText HasScheduleText schedule_text (IsScheduleTextFault 0) NoRoomForSchedule input fault
+
+-- ---- a history, and a verdict on it
+
+-- a list of events, and what is claimed of them
+pub record ClaimOnEvents : Type 0 where
+  pub events : List Event
+  pub claimed : Claimed
+
+-- the input is the text of these events, then that of the verdict, and nothing more
+pub record IsClaimOf (input : Ahead) (claim : ClaimOnEvents) : Type 0 where
+  pub history : HasHistoryText claim.events
+  pub verdict : HasVerdictText claim.claimed
+  pub whole : IsWhole (history_text claim.events ++ verdict_text claim.claimed) input
+
+-- the text of a history stands at the front, and what comes after its lines is so
+pub record AfterHistory (P : ℕ → List ℕ → Type 0) (bytes : List ℕ) : Type 0 where
+  pub events : List Event
+  pub rest : List ℕ
+  pub history : HasHistoryText events
+  pub front : bytes ≡ history_text events ++ rest
+  pub after : P (length events + 2) rest
+
+-- the fault of input that should be a history and a verdict: that of the first text, or else of the second, whose lines count on
+abbrev pub IsFaultOfClaimInput : Ahead → TextFault → Type 0
+IsFaultOfClaimInput input text.Memory = NoRoomFor input.bytes ⊎ AfterHistory (λ lines rest. NoRoomForVerdict rest) input.bytes
+IsFaultOfClaimInput input fault =
+    IsHistoryTextFault 0 input.ending input.bytes fault ⊎ AfterHistory (λ lines rest. IsVerdictTextFault lines input.ending rest fault) input.bytes

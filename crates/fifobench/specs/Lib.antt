@@ -1,6 +1,6 @@
-pub mod Commands
 pub mod Inputs
 pub mod Answers
 pub mod Judging
 pub mod Outcomes
 pub mod Running
+pub mod Stressing

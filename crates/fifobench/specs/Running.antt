@@ -6,10 +6,10 @@ use Rattle.history_text.specs.Writing.{AppendsFront}
 use Rattle.clap.specs.Kinds.{Kinds, IsAmong}
 use Rattle.clap.specs.declared.error.kind.ErrorKind.{ErrorKind}
 use Rattle.clap.specs.declared.error.kind.ErrorKind.TheVariants as kind
-use Rattle.fifobench.specs.declared.cli.Task.{Task}
-use Rattle.fifobench.specs.declared.cli.Task.TheVariants.{Check}
+use Rattle.command_words.specs.Commands.{Request, check, shrink, verify, sim, stress}
 use Rattle.fifobench.specs.Answers.{Answer, memory_fault, answer_text, answer_status}
-use Rattle.fifobench.specs.Judging.{AnswersFor, Judges}
+use Rattle.fifobench.specs.Inputs.{IsHistoryOf, IsFaultOfHistoryInput, IsScheduleOf, IsFaultOfScheduleInput, IsClaimOf, IsFaultOfClaimInput}
+use Rattle.fifobench.specs.Judging.{AnswersFor, Judges, Shrinks, Verifies, Simulates}
 
 -- where the writer refused nothing the text is written whole, with this status; else a front of it is, and the status is 3
 abbrev pub Prints : Option (List ℕ) → Option (List ℕ) → Bool → ℕ → List ℕ → ℕ → Type 0
@@ -20,14 +20,18 @@ Prints old new true result text status = AppendsFront old new text × (result �
 abbrev pub PrintsAnswer : Option (List ℕ) → Option (List ℕ) → Bool → ℕ → Answer → Type 0
 PrintsAnswer old new refused result answer = Prints old new refused result (answer_text answer) (answer_status answer)
 
--- what a task answers of an input
-abbrev pub AnswersOf : Task → Ahead → Answer → Type 0
-AnswersOf Check input answer = AnswersFor Judges input answer
+-- what a command answers of an input; `stress` reads none
+abbrev pub AnswersOf : Request → Ahead → Answer → Type 0
+AnswersOf check input answer = AnswersFor IsHistoryOf IsFaultOfHistoryInput Judges input answer
+AnswersOf shrink input answer = AnswersFor IsHistoryOf IsFaultOfHistoryInput Shrinks input answer
+AnswersOf verify input answer = AnswersFor IsClaimOf IsFaultOfClaimInput Verifies input answer
+AnswersOf sim input answer = AnswersFor IsScheduleOf IsFaultOfScheduleInput Simulates input answer
+AnswersOf (stress settings) input answer = Unit {0}
 
--- a run of a task over an input
-pub record RunsOver (task : Task) (input : Ahead) (old new : Option (List ℕ)) (refused : Bool) (result : ℕ) : Type 0 where
+-- an answer of this kind was printed
+pub record PrintsOneOf (IsAnswer : Answer → Type 0) (old new : Option (List ℕ)) (refused : Bool) (result : ℕ) : Type 0 where
   pub answer : Answer
-  pub right : AnswersOf task input answer
+  pub right : IsAnswer answer
   pub printed : PrintsAnswer old new refused result answer
 
 -- a help or a version, or a mistake in the words

@@ -1,7 +1,8 @@
 //! `check`: the verdict on a history.
 ghost use Rattle.std.specs.Prelude.{◌≤◌, IfSome, vec_len};
-ghost use Rattle.fifobench.specs.Judging.{Judges};
-ghost use Rattle.fifobench.specs.Outcomes.{IsFoundOf, IsFoundOfEvents, NamesPlaces};
+ghost use Rattle.fifobench.specs.Inputs.{IsHistoryOf, IsFaultOfHistoryInput};
+ghost use Rattle.fifobench.specs.Judging.{Judges, AnswersFor, AnswersOrNoMemory};
+ghost use Rattle.fifobench.specs.Outcomes.{answer_of, NamesPlaces};
 
 use crate::input::events_of;
 use crate::outcome::Outcome;
@@ -15,7 +16,7 @@ use verdicts::decide;
 pub fn check<S: TextSource>(alloc: Global, reader: S) -> Outcome
 where
     S: Drop,
-    ensures found { IfSome (S.ahead reader) (λ input. IsFoundOf Judges input result) }
+    ensures found { IfSome (S.ahead reader) (λ input. AnswersFor IsHistoryOf IsFaultOfHistoryInput Judges input (answer_of result)) }
     ensures places { NamesPlaces result }
 {
     match events_of(alloc, reader) {
@@ -27,7 +28,7 @@ where
 /// What `check` finds in the events of a text.
 fn judge(alloc: Global, events: Vec<Event>) -> Outcome
     requires { vec_len events ≤ MAX_EVENTS }
-    ensures found { IsFoundOfEvents Judges events.items result }
+    ensures found { AnswersOrNoMemory Judges events.items (answer_of result) }
     ensures places { NamesPlaces result }
 {
     let history = match history(alloc, events) {

@@ -3,13 +3,14 @@ ghost use Rattle.std.specs.Prelude.{◌≡◌, ◌++◌, ◌||◌, OnOk, OnErr, 
 ghost use Rattle.std.specs.Io.KnownBytes.{Appends};
 ghost use Rattle.history_text.specs.Lines.{line};
 ghost use Rattle.history_text.specs.Writing.{AppendsFront};
-ghost use Rattle.fifobench.specs.Answers.{answer_of_text_fault, answer_of_history_fault, text_fault_name, history_fault_name};
+ghost use Rattle.fifobench.specs.Answers.{answer_of_text_fault, answer_of_history_fault, text_fault_name, history_fault_name, run_fault_name};
 ghost use Rattle.fifobench.specs.Outcomes.{answer_of, NamesPlaces};
 
 use crate::outcome::Outcome;
 use crate::print::write_numbered;
 use history_merge::HistoryFault;
 use history_text::{TextFault, TextSink, WriteFault, write_piece};
+use stress_run::RunFault;
 
 impl Outcome {
     /// What is answered where the text has this fault.
@@ -87,5 +88,26 @@ pub fn write_history_refusal<W: TextSink>(
             return write_numbered(writer, b"REFUSED Pending ", ticket);
         }
         HistoryFault::Memory => return write_piece(writer, b"REFUSED Memory\n"),
+    }
+}
+
+/// Writes that a run gave no history, and why.
+pub fn write_run_fault<W: TextSink>(writer: &mut W, fault: RunFault) -> Result<(), WriteFault>
+    ensures ok { OnOk result (Appends (W.contents writer.old) (W.contents writer.new) (line (codes "FAULT " ++ run_fault_name fault))) }
+    ensures err { OnErr result (AppendsFront (W.contents writer.old) (W.contents writer.new) (line (codes "FAULT " ++ run_fault_name fault))) }
+    ensures refused { W.has_refused writer.new ≡ (W.has_refused writer.old || is_err result) }
+{
+    match fault {
+        RunFault::Limit => return write_piece(writer, b"FAULT Limit\n"),
+        RunFault::Memory => return write_piece(writer, b"FAULT Memory\n"),
+        RunFault::Stalled(thread) => {
+            return write_numbered(writer, b"FAULT Stalled ", u64::from(thread));
+        }
+        RunFault::CloseLost(thread) => {
+            return write_numbered(writer, b"FAULT CloseLost ", u64::from(thread));
+        }
+        RunFault::Uncertified(thread) => {
+            return write_numbered(writer, b"FAULT Uncertified ", u64::from(thread));
+        }
     }
 }

@@ -1,10 +1,14 @@
 //! What a command reads.
 ghost use Rattle.std.specs.Prelude.{◌≤◌, IfOk, IfErr, IfSome, vec_len};
-ghost use Rattle.fifobench.specs.Inputs.{IsHistoryOf, IsFaultOfHistoryInput};
+ghost use Rattle.history_text.specs.Schedules.{IsSetting};
+ghost use Rattle.fifobench.specs.Inputs.{IsHistoryOf, IsFaultOfHistoryInput, IsScheduleOf, IsFaultOfScheduleInput, IsClaimOf, IsFaultOfClaimInput};
 
 use event_records::{Event, MAX_EVENTS};
-use history_text::{TextFault, TextReader, TextSource, at_end, read_history};
+use history_text::{
+    Schedule, TextFault, TextReader, TextSource, at_end, read_history, read_schedule, read_verdict,
+};
 use std::alloc::Global;
+use verdicts::Claimed;
 
 /// The events of the one history text that the reader gives.
 pub fn events_of<S: TextSource>(alloc: Global, reader: S) -> Result<Vec<Event>, TextFault>
@@ -21,6 +25,44 @@ where
     };
     match at_end(&mut texts) {
         Ok(()) => return Ok(events),
+        Err(fault) => return Err(fault),
+    }
+}
+
+/// The one schedule that the reader gives.
+pub fn schedule_of<S: TextSource>(alloc: Global, reader: S) -> Result<Schedule, TextFault>
+where
+    S: Drop,
+    ensures schedule { IfOk result (λ schedule. IfSome (S.ahead reader) (λ input. IsScheduleOf input schedule)) }
+    ensures setting { IfOk result (λ schedule. IsSetting schedule.threads schedule.ring) }
+    ensures fault { IfErr result (λ fault. IfSome (S.ahead reader) (λ input. IsFaultOfScheduleInput input fault)) }
+{
+    let mut texts = TextReader::new(reader);
+    let schedule = match read_schedule(alloc, &mut texts) {
+        Ok(schedule) => schedule,
+        Err(fault) => return Err(fault),
+    };
+    match at_end(&mut texts) {
+        Ok(()) => return Ok(schedule),
+        Err(fault) => return Err(fault),
+    }
+}
+
+/// The events of a history text, and what the verdict text after it claims of them.
+pub fn claim_of<S: TextSource>(alloc: Global, reader: S) -> Result<(Vec<Event>, Claimed), TextFault>
+where
+    S: Drop,
+    ensures claim { IfOk result (λ read. IfSome (S.ahead reader) (λ input. IsClaimOf input (record { events = read.0.items; claimed = read.1 }))) }
+    ensures few { IfOk result (λ read. vec_len read.0 ≤ MAX_EVENTS) }
+    ensures fault { IfErr result (λ fault. IfSome (S.ahead reader) (λ input. IsFaultOfClaimInput input fault)) }
+{
+    let mut texts = TextReader::new(reader);
+    let events = match read_history(alloc, &mut texts) {
+        Ok(events) => events,
+        Err(fault) => return Err(fault),
+    };
+    match read_verdict(alloc, &mut texts) {
+        Ok(claimed) => return Ok((events, claimed)),
         Err(fault) => return Err(fault),
     }
 }

@@ -1,6 +1,8 @@
 //! What a command found.
 use history_merge::{History, HistoryFault};
 use history_text::TextFault;
+use simulation::Rejections;
+use stress_run::RunFault;
 use verdicts::Verdict;
 
 /// What a command found, to be printed.
@@ -8,12 +10,26 @@ use verdicts::Verdict;
 pub enum Outcome {
     /// The verdict on a history.
     Judged(History, Verdict),
+    /// A history to be shown, with its verdict.
+    Shown(History, Verdict),
+    /// The refused steps of a schedule, after which the machine isn't done.
+    LeftOpen(Rejections),
+    /// The refused steps of a schedule, and the history that it collected, with its verdict.
+    Played(Rejections, History, Verdict),
+    /// Whether a verdict is evidence.
+    Verified(bool),
     /// The input is not the text that it should be.
     TextRefused(TextFault),
     /// The events are no complete history.
     HistoryRefused(HistoryFault),
+    /// No queue has the name that was asked for.
+    QueueRefused,
+    /// More operations were asked for than a run may have.
+    LimitRefused,
     /// A read failed.
     ReadFault,
     /// Memory ran out.
     MemoryFault,
+    /// A run gave no history.
+    RunFailed(RunFault),
 }

@@ -2,15 +2,16 @@ use crate::command::run_command;
 use history_text::{MemorySource, TextSource, Watched};
 use std::alloc::AllocError;
 use std::test::Fail;
+use std::thread::Threads;
 
 /// What a run of the program writes, and its status. Want of memory is an error of its own.
-fn run<R: AllocGlobal, S: TextSource + Drop>(
+fn run<R: AllocGlobal + Threads + Sync, S: TextSource + Drop>(
     rt: &R,
     words: &[&str],
     source: S,
 ) -> Result<(Vec<u8>, u8), AllocError> {
     let mut writer = Watched::new(Vec::new(rt.alloc()));
-    let status = run_command(rt, words, source, &mut writer);
+    let status = run_command(rt, words, source, &mut writer, &[]);
     let written = writer.into_inner();
     if written.as_slice() == b"FAULT Memory\n".as_slice() {
         return Err(AllocError);
@@ -19,7 +20,7 @@ fn run<R: AllocGlobal, S: TextSource + Drop>(
 }
 
 /// Whether `check` answers the input with this text and this status.
-fn checks_to<R: AllocGlobal>(
+fn checks_to<R: AllocGlobal + Threads + Sync>(
     rt: &R,
     input: &[u8],
     text: &[u8],

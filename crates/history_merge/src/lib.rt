@@ -8,6 +8,7 @@ mod matching;
 mod merging;
 mod operation;
 mod progress;
+mod recorded;
 mod repeats;
 
 pub use build::history;
@@ -15,6 +16,7 @@ pub use complete::History;
 pub use fault::HistoryFault;
 pub use merging::merge;
 pub use operation::{OpId, OpKind, Operation};
+pub use recorded::merged_history;
 
 #[cfg(test)]
 mod tests;

@@ -1,5 +1,5 @@
 -- The fields of a line, one after another.
-use Rattle.std.proofs.Common.{◌≡◌, ℕ, ◌+◌, ◌-◌, ◌<◌, List, [], ◌∷◌, ◌++◌, length, get_or, take, drop, arith, ap, sym, ◌∙◌, refl, add-one, drop-cons, false, length-drop, suc, Bool, true, cond, inl, inr, Err}
+use Rattle.std.proofs.Common.{◌≡◌, ℕ, ◌+◌, ◌-◌, ◌<◌, List, [], ◌∷◌, ◌++◌, length, get_or, take, drop, arith, ap, sym, ◌∙◌, refl, add-one, drop-cons, false, length-drop, suc, Bool, true, cond, inl, inr}
 use Rattle.std.specs.List.{onto_first}
 use Rattle.std.proofs.lemmas.List.{take-append-drop, get_or-take, take_all, length-take-le}
 use Rattle.std.proofs.lemmas.List.Elements.{All-from_get_or}
@@ -7,8 +7,6 @@ use Rattle.std.proofs.lemmas.List.Splits.{slice_split_at, slice_split_none}
 use Rattle.std.proofs.lemmas.Bool.Decides.{eqb_tells}
 use Rattle.std.specs.Prelude.{◌==◌}
 use Rattle.history_text.specs.Lines.{fields_of}
-use Rattle.history_text.specs.Histories.{event_in}
-use Rattle.history_text.specs.declared.fault.TextFault.TheVariants.{Line}
 
 abbrev is_space : ℕ → Bool
 is_space b = b == 32
@@ -43,8 +41,10 @@ has_field (b ∷ bytes) =
       | false ↦ let rest = has_field bytes in (b ∷ rest.0, rest.1, ap (onto_first b) rest.2)
     ]
 
--- five fields are too many
-pub five_fields : (n : ℕ) (all a b c d r1 r2 r3 r4 : List ℕ) → fields_of all ≡ a ∷ fields_of r1 → fields_of r1 ≡ b ∷ fields_of r2 → fields_of r2 ≡ c ∷ fields_of r3 → fields_of r3 ≡ d ∷ fields_of r4 → Err (Line n) ≡ event_in n (fields_of all)
-five_fields n all a b c d r1 r2 r3 r4 e1 e2 e3 e4 =
+-- what is judged of five fields and more is judged of a line that has them
+pub five_fields : {X : Type 0} (judge : List (List ℕ) → X) (x : X) (all a b c d r1 r2 r3 r4 : List ℕ) → fields_of all ≡ a ∷ fields_of r1 → fields_of r1 ≡ b ∷ fields_of r2 → fields_of r2 ≡ c ∷ fields_of r3 → fields_of r3 ≡ d ∷ fields_of r4
+    → ((field : List ℕ) (others : List (List ℕ)) → judge (a ∷ b ∷ c ∷ d ∷ field ∷ others) ≡ x) → x ≡ judge (fields_of all)
+five_fields judge x all a b c d r1 r2 r3 r4 e1 e2 e3 e4 five =
     let last = has_field r4 in
-    sym (ap (event_in n) (e1 ∙ ap (λ (r : List (List ℕ)). a ∷ r) (e2 ∙ ap (λ (r : List (List ℕ)). b ∷ r) (e3 ∙ ap (λ (r : List (List ℕ)). c ∷ r) (e4 ∙ ap (λ (r : List (List ℕ)). d ∷ r) last.2)))))
+    let fields : fields_of all ≡ a ∷ b ∷ c ∷ d ∷ last.0 ∷ last.1 = e1 ∙ ap (λ (r : List (List ℕ)). a ∷ r) (e2 ∙ ap (λ (r : List (List ℕ)). b ∷ r) (e3 ∙ ap (λ (r : List (List ℕ)). c ∷ r) (e4 ∙ ap (λ (r : List (List ℕ)). d ∷ r) last.2))) in
+    sym (ap judge fields ∙ five last.0 last.1)

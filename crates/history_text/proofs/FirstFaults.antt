@@ -1,68 +1,107 @@
 -- From a fault of one line to the first fault of the whole input.
-use Rattle.std.proofs.Common.{◌≡◌, ℕ, ◌+◌, ◌<◌, List, [], ◌∷◌, ◌++◌, length, arith, ap, sym, subst, ◌∙◌, append_assoc, append-nil, length-append, Option, Some, None, Err, inr, IfSome}
+use Rattle.std.proofs.Common.{◌≡◌, ℕ, ◌+◌, ◌<◌, List, [], ◌∷◌, ◌++◌, length, arith, ap, sym, subst, ◌∙◌, refl, append-nil, length-append, Option, Some, None, Ok, Err, IfSome, IfOk, IfErr, MatchResult}
+use Rattle.std.specs.declared.result.Result.{Result}
 use Rattle.std.specs.List.{flat_map, AllByRecursion}
 use Rattle.std.proofs.lemmas.Grind.{flat_map-append}
-use Rattle.event_records.specs.declared.event.Event.{Event}
 use Rattle.history_text.specs.declared.fault.TextFault.{TextFault}
 use Rattle.history_text.specs.declared.fault.TextFault.TheVariants.{Read, Header, Line, Number, Limit, Count, Cut, Trailing, Memory}
-use Rattle.event_records.specs.declared.limits.TheConstants.{MAX_EVENTS}
-use Rattle.history_text.specs.Lines.{line, front_of}
-use Rattle.history_text.specs.Histories.{header, event_line, lines_before_end, HasHistoryText, HasEventLine, IsHistoryTextFault, item_at_front}
+use Rattle.history_text.specs.Lines.{front_of}
+use Rattle.history_text.specs.Items.{Kind, line_of, lines_of, HaveLines, ItemFault, NoRoom, item_at_front}
 use Rattle.history_text.specs.Input.{Ahead, Ending, Takes}
-use Rattle.history_text.specs.Reading.{HasHistoryTextFault}
-use Rattle.history_text.specs.Taking.{HasItemFault, IsOfInput}
+use Rattle.history_text.specs.Reading.{HasFirstFault}
+use Rattle.history_text.specs.Taking.{HasItemFault, HasItemsFault, IsOfInput}
 use Rattle.history_text.proofs.Consuming.{Takes-append}
 
-pub first_is : (lines : ℕ) (old : Option Ahead) (fault : TextFault) → IsOfInput fault → IfSome old (λ a. IsHistoryTextFault lines a.ending a.bytes fault) → HasHistoryTextFault lines old fault
-first_is lines old Memory other h = absurd other
-first_is lines old Read other h = h
-first_is lines old Header other h = h
-first_is lines old (Line n) other h = h
-first_is lines old (Number n) other h = h
-first_is lines old (Limit n) other h = h
-first_is lines old Count other h = h
-first_is lines old Cut other h = h
-first_is lines old Trailing other h = h
+-- a fault of the input is no want of memory
+pub first_is : (IsFault : Ending → List ℕ → TextFault → Type 0) (LacksRoom : List ℕ → Type 0) (old : Option Ahead) (fault : TextFault) → IsOfInput fault → IfSome old (λ a. IsFault a.ending a.bytes fault) → HasFirstFault IsFault LacksRoom old fault
+first_is F L old Memory other h = absurd other
+first_is F L old Read other h = h
+first_is F L old Header other h = h
+first_is F L old (Line n) other h = h
+first_is F L old (Number n) other h = h
+first_is F L old (Limit n) other h = h
+first_is F L old Count other h = h
+first_is F L old Cut other h = h
+first_is F L old Trailing other h = h
 
-pub item_is_first : (lines n : ℕ) (events : List Event) (k : ℕ) (old mid : Option Ahead) (fault : TextFault) → IsOfInput fault → HasHistoryText events → Takes old mid (lines_before_end events) → k ≡ length events → n ≡ lines + 2 + length events → HasItemFault n k mid fault → HasHistoryTextFault lines old fault
-item_is_first lines n events k None mid fault of_input texts taken k_is n_is h = first_is lines None fault of_input tt
-item_is_first lines n events k (Some a) None fault of_input texts taken k_is n_is h = absurd taken
-item_is_first lines n events k (Some a) (Some b) fault of_input texts taken k_is n_is h = first_is lines (Some a) fault of_input (inr (record {
-  events = events;
-  rest = b.bytes;
-  texts = texts;
-  front = taken.0;
-  next = rw (← n_is, ← k_is) (subst (λ (e : Ending). item_at_front n k e (front_of b.bytes) ≡ Err fault) taken.1 h);
-}))
+-- what holds of the input after a front holds of the whole
+moved : (P Q : Ending → List ℕ → Type 0) (old mid : Option Ahead) (front : List ℕ) → Takes old mid front → ((e : Ending) (r : List ℕ) → P e r → Q e (front ++ r)) → IfSome mid (λ a. P a.ending a.bytes) → IfSome old (λ a. Q a.ending a.bytes)
+moved P Q None mid front taken step h = tt
+moved P Q (Some a) None front taken step h = absurd taken
+moved P Q (Some a) (Some b) front taken step h = subst (Q a.ending) (sym taken.0) (subst (λ (e : Ending). Q e (front ++ b.bytes)) taken.1 (step b.ending b.bytes h))
 
--- ---- one more event
+-- the same of a fault of one line
+pub line_fault : (P Q : Ending → List ℕ → TextFault → Type 0) (LacksRoom : List ℕ → Type 0) (old mid : Option Ahead) (front : List ℕ) (fault : TextFault) → IsOfInput fault → Takes old mid front → ((e : Ending) (r : List ℕ) → P e r fault → Q e (front ++ r) fault) → IfSome mid (λ a. P a.ending a.bytes fault) → HasFirstFault Q LacksRoom old fault
+line_fault P Q L old mid front fault of_input taken step h = first_is Q L old fault of_input (moved (λ e r. P e r fault) (λ e r. Q e r fault) old mid front taken step h)
 
-all_and_last : (events : List Event) (e : Event) → AllByRecursion HasEventLine events → HasEventLine e → AllByRecursion HasEventLine (events ++ e ∷ [])
-all_and_last [] e all last = (last, tt)
-all_and_last (x ∷ xs) e all last = (all.0, all_and_last xs e all.1 last)
+-- the same of a first fault
+pub later_fault : (P Q : Ending → List ℕ → TextFault → Type 0) (L M : List ℕ → Type 0) (old mid : Option Ahead) (front : List ℕ) (fault : TextFault) → Takes old mid front → ((e : Ending) (r : List ℕ) (f : TextFault) → P e r f → Q e (front ++ r) f) → ((r : List ℕ) → L r → M (front ++ r)) → HasFirstFault P L mid fault → HasFirstFault Q M old fault
+later_fault P Q L M old mid front Memory taken step room h = moved (λ e r. L r) (λ e r. M r) old mid front taken (λ e r. room r) h
+later_fault P Q L M old mid front Read taken step room h = moved (λ e r. P e r Read) (λ e r. Q e r Read) old mid front taken (λ e r. step e r Read) h
+later_fault P Q L M old mid front Header taken step room h = moved (λ e r. P e r Header) (λ e r. Q e r Header) old mid front taken (λ e r. step e r Header) h
+later_fault P Q L M old mid front (Line n) taken step room h = moved (λ e r. P e r (Line n)) (λ e r. Q e r (Line n)) old mid front taken (λ e r. step e r (Line n)) h
+later_fault P Q L M old mid front (Number n) taken step room h = moved (λ e r. P e r (Number n)) (λ e r. Q e r (Number n)) old mid front taken (λ e r. step e r (Number n)) h
+later_fault P Q L M old mid front (Limit n) taken step room h = moved (λ e r. P e r (Limit n)) (λ e r. Q e r (Limit n)) old mid front taken (λ e r. step e r (Limit n)) h
+later_fault P Q L M old mid front Count taken step room h = moved (λ e r. P e r Count) (λ e r. Q e r Count) old mid front taken (λ e r. step e r Count) h
+later_fault P Q L M old mid front Cut taken step room h = moved (λ e r. P e r Cut) (λ e r. Q e r Cut) old mid front taken (λ e r. step e r Cut) h
+later_fault P Q L M old mid front Trailing taken step room h = moved (λ e r. P e r Trailing) (λ e r. Q e r Trailing) old mid front taken (λ e r. step e r Trailing) h
 
-pub HasHistoryText-push : (events : List Event) (e : Event) → HasHistoryText events → HasEventLine e → length events < MAX_EVENTS → HasHistoryText (events ++ e ∷ [])
-HasHistoryText-push events e texts last few = record {
-  each = all_and_last events e texts.each last;
-  few = omega (arith, length-append events (e ∷ []));
+-- the line after some items has the first fault
+pub item_is_first : {A : Type 0} (kind : Kind A) (n m : ℕ) (items : List A) (k : ℕ) (old mid : Option Ahead) (fault : TextFault) → IsOfInput fault → HaveLines kind items → Takes old mid (lines_of kind items) → k ≡ length items → m ≡ n + length items → HasItemFault kind m k mid fault → HasItemsFault kind n old fault
+item_is_first kind n m items k old mid fault of_input right taken k_is m_is h =
+    line_fault (λ e r f. item_at_front kind m k e (front_of r) ≡ Err f) (λ e b f. ItemFault kind n e f b) (NoRoom kind) old mid (lines_of kind items) fault of_input taken
+    (λ e r next. record { items = items; rest = r; right = right; front = refl; next = rw (← m_is, ← k_is) next }) h
+
+-- ---- one more item
+
+all_and_last : {A : Type 0} (P : A → Type 0) (items : List A) (x : A) → AllByRecursion P items → P x → AllByRecursion P (items ++ x ∷ [])
+all_and_last P [] x all last = (last, tt)
+all_and_last P (y ∷ ys) x all last = (all.0, all_and_last P ys x all.1 last)
+
+pub HaveLines-push : {A : Type 0} (kind : Kind A) (items : List A) (x : A) → HaveLines kind items → kind.HasLine x → length items < kind.most → HaveLines kind (items ++ x ∷ [])
+HaveLines-push kind items x right last few = record {
+  each = all_and_last kind.HasLine items x right.each last;
+  few = omega (arith, length-append items (x ∷ []));
 }
 
-lines-push : (events : List Event) (e : Event) → lines_before_end events ++ event_line e ≡ lines_before_end (events ++ e ∷ [])
-lines-push events e = append_assoc (line header) (flat_map event_line events) (event_line e)
-    ∙ ap (λ (r : List ℕ). line header ++ r) (sym (flat_map-append event_line events (e ∷ []) ∙ ap (λ (r : List ℕ). flat_map event_line events ++ r) (append-nil (event_line e))))
+lines-push : {A : Type 0} (kind : Kind A) (items : List A) (x : A) → lines_of kind items ++ line_of kind x ≡ lines_of kind (items ++ x ∷ [])
+lines-push kind items x = sym (flat_map-append (line_of kind) items (x ∷ []) ∙ ap (λ (r : List ℕ). flat_map (line_of kind) items ++ r) (append-nil (line_of kind x)))
 
-pub takes_event : (events : List Event) (e : Event) (old mid new : Option Ahead) → Takes old mid (lines_before_end events) → Takes mid new (event_line e) → Takes old new (lines_before_end (events ++ e ∷ []))
-takes_event events e old mid new before now = subst (Takes old new) (lines-push events e) (Takes-append old mid new _ _ before now)
+pub takes_item : {A : Type 0} (kind : Kind A) (items : List A) (x : A) (old mid new : Option Ahead) → Takes old mid (lines_of kind items) → Takes mid new (line_of kind x) → Takes old new (lines_of kind (items ++ x ∷ []))
+takes_item kind items x old mid new h k = subst (Takes old new) (lines-push kind items x) (Takes-append old mid new _ _ h k)
 
--- an event was read, and there was no room for it
-pub no_room : (lines : ℕ) (events : List Event) (e : Event) (old mid new : Option Ahead) → HasHistoryText events → Takes old mid (lines_before_end events) → length events < MAX_EVENTS → HasEventLine e → Takes mid new (event_line e) → HasHistoryTextFault lines old Memory
-no_room lines events e None mid new texts before few range now = tt
-no_room lines events e (Some a) None new texts before few range now = absurd before
-no_room lines events e (Some a) (Some b) None texts before few range now = absurd now
-no_room lines events e (Some a) (Some b) (Some c) texts before few range now = record {
-  events = events;
-  last = e;
+pub no_room : {A : Type 0} (kind : Kind A) (items : List A) (x : A) (old mid new : Option Ahead) → HaveLines kind items → Takes old mid (lines_of kind items) → length items < kind.most → kind.HasLine x → Takes mid new (line_of kind x) → IfSome old (λ a. NoRoom kind a.bytes)
+no_room kind items x None mid new right taken few range now = tt
+no_room kind items x (Some a) None new right taken few range now = absurd taken
+no_room kind items x (Some a) (Some b) None right taken few range now = absurd now
+no_room kind items x (Some a) (Some b) (Some c) right taken few range now = record {
+  items = items;
+  last = x;
   rest = c.bytes;
-  texts = HasHistoryText-push events e texts range few;
-  front = (takes_event events e (Some a) (Some b) (Some c) before now).0;
+  right = HaveLines-push kind items x right range few;
+  front = (takes_item kind items x (Some a) (Some b) (Some c) taken now).0;
 }
+
+-- ---- answers
+
+-- what follows of one fault follows of that of an answer
+pub faults_by : {V : Type 0} (r : Result V TextFault) (P Q : TextFault → Type 0) → ((fault : TextFault) → P fault → Q fault) → IfErr r P → IfErr r Q
+faults_by (Ok v) P Q step h = tt
+faults_by (Err fault) P Q step h = step fault h
+
+-- where the input has no fault, only memory can run out
+only_memory : (IsFault : Ending → List ℕ → TextFault → Type 0) (LacksRoom : List ℕ → Type 0) (a : Ahead) (fault : TextFault) → ((f : TextFault) → IsFault a.ending a.bytes f → ⊥) → HasFirstFault IsFault LacksRoom (Some a) fault → fault ≡ Memory
+only_memory F L a Memory none h = refl
+only_memory F L a Read none h = absurd (none Read h)
+only_memory F L a Header none h = absurd (none Header h)
+only_memory F L a (Line n) none h = absurd (none (Line n) h)
+only_memory F L a (Number n) none h = absurd (none (Number n) h)
+only_memory F L a (Limit n) none h = absurd (none (Limit n) h)
+only_memory F L a Count none h = absurd (none Count h)
+only_memory F L a Cut none h = absurd (none Cut h)
+only_memory F L a Trailing none h = absurd (none Trailing h)
+
+-- what stands there without a fault is read, unless memory runs out
+pub is_read : {V : Type 0} (IsFault : Ending → List ℕ → TextFault → Type 0) (LacksRoom : List ℕ → Type 0) (P Q : V → Type 0) (a : Ahead) (r : Result V TextFault) → IfOk r P → IfErr r (HasFirstFault IsFault LacksRoom (Some a)) → ((v : V) → P v → Q v) → ((f : TextFault) → IsFault a.ending a.bytes f → ⊥) → MatchResult r Q (λ fault. fault ≡ Memory)
+is_read F L P Q a (Ok v) ok err step none = step v ok
+is_read F L P Q a (Err fault) ok err step none = only_memory F L a fault none err

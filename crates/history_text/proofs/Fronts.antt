@@ -1,11 +1,11 @@
 -- The front of bytes of which the beginning is known.
-use Rattle.std.proofs.Common.{◌≡◌, ℕ, suc, ◌+◌, List, [], ◌∷◌, ◌++◌, length, take, drop, true, false, not, ◌&&◌, cond, nat_lt, nat_le, arith, ap, ap₂, sym, ◌∙◌, refl, zero-add, length-append, append-nil}
+use Rattle.std.proofs.Common.{◌≡◌, ℕ, suc, ◌+◌, ◌<◌, List, [], ◌∷◌, ◌++◌, length, take, drop, true, false, not, ◌&&◌, cond, nat_lt, nat_le, arith, ap, ap₂, sym, ◌∙◌, refl, zero-add, length-append, append-nil}
 use Rattle.std.proofs.Math.Bool.{and-false}
 use Rattle.std.specs.List.{position_or_len}
 use Rattle.std.proofs.Math.Seq.{take-append_seam, drop-append-add}
 use Rattle.std.proofs.lemmas.List.Folds.{list_all-append}
 use Rattle.std.proofs.lemmas.Bool.Decides.{nat_tests}
-use Rattle.history_text.specs.Lines.{Whole, TooLong, Unfinished, front_of, is_line_feed, longest_line}
+use Rattle.history_text.specs.Lines.{Whole, TooLong, Unfinished, Nothing, front_of, is_line_feed, longest_line}
 use Rattle.history_text.specs.Taking.{has_no_line_feed, IsPartOfLine}
 
 -- the first line feed stands after the bytes that have none
@@ -18,8 +18,8 @@ place_after (x ∷ xs) ys clean =
     ] clean
 
 -- where the tests are known, the front is
-front_by : (bytes : List ℕ) (p : ℕ) → position_or_len is_line_feed bytes ≡ p → front_of bytes ≡ (cond (nat_lt p (length bytes) && nat_le p longest_line) (Whole (take p bytes) (drop (p + 1) bytes)) (cond (nat_lt longest_line (length bytes)) TooLong Unfinished))
-front_by bytes p e = ap (λ (q : ℕ). cond (nat_lt q (length bytes) && nat_le q longest_line) (Whole (take q bytes) (drop (q + 1) bytes)) (cond (nat_lt longest_line (length bytes)) TooLong Unfinished)) e
+front_by : (bytes : List ℕ) (p : ℕ) → position_or_len is_line_feed bytes ≡ p → front_of bytes ≡ (cond (nat_lt p (length bytes) && nat_le p longest_line) (Whole (take p bytes) (drop (p + 1) bytes)) (cond (nat_lt longest_line (length bytes)) TooLong (cond (nat_lt 0 (length bytes)) Unfinished Nothing)))
+front_by bytes p e = ap (λ (q : ℕ). cond (nat_lt q (length bytes) && nat_le q longest_line) (Whole (take q bytes) (drop (q + 1) bytes)) (cond (nat_lt longest_line (length bytes)) TooLong (cond (nat_lt 0 (length bytes)) Unfinished Nothing))) e
 
 pub front_whole : (bytes rest : List ℕ) → IsPartOfLine bytes → front_of (bytes ++ 10 ∷ rest) ≡ Whole bytes rest
 front_whole bytes rest part =
@@ -29,13 +29,14 @@ front_whole bytes rest part =
     let short : nat_le (length bytes) longest_line ≡ true = grind (arith, nat_tests, part.short) in
     front_by all (length bytes) place ∙ rw (within, short) (ap₂ Whole (take-append_seam bytes (10 ∷ rest)) (drop-append-add bytes (10 ∷ rest) 1))
 
-pub front_unfinished : (bytes : List ℕ) → IsPartOfLine bytes → front_of bytes ≡ Unfinished
-front_unfinished bytes part =
+pub front_unfinished : (bytes : List ℕ) → IsPartOfLine bytes → 0 < length bytes → front_of bytes ≡ Unfinished
+front_unfinished bytes part some =
     let place : position_or_len is_line_feed (bytes ++ []) ≡ length bytes + 0 = place_after bytes [] part.one in
     let here : position_or_len is_line_feed bytes ≡ length bytes = rw append-nil at place ∙ omega arith in
     let past : nat_lt (length bytes) (length bytes) ≡ false = grind (arith, nat_tests) in
     let few : nat_lt longest_line (length bytes) ≡ false = grind (arith, nat_tests, part.short) in
-    front_by bytes (length bytes) here ∙ rw (past, few) refl
+    let more : nat_lt 0 (length bytes) ≡ true = grind (arith, nat_tests, some) in
+    front_by bytes (length bytes) here ∙ rw (past, few, more) refl
 
 pub front_too_long : (given : List ℕ) (b : ℕ) (more : List ℕ) → IsPartOfLine given → length given ≡ longest_line → is_line_feed b ≡ false → front_of ((given ++ b ∷ []) ++ more) ≡ TooLong
 front_too_long given b more part full other =

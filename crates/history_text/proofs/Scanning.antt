@@ -13,7 +13,7 @@ use Rattle.std.proofs.lemmas.List.Folds.{list_all_more}
 use Rattle.history_text.specs.Input.{Ahead, Takes, with_front}
 use Rattle.history_text.specs.Lines.{is_number}
 use Rattle.history_text.proofs.Digits.{digits_go_on}
-use Rattle.history_text.proofs.Spelled.{number_spelled}
+use Rattle.history_text.proofs.Numbers.{number_spelled}
 
 -- the first bytes are digits, and this is their value
 pub record IsDigitsSoFar (bytes : List ℕ) (count value : ℕ) : Type 0 where

@@ -1,17 +1,18 @@
 -- The texts of histories: how they are written, and the first fault of bytes that should begin with one.
-use Rattle.std.specs.Prelude.{◌≡◌, ℕ, ◌+◌, ◌≤◌, ◌||◌, nat_lt, Bool, if◌then◌else◌, ◌⊎◌}
-use Rattle.std.specs.Prelude.{List, [], ◌∷◌, ◌++◌, length, drop, codes, decimal, Option, Some, None, Ok, Err}
+use Rattle.std.specs.Prelude.{◌≡◌, ℕ, ◌+◌, ◌≤◌, ◌||◌, Bool, true, if◌then◌else◌, ◌⊎◌}
+use Rattle.std.specs.Prelude.{List, [], ◌∷◌, ◌++◌, length, codes, decimal, Option, Some, None, Ok, Err}
 use Rattle.std.specs.declared.result.Result.{Result}
-use Rattle.std.specs.List.{flat_map, AllByRecursion}
+use Rattle.std.specs.List.{flat_map}
 use Rattle.std.specs.Str.{bytes_eq}
 use Rattle.event_records.specs.declared.event.Event.{Event}
 use Rattle.event_records.specs.declared.event.What.{What}
 use Rattle.event_records.specs.declared.event.What.TheVariants.{CallEnq, RetEnq, RetNot, CallDeq, RetDeq, RetEmpty}
 use Rattle.event_records.specs.declared.limits.TheConstants.{MAX_TICKET, MAX_THREAD, MAX_EVENTS}
 use Rattle.history_text.specs.declared.fault.TextFault.{TextFault}
-use Rattle.history_text.specs.declared.fault.TextFault.TheVariants.{Line, Limit}
+use Rattle.history_text.specs.declared.fault.TextFault.TheVariants.{Line}
 use Rattle.history_text.specs.Input.{Ending}
-use Rattle.history_text.specs.Lines.{line, spaced, end_line, greatest_value, Front, Whole, TooLong, Unfinished, front_of, fault_at, header_fault, fields_of, number_in, ◌>>=◌, begins_as_end, end_in}
+use Rattle.history_text.specs.Lines.{line, spaced, end_line, greatest_value, front_of, header_fault, number_in, ◌>>=◌, After}
+use Rattle.history_text.specs.Items.{Kind, HaveLines, ItemFault, NoRoom}
 
 -- ---- what is written
 
@@ -55,11 +56,6 @@ pub record HasEventLine (e : Event) : Type 0 where
   pub ticket : e.ticket ≤ MAX_TICKET
   pub thread : e.thread ≤ MAX_THREAD
   pub value : HasValueInRange e.what
-
--- which lists of events have a text
-pub record HasHistoryText (events : List Event) : Type 0 where
-  pub each : AllByRecursion HasEventLine events
-  pub few : length events ≤ MAX_EVENTS
 
 -- ---- what is read
 
@@ -109,34 +105,19 @@ event_in n (ticket ∷ thread ∷ word ∷ []) = plain_event n ticket thread (pl
 event_in n (ticket ∷ thread ∷ word ∷ value ∷ []) = event_with_value n ticket thread word value
 event_in n _ = Err (Line n)
 
--- a whole line, line n after k events: an event, or none where it is the last line
-abbrev pub item_in : ℕ → ℕ → List ℕ → Result (Option Event) TextFault
-item_in n k bytes =
-    if begins_as_end bytes then (end_in n k (drop 4 bytes) >>= λ _. Ok None)
-    else (if nat_lt k MAX_EVENTS then (event_in n (fields_of bytes) >>= λ e. Ok (Some e)) else Err (Limit n))
+-- what a history lists
+abbrev pub event_kind : Kind Event
+event_kind = record { fields = event_fields; HasLine = HasEventLine; most = MAX_EVENTS; is_counted = true; read = event_in }
 
--- the line that the input begins with, line n after k events, and the bytes after it
-abbrev pub item_at_front : ℕ → ℕ → Ending → Front → Result (Option Event × List ℕ) TextFault
-item_at_front n k ending (Whole bytes rest) = item_in n k bytes >>= λ item. Ok (item, rest)
-item_at_front n k ending TooLong = Err (Line n)
-item_at_front n k ending Unfinished = Err (fault_at ending)
+-- which lists of events have a text
+abbrev pub HasHistoryText : List Event → Type 0
+HasHistoryText events = HaveLines event_kind events
 
--- the first line is right, these events are each in their line, and the line after them has this fault
-pub record FaultAfter (lines : ℕ) (ending : Ending) (bytes : List ℕ) (fault : TextFault) : Type 0 where
-  pub events : List Event
-  pub rest : List ℕ
-  pub texts : HasHistoryText events
-  pub front : bytes ≡ lines_before_end events ++ rest
-  pub next : item_at_front (lines + 2 + length events) (length events) ending (front_of rest) ≡ Err fault
-
--- the first fault of bytes that should begin with the text of a history, where so many lines came before
+-- the first line isn't right, or some events are each in their line, and the line after them has this fault
 abbrev pub IsHistoryTextFault : ℕ → Ending → List ℕ → TextFault → Type 0
-IsHistoryTextFault lines ending bytes fault = (header_fault header ending (front_of bytes) ≡ Some fault) ⊎ FaultAfter lines ending bytes fault
+IsHistoryTextFault lines ending bytes fault =
+    (header_fault header ending (front_of bytes) ≡ Some fault) ⊎ After (line header) (ItemFault event_kind (lines + 2) ending fault) bytes
 
--- the first line is right, and these events are each in their line; there was no room to keep the last
-pub record NoRoomFor (bytes : List ℕ) : Type 0 where
-  pub events : List Event
-  pub last : Event
-  pub rest : List ℕ
-  pub texts : HasHistoryText (events ++ last ∷ [])
-  pub front : bytes ≡ lines_before_end (events ++ last ∷ []) ++ rest
+-- the first line is right, and some events are each in their line; there was no room to keep the last
+abbrev pub NoRoomFor : List ℕ → Type 0
+NoRoomFor bytes = After (line header) (NoRoom event_kind) bytes

@@ -1,8 +1,11 @@
 pub mod Input
 pub mod Pieces
 pub mod Lines
+pub mod Items
 pub mod Histories
+pub mod Schedules
 pub mod Verdicts
+pub mod Claims
 pub mod Reading
 pub mod Taking
 pub mod Watching

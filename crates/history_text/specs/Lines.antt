@@ -1,5 +1,5 @@
 -- Lines, fields and numbers, of which all texts are made.
-use Rattle.std.specs.Prelude.{ℕ, ◌+◌, ◌-◌, ◌^◌, ◌==◌, ◌&&◌, ◌||◌, nat_lt, nat_le, nat_eq, not, Bool, if◌then◌else◌}
+use Rattle.std.specs.Prelude.{◌≡◌, ℕ, ◌+◌, ◌-◌, ◌^◌, ◌==◌, ◌&&◌, ◌||◌, nat_lt, nat_le, nat_eq, not, Bool, if◌then◌else◌}
 use Rattle.std.specs.Prelude.{List, [], ◌∷◌, ◌++◌, length, take, drop, codes, decimal, Option, Some, None, Ok, Err, slice_index}
 use Rattle.std.specs.declared.result.Result.{Result}
 use Rattle.std.specs.List.{slice_split, join_with_byte, position_or_len, list_all, starts_with}
@@ -38,18 +38,19 @@ longest_line = 80
 abbrev pub is_line_feed : ℕ → Bool
 is_line_feed b = b == 10
 
--- The front of the input: a whole line and the bytes after its line feed, a line that is too long, or less than a line.
+-- The front of the input: a whole line and the bytes after its line feed, a line that is too long, less than a line, or no byte.
 pub data Front : Type 0 where
   Whole : List ℕ → List ℕ → Front
   TooLong : Front
   Unfinished : Front
+  Nothing : Front
 
 -- the line that some bytes begin with
 abbrev pub front_of : List ℕ → Front
 front_of bytes =
     let place = position_or_len is_line_feed bytes in
     if nat_lt place (length bytes) && nat_le place longest_line then Whole (take place bytes) (drop (place + 1) bytes)
-    else (if nat_lt longest_line (length bytes) then TooLong else Unfinished)
+    else (if nat_lt longest_line (length bytes) then TooLong else (if nat_lt 0 (length bytes) then Unfinished else Nothing))
 
 -- the fault of input that stops before a line is whole
 abbrev pub fault_at : Ending → TextFault
@@ -61,6 +62,7 @@ abbrev pub header_fault : List ℕ → Ending → Front → Option TextFault
 header_fault expected ending (Whole bytes rest) = if bytes_eq bytes expected then None else Some Header
 header_fault expected ending TooLong = Some Header
 header_fault expected ending Unfinished = Some (fault_at ending)
+header_fault expected ending Nothing = Some (fault_at ending)
 
 -- the fields of a line, which stand between its spaces
 abbrev pub fields_of : List ℕ → List (List ℕ)
@@ -82,6 +84,10 @@ abbrev pub ◌>>=◌ : {A B : Type 0} → Result A TextFault → (A → Result B
 (Ok x) >>= f = f x
 (Err e) >>= f = Err e
 
+-- what a number field of line n stands for, from a least number to a greatest
+abbrev pub number_between : ℕ → ℕ → ℕ → List ℕ → Result ℕ TextFault
+number_between n least greatest field = number_in n greatest field >>= λ v. if nat_le least v then Ok v else Err (Limit n)
+
 -- how the last line begins
 abbrev pub end_word : List ℕ
 end_word = codes "end "
@@ -94,6 +100,10 @@ begins_as_end bytes = starts_with nat_eq bytes end_word
 abbrev pub end_in : ℕ → ℕ → List ℕ → Result (Unit {0}) TextFault
 end_in n k field =
     if is_number field then (if digits_value 10 field == k then Ok tt else Err Count) else Err (Number n)
+
+-- these bytes stand at the front, and what comes after them is so
+abbrev pub After : List ℕ → (List ℕ → Type 0) → List ℕ → Type 0
+After front P bytes = (rest : List ℕ) × (bytes ≡ front ++ rest) × P rest
 
 -- the faults that a whole line after the first can have
 abbrev pub IsLineFault : TextFault → Type 0

@@ -2,18 +2,37 @@
 use Rattle.std.specs.Prelude.{◌≡◌, ℕ, List, ◌∷◌, ◌++◌, Option, Some, None, IfSome}
 use Rattle.history_text.specs.declared.fault.TextFault.{TextFault}
 use Rattle.history_text.specs.declared.fault.TextFault.TheVariants.{Read, Trailing, Memory}
-use Rattle.history_text.specs.Input.{Ahead, Failure, IsOver}
+use Rattle.history_text.specs.Input.{Ahead, Ending, EndOfInput, Failure, IsOver}
 use Rattle.history_text.specs.Histories.{IsHistoryTextFault, NoRoomFor}
+use Rattle.history_text.specs.Schedules.{IsScheduleTextFault, NoRoomForSchedule}
+use Rattle.history_text.specs.Claims.{IsVerdictTextFault, NoRoomForVerdict}
 
--- the first fault of a history's text, as far as the input is known; want of memory says that a line without fault was there
+-- the first fault of what is ahead, as far as that is known; want of memory says that a line without fault was there
+abbrev pub HasFirstFault : (Ending → List ℕ → TextFault → Type 0) → (List ℕ → Type 0) → Option Ahead → TextFault → Type 0
+HasFirstFault IsFault LacksRoom left Memory = IfSome left (λ a. LacksRoom a.bytes)
+HasFirstFault IsFault LacksRoom left fault = IfSome left (λ a. IsFault a.ending a.bytes fault)
+
+-- the first fault of a history's text
 abbrev pub HasHistoryTextFault : ℕ → Option Ahead → TextFault → Type 0
-HasHistoryTextFault lines left Memory = IfSome left (λ a. NoRoomFor a.bytes)
-HasHistoryTextFault lines left fault = IfSome left (λ a. IsHistoryTextFault lines a.ending a.bytes fault)
+HasHistoryTextFault lines left fault = HasFirstFault (IsHistoryTextFault lines) NoRoomFor left fault
+
+-- the first fault of a schedule's text
+abbrev pub HasScheduleTextFault : ℕ → Option Ahead → TextFault → Type 0
+HasScheduleTextFault lines left fault = HasFirstFault (IsScheduleTextFault lines) NoRoomForSchedule left fault
+
+-- the first fault of a verdict's text
+abbrev pub HasVerdictTextFault : ℕ → Option Ahead → TextFault → Type 0
+HasVerdictTextFault lines left fault = HasFirstFault (IsVerdictTextFault lines) NoRoomForVerdict left fault
 
 -- these bytes are known to stand at the front
 abbrev pub BeginsWith : Option Ahead → List ℕ → Type 0
 BeginsWith None text = ⊥
 BeginsWith (Some a) text = (rest : List ℕ) × (a.bytes ≡ text ++ rest)
+
+-- these bytes are known to be all that is left
+abbrev pub IsAll : Option Ahead → List ℕ → Type 0
+IsAll None text = ⊥
+IsAll (Some a) text = (a.bytes ≡ text) × (a.ending ≡ EndOfInput)
 
 -- at least one byte is ahead
 abbrev pub HasMore : Ahead → Type 0

@@ -1,15 +1,16 @@
 -- What the steps of a reader take of its input.
 use Rattle.std.specs.Prelude.{◌≡◌, ℕ, ◌<◌, ◌≤◌, Bool, true, false, List, [], ◌∷◌, ◌++◌, length, Option, Some, None, Err, IfSome, not}
 use Rattle.std.specs.List.{list_all}
-use Rattle.event_records.specs.declared.event.Event.{Event}
-use Rattle.event_records.specs.declared.limits.TheConstants.{MAX_EVENTS}
 use Rattle.history_text.specs.declared.fault.TextFault.{TextFault}
-use Rattle.history_text.specs.declared.fault.TextFault.TheVariants.{Memory}
+use Rattle.history_text.specs.declared.fault.TextFault.TheVariants.{Line, Memory}
 use Rattle.history_text.specs.declared.reader.FrontLine.{FrontLine}
-use Rattle.history_text.specs.declared.reader.FrontLine.TheVariants.{Whole, TooLong, Unfinished}
-use Rattle.history_text.specs.Input.{Ahead, EndOfInput, Failure, Takes, IsOver}
-use Rattle.history_text.specs.Lines.{line, end_line, longest_line, is_line_feed, front_of, header_fault}
-use Rattle.history_text.specs.Histories.{event_line, HasEventLine, item_at_front}
+use Rattle.history_text.specs.declared.reader.FrontLine.TheVariants as at_front
+use Rattle.history_text.specs.Input.{Ahead, Ending, EndOfInput, Failure, Takes, IsOver}
+use Rattle.history_text.specs.Lines.{line, end_line, longest_line, is_line_feed, front_of, header_fault, Front, Whole, TooLong, Unfinished, Nothing, fault_at}
+use Rattle.history_text.specs.Items.{Kind, line_of, lines_of, item_at_front, ItemFault, NoRoom}
+use Rattle.history_text.specs.Schedules.{SettingFault}
+use Rattle.history_text.specs.Claims.{FirstLineFault}
+use Rattle.history_text.specs.Reading.{HasFirstFault}
 
 -- no byte ends the line
 abbrev pub has_no_line_feed : List ℕ → Bool
@@ -22,26 +23,71 @@ pub record IsPartOfLine (bytes : List ℕ) : Type 0 where
 
 -- the bytes that a line took, by how it stands
 abbrev pub TakesLine : Option Ahead → Option Ahead → FrontLine → Type 0
-TakesLine old new (Whole bytes) = Takes old new (line bytes) × IsPartOfLine bytes
-TakesLine old new TooLong = (given : List ℕ) × (b : ℕ) × Takes old new (given ++ b ∷ []) × IsPartOfLine given × (length given ≡ longest_line) × (is_line_feed b ≡ false)
-TakesLine old new Unfinished = (given : List ℕ) × Takes old new given × IsPartOfLine given × IsOver EndOfInput new
+TakesLine old new (at_front.Whole bytes) = Takes old new (line bytes) × IsPartOfLine bytes
+TakesLine old new at_front.TooLong = (given : List ℕ) × (b : ℕ) × Takes old new (given ++ b ∷ []) × IsPartOfLine given × (length given ≡ longest_line) × (is_line_feed b ≡ false)
+TakesLine old new at_front.Unfinished = (given : List ℕ) × Takes old new given × IsPartOfLine given × IsOver EndOfInput new × (0 < length given)
+TakesLine old new at_front.Nothing = Takes old new [] × IsOver EndOfInput new
 
 -- a read failed within a line
 abbrev pub StopsInLine : Option Ahead → Option Ahead → Type 0
 StopsInLine old new = (given : List ℕ) × Takes old new given × IsPartOfLine given × IsOver Failure new
 
--- what the line of an item takes, after k events
-abbrev pub TakesItem : Option Ahead → Option Ahead → ℕ → Option Event → Type 0
-TakesItem old new k (Some e) = Takes old new (event_line e) × HasEventLine e × (k < MAX_EVENTS)
-TakesItem old new k None = Takes old new (end_line k)
+-- the fault of line n where no whole line stands at the front
+abbrev pub NoLineFault : ℕ → Ending → TextFault → Front → Type 0
+NoLineFault n ending fault (Whole bytes rest) = ⊥
+NoLineFault n ending fault TooLong = fault ≡ Line n
+NoLineFault n ending fault Unfinished = fault ≡ fault_at ending
+NoLineFault n ending fault Nothing = fault ≡ fault_at ending
+
+-- line n isn't whole, and has this fault
+abbrev pub HasNoLine : ℕ → Option Ahead → TextFault → Type 0
+HasNoLine n old fault = IfSome old (λ a. NoLineFault n a.ending fault (front_of a.bytes))
 
 -- the first line isn't as expected
 abbrev pub HasHeaderFault : List ℕ → Option Ahead → TextFault → Type 0
 HasHeaderFault expected old fault = IfSome old (λ a. header_fault expected a.ending (front_of a.bytes) ≡ Some fault)
 
--- line n, which comes after k events, has this fault
-abbrev pub HasItemFault : ℕ → ℕ → Option Ahead → TextFault → Type 0
-HasItemFault n k old fault = IfSome old (λ a. item_at_front n k a.ending (front_of a.bytes) ≡ Err fault)
+-- line n isn't the setting of a schedule, and has this fault
+abbrev pub HasSettingFault : ℕ → Option Ahead → TextFault → Type 0
+HasSettingFault n old fault = IfSome old (λ a. SettingFault n a.ending fault a.bytes)
+
+-- line n isn't the first of a verdict, and has this fault
+abbrev pub HasFirstLineFault : ℕ → Option Ahead → TextFault → Type 0
+HasFirstLineFault n old fault = IfSome old (λ a. FirstLineFault n a.ending fault (front_of a.bytes))
+
+-- ---- items
+
+-- an item whose line may be in a text has these fields
+pub record IsSpelled {A : Type 0} (kind : Kind A) (fields : List (List ℕ)) (item : A) : Type 0 where
+  pub text : fields ≡ kind.fields item
+  pub line : kind.HasLine item
+
+-- the bytes are those of an item's line, after k others, or of the last line
+abbrev pub IsItemLine : {A : Type 0} → Kind A → ℕ → List ℕ → Option A → Type 0
+IsItemLine kind k bytes (Some item) = (line bytes ≡ line_of kind item) × kind.HasLine item × (k < kind.most)
+IsItemLine kind k bytes None = (line bytes ≡ end_line k) × (kind.is_counted ≡ true)
+
+-- what comes after k items: the last line, or the end of the input
+abbrev pub TakesEnd : Bool → Option Ahead → Option Ahead → ℕ → Type 0
+TakesEnd true old new k = Takes old new (end_line k)
+TakesEnd false old new k = Takes old new [] × IsOver EndOfInput new
+
+-- what the line of an item takes, after k others
+abbrev pub TakesItem : {A : Type 0} → Kind A → Option Ahead → Option Ahead → ℕ → Option A → Type 0
+TakesItem kind old new k (Some item) = Takes old new (line_of kind item) × kind.HasLine item × (k < kind.most)
+TakesItem kind old new k None = TakesEnd kind.is_counted old new k
+
+-- what the lines of items take, and what comes after them
+abbrev pub TakesItems : {A : Type 0} → Kind A → Option Ahead → Option Ahead → List A → Type 0
+TakesItems kind old new items = (after : Option Ahead) × Takes old after (lines_of kind items) × TakesEnd kind.is_counted after new (length items)
+
+-- line n, which comes after k items, has this fault
+abbrev pub HasItemFault : {A : Type 0} → Kind A → ℕ → ℕ → Option Ahead → TextFault → Type 0
+HasItemFault kind n k old fault = IfSome old (λ a. item_at_front kind n k a.ending (front_of a.bytes) ≡ Err fault)
+
+-- the first fault of the lines of items from line n on
+abbrev pub HasItemsFault : {A : Type 0} → Kind A → ℕ → Option Ahead → TextFault → Type 0
+HasItemsFault kind n old fault = HasFirstFault (λ ending bytes f. ItemFault kind n ending f bytes) (NoRoom kind) old fault
 
 -- a fault of the input, and not of the reader's memory
 abbrev pub IsOfInput : TextFault → Type 0

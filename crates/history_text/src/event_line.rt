@@ -2,10 +2,12 @@
 ghost use Rattle.std.specs.Prelude.{◌≡◌, ◌++◌, ⊤, IfErr, IfSome};
 ghost use Rattle.history_text.specs.Lines.{IsLineFault, fields_of, spaced};
 ghost use Rattle.history_text.specs.Histories as judged;
-ghost use Rattle.history_text.specs.Histories.{event_line, what_fields, HasValueInRange, HasEventLine};
+ghost use Rattle.history_text.specs.Histories.{event_line, what_fields, HasValueInRange, HasEventLine, event_kind};
+ghost use Rattle.std.proofs.Common.{lit≤};
 
 use crate::fault::TextFault;
-use crate::field::{end_in, number_in, split_field};
+use crate::field::{number_in, split_field};
+use crate::item::Item;
 use crate::scan::{after_word, number_front};
 use event_records::{Event, MAX_EVENTS, MAX_THREAD, MAX_TICKET, What};
 
@@ -104,26 +106,6 @@ fn event_in(line: u64, bytes: &[u8]) -> Result<Event, TextFault>
     }
 }
 
-/// A whole line of a history after so many events: an event, or none where it is the last line.
-pub(crate) fn item_in(line: u64, count: usize, bytes: &[u8]) -> Result<Option<Event>, TextFault>
-    ensures value { result ≡ judged.item_in line count bytes.now }
-    ensures of_line { IfErr result IsLineFault }
-{
-    if bytes.starts_with(b"end ") {
-        return match end_in(line, count, &bytes[4..]) {
-            Ok(()) => Ok(None),
-            Err(fault) => Err(fault),
-        };
-    }
-    if count >= MAX_EVENTS {
-        return Err(TextFault::Limit(line));
-    }
-    match event_in(line, bytes) {
-        Ok(event) => Ok(Some(event)),
-        Err(fault) => Err(fault),
-    }
-}
-
 /// What a thread called or was answered, at the front, and the bytes after it.
 fn what_front(bytes: &[u8]) -> Option<(What, &[u8])>
     ensures { IfSome result (λ p. (bytes.now ≡ spaced (what_fields p.0) ++ p.1.now) × HasValueInRange p.0) }
@@ -153,8 +135,8 @@ fn what_front(bytes: &[u8]) -> Option<(What, &[u8])>
 
 /// The event whose line stands whole at the front, and the bytes after it.
 ///
-/// It finds most lines that are right and none that is wrong. What it doesn't find, `item_in` judges.
-pub(crate) fn event_front(bytes: &[u8]) -> Option<(Event, &[u8])>
+/// It finds most lines that are right and none that is wrong. What it doesn't find, `event_in` judges.
+fn event_front(bytes: &[u8]) -> Option<(Event, &[u8])>
     ensures { IfSome result (λ p. (bytes.now ≡ event_line p.0 ++ p.1.now) × HasEventLine p.0) }
 {
     let (ticket, rest) = number_front(bytes)?;
@@ -175,4 +157,26 @@ pub(crate) fn event_front(bytes: &[u8]) -> Option<(Event, &[u8])>
         what,
     };
     Some((event, rest))
+}
+
+impl Item for Event {
+    ghost kind = { event_kind };
+
+    ghost few = { lit≤ tt };
+
+    fn most() -> usize {
+        MAX_EVENTS
+    }
+
+    fn is_counted() -> bool {
+        true
+    }
+
+    fn from_line(line: u64, bytes: &[u8]) -> Result<Event, TextFault> {
+        event_in(line, bytes)
+    }
+
+    fn at_front(bytes: &[u8]) -> Option<(Event, &[u8])> {
+        event_front(bytes)
+    }
 }

@@ -5,9 +5,10 @@
 pub enum TextFault {
     /// The source failed in this call, before the text was whole.
     Read,
-    /// The first line isn't that of the text, or is longer than 80 bytes.
+    /// The first line isn't that of a history or of a schedule, or is longer than 80 bytes.
     Header,
-    /// The line has more than 80 bytes, or its words or the number of its fields aren't as they should be.
+    /// The line has more than 80 bytes, or its words or the number of its fields aren't as they should be. In a verdict the
+    /// first line too.
     Line(u64),
     /// A field of the line that should be a number isn't: the digit 0, or digits that don't begin with 0.
     Number(u64),
@@ -15,7 +16,7 @@ pub enum TextFault {
     Limit(u64),
     /// The last line counts another number of lines than there are.
     Count,
-    /// The input ends within a line, or before the last one.
+    /// The input ends within a line, or before the last one, of a verdict before the first one.
     Cut,
     /// The input goes on after its text.
     Trailing,

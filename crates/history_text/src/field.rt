@@ -56,6 +56,24 @@ pub(crate) fn number_in(line: u64, greatest: u64, field: &[u8]) -> Result<u64, T
     }
 }
 
+/// What a number field of a line stands for, from a least number to a greatest.
+pub(crate) fn number_between(
+    line: u64,
+    least: u64,
+    greatest: u64,
+    field: &[u8],
+) -> Result<u64, TextFault>
+    ensures value { result ≡ judged.number_between line least greatest field.now }
+    ensures of_line { IfErr result IsLineFault }
+    ensures within { IfOk result (λ n. n ≤ greatest) }
+{
+    let value = number_in(line, greatest, field)?;
+    if value < least {
+        return Err(TextFault::Limit(line));
+    }
+    Ok(value)
+}
+
 /// The bytes before the first space and those after it.
 pub(crate) fn split_field(bytes: &[u8]) -> Option<(&[u8], &[u8])>
     ensures { MatchOption result (fields_of bytes.now ≡ bytes.now ∷ []) (λ p. fields_of bytes.now ≡ p.0.now ∷ fields_of p.1.now) }

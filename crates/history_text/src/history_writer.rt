@@ -102,7 +102,7 @@ pub fn write_history<W: TextSink>(history: &History, writer: &mut W) -> Result<(
     ensures refused { W.has_refused writer.new ≡ (W.has_refused writer.old || is_err result) }
 
     // What is written is read again, since `read_history` reads each text that stands at the front of its input.
-    ensures readable { OnOk result (length history.now ≤ MAX_EVENTS → HasHistoryText history.now) }
+    ensures readable { OnOk result (HasHistoryText history.now) }
 {
     let mut kept = Kept::new();
     put_history(writer, &mut kept, history.events())?;

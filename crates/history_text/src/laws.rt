@@ -1,12 +1,20 @@
 //! Laws of texts. They do nothing when they run.
-ghost use Rattle.std.specs.Prelude.{◌≡◌, ◌++◌, ℕ, List, []};
+ghost use Rattle.std.specs.Prelude.{◌≡◌, ◌≤◌, ◌++◌, ℕ, List, [], length};
+ghost use Rattle.event_records.specs.declared.limits.TheConstants.{MAX_OPERATIONS};
+ghost use Rattle.history_merge.specs.Operations.{operations_of};
 ghost use Rattle.event_records.specs.declared.event.Event.{Event};
 ghost use Rattle.history_merge.specs.declared.operation.Operation.{Operation};
+ghost use Rattle.verdicts.specs.declared.claim.Claimed.{Claimed};
 ghost use Rattle.verdicts.specs.declared.verdict.Verdict.{Verdict};
 ghost use Rattle.verdicts.specs.Claims.{IsTrueClaim};
 ghost use Rattle.verdicts.specs.Verdicts.{IsEvidence};
-ghost use Rattle.history_text.specs.Verdicts.{claim_of};
-ghost use Rattle.history_text.specs.Histories.{HasHistoryText, history_text};
+ghost use Rattle.history_text.specs.declared.fault.TextFault.{TextFault};
+ghost use Rattle.history_text.specs.declared.schedule.Schedule.{Schedule};
+ghost use Rattle.history_text.specs.Verdicts.{claim_of, places_of, verdict_text};
+ghost use Rattle.history_text.specs.Claims.{HasVerdictText, IsVerdictTextFault};
+ghost use Rattle.history_text.specs.Histories.{HasHistoryText, history_text, IsHistoryTextFault};
+ghost use Rattle.history_text.specs.Schedules.{HasScheduleText, schedule_text, IsScheduleTextFault};
+ghost use Rattle.history_text.specs.Input.{Ending};
 
 /// A text is the text of one list of events.
 pub fn a_text_has_one_history()
@@ -16,6 +24,35 @@ pub fn a_text_has_one_history()
 /// No text of a history is a proper front of another.
 pub fn no_text_begins_another()
     ensures { (first second : List Event) (more : List ℕ) → HasHistoryText first → HasHistoryText second → history_text first ++ more ≡ history_text second → more ≡ [] }
+{}
+
+/// A text is the text of one schedule.
+pub fn a_text_has_one_schedule()
+    ensures { (first second : Schedule) → HasScheduleText first → HasScheduleText second → schedule_text first ≡ schedule_text second → first ≡ second }
+{}
+
+/// No text of a schedule is a proper front of another.
+pub fn no_schedule_text_begins_another()
+    ensures { (first second : Schedule) (more : List ℕ) → HasScheduleText first → HasScheduleText second → schedule_text first ++ more ≡ schedule_text second → more ≡ [] }
+{}
+
+/// A text is the text of one claim.
+pub fn a_text_has_one_claim()
+    ensures { (first second : Claimed) → HasVerdictText first → HasVerdictText second → verdict_text first ≡ verdict_text second → first ≡ second }
+{}
+
+/// The claim of a verdict on a history that has a text has one too, where it names no more operations than a text may have.
+///
+/// So `read_verdict` reads what `write_verdict` wrote of it.
+pub fn a_claim_on_a_text_has_a_text()
+    ensures { (events : List Event) (verdict : Verdict) → HasHistoryText events → length (places_of verdict) ≤ MAX_OPERATIONS → HasVerdictText (claim_of (operations_of events) verdict) }
+{}
+
+/// An input has one first fault, as the text of a history, of a schedule or of a verdict.
+pub fn one_first_fault()
+    ensures history { (lines : ℕ) (ending : Ending) (bytes : List ℕ) (f g : TextFault) → IsHistoryTextFault lines ending bytes f → IsHistoryTextFault lines ending bytes g → f ≡ g }
+    ensures schedule { (lines : ℕ) (ending : Ending) (bytes : List ℕ) (f g : TextFault) → IsScheduleTextFault lines ending bytes f → IsScheduleTextFault lines ending bytes g → f ≡ g }
+    ensures verdict { (lines : ℕ) (ending : Ending) (bytes : List ℕ) (f g : TextFault) → IsVerdictTextFault lines ending bytes f → IsVerdictTextFault lines ending bytes g → f ≡ g }
 {}
 
 /// What the text of a verdict claims is so where the verdict is evidence.

@@ -1,31 +1,45 @@
-//! Texts of histories, read and written.
+//! Texts of histories, verdicts and schedules, read and written.
 //!
-//! A history's text is one line of bytes for each event, between a first line and a last one that counts them. A reader
-//! judges any bytes, in any pieces, from any source: it gives the events exactly where the input begins with their text,
-//! and otherwise the first fault with its line.
+//! A history's text is one line of bytes for each event, between a first line and a last one that counts them; a schedule's
+//! is the same for steps, with a second line for its setting. A verdict's is a first line and one for each operation, to the
+//! end of the input. A reader judges any bytes, in any pieces, from any source: it gives what is written exactly where its
+//! text stands, and otherwise the first fault with its line.
 #![tactic(auto)]
 
 mod event_line;
 mod fault;
 mod field;
 mod history_writer;
+mod item;
 mod kept;
 mod laws;
 mod line;
 mod memory;
+mod operation_line;
 mod reader;
 mod scan;
+mod schedule;
 mod sink;
 mod source;
+mod step_line;
 #[cfg(test)]
 mod tests;
+#[cfg(test)]
+mod tests_schedules;
+#[cfg(test)]
+mod tests_verdicts;
 mod verdict_writer;
 
 pub use fault::TextFault;
 pub use history_writer::write_history;
-pub use laws::{a_text_has_one_history, evidence_is_a_true_claim, no_text_begins_another};
+pub use laws::{
+    a_claim_on_a_text_has_a_text, a_text_has_one_claim, a_text_has_one_history,
+    a_text_has_one_schedule, evidence_is_a_true_claim, no_schedule_text_begins_another,
+    no_text_begins_another, one_first_fault,
+};
 pub use memory::MemorySource;
-pub use reader::{TextReader, at_end, read_history};
+pub use reader::{TextReader, at_end, read_history, read_schedule, read_verdict};
+pub use schedule::{MAX_STEPS, MOST_DRAINED, Schedule, Steps};
 pub use sink::{TextSink, WriteFault, write_piece};
 pub use source::{ReadFailed, TextSource, Watched};
 pub use verdict_writer::write_verdict;

@@ -1,19 +1,29 @@
 //! Reading texts line by line.
-ghost use Rattle.std.specs.Prelude.{◌≡◌, ◌+◌, ◌<◌, ◌^◌, true, false, IfOk, IfErr, OnErr, OnOk, MatchResult, IfNone, IfSome, option_to_list, is_err, Err, Ok, length, List, []};
+ghost use Rattle.std.specs.Prelude.{◌≡◌, ◌+◌, ◌<◌, ◌^◌, ◌∷◌, true, false, IfOk, IfErr, OnErr, OnOk, MatchResult, IfNone, IfSome, option_to_list, is_err, Err, Ok, length, List, []};
 ghost use Rattle.event_records.specs.declared.event.Event.{Event};
+ghost use Rattle.verdicts.specs.declared.claim.Claimed.{Claimed};
+ghost use Rattle.history_text.specs.declared.schedule.Schedule.{Schedule};
 ghost use Rattle.history_text.specs.Input.{EndOfInput, Failure, Takes, IsOver};
-ghost use Rattle.history_text.specs.Lines.{line};
-ghost use Rattle.history_text.specs.Histories.{event_line, history_text, HasHistoryText, HasEventLine};
-ghost use Rattle.history_text.specs.Reading.{HasHistoryTextFault, HasEndFault, BeginsWith};
-ghost use Rattle.history_text.specs.Taking.{TakesLine, StopsInLine, TakesItem, HasHeaderFault, HasItemFault, IsOfInput};
+ghost use Rattle.history_text.specs.Lines.{line, spaced};
+ghost use Rattle.history_text.specs.Items.{line_of, HaveLines};
+ghost use Rattle.history_text.specs.Histories.{history_text, HasHistoryText};
+ghost use Rattle.history_text.specs.Schedules.{schedule_text, setting_fields, HasScheduleText, IsSetting};
+ghost use Rattle.history_text.specs.Verdicts.{verdict_text};
+ghost use Rattle.history_text.specs.Claims.{operations_in, HasVerdictText, first_line};
+ghost use Rattle.history_text.specs.Reading.{HasHistoryTextFault, HasScheduleTextFault, HasVerdictTextFault, HasEndFault, BeginsWith, IsAll};
+ghost use Rattle.history_text.specs.Taking.{TakesLine, StopsInLine, IsPartOfLine, TakesItem, TakesItems, HasNoLine, HasHeaderFault, HasSettingFault, HasFirstLineFault, HasItemFault, HasItemsFault, IsOfInput};
 
-use crate::event_line::{event_front, item_in};
 use crate::fault::TextFault;
+use crate::item::{Item, item_in};
 use crate::line::{LONGEST_LINE, Line};
+use crate::operation_line::answer_in;
+use crate::schedule::{Schedule, Steps};
 use crate::source::{ReadFailed, TextSource};
-use event_records::{Event, MAX_EVENTS};
+use crate::step_line::setting_in;
+use event_records::Event;
 use std::alloc::Global;
 use std::marker::Model;
+use verdicts::{Claimed, Lines, ViolationKind};
 
 /// The most bytes that a source is asked for at a time.
 const BUFFER_LEN: usize = 4096;
@@ -55,8 +65,10 @@ pub(crate) enum FrontLine {
     Whole(Line),
     /// More bytes come than a line may have.
     TooLong,
-    /// The input ends first.
+    /// The input ends first, after some byte.
     Unfinished,
+    /// No byte comes any more.
+    Nothing,
 }
 
 impl<R: TextSource> TextReader<R> {
@@ -108,6 +120,7 @@ impl<R: TextSource> TextReader<R> {
         let mut line = Line::new();
         loop {
             match self.next_byte()? {
+                None if line.len() == 0 => return Ok(FrontLine::Nothing),
                 None => return Ok(FrontLine::Unfinished),
                 Some(b'\n') => return Ok(FrontLine::Whole(line)),
                 Some(byte) => {
@@ -131,6 +144,7 @@ impl<R: TextSource> TextReader<R> {
     {
         match self.next_line() {
             Err(ReadFailed) => Err(TextFault::Read),
+            Ok(FrontLine::Nothing) => Err(TextFault::Cut),
             Ok(FrontLine::Unfinished) => Err(TextFault::Cut),
             Ok(FrontLine::TooLong) => Err(TextFault::Header),
             Ok(FrontLine::Whole(line)) => {
@@ -143,32 +157,56 @@ impl<R: TextSource> TextReader<R> {
         }
     }
 
-    /// The event of the next line, where that stands whole in the buffer.
-    fn event_in_buffer(&mut self) -> Option<Event>
+    /// The next line, where it is whole.
+    fn whole_line(&mut self) -> Result<Line, TextFault>
         requires { self.old.lines + 1 < 2 ^ 64 }
-        ensures event { IfSome result (λ e. Takes self.old.left self.new.left (event_line e) × HasEventLine e) }
+        ensures ok { IfOk result (λ bytes. Takes self.old.left self.new.left (line bytes) × IsPartOfLine bytes) }
+        ensures fault { IfErr result (HasNoLine (self.old.lines + 1) self.old.left) }
+        ensures of_input { IfErr result IsOfInput }
+        ensures lines { self.new.lines ≡ self.old.lines + 1 }
+        ensures is_stopped { self.new.is_stopped ≡ self.old.is_stopped }
+    {
+        match self.next_line() {
+            Err(ReadFailed) => return Err(TextFault::Read),
+            Ok(FrontLine::Nothing) => return Err(TextFault::Cut),
+            Ok(FrontLine::Unfinished) => return Err(TextFault::Cut),
+            Ok(FrontLine::TooLong) => return Err(TextFault::Line(self.lines)),
+            Ok(FrontLine::Whole(line)) => return Ok(line),
+        }
+    }
+
+    /// The item of the next line, where that stands whole in the buffer.
+    fn item_in_buffer<T: Item>(&mut self) -> Option<T>
+        requires { self.old.lines + 1 < 2 ^ 64 }
+        ensures item { IfSome result (λ item. Takes self.old.left self.new.left (line_of T.kind item) × T.kind.HasLine item) }
         ensures lines { IfSome result (λ _. self.new.lines ≡ self.old.lines + 1) }
         ensures none { IfNone result (self.new ≡ self.old) }
         ensures is_stopped { self.new.is_stopped ≡ self.old.is_stopped }
     {
-        let (event, rest) = event_front(&self.buffer[self.at..self.filled])?;
+        let (item, rest) = T::at_front(&self.buffer[self.at..self.filled])?;
         let rest_len = rest.len();
         self.at = self.filled - rest_len;
         self.lines += 1;
-        Some(event)
+        Some(item)
     }
 
     /// The same for any line.
-    fn item_by_line(&mut self, count: usize) -> Result<Option<Event>, TextFault>
+    fn item_by_line<T: Item>(&mut self, count: usize) -> Result<Option<T>, TextFault>
         requires { self.old.lines + 1 < 2 ^ 64 }
-        ensures ok { IfOk result (TakesItem self.old.left self.new.left count) }
-        ensures fault { IfErr result (HasItemFault (self.old.lines + 1) count self.old.left) }
+        ensures ok { IfOk result (TakesItem T.kind self.old.left self.new.left count) }
+        ensures fault { IfErr result (HasItemFault T.kind (self.old.lines + 1) count self.old.left) }
         ensures of_input { IfErr result IsOfInput }
         ensures lines { self.new.lines ≡ self.old.lines + 1 }
         ensures is_stopped { self.new.is_stopped ≡ self.old.is_stopped }
     {
         let line = match self.next_line() {
             Err(ReadFailed) => return Err(TextFault::Read),
+            Ok(FrontLine::Nothing) => {
+                if T::is_counted() {
+                    return Err(TextFault::Cut);
+                }
+                return Ok(None);
+            }
             Ok(FrontLine::Unfinished) => return Err(TextFault::Cut),
             Ok(FrontLine::TooLong) => return Err(TextFault::Line(self.lines)),
             Ok(FrontLine::Whole(line)) => line,
@@ -176,25 +214,43 @@ impl<R: TextSource> TextReader<R> {
         item_in(self.lines, count, line.as_slice())
     }
 
-    /// The next line of a history after so many events: an event, or none at the last line.
-    fn next_item(&mut self, count: usize) -> Result<Option<Event>, TextFault>
+    /// The next line of a text after so many items: an item, or none at the last line or the end of the input.
+    fn next_item<T: Item>(&mut self, count: usize) -> Result<Option<T>, TextFault>
         requires { self.old.lines + 1 < 2 ^ 64 }
-        ensures ok { IfOk result (TakesItem self.old.left self.new.left count) }
-        ensures fault { IfErr result (HasItemFault (self.old.lines + 1) count self.old.left) }
+        ensures ok { IfOk result (TakesItem T.kind self.old.left self.new.left count) }
+        ensures fault { IfErr result (HasItemFault T.kind (self.old.lines + 1) count self.old.left) }
         ensures of_input { IfErr result IsOfInput }
         ensures lines { self.new.lines ≡ self.old.lines + 1 }
         ensures is_stopped { self.new.is_stopped ≡ self.old.is_stopped }
     {
-        if count < MAX_EVENTS
-            && let Some(event) = self.event_in_buffer()
+        if count < T::most()
+            && let Some(item) = self.item_in_buffer()
         {
-            return Ok(Some(event));
+            return Ok(Some(item));
         }
         self.item_by_line(count)
     }
 
+    /// The items from here on, up to the last line or the end of the input.
+    fn items<T: Item>(&mut self, alloc: Global) -> Result<Vec<T>, TextFault>
+        requires { self.old.lines < 2 ^ 63 + 2 }
+        ensures each { IfOk result (λ v. HaveLines T.kind v.items) }
+        ensures taken { IfOk result (λ v. TakesItems T.kind self.old.left self.new.left v.items) }
+        ensures fault { IfErr result (HasItemsFault T.kind (self.old.lines + 1) self.old.left) }
+        ensures lines { IfOk result (λ v. self.new.lines ≡ self.old.lines + 1 + length v.items) }
+        ensures is_stopped { self.new.is_stopped ≡ self.old.is_stopped }
+    {
+        let mut items = Vec::new(alloc);
+        while let Some(item) = self.next_item(items.len())? {
+            if items.push(item).is_err() {
+                return Err(TextFault::Memory);
+            }
+        }
+        Ok(items)
+    }
+
     /// The events of the history that the input begins with.
-    fn items(&mut self, alloc: Global) -> Result<Vec<Event>, TextFault>
+    fn history(&mut self, alloc: Global) -> Result<Vec<Event>, TextFault>
         requires { self.old.lines < 2 ^ 63 }
         ensures events { IfOk result (λ v. HasHistoryText v.items × Takes self.old.left self.new.left (history_text v.items)) }
         ensures fault { IfErr result (HasHistoryTextFault self.old.lines self.old.left) }
@@ -202,13 +258,72 @@ impl<R: TextSource> TextReader<R> {
         ensures is_stopped { self.new.is_stopped ≡ self.old.is_stopped }
     {
         self.header_line(b"fifo-history 1")?;
-        let mut events = Vec::new(alloc);
-        while let Some(event) = self.next_item(events.len())? {
-            if events.push(event).is_err() {
-                return Err(TextFault::Memory);
-            }
+        self.items(alloc)
+    }
+
+    /// The setting in the next line.
+    fn setting(&mut self) -> Result<(usize, usize), TextFault>
+        requires { self.old.lines + 1 < 2 ^ 64 }
+        ensures ok { IfOk result (λ s. Takes self.old.left self.new.left (line (spaced (setting_fields s.0 s.1))) × IsSetting s.0 s.1) }
+        ensures fault { IfErr result (HasSettingFault (self.old.lines + 1) self.old.left) }
+        ensures of_input { IfErr result IsOfInput }
+        ensures lines { self.new.lines ≡ self.old.lines + 1 }
+        ensures is_stopped { self.new.is_stopped ≡ self.old.is_stopped }
+    {
+        let line = self.whole_line()?;
+        setting_in(self.lines, line.as_slice())
+    }
+
+    /// The schedule that the input begins with.
+    fn schedule(&mut self, alloc: Global) -> Result<Schedule, TextFault>
+        requires { self.old.lines < 2 ^ 63 }
+        ensures schedule { IfOk result (λ s. HasScheduleText s × Takes self.old.left self.new.left (schedule_text s)) }
+        ensures fault { IfErr result (HasScheduleTextFault self.old.lines self.old.left) }
+        ensures lines { IfOk result (λ s. self.new.lines ≡ self.old.lines + 3 + length s.steps) }
+        ensures is_stopped { self.new.is_stopped ≡ self.old.is_stopped }
+    {
+        self.header_line(b"fifo-schedule 1")?;
+        let (threads, ring) = self.setting()?;
+        let steps = Steps::from_vec(self.items(alloc)?);
+        Ok(Schedule {
+            threads,
+            ring,
+            steps,
+        })
+    }
+
+    /// What the next line answers, as the first one of a verdict.
+    fn answer(&mut self) -> Result<Option<ViolationKind>, TextFault>
+        requires { self.old.lines + 1 < 2 ^ 64 }
+        ensures ok { IfOk result (λ answer. Takes self.old.left self.new.left (line (first_line answer))) }
+        ensures fault { IfErr result (HasFirstLineFault (self.old.lines + 1) self.old.left) }
+        ensures of_input { IfErr result IsOfInput }
+        ensures lines { self.new.lines ≡ self.old.lines + 1 }
+        ensures is_stopped { self.new.is_stopped ≡ self.old.is_stopped }
+    {
+        let line = self.whole_line()?;
+        match answer_in(line.as_slice()) {
+            Some(answer) => return Ok(answer),
+            None => return Err(TextFault::Line(self.lines)),
         }
-        Ok(events)
+    }
+
+    /// The verdict that the input is.
+    fn claim(&mut self, alloc: Global) -> Result<Claimed, TextFault>
+        requires { self.old.lines < 2 ^ 63 }
+        ensures claim { IfOk result (λ c. HasVerdictText c × Takes self.old.left self.new.left (verdict_text c) × IsOver EndOfInput self.new.left) }
+        ensures fault { IfErr result (HasVerdictTextFault self.old.lines self.old.left) }
+        ensures lines { IfOk result (λ c. self.new.lines ≡ self.old.lines + 1 + length (operations_in c)) }
+        ensures is_stopped { self.new.is_stopped ≡ self.old.is_stopped }
+    {
+        let answer = self.answer()?;
+        let operations = Lines::from_vec(self.items(alloc)?);
+        // The end of the input is no line.
+        self.lines -= 1;
+        match answer {
+            None => return Ok(Claimed::Yes(operations)),
+            Some(kind) => return Ok(Claimed::No(kind, operations)),
+        }
     }
 }
 
@@ -251,7 +366,65 @@ pub fn read_history<R: TextSource>(
     ensures lines { IfOk result (λ v. reader.new.lines ≡ reader.old.lines + 2 + length v.items) }
     ensures stopped { reader.new.is_stopped ≡ is_err result }
 {
-    let result = reader.items(alloc);
+    let result = reader.history(alloc);
+    reader.is_stopped = result.is_err();
+    result
+}
+
+/// Reads the text of a schedule that the input begins with, up to the line feed of its last line.
+///
+/// Whether its threads are those of the setting, and its steps are accepted, isn't judged here. The time is linear in the
+/// bytes read. Memory is taken for the steps alone, and `Memory` is answered only at a line that, like those before it, is
+/// whole and without fault.
+pub fn read_schedule<R: TextSource>(
+    alloc: Global,
+    reader: &mut TextReader<R>,
+) -> Result<Schedule, TextFault>
+    requires running { reader.old.is_stopped ≡ false }
+    requires lines { reader.old.lines < 2 ^ 63 }
+
+    // What is read is the text of this schedule, and nothing else is taken.
+    ensures schedule { IfOk result (λ s. HasScheduleText s × Takes reader.old.left reader.new.left (schedule_text s)) }
+
+    // Where the text of a schedule stands at the front it is read, unless memory is refused.
+    ensures whole { (schedule : Schedule) → HasScheduleText schedule → BeginsWith reader.old.left (schedule_text schedule) → MatchResult result (λ s. s ≡ schedule) (λ fault. fault ≡ TextFault.Memory) }
+
+    // A fault is the first one.
+    ensures fault { IfErr result (HasScheduleTextFault reader.old.lines reader.old.left) }
+
+    ensures lines { IfOk result (λ s. reader.new.lines ≡ reader.old.lines + 3 + length s.steps) }
+    ensures stopped { reader.new.is_stopped ≡ is_err result }
+{
+    let result = reader.schedule(alloc);
+    reader.is_stopped = result.is_err();
+    result
+}
+
+/// Reads the text of a verdict, which goes on to the end of the input.
+///
+/// Any operations may stand in it: whether the claim is true is for `verify` to tell. The time is linear in the bytes
+/// read. Memory is taken for the operations alone, and `Memory` is answered only at a line that, like those before it, is
+/// whole and without fault.
+pub fn read_verdict<R: TextSource>(
+    alloc: Global,
+    reader: &mut TextReader<R>,
+) -> Result<Claimed, TextFault>
+    requires running { reader.old.is_stopped ≡ false }
+    requires lines { reader.old.lines < 2 ^ 63 }
+
+    // What is read is the text of this claim, and the input is over after it.
+    ensures claim { IfOk result (λ c. HasVerdictText c × Takes reader.old.left reader.new.left (verdict_text c) × IsOver EndOfInput reader.new.left) }
+
+    // Where the rest of the input is the text of a claim it is read, unless memory is refused.
+    ensures whole { (claimed : Claimed) → HasVerdictText claimed → IsAll reader.old.left (verdict_text claimed) → MatchResult result (λ c. c ≡ claimed) (λ fault. fault ≡ TextFault.Memory) }
+
+    // A fault is the first one.
+    ensures fault { IfErr result (HasVerdictTextFault reader.old.lines reader.old.left) }
+
+    ensures lines { IfOk result (λ c. reader.new.lines ≡ reader.old.lines + 1 + length (operations_in c)) }
+    ensures stopped { reader.new.is_stopped ≡ is_err result }
+{
+    let result = reader.claim(alloc);
     reader.is_stopped = result.is_err();
     result
 }

@@ -9,3 +9,12 @@ pub mod ClaimedBreaches
 pub mod ClaimedCovers
 pub mod ClaimedOrders
 pub mod SameLists
+pub mod KeptEvents
+pub mod KeptTickets
+pub mod Selections
+pub mod CoverGaps
+pub mod NamedLines
+pub mod Minimal
+pub mod ChosenSelections
+pub mod NamedPlaces
+pub mod ShrunkEvents

@@ -1,7 +1,9 @@
 use Rattle.std.proofs.Common.{codes}
 use Rattle.std.specs.Prelude.{decimal}
 use Rattle.std.proofs.KnownBytes.{Appends-trans}
-use Rattle.fifobench.proofs.Fronts.{front_first, front_next, on_err, on_err_too}
+use Rattle.std.proofs.lemmas.Result.{on_err_weaker}
+use Rattle.history_text.proofs.Appending.{front_first, on_err}
+use Rattle.fifobench.proofs.Fronts.{front_next}
 use Rattle.fifobench.proofs.print.write_numbered.Goals as goal
 
 pub returns-in_err-write_piece-clause-err : goal.returns-in_err-write_piece-clause-err
@@ -15,4 +17,4 @@ returns-in_err-write_number-clause-err g c =
 pub returns-clause-err : goal.returns-clause-err
 returns-clause-err g c =
     let before = Appends-trans _ _ _ c.args.words.now (decimal c.args.number) c.in_ok-write_piece.ensures.ok c.in_ok-write_number.ensures.ok in
-    on_err_too c.write_piece-2.result _ _ (λ h. front_next _ _ _ _ (codes "\n") before h) c.write_piece-2.ensures.err
+    on_err_weaker c.write_piece-2.result (λ h. front_next _ _ _ _ (codes "\n") before h) c.write_piece-2.ensures.err

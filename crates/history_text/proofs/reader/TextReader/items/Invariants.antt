@@ -1,15 +1,15 @@
 use Rattle.std.proofs.Common.{◌≡◌, ◌+◌, ◌-◌, vec_len}
 use Rattle.history_text.specs.Input.{Takes}
-use Rattle.history_text.specs.Histories.{HasHistoryText, lines_before_end}
+use Rattle.history_text.specs.Items.{HaveLines, lines_of}
 use Rattle.history_text.proofs.reader.TextReader.items.Given as goal
 
-abbrev pub invariant-loop-events : goal.invariant-loop-events
-invariant-loop-events g l = record {
-  texts : HasHistoryText l.events.items;
-  taken : Takes l.fn.self.left l.self.left (lines_before_end l.events.items);
-  lines : l.self.lines ≡ l.fn.self.lines + 1 + vec_len l.events;
+abbrev pub invariant-loop-items : goal.invariant-loop-items
+invariant-loop-items g l = record {
+  right : HaveLines g.T.Item.kind l.items.items;
+  taken : Takes l.fn.self.left l.self.left (lines_of g.T.Item.kind l.items.items);
+  lines : l.self.lines ≡ l.fn.self.lines + vec_len l.items;
   is_stopped : l.self.is_stopped ≡ l.fn.self.is_stopped;
 }
 
-abbrev pub decreases-loop-events : goal.decreases-loop-events
-decreases-loop-events g l = 2000001 - vec_len l.events
+abbrev pub decreases-loop-items : goal.decreases-loop-items
+decreases-loop-items g l = g.T.Item.kind.most + 1 - vec_len l.items

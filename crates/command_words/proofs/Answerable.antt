@@ -1,0 +1,227 @@
+-- Words without a fault name a subcommand of the program, whose options are there and in their ranges.
+use Rattle.std.proofs.Common.{◌≡◌, ◌∙◌, inl, inr, ◌||◌, ◌&&◌, ◌++◌, ℕ, Bool, true, false, not, List, [], ◌∷◌, Option, Some, None, is_some, length, map, option_map, codes, refl, sym, subst}
+use Rattle.std.specs.Prelude.{⊤, IfSome, IsSome, IsSomeAnd, find, if◌then◌else◌}
+use Rattle.std.specs.Option.{option_map_or}
+use Rattle.std.specs.List.{list_any}
+use Rattle.std.specs.Str.{bytes_eq}
+use Rattle.std.proofs.lemmas.Slice.Eq.{bytes_eq-Decides}
+use Rattle.clap.specs.Facts.{explicit_source, parser_of_value, unwrap_or_range}
+use Rattle.clap.specs.Faults.{built_fault, check_fault, entered_fault, fault_of, level_fault, set_fault, use_fault, walk_fault}
+use Rattle.clap.specs.Kinds.{check_kinds, or_else, range_kinds, value_kinds}
+use Rattle.clap.specs.Simple.{App, Shape, argument_words, built, entered, filled, help_rule, label_of, names_of, new_shape, rows_at, subcommand_of}
+use Rattle.clap.specs.Takes.{is_given}
+use Rattle.clap.specs.Values.{IsUnsignedIn, refused_kind}
+use Rattle.clap.specs.ValueTests.{accepts}
+use Rattle.clap.specs.Walk.{Row, Rule, Text, Walk, answers_to, arg_by_id, finished, nothing_held, rows_after, used, values_or_missing, walk, walk_from, with_values, without}
+use Rattle.clap.specs.declared.builder.value_parser.Reading.{Reading}
+use Rattle.clap.specs.declared.builder.value_parser.Reading.TheVariants.{AsWritten}
+use Rattle.clap.specs.declared.builder.value_parser.ValueParser.{ValueParser}
+use Rattle.clap.specs.declared.builder.value_parser.ValueParser.TheVariants as vp
+use Rattle.clap.specs.declared.error.kind.ErrorKind.TheVariants as kind
+use Rattle.clap.specs.declared.parser.matches.ValueSource.TheVariants.{CommandLine}
+use Rattle.clap.proofs.ValueTestLemmas.{accepts-Accepts}
+use Rattle.command_words.specs.Commands.{IsAnswerable, the_program}
+use Rattle.command_words.specs.Options.{HasNumber, HasSettings, number_rule, queue_rule, stress_rules}
+use Rattle.command_words.proofs.Levels.{first_by_default, first_given, last_checks}
+use Rattle.command_words.proofs.NoKinds.{first_none, then_none}
+use Rattle.command_words.proofs.Rows.{DefaultsPass, HasDefault, RowsPass, set_passes}
+use Rattle.command_words.proofs.Stops.{IsNotHelp, StopsWell, turn_stops}
+use Rattle.command_words.proofs.Walks.{AllUseWell, FindsWell, UsesWell, finds_well, walk_keeps}
+
+-- ---- the options of `stress`
+
+-- the value passes the parser of the option with this id
+abbrev test : Text → Text → Bool
+test id v = option_map_or (λ a. accepts a.ignore_case (parser_of_value a.parser) v) (arg_by_id stress_rules id) true
+
+-- the subcommand as it is built
+abbrev stress_built : Shape
+stress_built = record (new_shape (codes "stress")) {
+  rules = map filled stress_rules ++ filled help_rule ∷ [];
+  is_built = true;
+  disable_help_subcommand = true;
+}
+
+accepted : (ignore_case : Bool) (parser : ValueParser) (v : Text) → value_kinds ignore_case parser v ≡ [] → accepts ignore_case parser v ≡ true
+accepted ignore_case parser v e = go (accepts ignore_case parser v) e
+  where
+    go : (b : Bool) → (if b then [] else refused_kind parser ∷ []) ≡ [] → b ≡ true
+    go true e = refl
+    go false e = cc
+
+-- an option of one value passes its values on where they passed
+set_uses : (a : Rule) (how : Reading)
+    → ((again : Bool) (values : List Text) (rows : List Row)
+    → use_fault again a values rows ≡ or_else (range_kinds 1 1 (length values)) (set_fault again a (values_or_missing a values) rows))
+    → ((values : List Text) (rows : List Row) → used a values rows ≡ with_values a.id how CommandLine (values_or_missing a values) (without a.id rows))
+    → ((v : Text) → accepts a.ignore_case (parser_of_value a.parser) v ≡ true → test a.id v ≡ true) → UsesWell test a
+set_uses a how fault same f again [] rows e p =
+    let bad : kind.InvalidValue ∷ [] ≡ [] = sym (fault again [] rows) ∙ e in
+    cc
+set_uses a how fault same f again (v ∷ vs) rows e p =
+    let values_pass = then_none _ _ (then_none _ _ (sym (fault again (v ∷ vs) rows) ∙ e)) in
+    let first_passes = f v (accepted a.ignore_case (parser_of_value a.parser) v (first_none _ _ values_pass)) in
+    subst (RowsPass test) (sym (same (v ∷ vs) rows)) (set_passes test a.id how (v ∷ vs) rows first_passes p)
+
+help_uses : UsesWell test (filled help_rule)
+help_uses again values rows e p =
+    let range = (unwrap_or_range (filled help_rule).range) in
+    let bad : kind.DisplayHelp ∷ [] ≡ [] = then_none (range_kinds range.start_inclusive range.end_inclusive (length values)) (kind.DisplayHelp ∷ []) e in
+    cc
+
+number_uses : (name : Text) (low high : ℕ) (default : Text) → ((v : Text) → accepts false (vp.Unsigned low high) v ≡ true → test name v ≡ true)
+    → UsesWell test (filled (number_rule name low high default))
+number_uses name low high default f = set_uses (filled (number_rule name low high default)) AsWritten (λ again values rows. refl) (λ values rows. refl) f
+
+queue_uses : UsesWell test (filled queue_rule)
+queue_uses = set_uses (filled queue_rule) AsWritten (λ again values rows. refl) (λ values rows. refl) (λ v e. refl)
+
+all_use_well : AllUseWell test stress_built.rules
+all_use_well = (
+  queue_uses,
+  (
+    number_uses (codes "threads") 1 16 (codes "2") (λ v e. e),
+    (
+      number_uses (codes "ops") 0 100000 (codes "1000") (λ v e. e),
+      (
+        number_uses (codes "seed") 0 4294967295 (codes "1") (λ v e. e),
+        (
+          number_uses (codes "percent") 0 100 (codes "50") (λ v e. e),
+          (number_uses (codes "ring") 2 65536 (codes "1024") (λ v e. e), (help_uses, tt)),
+        ),
+      ),
+    ),
+  ),
+)
+
+defaults_do : DefaultsPass test stress_built.rules
+defaults_do = (tt, (refl, (refl, (refl, (refl, (refl, (tt, tt)))))))
+
+any_text : (o : Option Text) (P : Text → Type 0) → IsSomeAnd o P → IsSome o
+any_text None P h = absurd h
+any_text (Some t) P h = refl
+
+such_text : (o : Option Text) (P Q : Text → Type 0) → ((t : Text) → P t → Q t) → IsSomeAnd o P → IsSomeAnd o Q
+such_text None P Q f h = h
+such_text (Some t) P Q f h = f t h
+
+left_true : (b : Bool) → (b || false) ≡ true → b ≡ true
+left_true true e = refl
+left_true false e = e
+
+-- the last check of `stress`: what is required was given
+given_queue : (rows : List Row) → check_fault stress_built rows false ≡ [] → is_given (codes "queue") rows ≡ true
+given_queue rows e = go (is_given (codes "queue") rows) e
+  where
+    go : (b : Bool) → (if not b || false then kind.MissingRequiredArgument ∷ [] else []) ≡ [] → b ≡ true
+    go true e = refl
+    go false e = cc
+
+module _ (rest : List Text) (none : level_fault stress_built [] nothing_held rest false [] ≡ []) where
+  well : FindsWell test stress_built.rules
+  well = finds_well test stress_built.rules all_use_well
+
+  number : (id : Text) (low high : ℕ) → ((v : Text) → test id v ≡ true → accepts false (vp.Unsigned low high) v ≡ true) → HasDefault id stress_built.rules
+      → HasNumber id low high (rows_after stress_built.rules [] rest)
+  number id low high f default =
+      such_text _ (λ v. test id v ≡ true) (IsUnsignedIn low high) (λ v e. accepts-Accepts false (vp.Unsigned low high) v (f v e))
+      (first_by_default test stress_built rest well defaults_do none id default)
+
+  has_settings : HasSettings (rows_after stress_built.rules [] rest)
+  has_settings = record {
+    queue = any_text _ (λ v. test (codes "queue") v ≡ true)
+        (first_given test stress_built rest well defaults_do none (codes "queue") (given_queue (rows_after stress_built.rules [] rest) (last_checks test stress_built rest well defaults_do none)));
+    threads = number (codes "threads") 1 16 (λ v e. e) (inr (inl (refl, tt)));
+    operations = number (codes "ops") 0 100000 (λ v e. e) (inr (inr (inl (refl, tt))));
+    seed = number (codes "seed") 0 4294967295 (λ v e. e) (inr (inr (inr (inl (refl, tt)))));
+    percent = number (codes "percent") 0 100 (λ v e. e) (inr (inr (inr (inr (inl (refl, tt))))));
+    ring = number (codes "ring") 2 65536 (λ v e. e) (inr (inr (inr (inr (inr (inl (refl, tt)))))));
+  }
+
+-- ---- the program
+
+-- a subcommand that is met without a fault and isn't `help` gives what can be answered
+abbrev AnswersWell : Shape → Type 0
+AnswersWell s = (name : Text) (rest : List Text) → answers_to name (label_of s) ≡ true → IsNotHelp name → level_fault s [] nothing_held rest false [] ≡ []
+    → IsAnswerable (Some (rows_at s rest))
+
+abbrev AllAnswerWell : List Shape → Type 0
+AllAnswerWell [] = ⊤
+AllAnswerWell (s ∷ rest) = AnswersWell s × AllAnswerWell rest
+
+found_well : (p : Shape → Bool) (xs : List Shape) → AllAnswerWell xs → IfSome (find p xs) (λ s. AnswersWell s × (p s ≡ true))
+found_well p [] all = tt
+found_well p (s ∷ rest) all = go (p s) refl (found_well p rest all.1)
+  where
+    go : (b : Bool) → p s ≡ b → IfSome (find p rest) (λ x. AnswersWell x × (p x ≡ true)) → IfSome (if b then Some s else find p rest) (λ x. AnswersWell x × (p x ≡ true))
+    go true e later = (all.0, e)
+    go false e later = later
+
+wanted : (has required help missing : Bool) → required ≡ true → check_kinds (not has && help) (not has && required) missing ≡ [] → has ≡ true
+wanted true required help missing e none = refl
+wanted false false help missing e none = e
+wanted false true true missing e none = cc
+wanted false true false missing e none = cc
+
+module _ (a : App) (words : List Text) (required : a.top.subcommand_required ≡ true) (helps : a.top.disable_help_subcommand ≡ false) (all : AllAnswerWell a.subs)
+    (none : built_fault a nothing_held words ≡ []) where
+  abbrev last : Walk
+  last = walk a.top.rules (names_of a) nothing_held words
+
+  abbrev has : Bool
+  has = is_some (entered a last.stopped)
+
+  stops : StopsWell last.stopped
+  stops = walk_keeps (λ (w : Walk). StopsWell w.stopped) a.top (names_of a) (turn_stops a.top (names_of a) helps) words (walk_from nothing_held) (first_none _ _ none) tt
+
+  below : entered_fault a last.stopped ≡ []
+  below = first_none _ _ (then_none (walk_fault a.top (names_of a) (walk_from nothing_held) words) _ none)
+
+  check : check_fault a.top (finished a.top.rules last.held) has ≡ []
+  check = then_none _ _ (then_none _ _ (then_none (entered_fault a last.stopped) _ (then_none (walk_fault a.top (names_of a) (walk_from nothing_held) words) _ none)))
+
+  has_one : has ≡ true
+  has_one = wanted has a.top.subcommand_required (a.top.arg_required_else_help && not (list_any (λ r. explicit_source r.source) (finished a.top.rules last.held)))
+      (not (a.top.subcommand_negates_reqs && has) && list_any (λ r. r.required && not (is_given r.id (finished a.top.rules last.held))) a.top.rules) required check
+
+  answers_shape : (name : Text) (rest : List Text) → IsNotHelp name → (o : Option Shape) → IfSome o (λ s. AnswersWell s × (answers_to name (label_of s) ≡ true))
+      → is_some (option_map (λ s. rows_at s rest) o) ≡ true → option_map_or (λ s. level_fault s [] nothing_held rest false []) o [] ≡ []
+      → IsAnswerable (option_map (λ s. rows_at s rest) o)
+  answers_shape name rest differs None f h e = cc
+  answers_shape name rest differs (Some s) f h e = f.0 name rest f.1 differs e
+
+  answers_stop : (o : Option (Text × List Text)) → StopsWell o → is_some (entered a o) ≡ true → entered_fault a o ≡ [] → IsAnswerable (entered a o)
+  answers_stop None st h e = cc
+  answers_stop (Some q) st h e =
+      answers_shape q.0 q.1 st (find (λ s. answers_to q.0 (label_of s)) a.subs) (found_well (λ s. answers_to q.0 (label_of s)) a.subs all) h e
+
+  answerable_app : IsAnswerable (entered a last.stopped)
+  answerable_app = answers_stop last.stopped stops has_one below
+
+not_help : (name : Text) → (bytes_eq (codes "help") name || false) ≡ true → IsNotHelp name → ⊥
+not_help name e differs =
+    let same : codes "help" ≡ name = (bytes_eq-Decides (codes "help") name).0 (left_true _ e) in
+    let bad : true ≡ false = subst (λ (t : Text). bytes_eq t (codes "help") ≡ false) (sym same) differs in
+    cc
+
+all_answer_well : AllAnswerWell (built the_program).subs
+all_answer_well = (
+  (λ name rest a n e. inl refl),
+  (
+    (λ name rest a n e. inr (inl refl)),
+    (
+      (λ name rest a n e. inr (inr (inl refl))),
+      (
+        (λ name rest a n e. inr (inr (inr (inl refl)))),
+        (
+          (λ name rest a n e. inr (inr (inr (inr (refl, has_settings rest e))))),
+          ((λ name rest a n e. absurd (not_help name a n)), tt),
+        ),
+      ),
+    ),
+  ),
+)
+
+-- words in which nothing is wrong are a command
+pub answerable : (words : List Text) → fault_of the_program words ≡ [] → IsAnswerable (subcommand_of the_program words)
+answerable words none = answerable_app (built the_program) (argument_words the_program words) refl refl all_answer_well none

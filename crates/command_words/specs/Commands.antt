@@ -1,0 +1,66 @@
+-- The commands of the program.
+use Rattle.std.specs.Prelude.{◌≡◌, ◌⊎◌, true, false, List, [], ◌∷◌, Option, Some, None, option_and_then, codes, if◌then◌else◌, ⊤}
+use Rattle.std.specs.Str.{bytes_eq}
+use Rattle.clap.specs.Faults.{fault_of}
+use Rattle.clap.specs.Kinds.{Kinds}
+use Rattle.clap.specs.Simple.{App, new_shape, subcommand_of}
+use Rattle.clap.specs.Walk.{Row, Text}
+use Rattle.command_words.specs.Options.{HasSettings, IsWithinRanges, Settings, settings_in, settings_of, the_stress}
+use Rattle.command_words.specs.declared.tasks.Task.{Task}
+use Rattle.command_words.specs.declared.tasks.Task.TheVariants as task
+
+-- the program: it wants one of these subcommands
+abbrev pub the_program : App
+the_program = record {
+  top = record (new_shape (codes "fifobench")) { is_leaf = false; subcommand_required = true };
+  subs = new_shape (codes "check") ∷ new_shape (codes "shrink") ∷ new_shape (codes "verify")
+      ∷ new_shape (codes "sim") ∷ the_stress ∷ [];
+}
+
+-- what is wrong with the words, or which help they ask for: nothing where they are a command
+abbrev pub faults_in : List Text → Kinds
+faults_in words = fault_of the_program words
+
+-- what a command asks for
+pub data Request : Type 0 where
+  check : Request
+  shrink : Request
+  verify : Request
+  sim : Request
+  stress : Settings → Request
+
+-- the request of a subcommand, by its name and clap's matches of its options
+abbrev pub request_named : Text → List Row → Option Request
+request_named name rows =
+    if bytes_eq name (codes "check") then Some check
+    else if bytes_eq name (codes "shrink") then Some shrink
+    else if bytes_eq name (codes "verify") then Some verify
+    else if bytes_eq name (codes "sim") then Some sim
+    else if bytes_eq name (codes "stress") then Some (stress (settings_in rows)) else None
+
+-- the request of the subcommand that was met, if one was
+abbrev pub request_of_subcommand : Option (Text × List Row) → Option Request
+request_of_subcommand = option_and_then (λ p. request_named p.0 p.1)
+
+-- the request of the words
+abbrev pub request_in : List Text → Option Request
+request_in words = request_of_subcommand (subcommand_of the_program words)
+
+-- the request that a value of the program stands for
+abbrev pub request_of : Task → Request
+request_of task.Check = check
+request_of task.Shrink = shrink
+request_of task.Verify = verify
+request_of task.Sim = sim
+request_of (task.Stress options) = stress (settings_of options)
+
+-- each number of the request lies in the range of its option
+abbrev pub IsInRange : Request → Type 0
+IsInRange (stress settings) = IsWithinRanges settings
+IsInRange _ = ⊤
+
+-- a subcommand of the program was met, and where it is `stress` its options are there and in their ranges
+abbrev pub IsAnswerable : Option (Text × List Row) → Type 0
+IsAnswerable None = ⊥
+IsAnswerable (Some p) = (p.0 ≡ codes "check") ⊎ (p.0 ≡ codes "shrink") ⊎ (p.0 ≡ codes "verify")
+    ⊎ (p.0 ≡ codes "sim") ⊎ ((p.0 ≡ codes "stress") × HasSettings p.1)

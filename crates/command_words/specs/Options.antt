@@ -1,0 +1,103 @@
+-- The options of `stress`.
+use Rattle.std.specs.Prelude.{◌≤◌, ◌<◌, ◌^◌, ℕ, true, List, [], ◌∷◌, Some, IsSome, IsSomeAnd, codes, unwrap_or}
+use Rattle.std.specs.Str.Parse.{digits_value, without_leading_plus}
+use Rattle.clap.specs.Simple.{Shape, new_rule, new_shape}
+use Rattle.clap.specs.Values.{IsUnsignedIn}
+use Rattle.clap.specs.Walk.{Row, Rule, Text, first_of}
+use Rattle.clap.specs.declared.builder.value_parser.ValueParser.TheVariants as vp
+use Rattle.command_words.specs.declared.options.StressOptions.{StressOptions}
+
+-- ---- what may be written
+
+-- an option that takes one number from low to high, and has a default
+abbrev pub number_rule : Text → ℕ → ℕ → Text → Rule
+number_rule name low high default = record (new_rule name) {
+  long = Some name;
+  value_names = 1;
+  parser = Some (vp.Unsigned low high);
+  defaults = default ∷ [];
+}
+
+-- the queue's name, any text, which has to be given
+abbrev pub queue_rule : Rule
+queue_rule = record (new_rule (codes "queue")) {
+  long = Some (codes "queue");
+  value_names = 1;
+  required = true;
+}
+
+-- the options in the order of the help: ranges and defaults
+abbrev pub stress_rules : List Rule
+stress_rules = queue_rule ∷ number_rule (codes "threads") 1 16 (codes "2")
+    ∷ number_rule (codes "ops") 0 100000 (codes "1000")
+    ∷ number_rule (codes "seed") 0 4294967295 (codes "1")
+    ∷ number_rule (codes "percent") 0 100 (codes "50")
+    ∷ number_rule (codes "ring") 2 65536 (codes "1024") ∷ []
+
+-- the subcommand with its options
+abbrev pub the_stress : Shape
+the_stress = record (new_shape (codes "stress")) { rules = stress_rules }
+
+-- ---- what is read
+
+-- what the options ask for, the queue by the text of its name
+pub record Settings : Type 0 where
+  pub queue : Text
+  pub threads : ℕ
+  pub operations : ℕ
+  pub seed : ℕ
+  pub percent : ℕ
+  pub ring : ℕ
+
+-- the settings that a value of the program stands for
+abbrev pub settings_of : StressOptions → Settings
+settings_of o = record {
+  queue = o.queue.now;
+  threads = o.threads;
+  operations = o.operations;
+  seed = o.seed;
+  percent = o.percent;
+  ring = o.ring;
+}
+
+-- the text of an option; there is one in all words that are a command
+abbrev pub text_in : Text → List Row → Text
+text_in id rows = unwrap_or (first_of id rows) []
+
+-- the decimal value of an option's text, before which a `+` may stand
+abbrev pub number_in : Text → List Row → ℕ
+number_in id rows = digits_value 10 (without_leading_plus (text_in id rows))
+
+-- the settings that clap's matches of `stress` give, in which an option that isn't given has its default
+abbrev pub settings_in : List Row → Settings
+settings_in rows = record {
+  queue = text_in (codes "queue") rows;
+  threads = number_in (codes "threads") rows;
+  operations = number_in (codes "ops") rows;
+  seed = number_in (codes "seed") rows;
+  percent = number_in (codes "percent") rows;
+  ring = number_in (codes "ring") rows;
+}
+
+-- each number lies in the range of its option
+pub record IsWithinRanges (s : Settings) : Type 0 where
+  pub threads : (1 ≤ s.threads) × (s.threads ≤ 16)
+  pub operations : s.operations ≤ 100000
+  pub seed : s.seed < 2 ^ 32
+  pub percent : s.percent ≤ 100
+  pub ring : (2 ≤ s.ring) × (s.ring ≤ 65536)
+
+-- ---- what the parse has checked
+
+-- the option has a text, which is a number from low to high
+abbrev pub HasNumber : Text → ℕ → ℕ → List Row → Type 0
+HasNumber id low high rows = IsSomeAnd (first_of id rows) (IsUnsignedIn low high)
+
+-- the queue's name is there, and each number is in its range
+pub record HasSettings (rows : List Row) : Type 0 where
+  pub queue : IsSome (first_of (codes "queue") rows)
+  pub threads : HasNumber (codes "threads") 1 16 rows
+  pub operations : HasNumber (codes "ops") 0 100000 rows
+  pub seed : HasNumber (codes "seed") 0 4294967295 rows
+  pub percent : HasNumber (codes "percent") 0 100 rows
+  pub ring : HasNumber (codes "ring") 2 65536 rows

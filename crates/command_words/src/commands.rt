@@ -1,0 +1,78 @@
+//! The commands, as clap takes them.
+ghost use Rattle.std.specs.Prelude.{◌≡◌, IfOk, false};
+ghost use Rattle.clap.specs.Simple.{app_of, new_app, shape_of};
+ghost use Rattle.clap.specs.Walk.{rule_of};
+ghost use Rattle.clap.specs.declared.builder.command.Command.TheViews.{out-Command};
+ghost use Rattle.command_words.specs.Commands.{the_program};
+ghost use Rattle.command_words.specs.Options.{number_rule, queue_rule, the_stress};
+
+use crate::help;
+use clap::builder::ValueParser;
+use clap::{Arg, Command};
+use std::alloc::{AllocError, Global};
+
+/// The program with its subcommands.
+pub(crate) fn the_command<'a>(alloc: Global) -> Result<Command<'a>, AllocError>
+    ensures { IfOk result (λ c. app_of c ≡ the_program) }
+{
+    let stress = stress_command(alloc)?;
+    Command::new(alloc, "fifobench")
+        .about(help::ABOUT)
+        .subcommand_required(true)
+        .subcommand(plain_command(alloc, "check", help::CHECK_ABOUT, help::CHECK_HELP))?
+        .subcommand(plain_command(alloc, "shrink", help::SHRINK_ABOUT, help::SHRINK_HELP))?
+        .subcommand(plain_command(alloc, "verify", help::VERIFY_ABOUT, help::VERIFY_HELP))?
+        .subcommand(plain_command(alloc, "sim", help::SIM_ABOUT, help::SIM_HELP))?
+        .subcommand(stress)
+}
+
+// A subcommand without options.
+fn plain_command<'a>(alloc: Global, name: &'a str, about: &'a str, help: &'a str) -> Command<'a>
+    ensures app { app_of result ≡ new_app name.entry.now }
+    ensures local { (out-Command result).has_globals ≡ false }
+{
+    Command::new(alloc, name).about(about).after_help(help)
+}
+
+fn stress_command<'a>(alloc: Global) -> Result<Command<'a>, AllocError>
+    ensures shape { IfOk result (λ c. shape_of c ≡ the_stress) }
+    ensures local { IfOk result (λ c. (out-Command c).has_globals ≡ false) }
+{
+    plain_command(alloc, "stress", help::STRESS_ABOUT, help::STRESS_HELP)
+        .arg(queue_option(alloc))?
+        .arg(number_option(alloc, "threads", (1, 16), "2", help::THREADS_HELP))?
+        .arg(number_option(alloc, "ops", (0, 100_000), "1000", help::OPERATIONS_HELP))?
+        .arg(number_option(alloc, "seed", (0, 4_294_967_295), "1", help::SEED_HELP))?
+        .arg(number_option(alloc, "percent", (0, 100), "50", help::PERCENT_HELP))?
+        .arg(number_option(alloc, "ring", (2, 65_536), "1024", help::RING_HELP))
+}
+
+fn queue_option<'a>(alloc: Global) -> Arg<'a>
+    ensures rule { rule_of result ≡ queue_rule }
+    ensures local { result.global ≡ false }
+{
+    Arg::new(alloc, "queue")
+        .long("queue")
+        .value_name("NAME")
+        .required(true)
+        .help(help::QUEUE_HELP)
+}
+
+// An option of a number from the first to the second of `range`.
+fn number_option<'a>(
+    alloc: Global,
+    name: &'a str,
+    range: (u64, u64),
+    default: &'a str,
+    help: &'a str,
+) -> Arg<'a>
+    ensures rule { rule_of result ≡ number_rule name.entry.now range.0 range.1 default.entry.now }
+    ensures local { result.global ≡ false }
+{
+    Arg::new(alloc, name)
+        .long(name)
+        .value_name("NUMBER")
+        .value_parser(ValueParser::Unsigned(range.0, range.1))
+        .default_value(default)
+        .help(help)
+}

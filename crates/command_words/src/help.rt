@@ -1,0 +1,107 @@
+//! The texts of the help.
+
+pub(crate) const ABOUT: &str = "Records and judges histories of a concurrent FIFO queue";
+
+pub(crate) const CHECK_ABOUT: &str =
+    "Reads a history from standard input and prints whether it is linearizable";
+
+pub(crate) const CHECK_HELP: &str = "\
+Input: the text of a history (docs/FORMATS.md): the line `fifo-history 1`, one line for each call
+and each return by rising ticket, and the line `end` with their number.
+
+Output: `YES` and all operations in a legal order of the queue, or `NO`, the kind of violation and
+the operations that show it: VFresh, a value that was not there; VRepeat, a value dequeued twice;
+VOrd, two values dequeued against the order of their enqueues; VWit, an empty answer although the
+queue was never empty meanwhile.
+
+Status: 0 yes, 1 no, 2 the input is refused (a line `REFUSED ..` says why), 3 a read, a write or
+memory failed (a line `FAULT ..`).
+
+Example:
+  $ printf 'fifo-history 1\\n0 0 call-deq\\n1 0 ret-deq 7\\nend 2\\n' | fifobench check
+  NO VFresh
+  0 1 0 deq 7
+";
+
+pub(crate) const SHRINK_ABOUT: &str =
+    "Reads a history from standard input and prints a smaller one with the same kind of violation";
+
+pub(crate) const SHRINK_HELP: &str = "\
+Input: the text of a history, as for `check`.
+
+Output: where the history is not linearizable, the text of the shrunk history and then its verdict;
+else the verdict alone, as `check` prints it.
+
+Status: 0 yes, 1 no, 2 the input is refused (a line `REFUSED ..` says why), 3 a read, a write or
+memory failed (a line `FAULT ..`).
+
+Example:
+  $ fifobench shrink < recorded.txt
+";
+
+pub(crate) const VERIFY_ABOUT: &str =
+    "Reads a history and a verdict from standard input and prints whether the verdict is right";
+
+pub(crate) const VERIFY_HELP: &str = "\
+Input: the text of a history, directly followed by the text of a verdict, as `check` and `stress`
+print them.
+
+Output: `VALID` where the verdict's operations are evidence for it in that history, else `INVALID`.
+
+Status: 0 valid, 1 invalid, 2 the input is refused (a line `REFUSED ..` says why), 3 a read, a write
+or memory failed (a line `FAULT ..`).
+
+Example:
+  $ printf 'fifo-history 1\\n0 0 call-deq\\n1 0 ret-deq 7\\nend 2\\nNO VFresh\\n0 1 0 deq 7\\n' | fifobench verify
+  VALID
+";
+
+pub(crate) const SIM_ABOUT: &str =
+    "Reads a schedule from standard input, steps the recorder through it, and judges what it recorded";
+
+pub(crate) const SIM_HELP: &str = "\
+Input: the text of a schedule: the line `fifo-schedule 1`, the line `threads T ring R` with 1 to 64
+threads and rings of 2 to 65536 events, one line for each step, and the line `end` with their number.
+
+Output: a line `REJECTED`, with the number of the step from 1 and the reason, for each step that the
+recorder refuses; then `OPEN` where threads, rings or operations are left open, else the text of the
+recorded history and its verdict.
+
+Status: 0 yes or open, 1 no, 2 the input is refused (a line `REFUSED ..` says why), 3 a read, a write
+or memory failed (a line `FAULT ..`).
+
+Example:
+  $ printf 'fifo-schedule 1\\nthreads 1 ring 2\\nask-enq 0\\nend 1\\n' | fifobench sim
+  OPEN
+";
+
+pub(crate) const STRESS_ABOUT: &str =
+    "Runs workers on a queue, records what they did, and prints the history and its verdict";
+
+pub(crate) const STRESS_HELP: &str = "\
+Input: none.
+
+Output: the text of the recorded history and its verdict. Runs with the same options differ, since
+the workers run at the same time.
+
+Queues: locked, two-lock, array and seg are sound; lifo, doubling, inventing, shy and losing are
+faulty on purpose.
+
+Status: 0 yes, 1 no, 2 there is no such queue, or threads times operations is above 1000000 (a line
+`REFUSED ..` says which), 3 the run, a write or memory failed (a line `FAULT ..`).
+
+Example:
+  $ fifobench stress --queue lifo --threads 4 --ops 500 --seed 7
+";
+
+pub(crate) const QUEUE_HELP: &str = "Name of the queue";
+
+pub(crate) const THREADS_HELP: &str = "Workers, 1 to 16";
+
+pub(crate) const OPERATIONS_HELP: &str = "Operations of each worker, 0 to 100000";
+
+pub(crate) const SEED_HELP: &str = "Seed of the workers' plan, 0 to 4294967295";
+
+pub(crate) const PERCENT_HELP: &str = "Enqueues among a hundred operations, 0 to 100";
+
+pub(crate) const RING_HELP: &str = "Events that each worker's ring holds, 2 to 65536";

@@ -1,0 +1,57 @@
+//! The options of `stress`.
+ghost use Rattle.std.specs.Prelude.{◌≡◌, ℕ};
+ghost use Rattle.clap.specs.Matches.{found_of};
+ghost use Rattle.clap.specs.Walk.{rows_of};
+ghost use Rattle.command_words.specs.Options.{HasNumber, HasSettings, IsWithinRanges, number_in, settings_in, settings_of};
+
+use clap::ArgMatches;
+
+/// What `stress` runs.
+#[derive(Clone, Copy, Debug, PartialEq, Eq)]
+pub struct StressOptions<'a> {
+    /// The queue's name as it was written, which may be no queue's.
+    pub queue: &'a str,
+    /// Workers, 1 to 16.
+    pub threads: usize,
+    /// Operations of each worker, 0 to 100,000.
+    pub operations: usize,
+    /// The seed of the workers' plan, below 2^32.
+    pub seed: u64,
+    /// About how many of a hundred operations are enqueues, 0 to 100.
+    pub percent: u8,
+    /// Events that the ring of each worker holds, 2 to 65,536.
+    pub ring: usize,
+}
+
+/// The options in the matches of `stress`.
+pub(crate) fn stress_options<'a>(matches: &ArgMatches<'a>) -> StressOptions<'a>
+    requires { HasSettings (rows_of (found_of matches.now)) }
+    ensures settings { settings_of result ≡ settings_in (rows_of (found_of matches.now)) }
+    ensures ranges { IsWithinRanges (settings_of result) }
+{
+    let Some(queue) = matches.get_str("queue") else {
+        unreachable!()
+    };
+    StressOptions {
+        queue,
+        threads: number(matches, "threads") as usize,
+        operations: number(matches, "ops") as usize,
+        seed: number(matches, "seed"),
+        percent: number(matches, "percent") as u8,
+        ring: number(matches, "ring") as usize,
+    }
+}
+
+// The number of an option that the parse has checked.
+fn number(matches: &ArgMatches<'_>, id: &str) -> u64
+    requires { (low : ℕ) × (high : ℕ) × HasNumber id.now low high (rows_of (found_of matches.now)) }
+    ensures { result ≡ number_in id.now (rows_of (found_of matches.now)) }
+{
+    let Some(text) = matches.get_str(id) else {
+        unreachable!()
+    };
+    let Ok(number) = text.parse::<u64>() else {
+        unreachable!()
+    };
+    number
+}

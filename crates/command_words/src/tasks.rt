@@ -1,0 +1,63 @@
+//! What the words ask for.
+ghost use Rattle.std.specs.Prelude.{◌≡◌, IfOk, IfErr, OnOk, Some, map, []};
+ghost use Rattle.clap.specs.Kinds.{HasKind};
+ghost use Rattle.clap.specs.Simple.{subcommand_rows_of};
+ghost use Rattle.command_words.specs.Commands.{IsAnswerable, IsInRange, faults_in, request_in, request_of, request_of_subcommand};
+
+use crate::commands::the_command;
+use crate::options::{StressOptions, stress_options};
+use clap::{ArgMatches, Error};
+use std::alloc::Global;
+use std::convert::AsStr;
+
+/// What the words ask for.
+#[derive(Clone, Copy, Debug, PartialEq, Eq)]
+pub enum Task<'a> {
+    /// Read a history and print its verdict.
+    Check,
+    /// Read a history and print a smaller one that shows the same kind of violation, and its verdict.
+    Shrink,
+    /// Read a history and a claimed verdict, and print whether the verdict holds.
+    Verify,
+    /// Read a schedule, run it on the recorder's machine, and print what it recorded and the verdict.
+    Sim,
+    /// Run workers on a queue, and print what was recorded and the verdict.
+    Stress(StressOptions<'a>),
+}
+
+/// The task that the words name, or clap's error about them.
+///
+/// The first word is the program's own name. A mistake in the words is an error of status 2 by clap's `exit_code`, and words
+/// that ask for a help one of status 0, whose text is the help; kind `OutOfMemory` stands for want of memory alone. A number
+/// out of the range of its option is a mistake of kind `ValueValidation`.
+pub fn task_in<'a, T: AsStr>(alloc: Global, words: &'a [T]) -> Result<Task<'a>, Error>
+    ensures ok { OnOk result (faults_in (map T.text words.entry.now) ≡ []) }
+    ensures task { IfOk result (λ task. request_in (map T.text words.entry.now) ≡ Some (request_of task)) }
+    ensures ranges { IfOk result (λ task. IsInRange (request_of task)) }
+    ensures err { IfErr result (HasKind (faults_in (map T.text words.entry.now))) }
+{
+    let command = the_command(alloc)?;
+    match command.try_get_matches_from(words) {
+        Ok(matches) => Ok(task_of(&matches)),
+        Err(error) => Err(error),
+    }
+}
+
+// The task of matches that a parse without a fault gave.
+fn task_of<'a>(matches: &ArgMatches<'a>) -> Task<'a>
+    requires { IsAnswerable (subcommand_rows_of matches.now) }
+    ensures task { request_of_subcommand (subcommand_rows_of matches.now) ≡ Some (request_of result) }
+    ensures ranges { IsInRange (request_of result) }
+{
+    let Some((name, options)) = matches.subcommand() else {
+        unreachable!()
+    };
+    match name {
+        "check" => Task::Check,
+        "shrink" => Task::Shrink,
+        "verify" => Task::Verify,
+        "sim" => Task::Sim,
+        "stress" => Task::Stress(stress_options(options)),
+        _ => unreachable!(),
+    }
+}

@@ -1,0 +1,7 @@
+use Rattle.std.proofs.Common.{[], ◌∙◌, sym, append-nil}
+use Rattle.history_text.specs.Schedules.{schedule_text}
+use Rattle.history_text.proofs.OneSchedule.{texts_agree}
+use Rattle.history_text.proofs.laws.no_schedule_text_begins_another.Goals as goal
+
+pub returns : goal.returns
+returns c = λ first second more text_1 text_2 same. (texts_agree first second more [] text_1 text_2 (same ∙ sym (append-nil (schedule_text second)))).1

@@ -1,0 +1,74 @@
+//! What texts list: events, steps or operations, each in its line.
+ghost use Rattle.std.specs.Prelude.{◌≡◌, ◌≤◌, ◌&&◌, ◌++◌, IfOk, IfErr, IfSome};
+ghost use Rattle.history_text.specs.Lines.{IsLineFault, fields_of, begins_as_end};
+ghost use Rattle.history_text.specs.Items as judged;
+ghost use Rattle.history_text.specs.Items.{Kind, line_of};
+ghost use Rattle.history_text.specs.Taking.{IsSpelled, IsItemLine};
+
+use crate::fault::TextFault;
+use crate::field::end_in;
+
+/// What a line of a text stands for.
+pub(crate) trait Item: Drop {
+    /// How a text lists such items.
+    ghost kind: { Kind Self };
+
+    /// The most items of a text.
+    fn most() -> usize
+        ensures { result ≡ kind.most };
+
+    /// Whether a last line counts the items. Else they go on to the end of the input.
+    fn is_counted() -> bool
+        ensures { result ≡ kind.is_counted };
+
+    /// The item of a whole line, or the first fault of its fields.
+    fn from_line(line: u64, bytes: &[u8]) -> Result<Self, TextFault>
+        ensures value { result ≡ kind.read line (fields_of bytes.now) }
+        ensures of_line { IfErr result IsLineFault }
+        ensures spelled { IfOk result (IsSpelled kind (fields_of bytes.now)) };
+
+    /// The item whose line stands whole at the front, and the bytes after it.
+    ///
+    /// It may find some lines that are right and none that is wrong. What it doesn't find, `from_line` judges.
+    fn at_front(bytes: &[u8]) -> Option<(Self, &[u8])>
+        ensures { IfSome result (λ p. (bytes.now ≡ line_of kind p.0 ++ p.1.now) × kind.HasLine p.0) }
+    {
+        let _ = bytes;
+        None
+    }
+
+    /// No text has more items than that, so that its lines can be counted.
+    ghost few: { kind.most ≤ 2000000 };
+}
+
+/// Whether the line is a last one, which counts the lines before it.
+fn is_last<T: Item>(bytes: &[u8]) -> bool
+    ensures { result ≡ (T.kind.is_counted && begins_as_end bytes.now) }
+{
+    T::is_counted() && bytes.starts_with(b"end ")
+}
+
+/// A whole line after so many items: an item, or none where it is the last line.
+pub(crate) fn item_in<T: Item>(
+    line: u64,
+    count: usize,
+    bytes: &[u8],
+) -> Result<Option<T>, TextFault>
+    ensures value { result ≡ judged.item_in T.kind line count bytes.now }
+    ensures of_line { IfErr result IsLineFault }
+    ensures spelled { IfOk result (IsItemLine T.kind count bytes.now) }
+{
+    if is_last::<T>(bytes) {
+        return match end_in(line, count, &bytes[4..]) {
+            Ok(()) => Ok(None),
+            Err(fault) => Err(fault),
+        };
+    }
+    if count >= T::most() {
+        return Err(TextFault::Limit(line));
+    }
+    match T::from_line(line, bytes) {
+        Ok(item) => Ok(Some(item)),
+        Err(fault) => Err(fault),
+    }
+}

@@ -1,0 +1,71 @@
+//! The tested queue: two stacks under one lock.
+use event_records::{AnsweredDeq, AnsweredEnq, AskDeq, AskEnq};
+use queue_interface::TestQueue;
+use std::alloc::Global;
+use std::mem::swap;
+use std::sync::{Mutex, Wait};
+
+/// Values that were enqueued on one stack, the last on top, and on the other those to be dequeued next, the first on top.
+#[derive(Drop)]
+struct Stacks {
+    inbox: Vec<u64>,
+    outbox: Vec<u64>,
+}
+
+impl Stacks {
+    /// Takes a value in, and tells whether there was memory for it.
+    fn push(&mut self, value: u64) -> bool {
+        self.inbox.push(value).is_ok()
+    }
+
+    /// Gives the value out that was taken in first, or none.
+    fn pop(&mut self) -> Option<u64> {
+        if self.outbox.is_empty() {
+            swap(&mut self.inbox, &mut self.outbox);
+            self.outbox.reverse();
+        }
+        self.outbox.pop()
+    }
+}
+
+/// A queue of two stacks. Whoever calls it waits for the lock by the queue's own runtime.
+#[derive(Drop)]
+pub struct TwoStacks<R: Wait + Drop> {
+    rt: R,
+    stacks: Mutex<Stacks>,
+}
+
+impl<R: Wait + Drop> TwoStacks<R> {
+    /// An empty queue. Its memory grows with its values.
+    pub fn new(alloc: Global, rt: R) -> TwoStacks<R> {
+        TwoStacks {
+            rt,
+            stacks: Mutex::new(Stacks {
+                inbox: Vec::new(alloc),
+                outbox: Vec::new(alloc),
+            }),
+        }
+    }
+}
+
+impl<R: Wait + Drop + Send + Sync> TestQueue for TwoStacks<R> {
+    ghost use Rattle.queue_interface.specs.Answers.{AnswersInKind};
+
+    // Any answer of the question's kind.
+    ghost may = { λ _. AnswersInKind };
+
+    fn enqueue(&self, ask: AskEnq) -> AnsweredEnq {
+        if self.stacks.lock(&self.rt).push(ask.value()) {
+            ask.taken()
+        } else {
+            ask.not_taken()
+        }
+    }
+
+    fn dequeue(&self, ask: AskDeq) -> AnsweredDeq {
+        match self.stacks.lock(&self.rt).pop() {
+            Some(value) => ask.got(value),
+            None => ask.empty(),
+        }
+    }
+}

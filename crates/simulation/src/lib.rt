@@ -1,0 +1,8 @@
+//! A schedule of the recorder's atomic steps, played on the pure machine of `recorder_core`.
+#![tactic(auto)]
+
+mod playing;
+#[cfg(test)]
+mod tests;
+
+pub use playing::{Ending, Rejection, Rejections, Simulation, simulate};

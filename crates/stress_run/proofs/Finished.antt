@@ -1,0 +1,253 @@
+-- From workers that made their rows to the events of a run.
+use Rattle.std.proofs.Common.{◌≡◌, ℕ, zero, suc, ◌*◌, ◌<◌, List, [], ◌∷◌, ◌++◌, length, map, All, sum_by, flat_map, get_or, IsPermutation, false, refl, ap, sym, subst, ◌∙◌, arith}
+use Rattle.std.proofs.lemmas.List.{map-append, length-map, get_or_default}
+use Rattle.std.proofs.lemmas.List.Concat.{length-flat_map}
+use Rattle.std.proofs.lemmas.List.FromFn.{length-range_with_len}
+use Rattle.std.proofs.lemmas.List.Sums.{sum_by-cons}
+use Rattle.std.proofs.lemmas.List.Sorted.{length_permutation}
+use Rattle.std.proofs.lemmas.Slice.Zip.{AllZip-long}
+use Rattle.std.specs.List.{AllZip}
+use Rattle.std.specs.List.Sorted.{IsStrictlyIncreasing}
+use Rattle.atomic_table.specs.Seated.{TableId}
+use Rattle.tickets.specs.Views.{PassView, share_of, numbers_below}
+use Rattle.event_records.specs.Question.{Question}
+use Rattle.event_records.specs.declared.kind.Kind.{Kind}
+use Rattle.event_records.specs.declared.kind.Answer.{Answer}
+use Rattle.event_records.specs.declared.event.Event.{Event}
+use Rattle.event_rings.specs.Ring.{TokenView}
+use Rattle.workloads.specs.Plans.{IsPlan}
+use Rattle.stress_run.specs.Operations.{Operates, IsRun, ticket_of}
+use Rattle.stress_run.specs.Workers.{WorkerView, Works, WorksIn, IsReadyIn, row_of}
+use Rattle.stress_run.specs.Crew.{IsNew, IsCrew, AreClosed, end_of, token_of}
+use Rattle.collector.specs.Ends.{rings_of, rings_of_tokens}
+use Rattle.stress_run.proofs.Places.{IsAt, zip_at, zip_of, map_at, numbered_at}
+
+-- a worker that has made all operations of its row
+pub record IsDone (row : List Kind) (a : WorkerView) : Type 0 where
+  pub left : a.pass.left ≡ 0
+  pub size : length a.pass.drawn ≡ 2 * length row
+  pub drawn : a.pass.drawn ≡ map ticket_of a.sent
+
+lefts : (rows : List (List Kind)) (after : List WorkerView) → AllZip IsDone rows after → sum_by (λ a. a.pass.left) after ≡ 0
+lefts [] [] z = refl
+lefts [] (a ∷ rest) z = absurd z
+lefts (r ∷ rs) [] z = absurd z
+lefts (r ∷ rs) (a ∷ rest) z = let one = sum_by-cons (λ (w : WorkerView). w.pass.left) a rest in let more = lefts rs rest z.1 in let none = z.0.left in omega (arith, one, more, none)
+
+sizes : (rows : List (List Kind)) (after : List WorkerView) → AllZip IsDone rows after → sum_by (λ a. length a.pass.drawn) after ≡ 2 * sum_by length rows
+sizes [] [] z = refl
+sizes [] (a ∷ rest) z = absurd z
+sizes (r ∷ rs) [] z = absurd z
+sizes (r ∷ rs) (a ∷ rest) z =
+    let one = sum_by-cons (λ (w : WorkerView). length w.pass.drawn) a rest in
+    let row = sum_by-cons length r rs in
+    let more = sizes rs rest z.1 in
+    let all = z.0.size in
+    omega (arith, one, row, more, all)
+
+tickets_of : (rows : List (List Kind)) (after : List WorkerView) → AllZip IsDone rows after → flat_map (λ a. a.pass.drawn) after ≡ map ticket_of (flat_map (λ list. list) (map (λ a. a.sent) after))
+tickets_of [] [] z = refl
+tickets_of [] (a ∷ rest) z = absurd z
+tickets_of (r ∷ rs) [] z = absurd z
+tickets_of (r ∷ rs) (a ∷ rest) z =
+    ap (λ l. l ++ flat_map (λ (w : WorkerView). w.pass.drawn) rest) z.0.drawn
+    ∙ ap (λ l. map ticket_of a.sent ++ l) (tickets_of rs rest z.1)
+    ∙ sym (map-append ticket_of a.sent (flat_map (λ list. list) (map (λ (w : WorkerView). w.sent) rest)))
+
+same_rings : (workers after : List WorkerView) → AllZip (λ w a. (a.ring ≡ w.ring) × (a.thread ≡ w.thread)) workers after → rings_of_tokens (map token_of after) ≡ rings_of (map end_of workers)
+same_rings [] [] z = refl
+same_rings [] (a ∷ rest) z = absurd z
+same_rings (w ∷ ws) [] z = absurd z
+same_rings (w ∷ ws) (a ∷ rest) z = pairs a.ring w.ring a.thread w.thread _ _ z.0.0 z.0.1 (same_rings ws rest z.1)
+  where
+    pairs : {X Y : Type 0} (x x' : X) (y y' : Y) (xs xs' : List (X × Y)) → x ≡ x' → y ≡ y' → xs ≡ xs' → (x, y) ∷ xs ≡ (x', y') ∷ xs'
+    pairs x x' y y' xs xs' p q r = cc
+
+sent_of : (after : List WorkerView) → map (λ token. token.sent) (map token_of after) ≡ map (λ a. a.sent) after
+sent_of [] = refl
+sent_of (a ∷ rest) = ap (λ l. a.sent ∷ l) (sent_of rest)
+
+ends_threads : (workers : List WorkerView) → map (λ e. e.thread) (map end_of workers) ≡ map (λ w. w.thread) workers
+ends_threads [] = refl
+ends_threads (w ∷ ws) = ap (λ l. w.thread ∷ l) (ends_threads ws)
+
+pub ends_fresh : (workers : List WorkerView) → All (λ e. e.received ≡ []) (map end_of workers)
+ends_fresh [] k d h = absurd (omega (arith, h))
+ends_fresh (w ∷ ws) zero d h = refl
+ends_fresh (w ∷ ws) (suc k) d h = ends_fresh ws k d (omega (arith, h))
+
+module _ (key : TableId) (rows : List (List Kind)) (workers : List WorkerView) (crew : IsCrew key rows workers) where
+  pub crew_long : length workers ≡ length rows
+  crew_long = AllZip-long (IsNew key) rows workers crew.each
+
+  pub in_order : map (λ e. e.thread) (map end_of workers) ≡ numbers_below (length (map end_of workers))
+  in_order = ends_threads workers ∙ crew.threads ∙ ap numbers_below (sym (length-map workers end_of ∙ crew_long))
+
+  -- the row, the worker and its thread at a place
+  record Place (t : ℕ) (w : WorkerView) : Type 0 where
+    pub row : List Kind
+    pub at_row : IsAt rows t row
+    pub new : IsNew key row w
+    pub thread : w.thread ≡ t
+    pub row_is : row_of rows w ≡ row
+
+  place : (t : ℕ) (w : WorkerView) → t < length rows → IsAt workers t w → Place t w
+  place t w h at =
+      let z = zip_at (IsNew key) rows workers t crew.each h in
+      let same : z.1 ≡ w = sym (z.3 w) ∙ at w in
+      let long = crew_long in
+      let inside : t < length workers = omega (arith, h, long) in
+      let number = numbered_at (λ (v : WorkerView). v.thread) workers (length rows) t w crew.threads h inside at in
+      record { row = z.0; at_row = z.2; new = subst (IsNew key z.0) same z.4; thread = number; row_is = ap (λ n. get_or rows n []) number ∙ z.2 [] }
+
+  pub ready : IsPlan rows → All (IsReadyIn key rows) workers
+  ready plan k d h =
+      let w = get_or workers k d in
+      let long = crew_long in
+      let inside : k < length rows = omega (arith, h, long) in
+      let p = place k w inside (λ e. get_or_default workers k e d h) in
+      let new = p.new in
+      let number = p.thread in
+      let size = ap (λ (r : List Kind). length r) p.row_is in
+      let short = plan.short k [] inside in
+      let row = ap (λ (r : List Kind). length r) (p.at_row []) in
+      let left = ap (λ (v : PassView). v.left) new.pass in
+      let asked = new.asked in
+      record {
+        has_row = omega (arith, number, inside);
+        ready = record {
+          of_key = ap (λ (v : PassView). v.key) new.pass;
+          enough = omega (arith, left, size);
+          room = omega (arith, asked, size, short, row);
+        };
+      }
+
+  module _ (may : Question → Answer → Type 0) (after : List WorkerView) (worked : AllZip (WorksIn may rows) workers after) where
+    after_long : length after ≡ length rows
+    after_long = AllZip-long (WorksIn may rows) workers after worked ∙ crew_long
+
+    -- the worker that came to be the one at a place, and what it did
+    record Past (t : ℕ) (a : WorkerView) : Type 0 where
+      pub w : WorkerView
+      pub place_of : Place t w
+      pub did : WorksIn may rows w a
+
+    past : (t : ℕ) (a : WorkerView) → t < length rows → IsAt after t a → Past t a
+    past t a h at =
+        let long = crew_long in
+        let inside : t < length workers = omega (arith, h, long) in
+        let z = zip_at (WorksIn may rows) workers after t worked inside in
+        let same : z.1 ≡ a = sym (z.3 a) ∙ at a in
+        record { w = z.0; place_of = place t z.0 h z.2; did = subst (WorksIn may rows z.0) same z.4 }
+
+    pub keys : All (λ a. a.pass.key ≡ key) after
+    keys k d h =
+        let long = after_long in
+        let inside : k < length rows = omega (arith, h, long) in
+        let p = past k (get_or after k d) inside (λ e. get_or_default after k e d h) in
+        p.did.stays.key ∙ ap (λ (v : PassView). v.key) p.place_of.new.pass
+
+    pub rings : rings_of_tokens (map token_of after) ≡ rings_of (map end_of workers)
+    rings = same_rings workers after (zip_weaken workers after worked)
+      where
+        zip_weaken : (ws vs : List WorkerView) → AllZip (WorksIn may rows) ws vs → AllZip (λ w a. (a.ring ≡ w.ring) × (a.thread ≡ w.thread)) ws vs
+        zip_weaken [] [] z = tt
+        zip_weaken [] (v ∷ vs) z = absurd z
+        zip_weaken (w ∷ ws) [] z = absurd z
+        zip_weaken (w ∷ ws) (v ∷ vs) z = ((z.0.stays.ring, z.0.stays.thread), zip_weaken ws vs z.1)
+
+    module _ (tokens : List TokenView) (pass : PassView) (closed : AreClosed (record { key = key; left = 0; drawn = [] }) after tokens pass) where
+      works : (t : ℕ) (a : WorkerView) → t < length rows → IsAt after t a → (p : Past t a) → Works may (row_of rows p.w) p.w a
+      works t a h at p =
+          let long = after_long in
+          let inside : t < length after = omega (arith, h, long) in
+          p.did.works (subst (λ (v : WorkerView). v.stopped ≡ false) (at a) (closed.running t a inside))
+
+      done_each : AllZip IsDone rows after
+      done_each = zip_of IsDone rows after after_long (λ t row a h at_row at. one t row a h at_row at)
+        where
+          one : (t : ℕ) (row : List Kind) (a : WorkerView) → t < length rows → IsAt rows t row → IsAt after t a → IsDone row a
+          one t row a h at_row at =
+              let p = past t a h at in
+              let k = works t a h at p in
+              let new = p.place_of.new in
+              let same_row : p.place_of.row ≡ row = sym (p.place_of.at_row []) ∙ at_row [] in
+              let size = ap (λ (r : List Kind). length r) (p.place_of.row_is ∙ same_row) in
+              let size_new = ap (λ (r : List Kind). length r) same_row in
+              let had = ap (λ (v : PassView). v.left) new.pass in
+              let none = ap (λ (v : PassView). length v.drawn) new.pass in
+              let share = k.same.share in
+              let left = k.left in
+              let drawn = k.drawn ∙ ap (λ (v : PassView). v.drawn ++ map ticket_of k.events) new.pass in
+              let sent = k.sent ∙ ap (λ l. l ++ k.events) new.sent in
+              record { left = omega (arith, left, had, size, size_new); size = omega (arith, left, had, size, size_new, share, none); drawn = drawn ∙ sym (ap (map ticket_of) sent) }
+
+      pub whole : share_of pass ≡ 2 * sum_by length rows
+      whole =
+          let left = closed.left in
+          let none = lefts rows after done_each in
+          let all = length_permutation _ _ closed.drawn in
+          let flat = length-flat_map (λ (a : WorkerView). a.pass.drawn) after in
+          let size = sizes rows after done_each in
+          omega (arith, left, none, all, flat, size)
+
+      module _ (total : ℕ) (lists : List (List Event)) (drawn : pass.drawn ≡ numbers_below total) (sealed : lists ≡ map (λ token. token.sent) tokens) where
+        lists_are : lists ≡ map (λ a. a.sent) after
+        lists_are = sealed ∙ ap (map (λ (token : TokenView). token.sent)) closed.tokens_are ∙ sent_of after
+
+        list_at : (t : ℕ) (a : WorkerView) → t < length rows → IsAt after t a → get_or lists t [] ≡ a.sent
+        list_at t a h at =
+            let long = after_long in
+            let inside : t < length after = omega (arith, h, long) in
+            ap (λ l. get_or l t []) lists_are ∙ map_at (λ (v : WorkerView). v.sent) after t a [] inside at
+
+        operates_as : (thread thread' : ℕ) (key' : TableId) (first first' : ℕ) (kinds kinds' : List Kind) (events events' : List Event) → thread ≡ thread' → key' ≡ key → first ≡ first' → kinds ≡ kinds' → events ≡ events'
+            → Operates may thread key' first kinds events → Operates may thread' key first' kinds' events'
+        operates_as thread thread' key' first first' kinds kinds' events events' a b c d e o =
+            subst (λ (es : List Event). Operates may thread' key first' kinds' es) e
+            (subst (λ (ks : List Kind). Operates may thread' key first' ks events) d
+            (subst (λ (n : ℕ). Operates may thread' key n kinds events) c
+            (subst (λ (k : TableId). Operates may thread' k first kinds events) b
+            (subst (λ (n : ℕ). Operates may n key' first kinds events) a o))))
+
+        worker_at : (t : ℕ) → t < length rows → (a : WorkerView) × IsAt after t a
+        worker_at t h =
+            let z = zip_at IsDone rows after t done_each h in (z.1, z.3)
+
+        operates_at : (t : ℕ) → t < length rows → Operates may t key 0 (get_or rows t []) (get_or lists t [])
+        operates_at t h =
+            let z = worker_at t h in
+            let p = past t z.0 h z.1 in
+            let k = works t z.0 h z.1 p in
+            let new = p.place_of.new in
+            let sent = k.sent ∙ ap (λ l. l ++ k.events) new.sent in
+            operates_as p.w.thread t p.w.pass.key p.w.asked 0 (row_of rows p.w) (get_or rows t []) k.events (get_or lists t [])
+            p.place_of.thread (ap (λ (v : PassView). v.key) new.pass) new.asked (p.place_of.row_is ∙ sym (p.place_of.at_row [])) (sym sent ∙ sym (list_at t z.0 h z.1)) k.operates
+
+        rising_at : (t : ℕ) → t < length rows → IsStrictlyIncreasing (map ticket_of (get_or lists t []))
+        rising_at t h =
+            let z = worker_at t h in
+            let p = past t z.0 h z.1 in
+            let k = works t z.0 h z.1 p in
+            let new = p.place_of.new in
+            let sent = k.sent ∙ ap (λ l. l ++ k.events) new.sent in
+            let drawn_is = k.drawn ∙ ap (λ (v : PassView). v.drawn ++ map ticket_of k.events) new.pass in
+            let same = drawn_is ∙ sym (ap (map ticket_of) sent) ∙ sym (ap (map ticket_of) (list_at t z.0 h z.1)) in
+            subst IsStrictlyIncreasing same (k.rising (subst IsStrictlyIncreasing (sym (ap (λ (v : PassView). v.drawn) new.pass)) (λ i b. absurd (omega (arith, b)))))
+
+        pub is_run : IsRun may rows lists total
+        is_run = record {
+          word = key;
+          one_each = ap length lists_are ∙ length-map after (λ (a : WorkerView). a.sent) ∙ after_long;
+          operates = operates_at;
+          rising = rising_at;
+          tickets = subst (λ l. IsPermutation (map ticket_of (flat_map (λ list. list) l)) (numbers_below total)) (sym lists_are)
+              (subst (λ l. IsPermutation l (numbers_below total)) (tickets_of rows after done_each) (subst (IsPermutation (flat_map (λ (a : WorkerView). a.pass.drawn) after)) drawn closed.drawn));
+          two_each =
+              (let size = whole in
+              let left = closed.left in
+              let none = lefts rows after done_each in
+              let shown = ap (λ l. length l) drawn in
+              let n = length-range_with_len 0 total in
+              omega (arith, size, left, none, shown, n));
+        }

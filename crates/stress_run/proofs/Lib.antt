@@ -1,0 +1,9 @@
+mod Composed
+mod Once
+mod Zipped
+mod Places
+mod Made
+mod Closed
+mod Finished
+mod Order
+mod Recording

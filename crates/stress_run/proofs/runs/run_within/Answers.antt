@@ -1,0 +1,67 @@
+use Rattle.std.proofs.Common.{◌*◌, ℕ, List, length, sum_by, ap, sym, subst, ◌∙◌}
+use Rattle.tickets.specs.Views.{PassView}
+use Rattle.event_records.specs.declared.kind.Kind.{Kind}
+use Rattle.collector.specs.Ends.{AreInOrder, AreFresh, rings_of, rings_of_tokens}
+use Rattle.workloads.specs.Plans.{IsPlan}
+use Rattle.stress_run.specs.Operations.{IsRun}
+use Rattle.stress_run.specs.Crew.{AreClosed}
+use Rattle.stress_run.proofs.Finished.{in_order, ends_fresh, ready, keys, rings, whole, is_run}
+use Rattle.stress_run.proofs.Recording.{are_recorded}
+use Rattle.stress_run.proofs.runs.run_within.Goals as goal
+
+pub new-requires-2-clause-order : goal.new-requires-2-clause-order
+new-requires-2-clause-order g c =
+    let e = c.in_ok-rest.ensures in
+    subst AreInOrder (sym e.ends) (in_order _ _ _ e.workers)
+
+pub new-requires-2-clause-fresh : goal.new-requires-2-clause-fresh
+new-requires-2-clause-fresh g c =
+    let e = c.in_ok-rest.ensures in
+    subst AreFresh (sym e.ends) (ends_fresh c.in_ok-rest.field-0.workers.items)
+
+pub work_and_collect-requires-after_bounds : goal.work_and_collect-requires-after_bounds
+work_and_collect-requires-after_bounds g c κs within =
+    let e = c.in_ok-rest.ensures in
+    let r = c.rows-rows.ensures in
+    ready _ _ _ e.workers (subst IsPlan (sym r.rows) r.limits)
+
+pub close_all-requires-clause-keys : goal.close_all-requires-clause-keys
+close_all-requires-clause-keys g c =
+    let e = c.in_ok-rest.ensures in
+    keys _ _ _ e.workers _ _ c.in_ok-workers.ensures.worked
+
+pub seal-requires : goal.seal-requires
+seal-requires g c =
+    let e = c.in_ok-rest.ensures in
+    let k = c.in_ok-workers.ensures in
+    let closed = c.in_ok-tokens.ensures.closed in
+    ap rings_of_tokens closed.tokens_are
+    ∙ rings _ _ _ e.workers _ _ k.worked
+    ∙ sym (k.rings ∙ ap rings_of (c.in_ok-collector.ensures ∙ e.ends))
+
+pub close-total-requires-clause-whole : goal.close-total-requires-clause-whole
+close-total-requires-clause-whole g c =
+    let e = c.in_ok-rest.ensures in
+    let k = c.in_ok-workers.ensures in
+    let r = c.rows-rows.ensures in
+    let closed = subst (λ (rest : PassView). AreClosed rest c.in_ok-workers.workers.items c.in_ok-tokens.tokens.items c.in_ok-tokens.pass) e.rest c.in_ok-tokens.ensures.closed in
+    whole _ _ _ e.workers _ _ k.worked _ _ closed
+    ∙ ap (λ (rows : List (List Kind)). 2 * sum_by length rows) r.rows
+    ∙ sym (c.in_ok-tickets.ensures.budget ∙ ap (λ (n : ℕ). 2 * n) c.operations.ensures.count)
+
+pub returns-clause-recorded : goal.returns-clause-recorded
+returns-clause-recorded g c =
+    let e = c.in_ok-rest.ensures in
+    let k = c.in_ok-workers.ensures in
+    let r = c.rows-rows.ensures in
+    let closed = subst (λ (rest : PassView). AreClosed rest c.in_ok-workers.workers.items c.in_ok-tokens.tokens.items c.in_ok-tokens.pass) e.rest c.in_ok-tokens.ensures.closed in
+    let done = is_run _ _ _ e.workers _ _ k.worked _ _ closed _ _ c.close-total.ensures c.in_ok-lists.ensures.sealed in
+    subst (λ (rows : List (List Kind)). IsRun ((goal.TestQueue-dyn g c.args.queue.now).may c.args.queue.now.1) rows c.in_ok-lists.lists c.close-total.result) r.rows done
+
+pub invariant_of-result : goal.invariant_of-result
+invariant_of-result g c =
+    let r = c.rows-rows.ensures in
+    are_recorded _ c.args.plan.now _ c.close-total.result r.limits (returns-clause-recorded g c)
+
+pub returns-clause-replays : goal.returns-clause-replays
+returns-clause-replays g c = invariant_of-result g c

@@ -1,0 +1,52 @@
+-- The workers of a run: as they are made, and as they are closed.
+use Rattle.std.specs.Prelude.{◌≡◌, ◌+◌, ◌*◌, List, [], ◌++◌, length, map, All, sum_by, flat_map, IsPermutation, Contains, ◌⊎◌, Option, Some, true, false}
+use Rattle.std.specs.List.{AllZip}
+use Rattle.atomic_table.specs.Seated.{TableId}
+use Rattle.tickets.specs.Views.{PassView, numbers_below}
+use Rattle.event_records.specs.declared.kind.Kind.{Kind}
+use Rattle.event_rings.specs.Ring.{DrainView, TokenView}
+use Rattle.stress_run.specs.Workers.{WorkerView}
+use Rattle.stress_run.specs.Faults.{IsNotAfter}
+use Rattle.stress_run.specs.declared.faults.RunFault.{RunFault}
+use Rattle.stress_run.specs.declared.faults.RunFault.TheVariants.{Memory, Stalled, CloseLost}
+
+-- a worker that has a share for this row, and has done nothing yet
+pub record IsNew (key : TableId) (row : List Kind) (w : WorkerView) : Type 0 where
+  pub pass : w.pass ≡ record { key = key; left = 2 * length row; drawn = [] }
+  pub asked : w.asked ≡ 0
+  pub sent : w.sent ≡ []
+
+-- a new worker for each row, of threads 0, 1, 2 and so on
+pub record IsCrew (key : TableId) (rows : List (List Kind)) (workers : List WorkerView) : Type 0 where
+  pub threads : map (λ w. w.thread) workers ≡ numbers_below (length rows)
+  pub each : AllZip (IsNew key) rows workers
+
+-- the end of a worker's ring that nothing was drained from
+abbrev pub end_of : WorkerView → DrainView
+end_of w = record { ring = w.ring; thread = w.thread; received = [] }
+
+-- the close token of a worker's ring
+abbrev pub token_of : WorkerView → TokenView
+token_of w = record { ring = w.ring; thread = w.thread; sent = w.sent }
+
+-- none of these workers is stopped, their rings are closed, and their passes are joined
+pub record AreClosed (rest : PassView) (workers : List WorkerView) (tokens : List TokenView) (pass : PassView) : Type 0 where
+  pub running : All (λ w. w.stopped ≡ false) workers
+  pub tokens_are : tokens ≡ map token_of workers
+  pub key : pass.key ≡ rest.key
+  pub left : pass.left ≡ rest.left + sum_by (λ w. w.pass.left) workers
+  pub drawn : IsPermutation (rest.drawn ++ flat_map (λ w. w.pass.drawn) workers) pass.drawn
+
+-- where the worker is stopped, the fault that is answered is its stall or one before that
+abbrev pub IsNotAfterStall : RunFault → WorkerView → Type 0
+IsNotAfterStall f w = w.stopped ≡ true → IsNotAfter f (Stalled w.thread)
+
+-- this is a fault of the worker: its stall where it is stopped, or that its ring gave no token
+abbrev pub IsFaultOfWorker : RunFault → WorkerView → Type 0
+IsFaultOfWorker (Stalled t) w = (w.stopped ≡ true) × (t ≡ w.thread)
+IsFaultOfWorker (CloseLost t) w = t ≡ w.thread
+IsFaultOfWorker _ w = ⊥
+
+-- this fault stood before, or memory ran out, or it is one of these workers'
+abbrev pub Stands : Option RunFault → List WorkerView → RunFault → Type 0
+Stands standing workers f = (standing ≡ Some f) ⊎ ((f ≡ Memory) ⊎ ((w : WorkerView) × Contains workers w × IsFaultOfWorker f w))

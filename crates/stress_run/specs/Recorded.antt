@@ -1,0 +1,8 @@
+-- What contracts see of a recorded run.
+use Rattle.std.specs.Prelude.{ℕ, List}
+use Rattle.event_records.specs.declared.event.Event.{Event}
+
+-- the list of each thread, and how many tickets were drawn
+pub record RecordedView : Type 0 where
+  pub lists : List (List Event)
+  pub total : ℕ

@@ -1,0 +1,106 @@
+// The end of a run: rings are closed and passes joined.
+ghost use Rattle.std.specs.Prelude.{◌≡◌, ◌≢◌, ◌⊎◌, ◌++◌, ◌∷◌, [], ◌+◌, IfOk, IfErr, IfSome, IfNone, Some, None, All, IsPermutation, false};
+ghost use Rattle.stress_run.specs.Crew.{AreClosed, IsFaultOfWorker, IsNotAfterStall, Stands, token_of};
+ghost use Rattle.stress_run.specs.Faults.{IsNotAfter};
+ghost use Rattle.stress_run.specs.declared.faults.RunFault.TheVariants.{Limit, Memory};
+
+use crate::faults::{RunFault, least_fault};
+use crate::worker::Worker;
+use event_rings::CloseToken;
+use std::alloc::Global;
+use tickets::{Pass, Tickets};
+
+// What was closed so far, and the fault that is answered for now.
+#[derive(Drop)]
+struct Closing {
+    tokens: Vec<CloseToken>,
+    pass: Pass,
+    fault: Option<RunFault>,
+}
+
+// The fault that is answered where `fault` stands beside the one that was answered for now.
+fn least_with(standing: Option<RunFault>, fault: RunFault) -> RunFault
+    ensures either { (result ≡ fault) ⊎ (standing ≡ Some result) }
+    ensures not_after { IsNotAfter result fault }
+    ensures not_after_standing { IfSome standing (IsNotAfter result) }
+{
+    match standing {
+        Some(other) => least_fault(&[other, fault]).unwrap_or(fault),
+        None => fault,
+    }
+}
+
+// Closes one worker's ring and joins its pass. A stopped worker's too.
+fn close_one(tickets: &Tickets, closing: Closing, worker: Worker) -> Closing
+    requires pass { closing.pass.key ≡ tickets.now.key }
+    requires worker { worker.pass.key ≡ tickets.now.key }
+    ensures limit { closing.fault ≢ Some Limit → result.fault ≢ Some Limit }
+    ensures standing { IfSome closing.fault (λ before. IfSome result.fault (λ f. IsNotAfter f before)) }
+    ensures stall { IfSome result.fault (λ f. IsNotAfterStall f worker) }
+    ensures stands { IfSome result.fault (λ f. (closing.fault ≡ Some f) ⊎ ((f ≡ Memory) ⊎ IsFaultOfWorker f worker)) }
+    ensures key { result.pass.key ≡ closing.pass.key }
+    ensures running { IfNone result.fault ((closing.fault ≡ None) × (worker.stopped ≡ false)) }
+    ensures token { IfNone result.fault (result.tokens.items ≡ closing.tokens.items ++ token_of worker ∷ []) }
+    ensures left { IfNone result.fault (result.pass.left ≡ closing.pass.left + worker.pass.left) }
+    ensures drawn { IfNone result.fault (IsPermutation (closing.pass.drawn ++ worker.pass.drawn) result.pass.drawn) }
+{
+    let Closing {
+        mut tokens,
+        mut pass,
+        mut fault,
+    } = closing;
+    let thread = worker.thread();
+    if worker.is_stopped() {
+        fault = Some(least_with(fault, RunFault::Stalled(thread)));
+    }
+    match worker.close() {
+        Ok((token, own)) => {
+            pass = pass.join(tickets, own);
+            if tokens.push(token).is_err() {
+                fault = Some(least_with(fault, RunFault::Memory));
+            }
+        }
+        Err(_) => fault = Some(least_with(fault, RunFault::CloseLost(thread))),
+    }
+    Closing {
+        tokens,
+        pass,
+        fault,
+    }
+}
+
+// Closes the rings of all workers, whatever fault stands, and joins their passes to the rest.
+pub(crate) fn close_all(
+    alloc: Global,
+    tickets: &Tickets,
+    rest: Pass,
+    workers: Vec<Worker>,
+    standing: Option<RunFault>,
+) -> Result<(Vec<CloseToken>, Pass), RunFault>
+    requires rest { rest.key ≡ tickets.now.key }
+    requires keys { All (λ w. w.pass.key ≡ tickets.now.key) workers.items }
+    ensures closed { IfOk result (λ closed. AreClosed rest workers.items closed.0.items closed.1) }
+    ensures clear { IfOk result (λ _. standing ≡ None) }
+    ensures limit { standing ≢ Some Limit → IfErr result (λ fault. fault ≢ Limit) }
+    ensures stands { IfErr result (Stands standing workers.items) }
+    ensures standing { IfErr result (λ fault. IfSome standing (IsNotAfter fault)) }
+    ensures stalls { IfErr result (λ fault. All (IsNotAfterStall fault) workers.items) }
+{
+    let mut closing = Closing {
+        tokens: Vec::new(alloc),
+        pass: rest,
+        fault: standing,
+    };
+    for worker in workers {
+        closing = close_one(tickets, closing, worker);
+    }
+    let Closing {
+        tokens,
+        pass,
+        fault,
+    } = closing;
+    match fault {
+        None => Ok((tokens, pass)),
+        Some(fault) => Err(fault),
+    }
+}

@@ -1,0 +1,114 @@
+// Why a run gave no history, and which of several faults is answered.
+ghost use Rattle.std.specs.Prelude.{◌≡◌, ◌⊎◌, ◌↔◌, [], All, Contains, IfSome, IsNone, true, false};
+ghost use Rattle.stress_run.specs.Faults.{number_of, thread_of, IsNotAfter};
+
+use collector::CollectError;
+use std::alloc::AllocError;
+use thiserror::Error;
+
+/// Why a run gave no history.
+///
+/// Of several faults the one that stands first here is answered, and of several threads with that fault the least.
+#[derive(Clone, Copy, Debug, PartialEq, Eq, Error)]
+pub enum RunFault {
+    /// The capacity of the rings or the number of tries is out of range. No thread was started.
+    #[error("Limit")]
+    Limit,
+    /// A growth was refused, also one of the collector while the workers ran.
+    #[error("Memory")]
+    Memory,
+    /// A push of this thread found no room in as many tries as it had.
+    #[error("Stalled {0}")]
+    Stalled(u8),
+    /// The ring of this thread gave no close token.
+    #[error("CloseLost {0}")]
+    CloseLost(u8),
+    /// The ring of this thread was not certified by the token in its place.
+    #[error("Uncertified {0}")]
+    Uncertified(u8),
+}
+
+impl RunFault {
+    // Its place in the order of faults.
+    fn number(self) -> u8
+        ensures { result ≡ number_of self }
+    {
+        match self {
+            RunFault::Limit => 1,
+            RunFault::Memory => 2,
+            RunFault::Stalled(_) => 3,
+            RunFault::CloseLost(_) => 4,
+            RunFault::Uncertified(_) => 5,
+        }
+    }
+
+    // The thread that it names, or 0.
+    fn thread(self) -> u8
+        ensures { result ≡ thread_of self }
+    {
+        match self {
+            RunFault::Limit | RunFault::Memory => 0,
+            RunFault::Stalled(thread)
+            | RunFault::CloseLost(thread)
+            | RunFault::Uncertified(thread) => thread,
+        }
+    }
+
+    // Whether this fault is answered where `other` stands too.
+    fn is_not_after(self, other: RunFault) -> bool
+        ensures yes { result ≡ true → IsNotAfter self other }
+        ensures no { result ≡ false → IsNotAfter other self }
+    {
+        let (number, others) = (self.number(), other.number());
+        number < others || (number == others && self.thread() <= other.thread())
+    }
+}
+
+impl From<AllocError> for RunFault {
+    ghost use Rattle.std.specs.Prelude.{◌≡◌};
+    ghost use Rattle.stress_run.specs.declared.faults.RunFault.TheVariants.{Memory};
+
+    ghost from_gives = { λ _ fault. fault ≡ Memory };
+
+    fn from(_: AllocError) -> RunFault {
+        RunFault::Memory
+    }
+}
+
+impl From<CollectError> for RunFault {
+    ghost use Rattle.stress_run.specs.Faults.{IsFaultOf};
+
+    ghost from_gives = { λ error fault. IsFaultOf error fault };
+
+    fn from(error: CollectError) -> RunFault {
+        match error {
+            CollectError::Memory => RunFault::Memory,
+            CollectError::Uncertified(thread) => RunFault::Uncertified(thread),
+        }
+    }
+}
+
+// The one of two faults that is answered.
+fn earlier(one: RunFault, other: RunFault) -> RunFault
+    ensures either { (result ≡ one) ⊎ (result ≡ other) }
+    ensures first { IsNotAfter result one }
+    ensures second { IsNotAfter result other }
+{
+    if one.is_not_after(other) { one } else { other }
+}
+
+/// The fault that a run answers where these stand: that of the least number, and of these that of the least thread. None
+/// exactly of no faults.
+///
+/// Takes no memory, and time in proportion to the faults.
+pub fn least_fault(faults: &[RunFault]) -> Option<RunFault>
+    ensures none { IsNone result ↔ (faults.now ≡ []) }
+    ensures stands { IfSome result (λ fault. Contains faults.now fault) }
+    ensures least { IfSome result (λ fault. All (IsNotAfter fault) faults.now) }
+{
+    let mut least = *faults.first()?;
+    for fault in faults {
+        least = earlier(least, *fault);
+    }
+    Some(least)
+}

@@ -1,0 +1,23 @@
+//! Workers that make the operations of a plan on a shared queue, each in a thread of its own, and the events that they
+//! record.
+//!
+//! A worker draws a ticket, asks the queue, draws another ticket, and pushes the call and the return into its ring. A
+//! collector drains the rings meanwhile. What comes of a run is one list of events for each worker: all that it did, in
+//! order.
+#![tactic(auto)]
+
+mod closing;
+mod crew;
+mod faults;
+mod making;
+mod runs;
+#[cfg(test)]
+mod tests;
+mod worker;
+
+pub use faults::{RunFault, least_fault};
+pub use runs::{Recorded, run};
+pub use worker::{Worker, WorkerFault, one_call};
+
+/// The most tries of a push.
+pub const MAX_TRIES: u32 = 10_000_000;

@@ -1,0 +1,107 @@
+// The workers of a run, each with its thread, its share of the tickets and its ring.
+ghost use Rattle.std.specs.Prelude.{◌≡◌, ◌-◌, ◌*◌, ◌≤◌, ◌<◌, ◌↔◌, [], length, map, sum_by, IfOk, IsSome, IfSome};
+ghost use Rattle.workloads.specs.Plans.{IsPlan};
+ghost use Rattle.event_records.specs.declared.limits.TheConstants.{MAX_THREAD_OPERATIONS};
+ghost use Rattle.stress_run.specs.Crew.{IsNew, IsCrew, end_of};
+ghost use Rattle.stress_run.specs.Faults.{IsWithinLimits};
+
+use crate::MAX_TRIES;
+use crate::worker::Worker;
+use event_records::{Namer, ThreadNo};
+use event_rings::{DrainEnd, MAX_CAPACITY, MIN_CAPACITY, ring};
+use std::alloc::{AllocError, Global};
+use tickets::{Pass, Tickets};
+use workloads::Row;
+
+/// For how many events each ring of a run has room, and how often each push is tried.
+#[derive(Clone, Copy)]
+pub(crate) struct Sizes {
+    pub(crate) ring: usize,
+    pub(crate) tries: u32,
+    ghost within: { IsWithinLimits ring tries },
+}
+
+impl Sizes {
+    // These sizes, or none where they are out of range.
+    pub(crate) fn new(ring: usize, tries: u32) -> Option<Sizes>
+        ensures limits { IsSome result ↔ IsWithinLimits ring tries }
+        ensures sizes { IfSome result (λ sizes. (sizes.ring ≡ ring) × (sizes.tries ≡ tries)) }
+    {
+        if (MIN_CAPACITY..=MAX_CAPACITY).contains(&ring) && (1..=MAX_TRIES).contains(&tries) {
+            Some(Sizes { ring, tries })
+        } else {
+            None
+        }
+    }
+}
+
+// The workers of a run, the ends that are drained, and the pass that no worker has.
+#[derive(Drop)]
+pub(crate) struct Crew {
+    pub(crate) rest: Pass,
+    pub(crate) workers: Vec<Worker>,
+    pub(crate) ends: Vec<DrainEnd>,
+}
+
+// The thread of this place.
+fn thread_at(place: usize) -> ThreadNo
+    requires { place < 64 }
+    ensures { result ≡ place }
+{
+    match ThreadNo::new(place as u8) {
+        Some(thread) => thread,
+        None => unreachable!(),
+    }
+}
+
+// A new worker for a row, its ring's other end, and the rest of the pass.
+fn make_one(
+    alloc: Global,
+    tickets: &Tickets,
+    pass: Pass,
+    thread: ThreadNo,
+    row: &Row,
+    sizes: Sizes,
+) -> Result<(Pass, Worker, DrainEnd), AllocError>
+    requires key { pass.key ≡ tickets.now.key }
+    requires enough { 2 * length row.now ≤ pass.left }
+    requires short { length row.now ≤ MAX_THREAD_OPERATIONS }
+    ensures rest { IfOk result (λ made. made.0 ≡ record pass { left = pass.left - 2 * length row.now }) }
+    ensures worker { IfOk result (λ made. IsNew tickets.now.key row.now made.1 × (made.1.thread ≡ thread)) }
+    ensures end { IfOk result (λ made. made.2 ≡ end_of made.1) }
+{
+    let (push, drain) = ring(alloc, thread, sizes.ring)?;
+    let (rest, own) = pass.split(tickets, 2 * row.len() as u64);
+    let worker = Worker::new(own, Namer::new(thread), push, sizes.tries);
+    Ok((rest, worker, drain))
+}
+
+// A new worker for each row.
+pub(crate) fn make_crew(
+    alloc: Global,
+    tickets: &Tickets,
+    pass: Pass,
+    rows: &[Row],
+    sizes: Sizes,
+) -> Result<Crew, AllocError>
+    requires plan { IsPlan rows.now }
+    requires pass { pass ≡ record { key = tickets.now.key; left = 2 * sum_by length rows.now; drawn = [] } }
+    ensures workers { IfOk result (λ crew. IsCrew tickets.now.key rows.now crew.workers.items) }
+    ensures ends { IfOk result (λ crew. crew.ends.items ≡ map end_of crew.workers.items) }
+    ensures rest { IfOk result (λ crew. crew.rest ≡ record { key = tickets.now.key; left = 0; drawn = [] }) }
+{
+    let mut rest = pass;
+    let mut workers = Vec::new(alloc);
+    let mut ends = Vec::new(alloc);
+    for (place, row) in rows.iter().enumerate() {
+        let (left, worker, end) = make_one(alloc, tickets, rest, thread_at(place), row, sizes)?;
+        rest = left;
+        workers.push(worker)?;
+        ends.push(end)?;
+    }
+    Ok(Crew {
+        rest,
+        workers,
+        ends,
+    })
+}

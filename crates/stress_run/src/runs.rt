@@ -1,0 +1,214 @@
+// A whole run, from a plan to the recorded lists.
+ghost use Rattle.std.specs.Prelude.{◌≡◌, ◌≢◌, ◌↔◌, All, Err, Some, map, IfOk, IfErr};
+ghost use Rattle.std.specs.List.{AllZip};
+ghost use Rattle.collector.specs.Ends.{rings_of, rings_of_tokens};
+ghost use Rattle.recorder_core.specs.Replay.{AreRecorded};
+ghost use Rattle.stress_run.specs.Faults.{IsWithinLimits};
+ghost use Rattle.stress_run.specs.Operations.{IsRun};
+ghost use Rattle.stress_run.specs.Workers.{IsReadyIn, WorksIn};
+ghost use Rattle.stress_run.specs.declared.faults.RunFault.TheVariants.{Limit};
+
+use crate::closing::close_all;
+use crate::crew::work_all;
+use crate::faults::RunFault;
+use crate::making::{Crew, Sizes, make_crew};
+use crate::worker::Worker;
+use collector::Collector;
+use event_records::Lists;
+use event_rings::CloseToken;
+use history_merge::{History, merged_history};
+use queue_interface::TestQueue;
+use std::alloc::{AllocError, Global};
+use std::marker::Model;
+use std::sync::atomic::{AtomicBool, Ordering};
+use std::thread;
+use std::thread::Threads;
+use tickets::Tickets;
+use workloads::{Plan, Row};
+
+/// The events of a run, one list for each worker, and how many tickets were drawn.
+#[derive(Drop)]
+pub struct Recorded {
+    lists: Lists,
+    total: u64,
+}
+
+impl Model for Recorded {
+    ghost use Rattle.recorder_core.specs.Replay.{AreRecorded};
+    ghost use Rattle.stress_run.specs.Recorded.{RecordedView};
+
+    ghost Value = { RecordedView };
+
+    ghost view = { λ r. record { lists = r.lists; total = r.total } };
+
+    ghost invariant = { λ r. AreRecorded r.lists };
+}
+
+impl Recorded {
+    ghost use Rattle.std.specs.Prelude.{◌≡◌, IfOk};
+    ghost use Rattle.history_merge.specs.Complete.{IsCompleteHistory};
+    ghost use Rattle.history_merge.specs.Merge.{IsMerged};
+    ghost use Rattle.recorder_core.specs.Replay.{AreRecorded};
+
+    /// The lists of events, that of worker 0 first.
+    pub fn lists(&self) -> &Lists
+        ensures lists { result.now ≡ self.now.lists }
+        ensures recorded { AreRecorded self.now.lists }
+    {
+        &self.lists
+    }
+
+    /// The history of the run: its lists put together by ticket. It is refused for want of memory alone.
+    ///
+    /// Time O(n log n) for n events, memory for them and for the history.
+    pub fn history(&self, alloc: Global) -> Result<History, AllocError>
+        ensures merged { IfOk result (IsMerged self.now.lists) }
+        ensures complete { IfOk result IsCompleteHistory }
+    {
+        merged_history(alloc, &self.lists)
+    }
+
+    /// Gives the lists away, and takes no memory.
+    pub fn into_lists(self) -> Lists
+        ensures { result ≡ self.lists }
+    {
+        let Recorded { lists, total: _ } = self;
+        lists
+    }
+
+    /// How many tickets were drawn: two for each operation.
+    pub fn total(&self) -> u64
+        ensures { result ≡ self.now.total }
+    {
+        self.total
+    }
+}
+
+/// Runs a plan on a shared queue: each row by a worker in a thread of its own, whose ring has room for `ring` events and
+/// whose pushes are tried `tries` times, with a collector beside them that drains the rings.
+///
+/// Where threads can't be started, the workers run one after another, under the same promise. Then nothing is drained
+/// while they run, and one with more events than its ring has room for stalls.
+///
+/// A fault gives no history. `Limit` is answered before any thread is started. `Memory` is answered where a growth was
+/// refused; where that was one of the collector's, the workers go on without it until they end or stall. `Stalled` is
+/// answered where a push found no room in all its tries, between which the thread yields. The rings are closed whatever
+/// fault stands, except where want of memory took the workers themselves.
+///
+/// It waits for its workers, and so for the queue. It takes memory for the rings and for all events.
+pub fn run<R: Threads + Sync>(
+    rt: &R,
+    alloc: Global,
+    queue: &dyn TestQueue,
+    plan: &Plan,
+    ring: usize,
+    tries: u32,
+) -> Result<Recorded, RunFault>
+    ensures recorded { IfOk result (λ r. IsRun (may queue.now) plan.now r.lists r.total) }
+    ensures replays { IfOk result (λ r. AreRecorded r.lists) }
+    ensures limit { (result ≡ Err Limit) ↔ ¬ IsWithinLimits ring tries }
+{
+    let Some(sizes) = Sizes::new(ring, tries) else {
+        return Err(RunFault::Limit);
+    };
+    run_within(rt, alloc, queue, plan, sizes)
+}
+
+// The run, where the sizes are in range.
+fn run_within<R: Threads + Sync>(
+    rt: &R,
+    alloc: Global,
+    queue: &dyn TestQueue,
+    plan: &Plan,
+    sizes: Sizes,
+) -> Result<Recorded, RunFault>
+    ensures recorded { IfOk result (λ r. IsRun (may queue.now) plan.now r.lists r.total) }
+    ensures replays { IfOk result (λ r. AreRecorded r.lists) }
+    ensures limit { IfErr result (λ fault. fault ≢ Limit) }
+{
+    let rows = plan.rows();
+    let (tickets, pass) = Tickets::new(alloc, 2 * plan.operations())?;
+    let Crew {
+        rest,
+        workers,
+        ends,
+    } = make_crew(alloc, &tickets, pass, rows, sizes)?;
+    let collector = Collector::new(alloc, ends)?;
+    let (workers, collector, standing) = work_and_collect(
+        rt, queue, &tickets, rows, workers, collector, sizes,
+    )?;
+    let (tokens, pass) = close_all(alloc, &tickets, rest, workers, standing)?;
+    let lists = seal(collector, tokens)?;
+    let total = tickets.close(pass);
+    Ok(Recorded { lists, total })
+}
+
+// The workers after their rows, the collector of their rings, which it drained beside them, and the fault of a round that
+// was refused.
+fn work_and_collect<R: Threads + Sync>(
+    rt: &R,
+    queue: &dyn TestQueue,
+    tickets: &Tickets,
+    rows: &[Row],
+    workers: Vec<Worker>,
+    collector: Collector,
+    sizes: Sizes,
+) -> Result<(Vec<Worker>, Collector, Option<RunFault>), AllocError>
+    requires { All (IsReadyIn tickets.now.key rows.now) workers.items }
+    ensures worked { IfOk result (λ r. AllZip (WorksIn (may queue.now) rows.now) workers.items r.0.items) }
+    ensures rings { IfOk result (λ r. rings_of r.1 ≡ rings_of collector) }
+    ensures limit { IfOk result (λ r. r.2 ≢ Some Limit) }
+{
+    let over = AtomicBool::new(false);
+    let flag = &over;
+    let working = move || -> Result<Vec<Worker>, AllocError>
+        requires { All (IsReadyIn tickets.now.key rows.now) workers.items }
+        ensures { IfOk result (λ after. AllZip (WorksIn (may queue.entry.now) rows.entry.now) workers.items after.items) }
+    {
+        let after = work_all(rt, queue, tickets, rows, workers);
+        flag.store(true, Ordering::SeqCst);
+        after
+    };
+    let collecting = move || -> (Collector, Option<RunFault>)
+        ensures rings { rings_of result.0 ≡ rings_of collector }
+        ensures limit { result.1 ≢ Some Limit }
+    { collect_until(flag, collector, sizes) };
+    // The second closure runs in this thread, and first where no other can be made: the flag is then set before the
+    // collector looks at it.
+    let ((collector, standing), after) = thread::join(rt, collecting, working);
+    Ok((after?, collector, standing))
+}
+
+// Drains round after round until the flag is set, or up to a round that is refused.
+fn collect_until(
+    over: &AtomicBool,
+    collector: Collector,
+    sizes: Sizes,
+) -> (Collector, Option<RunFault>)
+    ensures rings { rings_of result.0 ≡ rings_of collector }
+    ensures limit { result.1 ≢ Some Limit }
+{
+    let mut collector = collector;
+    for _ in 0..u64::MAX {
+        if over.load(Ordering::SeqCst) {
+            break;
+        }
+        if collector.drain_round(sizes.ring).is_err() {
+            return (collector, Some(RunFault::Memory));
+        }
+        thread::yield_now();
+    }
+    (collector, None)
+}
+
+// The whole list of each thread.
+fn seal(collector: Collector, tokens: Vec<CloseToken>) -> Result<Lists, RunFault>
+    requires { rings_of_tokens tokens.items ≡ rings_of collector }
+    ensures sealed { IfOk result (λ lists. lists ≡ map (λ token. token.sent) tokens.items) }
+    ensures limit { IfErr result (λ fault. fault ≢ Limit) }
+{
+    match collector.seal(tokens) {
+        Ok(lists) => Ok(lists),
+        Err(error) => Err(RunFault::from(error)),
+    }
+}

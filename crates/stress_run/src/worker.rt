@@ -1,0 +1,194 @@
+// One worker: it draws tickets, asks the queue, and pushes what it did into its ring.
+ghost use Rattle.std.specs.Prelude.{◌≡◌, ◌∷◌, ◌++◌, [], ◌≤◌, ◌<◌, ◌^◌, IfOk, OnOk, OnErr, true, false};
+ghost use Rattle.event_records.specs.declared.kind.Kind.TheVariants.{Enq, Deq};
+ghost use Rattle.stress_run.specs.Crew.{token_of};
+ghost use Rattle.stress_run.specs.Faults.{AreTries};
+ghost use Rattle.stress_run.specs.Workers.{Works, Stalls};
+
+use event_records::{Kind, Namer, Noted};
+use event_rings::{CloseLost, CloseToken, PushEnd};
+use queue_interface::TestQueue;
+use std::marker::Model;
+use std::thread;
+use thiserror::Error;
+use tickets::{Pass, Tickets};
+
+/// What one thread records by: its pass, its namer, and the end of its ring that pushes.
+///
+/// Contracts see the pass, the thread, how many operations were asked, the ring, all events that were pushed, and whether
+/// the worker is stopped.
+#[derive(Drop)]
+pub struct Worker {
+    pass: Pass,
+    namer: Namer,
+    ring: PushEnd,
+    tries: u32,
+    stopped: bool,
+}
+
+impl Model for Worker {
+    ghost use Rattle.std.specs.Prelude.{◌≡◌};
+    ghost use Rattle.stress_run.specs.Workers.{WorkerView};
+
+    ghost Value = { WorkerView };
+
+    ghost view = { λ w. record { pass = w.pass; thread = w.ring.thread; asked = w.namer.asked; ring = w.ring.ring; sent = w.ring.sent; stopped = w.stopped } };
+
+    ghost invariant = { λ w. w.namer.thread ≡ w.ring.thread };
+}
+
+/// Why a worker made no operation.
+#[derive(Clone, Copy, Debug, PartialEq, Eq, Error)]
+pub enum WorkerFault {
+    /// A push of this call or of an earlier one found no room in all its tries.
+    #[error("Stalled")]
+    Stalled,
+}
+
+// Pushes an event, with as many tries as the number says. Between tries the thread yields.
+fn push_with_tries(ring: &mut PushEnd, noted: Noted, tries: u32) -> Result<(), WorkerFault>
+    requires { noted.thread ≡ ring.old.thread }
+    ensures pushed { OnOk result (ring.new ≡ record ring.old { sent = ring.old.sent ++ noted ∷ []; room = ring.new.room }) }
+    ensures full { OnErr result (ring.new ≡ ring.old) }
+{
+    let mut held = noted;
+    for _ in 0..tries {
+        match ring.push(held) {
+            Ok(()) => return Ok(()),
+            Err(back) => held = back,
+        }
+        thread::yield_now();
+    }
+    Err(WorkerFault::Stalled)
+}
+
+impl Worker {
+    /// A worker that is not stopped. The namer and the ring are of one thread, and there are 1 to 10,000,000 tries.
+    pub fn new(pass: Pass, namer: Namer, ring: PushEnd, tries: u32) -> Worker
+        requires thread { namer.thread ≡ ring.thread }
+        requires tries { AreTries tries }
+        ensures { result ≡ record { pass = pass; thread = ring.thread; asked = namer.asked; ring = ring.ring; sent = ring.sent; stopped = false } }
+    {
+        Worker {
+            pass,
+            namer,
+            ring,
+            tries,
+            stopped: false,
+        }
+    }
+
+    /// Whether a push found no room in all its tries. A stopped worker makes no operation any more.
+    pub fn is_stopped(&self) -> bool
+        ensures { result ≡ self.now.stopped }
+    {
+        self.stopped
+    }
+
+    // The thread that the worker's events are of.
+    pub(crate) fn thread(&self) -> u8
+        ensures { result ≡ self.now.thread }
+    {
+        self.ring.thread().get()
+    }
+
+    // The place of the worker's row in a plan.
+    pub(crate) fn place(&self) -> usize
+        ensures { result ≡ self.now.thread }
+    {
+        self.ring.thread().get() as usize
+    }
+
+    /// Closes the worker's ring, and gives its pass back. A stopped worker's too.
+    ///
+    /// `CloseLost` comes only where the ring's drain end had left before; the pass is then gone. It takes no memory.
+    pub fn close(self) -> Result<(CloseToken, Pass), CloseLost>
+        ensures token { IfOk result (λ r. r.0 ≡ token_of self) }
+        ensures pass { IfOk result (λ r. r.1 ≡ self.pass) }
+    {
+        let Worker {
+            pass,
+            namer: _,
+            ring,
+            tries: _,
+            stopped: _,
+        } = self;
+        let token = ring.close()?;
+        Ok((token, pass))
+    }
+
+    // Pushes an event of this worker's thread, or stops.
+    fn record(&mut self, noted: Noted) -> Result<(), WorkerFault>
+        requires { noted.thread ≡ self.old.thread }
+        ensures sent { OnOk result (self.new ≡ record self.old { sent = self.old.sent ++ noted ∷ [] }) }
+        ensures stopped { OnErr result (self.new ≡ record self.old { stopped = true }) }
+    {
+        let pushed = push_with_tries(&mut self.ring, noted, self.tries);
+        if pushed.is_err() {
+            self.stopped = true;
+        }
+        pushed
+    }
+
+    // One enqueue, from the call's ticket to the event of its return.
+    fn enqueue_once(&mut self, queue: &dyn TestQueue, tickets: &Tickets) -> Result<(), WorkerFault>
+        requires key { self.old.pass.key ≡ tickets.now.key }
+        requires left { 2 ≤ self.old.pass.left }
+        requires room { self.old.asked < 2 ^ 32 }
+        requires running { self.old.stopped ≡ false }
+        ensures works { OnOk result (Works (may queue.now) (Enq ∷ []) self.old self.new) }
+        ensures stalls { OnErr result (Stalls Enq self.old self.new) }
+    {
+        let drawn = self.pass.draw(tickets);
+        let (ask, noted) = self.namer.ask_enq(drawn);
+        self.record(noted)?;
+        let answered = queue.enqueue(ask);
+        let returned = answered.stamp(&mut self.pass, tickets);
+        self.record(returned)
+    }
+
+    // One dequeue, from the call's ticket to the event of its return.
+    fn dequeue_once(&mut self, queue: &dyn TestQueue, tickets: &Tickets) -> Result<(), WorkerFault>
+        requires key { self.old.pass.key ≡ tickets.now.key }
+        requires left { 2 ≤ self.old.pass.left }
+        requires room { self.old.asked < 2 ^ 32 }
+        requires running { self.old.stopped ≡ false }
+        ensures works { OnOk result (Works (may queue.now) (Deq ∷ []) self.old self.new) }
+        ensures stalls { OnErr result (Stalls Deq self.old self.new) }
+    {
+        let drawn = self.pass.draw(tickets);
+        let (ask, noted) = self.namer.ask_deq(drawn);
+        self.record(noted)?;
+        let answered = queue.dequeue(ask);
+        let returned = answered.stamp(&mut self.pass, tickets);
+        self.record(returned)
+    }
+}
+
+/// One operation on the queue, and its two events in the worker's ring.
+///
+/// The call ticket is drawn before the question is made, and the return ticket when the answer is there. The pass is of
+/// these `Tickets` and has two tickets left, and the namer has asked fewer than 2^32 operations.
+///
+/// `Stalled` comes where a push found no room in all tries of the worker, between which the thread yields, and is then the
+/// answer of each later call, which draws nothing. It waits for nobody but where the queue does, and takes no memory.
+pub fn one_call(
+    queue: &dyn TestQueue,
+    tickets: &Tickets,
+    worker: &mut Worker,
+    kind: Kind,
+) -> Result<(), WorkerFault>
+    requires key { worker.old.pass.key ≡ tickets.now.key }
+    requires left { 2 ≤ worker.old.pass.left }
+    requires room { worker.old.asked < 2 ^ 32 }
+    ensures works { OnOk result (Works (may queue.now) (kind ∷ []) worker.old worker.new) }
+    ensures stalls { OnErr result (Stalls kind worker.old worker.new) }
+{
+    if worker.stopped {
+        return Err(WorkerFault::Stalled);
+    }
+    match kind {
+        Kind::Enq => worker.enqueue_once(queue, tickets),
+        Kind::Deq => worker.dequeue_once(queue, tickets),
+    }
+}

@@ -1,0 +1,143 @@
+-- Without any one of its values, a chosen cover leaves a gap of the window open.
+use Rattle.std.proofs.Common.{◌≡◌, ◌≢◌, ℕ, ◌<◌, ◌≤◌, ◌⊎◌, Bool, true, false, List, [], ◌∷◌, refl, sym, ap, subst, inl, inr, arith}
+use Rattle.std.specs.Prelude.{Contains, MatchBool, MatchOption, nat_lt}
+use Rattle.std.proofs.lemmas.Bool.{ltb-false}
+use Rattle.history_merge.specs.declared.operation.Operation.{Operation}
+use Rattle.history_merge.specs.declared.operation.OpKind.TheVariants.{Deq, Empty}
+use Rattle.history_merge.specs.Operations.{Did, NoneDid}
+use Rattle.history_merge.proofs.Distinct.{contains_cons, not_in_none, return_differs_from_call, return_in_range}
+use Rattle.value_match.specs.declared.life.Life.{Life}
+use Rattle.value_match.specs.Lives.{IsLife, Covers, IsCovered, call_or_never, enqueue_return, dequeue_call}
+use Rattle.value_match.specs.Violations.{IsClear}
+use Rattle.value_match.specs.Choice.{IsNextOfCover, IsChosenCoverFrom}
+use Rattle.value_match.proofs.Lives.{dequeued_if_called}
+
+below_if_not_same : (m n : ℕ) → m ≤ n → m ≢ n → m < n
+below_if_not_same m n le differs = let cases : (m < n) ⊎ (m ≡ n) = grind arith in elim cases [ inl less ↦ less | inr same ↦ absurd (differs same) ]
+
+module _ (operations : List Operation) (empty : Operation) where
+  -- where a value of the cover is not the last, the others are chosen from its dequeue on
+  others_chosen : (life : Life) (rest : List Life) (y : Life) → Contains rest y → (b : Bool) → nat_lt empty.ret (dequeue_call life) ≡ b → MatchBool b (rest ≡ []) (IsChosenCoverFrom operations empty (dequeue_call life) rest)
+      → (dequeue_call life ≤ empty.ret) × IsChosenCoverFrom operations empty (dequeue_call life) rest
+  others_chosen life rest y among true test ends = absurd (not_in_none y (subst (λ lives. Contains lives y) ends among))
+  others_chosen life rest y among false test further = (ltb-false empty.ret (dequeue_call life) test, further)
+
+  pub chosen_are_lives : (cover : List Life) (frontier : ℕ) (y : Life) → IsChosenCoverFrom operations empty frontier cover → Contains cover y → IsLife operations y
+  chosen_are_lives [] frontier y chosen among = absurd chosen
+  chosen_are_lives (life ∷ rest) frontier y chosen among = by_place (λ chosen' later. chosen_are_lives rest (dequeue_call life) y chosen' later) (contains_cons life rest y among)
+    where
+      by_place : (IsChosenCoverFrom operations empty (dequeue_call life) rest → Contains rest y → IsLife operations y) → (life ≡ y) ⊎ Contains rest y → IsLife operations y
+      by_place more (inl same) = subst (IsLife operations) same chosen.0.is_life
+      by_place more (inr later) = more (others_chosen life rest y later (nat_lt empty.ret (dequeue_call life)) refl chosen.1).1 later
+
+  module _ (clear : IsClear operations) (did : Did operations empty Empty) (covered : IsCovered operations empty) where
+    -- an operation called while the empty answer was asked for
+    record IsCalledInside (before : Operation) : Type 0 where
+      among : Contains operations before
+      after_call : empty.call ≤ before.call
+      before_return : before.call < empty.ret
+
+    enters_before : (before : Operation) (life : Life) → IsCalledInside before → IsLife operations life → Covers life before.call → enqueue_return life < before.call
+    enters_before before life inside is covers =
+        below_if_not_same (enqueue_return life) before.call covers.0 (return_differs_from_call operations life.enqueue before clear.complete is.1.0 inside.among)
+
+    next_stays : (before : Operation) (life : Life) → IsCalledInside before → IsNextOfCover operations before.call life → before.call < dequeue_call life
+    next_stays before life inside next =
+        let z = covered before.call (inside.after_call, inside.before_return) in
+        let stays = next.longest z.0 z.1 (enters_before before z.0 inside z.1 z.2) in
+        omega (arith, stays.0, z.2.1)
+
+    -- the dequeue of a value of the cover that is not the last
+    record IsHandover (life : Life) (rest : List Life) (d : Operation) : Type 0 where
+      calls : dequeue_call life ≡ d.call
+      inside : IsCalledInside d
+      further : IsChosenCoverFrom operations empty d.call rest
+
+    handover : (before : Operation) (life : Life) (rest : List Life) (y : Life) → IsCalledInside before → IsChosenCoverFrom operations empty before.call (life ∷ rest) → Contains rest y → (d : Operation) × IsHandover life rest d
+    handover before life rest y inside chosen among =
+        let others = others_chosen life rest y among (nat_lt empty.ret (dequeue_call life)) refl chosen.1 in
+        let range = return_in_range operations empty clear.complete did.0 in
+        let past = next_stays before life inside chosen.0 in
+        let found = dequeued_if_called life (omega (arith, others.0)) in
+        let d = found.0 in
+        let calls : dequeue_call life ≡ d.call = ap call_or_never found.1 in
+        let did_d = subst (λ o. MatchOption o (NoneDid operations (Deq chosen.0.is_life.0)) (λ d. Did operations d (Deq chosen.0.is_life.0))) found.1 chosen.0.is_life.2 in
+        let differs = return_differs_from_call operations empty d clear.complete did.0 did_d.0 in
+        let below : d.call < empty.ret = below_if_not_same d.call empty.ret (omega (arith, others.0)) (λ same. differs (sym same)) in (
+          d,
+          record {
+            calls = calls;
+            inside = record { among = did_d.0; after_call = omega (arith, inside.after_call); before_return = below };
+            further = subst (λ c. IsChosenCoverFrom operations empty c rest) calls others.1;
+          },
+        )
+
+    all_stay : (cover : List Life) (before : Operation) (y : Life) → IsCalledInside before → IsChosenCoverFrom operations empty before.call cover → Contains cover y → before.call < dequeue_call y
+    all_stay [] before y inside chosen among = absurd chosen
+    all_stay (life ∷ rest) before y inside chosen among = by_place (λ d inside' chosen' later. all_stay rest d y inside' chosen' later) (contains_cons life rest y among)
+      where
+        by_place : ((d : Operation) → IsCalledInside d → IsChosenCoverFrom operations empty d.call rest → Contains rest y → d.call < dequeue_call y) → (life ≡ y) ⊎ Contains rest y → before.call < dequeue_call y
+        by_place more (inl same) = subst (λ x. before.call < dequeue_call x) same (next_stays before life inside chosen.0)
+        by_place more (inr later) =
+            let next = handover before life rest y inside chosen later in
+            let past = next_stays before life inside chosen.0 in
+            let rest' = more next.0 next.1.inside next.1.further later in
+            omega (arith, next.1.calls)
+
+    -- a gap of the window, from this ticket on, that of these values at most one covers
+    record IsLeftBy (cover : List Life) (from : ℕ) (x : Life) (c : ℕ) : Type 0 where
+      pub after : from ≤ c
+      pub before_return : c < empty.ret
+      pub no_other : (y : Life) → Contains cover y → Covers y c → y ≡ x
+
+    left_by : (cover : List Life) (before : Operation) (x : Life) → IsCalledInside before → IsChosenCoverFrom operations empty before.call cover → Contains cover x → (c : ℕ) × IsLeftBy cover before.call x c
+    left_by [] before x inside chosen among = absurd chosen
+    left_by (life ∷ rest) before x inside chosen among = by_place (λ d inside' chosen' later. left_by rest d x inside' chosen' later) (contains_cons life rest x among)
+      where
+        -- no later value was there when the first took over
+        not_yet : (y : Life) → Contains rest y → Covers y before.call → ⊥
+        not_yet y later covers =
+            let next = handover before life rest y inside chosen later in
+            let stays = all_stay rest next.0 y next.1.inside next.1.further later in
+            let entered = enters_before before y inside (chosen_are_lives rest next.0.call y next.1.further later) covers in
+            let longest = chosen.0.longest y (chosen_are_lives rest next.0.call y next.1.further later) entered in
+            omega (arith, next.1.calls, longest.0)
+
+        first_only : life ≡ x → (y : Life) → Covers y before.call → (life ≡ y) ⊎ Contains rest y → y ≡ x
+        first_only same y covers (inl here) = let back = sym here in cc
+        first_only same y covers (inr later) = absurd (not_yet y later covers)
+
+        not_first : (d : Operation) → dequeue_call life ≡ d.call → (c : ℕ) → IsLeftBy rest d.call x c → (y : Life) → Covers y c → (life ≡ y) ⊎ Contains rest y → y ≡ x
+        not_first d calls c left y covers (inl here) =
+            let gone : c < dequeue_call life = subst (λ z. c < dequeue_call z) (sym here) covers.1 in
+            absurd (omega (arith, left.after))
+        not_first d calls c left y covers (inr later) = left.no_other y later covers
+
+        by_place : ((d : Operation) → IsCalledInside d → IsChosenCoverFrom operations empty d.call rest → Contains rest x → (c : ℕ) × IsLeftBy rest d.call x c) → (life ≡ x) ⊎ Contains rest x
+            → (c : ℕ) × IsLeftBy (life ∷ rest) before.call x c
+        by_place more (inl same) = (
+          before.call,
+          record {
+            after = omega arith;
+            before_return = inside.before_return;
+            no_other = λ y among' covers. first_only same y covers (contains_cons life rest y among');
+          },
+        )
+        by_place more (inr later) =
+            let next = handover before life rest x inside chosen later in
+            let left = more next.0 next.1.inside next.1.further later in
+            let past = next_stays before life inside chosen.0 in (
+              left.0,
+              record {
+                after = omega (arith, left.1.after, next.1.calls);
+                before_return = left.1.before_return;
+                no_other = λ y among' covers. not_first next.0 next.1.calls left.0 left.1 y covers (contains_cons life rest y among');
+              },
+            )
+
+    -- without x the cover leaves a gap of the window open
+    pub gap_without : (cover : List Life) (x : Life) → empty.call < empty.ret → IsChosenCoverFrom operations empty empty.call cover → Contains cover x
+        → (c : ℕ) × (empty.call ≤ c) × (c < empty.ret) × ((y : Life) → Contains cover y → Covers y c → y ≡ x)
+    gap_without cover x window chosen among =
+        let left = left_by cover empty x (record { among = did.0; after_call = omega arith; before_return = window }) chosen among in
+        (left.0, left.1.after, left.1.before_return, left.1.no_other)

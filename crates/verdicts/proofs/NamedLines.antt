@@ -1,0 +1,138 @@
+-- What the lines of a violation name, and what a selection by them holds.
+use Rattle.std.proofs.Common.{◌≡◌, ℕ, ◌⊎◌, Bool, true, List, [], ◌∷◌, Option, Some, None, refl, sym, ◌∙◌, ap, subst, inl, inr}
+use Rattle.std.specs.Prelude.{Contains, filter, flat_map, option_to_list, MatchOption}
+use Rattle.std.specs.Option.{option_map_or}
+use Rattle.history_merge.specs.declared.operation.Operation.{Operation}
+use Rattle.history_merge.specs.declared.operation.OpKind.{OpKind}
+use Rattle.history_merge.specs.declared.operation.OpKind.TheVariants.{Enq, Deq, Not}
+use Rattle.history_merge.specs.Operations.{Did, NoneDid, Precedes}
+use Rattle.history_merge.specs.Complete.{AreComplete}
+use Rattle.history_merge.proofs.Distinct.{contains_cons, not_in_none, same_call}
+use Rattle.value_match.specs.declared.life.Life.{Life}
+use Rattle.value_match.specs.Lives.{IsLife}
+use Rattle.value_match.specs.Violations.{Breach, fresh, repeat, order, witness, IsFreshViolation, IsRepeatViolation, IsOrderViolation, IsBreachOf, lines_of}
+use Rattle.value_match.specs.Choice.{IsChosenBreach}
+use Rattle.value_match.proofs.Lists.{kept, keeps, mapped_from, mapped_to, passed_filter}
+use Rattle.linearizer.proofs.NoneTwice.{from_flat_map}
+use Rattle.verdicts.specs.Selection.{value_of, selects}
+use Rattle.verdicts.specs.Selecting.{SelectsNamed}
+use Rattle.verdicts.proofs.CoverGaps.{chosen_are_lives}
+
+-- the operation has this value
+abbrev pub HasValue : Operation → ℕ → Type 0
+HasValue o v = value_of o.kind ≡ Some v
+
+-- one of the operations, of this value
+abbrev pub IsOpOf : List Operation → ℕ → Operation → Type 0
+IsOpOf operations v o = Contains operations o × HasValue o v
+
+pub op_of : (operations : List Operation) (o : Operation) (kind : OpKind) (v : ℕ) → Did operations o kind → value_of kind ≡ Some v → IsOpOf operations v o
+op_of operations o kind v did is = (did.0, ap value_of did.1 ∙ is)
+
+-- what holds of one or two, three operations, holds of each in their list
+each_of : (P : Operation → Type 0) (x : Operation) (xs : List Operation) → P x → ((o : Operation) → Contains xs o → P o) → (o : Operation) → Contains (x ∷ xs) o → P o
+each_of P x xs here later o among = elim (contains_cons x xs o among) [ inl same ↦ subst P same here | inr more ↦ later o more ]
+
+none_of : (P : Operation → Type 0) (o : Operation) → Contains [] o → P o
+none_of P o among = absurd (not_in_none o among)
+
+pub fresh_lines : (operations : List Operation) (deq : Operation) (enq : Option Operation) → IsFreshViolation operations deq enq → (v : ℕ) × ((o : Operation) → Contains (deq ∷ option_to_list enq) o → IsOpOf operations v o)
+fresh_lines operations deq None is = (is.value, each_of (IsOpOf operations is.value) deq [] (op_of operations deq (Deq is.value) is.value is.dequeues refl) (none_of (IsOpOf operations is.value)))
+fresh_lines operations deq (Some enq) is =
+    (is.value, each_of (IsOpOf operations is.value) deq (enq ∷ []) (op_of operations deq (Deq is.value) is.value is.dequeues refl) (each_of (IsOpOf operations is.value) enq [] (by_call is.enqueues) (none_of (IsOpOf operations is.value))))
+  where
+    by_call : Did operations enq (Not is.value) ⊎ (Did operations enq (Enq is.value) × Precedes deq enq) → IsOpOf operations is.value enq
+    by_call (inl refused) = op_of operations enq (Not is.value) is.value refused refl
+    by_call (inr late) = op_of operations enq (Enq is.value) is.value late.0 refl
+
+pub repeat_lines : (operations : List Operation) (enq first second : Operation) (is : IsRepeatViolation operations enq first second) → (o : Operation) → Contains (enq ∷ first ∷ second ∷ []) o → IsOpOf operations is.value o
+repeat_lines operations enq first second is =
+    let P = IsOpOf operations is.value in
+    each_of P enq (first ∷ second ∷ []) (op_of operations enq (Enq is.value) is.value is.enqueues refl)
+    (each_of P first (second ∷ []) (op_of operations first (Deq is.value) is.value is.dequeues refl) (each_of P second [] (op_of operations second (Deq is.value) is.value is.dequeues_again refl) (none_of P)))
+
+-- one of the operations, of one of two values
+abbrev pub IsOpOfTwo : List Operation → ℕ → ℕ → Operation → Type 0
+IsOpOfTwo operations a b o = IsOpOf operations a o ⊎ IsOpOf operations b o
+
+pub order_lines : (operations : List Operation) (enq_a enq_b deq_b : Operation) (deq_a : Option Operation) (is : IsOrderViolation operations enq_a enq_b deq_b deq_a)
+    → (o : Operation) → Contains (enq_a ∷ enq_b ∷ deq_b ∷ option_to_list deq_a) o → IsOpOfTwo operations is.a is.b o
+order_lines operations enq_a enq_b deq_b deq_a is =
+    let P = IsOpOfTwo operations is.a is.b in
+    each_of P enq_a (enq_b ∷ deq_b ∷ option_to_list deq_a) (inl (op_of operations enq_a (Enq is.a) is.a is.enqueues_a refl))
+    (each_of P enq_b (deq_b ∷ option_to_list deq_a) (inr (op_of operations enq_b (Enq is.b) is.b is.enqueues_b refl))
+    (each_of P deq_b (option_to_list deq_a) (inr (op_of operations deq_b (Deq is.b) is.b is.dequeues_b refl)) (last deq_a is.dequeued_later)))
+  where
+    last : (d : Option Operation) → MatchOption d (NoneDid operations (Deq is.a)) (λ d. Did operations d (Deq is.a) × Precedes deq_b d) → (o : Operation) → Contains (option_to_list d) o → IsOpOfTwo operations is.a is.b o
+    last None none = none_of (IsOpOfTwo operations is.a is.b)
+    last (Some d) did = each_of (IsOpOfTwo operations is.a is.b) d [] (inl (op_of operations d (Deq is.a) is.a did.0 refl)) (none_of (IsOpOfTwo operations is.a is.b))
+
+-- one of the operations, of the value of a life
+pub record IsOpOfLife (operations : List Operation) (cover : List Life) (o : Operation) : Type 0 where
+  pub life : Life
+  pub among : Contains cover life
+  pub is_life : IsLife operations life
+  pub is_of : IsOpOf operations is_life.0 o
+
+pub cover_lines : (operations : List Operation) (cover : List Life) → ((life : Life) → Contains cover life → IsLife operations life)
+    → (o : Operation) → Contains (flat_map (λ life. life.enqueue ∷ option_to_list life.dequeue) cover) o → IsOpOfLife operations cover o
+cover_lines operations cover lives o at =
+    let found = from_flat_map (λ life. life.enqueue ∷ option_to_list life.dequeue) cover o at in
+    let is = lives found.0 found.1 in
+    record { life = found.0; among = found.1; is_life = is; is_of = of_life found.0 is found.2 }
+  where
+    dequeue : (v : ℕ) (d : Option Operation) → MatchOption d (NoneDid operations (Deq v)) (λ d. Did operations d (Deq v)) → (o : Operation) → Contains (option_to_list d) o → IsOpOf operations v o
+    dequeue v None none = none_of (IsOpOf operations v)
+    dequeue v (Some d) did = each_of (IsOpOf operations v) d [] (op_of operations d (Deq v) v did refl) (none_of (IsOpOf operations v))
+
+    of_life : (life : Life) (is : IsLife operations life) → Contains (life.enqueue ∷ option_to_list life.dequeue) o → IsOpOf operations is.0 o
+    of_life life is at' = each_of (IsOpOf operations is.0) life.enqueue (option_to_list life.dequeue) (op_of operations life.enqueue (Enq is.0) is.0 is.1 refl) (dequeue is.0 life.dequeue is.2) o at'
+
+-- the lines of a chosen violation are operations
+pub lines_are_operations : (operations : List Operation) (breach : Breach) → IsBreachOf operations breach → IsChosenBreach operations breach → (o : Operation) → Contains (lines_of breach) o → Contains operations o
+lines_are_operations operations (fresh deq enq) is chosen o at = ((fresh_lines operations deq enq is).1 o at).0
+lines_are_operations operations (repeat enq first second) is chosen o at = (repeat_lines operations enq first second is o at).0
+lines_are_operations operations (order enq_a enq_b deq_b deq_a) is chosen o at = elim (order_lines operations enq_a enq_b deq_b deq_a is o at) [ inl of_a ↦ of_a.0 | inr of_b ↦ of_b.0 ]
+lines_are_operations operations (witness empty cover) is chosen o at =
+    elim (contains_cons empty (flat_map (λ life. life.enqueue ∷ option_to_list life.dequeue) cover) o at) [
+      | inl same ↦ subst (Contains operations) same is.answers_empty.0
+      | inr later ↦ (cover_lines operations cover (λ life among. chosen_are_lives operations empty cover empty.call life chosen.3.cover_is_chosen among) o later).is_of.0
+    ]
+
+-- whether an operation of a value is selected depends on the value alone
+pub selects_as_value : (values calls : ℕ → Bool) (o : Operation) (v : ℕ) → HasValue o v → selects values calls o ≡ values v
+selects_as_value values calls o v is = ap (λ w. option_map_or values w (calls o.call)) is
+
+pub selects_as_call : (values calls : ℕ → Bool) (o : Operation) → value_of o.kind ≡ None → selects values calls o ≡ calls o.call
+selects_as_call values calls o is = ap (λ w. option_map_or values w (calls o.call)) is
+
+module _ (lines : List Operation) (values calls : ℕ → Bool) (named : SelectsNamed lines values calls) where
+  -- each line is selected
+  pub lines_are_selected : (o : Operation) → Contains lines o → selects values calls o ≡ true
+  lines_are_selected o among = by_value (value_of o.kind) refl
+    where
+      by_value : (w : Option ℕ) → value_of o.kind ≡ w → selects values calls o ≡ true
+      by_value (Some v) is = selects_as_value values calls o v is ∙ (named.values_named v).1 (keeps (λ o. value_of o.kind) lines o v among is)
+      by_value None is = selects_as_call values calls o is ∙ (named.calls_named o.call).1 (mapped_to (λ o. o.call) lines o among)
+
+  -- the line for which an operation is selected: of its value, or itself
+  pub record IsSelectedFor (o line : Operation) : Type 0 where
+    pub among : Contains lines line
+    pub same_value : value_of line.kind ≡ value_of o.kind
+    pub itself : value_of o.kind ≡ None → line ≡ o
+
+  pub selected_for : (operations : List Operation) (o : Operation) → AreComplete operations → ((l : Operation) → Contains lines l → Contains operations l) → Contains (filter (selects values calls) operations) o
+      → (line : Operation) × IsSelectedFor o line
+  selected_for operations o complete are among = by_value (value_of o.kind) refl
+    where
+      passed : Contains operations o × (selects values calls o ≡ true)
+      passed = passed_filter (selects values calls) operations o among
+
+      by_value : (w : Option ℕ) → value_of o.kind ≡ w → (line : Operation) × IsSelectedFor o line
+      by_value (Some v) is =
+          let found = kept (λ o. value_of o.kind) lines v ((named.values_named v).0 (sym (selects_as_value values calls o v is) ∙ passed.1)) in
+          (found.0, record { among = found.1; same_value = found.2 ∙ sym is; itself = λ none. let clash : Some v ≡ None = sym is ∙ none in cc })
+      by_value None is =
+          let found = mapped_from (λ o. o.call) lines o.call ((named.calls_named o.call).0 (sym (selects_as_call values calls o is) ∙ passed.1)) in
+          let one = same_call operations found.0 o complete (are found.0 found.1) passed.0 found.2 in
+          (found.0, record { among = found.1; same_value = ap (λ x. value_of x.kind) one; itself = λ _. one })

@@ -1,0 +1,179 @@
+-- Violations of a selection are violations of the whole, and those that are selected stay.
+use Rattle.std.proofs.Common.{◌≡◌, ℕ, zero, suc, ◌⊎◌, Bool, true, List, [], ◌∷◌, Option, Some, None, refl, sym, ◌∙◌, ap, inl, inr, arith}
+use Rattle.std.specs.Prelude.{Contains, filter, MatchOption, flat_map, option_to_list}
+use Rattle.std.specs.Option.{option_map_or}
+use Rattle.history_merge.specs.declared.operation.Operation.{Operation}
+use Rattle.history_merge.specs.declared.operation.OpKind.{OpKind}
+use Rattle.history_merge.specs.declared.operation.OpKind.TheVariants.{Enq, Deq, Empty, Not}
+use Rattle.history_merge.specs.Operations.{Did, NoneDid, Precedes}
+use Rattle.value_match.specs.declared.life.Life.{Life}
+use Rattle.value_match.specs.Lives.{IsLife}
+use Rattle.value_match.specs.Violations.{Breach, fresh, repeat, order, witness, IsBreachOf, IsNeverEnqueued, IsEnqueuedTooLate, CoversFrom, lines_of}
+use Rattle.value_match.proofs.Lists.{passes_filter, passed_filter, one_deeper}
+use Rattle.linearizer.proofs.NoneTwice.{into_flat_map}
+use Rattle.verdicts.specs.Selection.{value_of, selects}
+
+first_line : (o : Operation) (lines : List Operation) → Contains (o ∷ lines) o
+first_line o lines = (zero, omega arith, refl)
+
+-- the enqueue of each value of a cover is a line
+pub line_of_life : (empty : Operation) (cover : List Life) (life : Life) → Contains cover life → Contains (empty ∷ flat_map (λ life. life.enqueue ∷ option_to_list life.dequeue) cover) life.enqueue
+line_of_life empty cover life among =
+    let lines = flat_map (λ life. life.enqueue ∷ option_to_list life.dequeue) cover in
+    one_deeper empty lines life.enqueue (into_flat_map (λ life. life.enqueue ∷ option_to_list life.dequeue) cover life life.enqueue among (first_line life.enqueue (option_to_list life.dequeue)))
+
+module _ (operations : List Operation) (values empties : ℕ → Bool) where
+  abbrev selected : List Operation
+  selected = filter (selects values empties) operations
+
+  pub did_in_whole : (o : Operation) (kind : OpKind) → Did selected o kind → Did operations o kind
+  did_in_whole o kind did = ((passed_filter (selects values empties) operations o did.0).0, did.1)
+
+  did_in_selected : (o : Operation) (kind : OpKind) → Did operations o kind → selects values empties o ≡ true → Did selected o kind
+  did_in_selected o kind did selects_it = (passes_filter (selects values empties) operations o selects_it did.0, did.1)
+
+  -- an operation of a value is selected where the value is
+  pub selects_by_value : (o : Operation) (v : ℕ) (kind : OpKind) → o.kind ≡ kind → value_of kind ≡ Some v → selects values empties o ≡ values v
+  selects_by_value o v kind did is = ap (λ k. option_map_or values (value_of k) (empties o.call)) did ∙ ap (λ w. option_map_or values w (empties o.call)) is
+
+  pub value_is_selected : (o : Operation) (v : ℕ) (kind : OpKind) → Did selected o kind → value_of kind ≡ Some v → values v ≡ true
+  value_is_selected o v kind did is = sym (selects_by_value o v kind did.1 is) ∙ (passed_filter (selects values empties) operations o did.0).1
+
+  -- no operation of a selected value is left out
+  none_did_in_whole : (v : ℕ) (kind : OpKind) → values v ≡ true → value_of kind ≡ Some v → NoneDid selected kind → NoneDid operations kind
+  none_did_in_whole v kind selects_it is none o among did = none o (passes_filter (selects values empties) operations o (selects_by_value o v kind did is ∙ selects_it) among) did
+
+  none_did_in_selected : (kind : OpKind) → NoneDid operations kind → NoneDid selected kind
+  none_did_in_selected kind none o among did = none o (passed_filter (selects values empties) operations o among).0 did
+
+  dequeue_in_whole : (v : ℕ) (d : Option Operation) → values v ≡ true → MatchOption d (NoneDid selected (Deq v)) (λ d. Did selected d (Deq v)) → MatchOption d (NoneDid operations (Deq v)) (λ d. Did operations d (Deq v))
+  dequeue_in_whole v None selects_it none = none_did_in_whole v (Deq v) selects_it refl none
+  dequeue_in_whole v (Some d) selects_it did = did_in_whole d (Deq v) did
+
+  dequeue_in_selected : (v : ℕ) (d : Option Operation) → values v ≡ true → MatchOption d (NoneDid operations (Deq v)) (λ d. Did operations d (Deq v)) → MatchOption d (NoneDid selected (Deq v)) (λ d. Did selected d (Deq v))
+  dequeue_in_selected v None selects_it none = none_did_in_selected (Deq v) none
+  dequeue_in_selected v (Some d) selects_it did = did_in_selected d (Deq v) did (selects_by_value d v (Deq v) did.1 refl ∙ selects_it)
+
+  pub life_in_whole : (life : Life) → IsLife selected life → IsLife operations life
+  life_in_whole life is =
+      (is.0, did_in_whole life.enqueue (Enq is.0) is.1, dequeue_in_whole is.0 life.dequeue (value_is_selected life.enqueue is.0 (Enq is.0) is.1 refl) is.2)
+
+  pub life_in_selected : (life : Life) → IsLife operations life → selects values empties life.enqueue ≡ true → IsLife selected life
+  life_in_selected life is selects_it =
+      let value = sym (selects_by_value life.enqueue is.0 (Enq is.0) is.1.1 refl) ∙ selects_it in
+      (is.0, did_in_selected life.enqueue (Enq is.0) is.1 selects_it, dequeue_in_selected is.0 life.dequeue value is.2)
+
+  cover_in_whole : (empty before : Operation) (cover : List Life) → CoversFrom selected empty before cover → CoversFrom operations empty before cover
+  cover_in_whole empty before [] covers = covers
+  cover_in_whole empty before (life ∷ []) covers = (life_in_whole life covers.0, covers.1, covers.2)
+  cover_in_whole empty before (life ∷ next ∷ rest) covers = (life_in_whole life covers.0, covers.1, further life.dequeue covers.2 (λ d. cover_in_whole empty d (next ∷ rest)))
+    where
+      further : (dequeue : Option Operation) → MatchOption dequeue ⊥ (λ d. CoversFrom selected empty d (next ∷ rest)) → ((d : Operation) → CoversFrom selected empty d (next ∷ rest) → CoversFrom operations empty d (next ∷ rest))
+          → MatchOption dequeue ⊥ (λ d. CoversFrom operations empty d (next ∷ rest))
+      further None covers' more = covers'
+      further (Some d) covers' more = more d covers'
+
+  cover_in_selected : (empty before : Operation) (cover : List Life) → CoversFrom operations empty before cover → ((life : Life) → Contains cover life → selects values empties life.enqueue ≡ true) → CoversFrom selected empty before cover
+  cover_in_selected empty before [] covers each = covers
+  cover_in_selected empty before (life ∷ []) covers each = (life_in_selected life covers.0 (each life (zero, omega arith, refl)), covers.1, covers.2)
+  cover_in_selected empty before (life ∷ next ∷ rest) covers each = (
+    life_in_selected life covers.0 (each life (zero, omega arith, refl)),
+    covers.1,
+    further life.dequeue covers.2 (λ d covers'. cover_in_selected empty d (next ∷ rest) covers' (λ x among. each x (one_deeper life (next ∷ rest) x among))),
+  )
+    where
+      further : (dequeue : Option Operation) → MatchOption dequeue ⊥ (λ d. CoversFrom operations empty d (next ∷ rest)) → ((d : Operation) → CoversFrom operations empty d (next ∷ rest) → CoversFrom selected empty d (next ∷ rest))
+          → MatchOption dequeue ⊥ (λ d. CoversFrom selected empty d (next ∷ rest))
+      further None covers' more = covers'
+      further (Some d) covers' more = more d covers'
+
+  never_in_whole : (deq : Operation) → IsNeverEnqueued selected deq → IsNeverEnqueued operations deq
+  never_in_whole deq is =
+      let value = value_is_selected deq is.value (Deq is.value) is.dequeues refl in
+      record {
+        value = is.value;
+        dequeues = did_in_whole deq (Deq is.value) is.dequeues;
+        not_accepted = none_did_in_whole is.value (Enq is.value) value refl is.not_accepted;
+        not_refused = none_did_in_whole is.value (Not is.value) value refl is.not_refused;
+      }
+
+  late_in_whole : (deq enq : Operation) → IsEnqueuedTooLate selected deq enq → IsEnqueuedTooLate operations deq enq
+  late_in_whole deq enq is = record { value = is.value; dequeues = did_in_whole deq (Deq is.value) is.dequeues; enqueues = by_call is.enqueues }
+    where
+      by_call : Did selected enq (Not is.value) ⊎ (Did selected enq (Enq is.value) × Precedes deq enq) → Did operations enq (Not is.value) ⊎ (Did operations enq (Enq is.value) × Precedes deq enq)
+      by_call (inl refused) = inl (did_in_whole enq (Not is.value) refused)
+      by_call (inr late) = inr (did_in_whole enq (Enq is.value) late.0, late.1)
+
+  -- a violation of the selection is one of the whole
+  pub breach_in_whole : (breach : Breach) → IsBreachOf selected breach → IsBreachOf operations breach
+  breach_in_whole (fresh deq None) is = never_in_whole deq is
+  breach_in_whole (fresh deq (Some enq)) is = late_in_whole deq enq is
+  breach_in_whole (repeat enq first second) is = record {
+    value = is.value;
+    enqueues = did_in_whole enq (Enq is.value) is.enqueues;
+    dequeues = did_in_whole first (Deq is.value) is.dequeues;
+    dequeues_again = did_in_whole second (Deq is.value) is.dequeues_again;
+    in_order = is.in_order;
+  }
+  breach_in_whole (order enq_a enq_b deq_b deq_a) is = record {
+    a = is.a;
+    b = is.b;
+    enqueues_a = did_in_whole enq_a (Enq is.a) is.enqueues_a;
+    enqueues_b = did_in_whole enq_b (Enq is.b) is.enqueues_b;
+    dequeues_b = did_in_whole deq_b (Deq is.b) is.dequeues_b;
+    enqueued_first = is.enqueued_first;
+    dequeued_later = later deq_a is.dequeued_later;
+  }
+    where
+      later : (d : Option Operation) → MatchOption d (NoneDid selected (Deq is.a)) (λ d. Did selected d (Deq is.a) × Precedes deq_b d) → MatchOption d (NoneDid operations (Deq is.a)) (λ d. Did operations d (Deq is.a) × Precedes deq_b d)
+      later None none = none_did_in_whole is.a (Deq is.a) (value_is_selected enq_a is.a (Enq is.a) is.enqueues_a refl) refl none
+      later (Some d) did = (did_in_whole d (Deq is.a) did.0, did.1)
+  breach_in_whole (witness empty cover) is = record { answers_empty = did_in_whole empty Empty is.answers_empty; covers = cover_in_whole empty empty cover is.covers }
+
+  -- a violation whose operations are selected is one of the selection
+  pub breach_in_selected : (breach : Breach) → IsBreachOf operations breach → ((o : Operation) → Contains (lines_of breach) o → selects values empties o ≡ true) → IsBreachOf selected breach
+  breach_in_selected (fresh deq None) is each = record {
+    value = is.value;
+    dequeues = did_in_selected deq (Deq is.value) is.dequeues (each deq (first_line deq []));
+    not_accepted = none_did_in_selected (Enq is.value) is.not_accepted;
+    not_refused = none_did_in_selected (Not is.value) is.not_refused;
+  }
+  breach_in_selected (fresh deq (Some enq)) is each = record {
+    value = is.value;
+    dequeues = did_in_selected deq (Deq is.value) is.dequeues (each deq (first_line deq (enq ∷ [])));
+    enqueues = by_call is.enqueues;
+  }
+    where
+      selects_it : selects values empties enq ≡ true
+      selects_it = each enq (suc zero, omega arith, refl)
+
+      by_call : Did operations enq (Not is.value) ⊎ (Did operations enq (Enq is.value) × Precedes deq enq) → Did selected enq (Not is.value) ⊎ (Did selected enq (Enq is.value) × Precedes deq enq)
+      by_call (inl refused) = inl (did_in_selected enq (Not is.value) refused selects_it)
+      by_call (inr late) = inr (did_in_selected enq (Enq is.value) late.0 selects_it, late.1)
+  breach_in_selected (repeat enq first second) is each = record {
+    value = is.value;
+    enqueues = did_in_selected enq (Enq is.value) is.enqueues (each enq (zero, omega arith, refl));
+    dequeues = did_in_selected first (Deq is.value) is.dequeues (each first (1, omega arith, refl));
+    dequeues_again = did_in_selected second (Deq is.value) is.dequeues_again (each second (2, omega arith, refl));
+    in_order = is.in_order;
+  }
+  breach_in_selected (order enq_a enq_b deq_b deq_a) is each = record {
+    a = is.a;
+    b = is.b;
+    enqueues_a = did_in_selected enq_a (Enq is.a) is.enqueues_a (each enq_a (zero, omega arith, refl));
+    enqueues_b = did_in_selected enq_b (Enq is.b) is.enqueues_b (each enq_b (1, omega arith, refl));
+    dequeues_b = did_in_selected deq_b (Deq is.b) is.dequeues_b (each deq_b (2, omega arith, refl));
+    enqueued_first = is.enqueued_first;
+    dequeued_later = later deq_a is.dequeued_later;
+  }
+    where
+      value_a : values is.a ≡ true
+      value_a = sym (selects_by_value enq_a is.a (Enq is.a) is.enqueues_a.1 refl) ∙ each enq_a (zero, omega arith, refl)
+
+      later : (d : Option Operation) → MatchOption d (NoneDid operations (Deq is.a)) (λ d. Did operations d (Deq is.a) × Precedes deq_b d) → MatchOption d (NoneDid selected (Deq is.a)) (λ d. Did selected d (Deq is.a) × Precedes deq_b d)
+      later None none = none_did_in_selected (Deq is.a) none
+      later (Some d) did = (did_in_selected d (Deq is.a) did.0 (selects_by_value d is.a (Deq is.a) did.0.1 refl ∙ value_a), did.1)
+  breach_in_selected (witness empty cover) is each = record {
+    answers_empty = did_in_selected empty Empty is.answers_empty (each empty (zero, omega arith, refl));
+    covers = cover_in_selected empty empty cover is.covers (λ life among. each life.enqueue (line_of_life empty cover life among));
+  }

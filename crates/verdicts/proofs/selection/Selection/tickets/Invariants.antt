@@ -1,0 +1,9 @@
+use Rattle.std.proofs.Common.{◌≡◌, ℕ, take, filter, nat_cmp}
+use Rattle.std.specs.BTreeSet.{contains}
+use Rattle.verdicts.specs.Selection.{selects}
+use Rattle.verdicts.specs.Selecting.{holds_ticket}
+use Rattle.verdicts.proofs.selection.Selection.tickets.Given as goal
+
+abbrev pub invariant-loop-operation : goal.invariant-loop-operation
+invariant-loop-operation l =
+    (t : ℕ) → contains nat_cmp l.tickets t ≡ holds_ticket (filter (selects (contains nat_cmp l.self.values) (contains nat_cmp l.self.calls)) (take l.operation-index l.operations)) t

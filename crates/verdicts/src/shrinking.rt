@@ -1,0 +1,73 @@
+ghost use Rattle.std.specs.Prelude.{◌≡◌, ◌≤◌, IfOk, length};
+ghost use Rattle.history_merge.specs.Complete.{IsCompleteHistory};
+ghost use Rattle.history_merge.specs.Operations.{operations_of};
+ghost use Rattle.value_match.specs.Outcome.{IsChosenViolation};
+ghost use Rattle.verdicts.specs.Selection.{KeepsViolation, StaysChosen, IsMinimal, HasShortestCover, ArePartOf};
+ghost use Rattle.verdicts.specs.Selecting.{AreSelectedEvents};
+
+use crate::selection::{Selection, events_at};
+use crate::shown::shown;
+use event_records::{Event, MAX_EVENTS};
+use history_merge::{History, HistoryFault, history};
+use std::alloc::{AllocError, Global};
+use value_match::Violation;
+
+/// The history of the chosen violation alone: all operations of the values that it names, and its empty answer, with the
+/// tickets and threads that they had.
+///
+/// The violation is the one that `decide` answers for this history, by its places there. It is also the one that `decide`
+/// answers for the small history, by the places of the same operations in that. Without any one of its values, or
+/// without its empty answer, the small history is linearizable. It need not be the smallest such part of the history:
+/// another violation may show fewer operations, but of an empty answer no cover has fewer values.
+///
+/// Time O(n log n) for n operations. Memory beside the answer: a copy of the operations that the violation names, and a
+/// set of the tickets that are kept. `AllocError` comes only where a growth was refused.
+pub fn shrink(
+    alloc: Global,
+    history: &History,
+    violation: &Violation,
+) -> Result<History, AllocError>
+    requires { IsChosenViolation (operations_of history.now) violation.now }
+    ensures kept { IfOk result (λ small. KeepsViolation (operations_of history.now) violation.now (operations_of small)) }
+    ensures same_violation { IfOk result (λ small. StaysChosen (operations_of history.now) violation.now (operations_of small)) }
+    ensures minimal { IfOk result (λ small. IsMinimal (operations_of small)) }
+    ensures shortest { IfOk result (λ _. HasShortestCover (operations_of history.now) violation.now) }
+    ensures events { IfOk result (λ small. ArePartOf history.now small) }
+{
+    // A history is complete, and has no more than `MAX_EVENTS`, as its accessor says.
+    let _events = history.events();
+    let selected = selected_events(alloc, history, violation)?;
+    complete_history(alloc, selected)
+}
+
+/// The events of the operations that the lines of the violation select.
+fn selected_events(
+    alloc: Global,
+    history: &History,
+    violation: &Violation,
+) -> Result<Vec<Event>, AllocError>
+    requires { IsChosenViolation (operations_of history.now) violation.now }
+    ensures { IfOk result (λ selected. AreSelectedEvents history.now violation.now selected.items) }
+{
+    let operations = history.operations();
+    let lines = shown(alloc, operations, violation)?;
+    let selection = Selection::named_by(alloc, lines.as_slice())?;
+    let tickets = selection.tickets(alloc, operations)?;
+    events_at(alloc, history.events(), &tickets)
+}
+
+/// The history of events that are known to be those of one.
+fn complete_history(alloc: Global, events: Vec<Event>) -> Result<History, AllocError>
+    requires few { length events.items ≤ MAX_EVENTS }
+    requires complete { IsCompleteHistory events.items }
+    ensures { IfOk result (λ whole. whole ≡ events.items) }
+{
+    match history(alloc, events) {
+        Ok(whole) => Ok(whole),
+        Err(HistoryFault::Memory) => Err(AllocError),
+        Err(_) => unreachable!("the events are those of a complete history"),
+    }
+}
+
+#[cfg(test)]
+mod tests;
