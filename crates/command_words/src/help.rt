@@ -24,7 +24,7 @@ Example:
 ";
 
 pub(crate) const SHRINK_ABOUT: &str =
-    "Reads a history from standard input and prints a smaller one with the same kind of violation";
+    "Reads a history from standard input and prints what shows its violation, and no more";
 
 pub(crate) const SHRINK_HELP: &str = "\
 Input: the text of a history, as for `check`.
@@ -40,7 +40,7 @@ Example:
 ";
 
 pub(crate) const VERIFY_ABOUT: &str =
-    "Reads a history and a verdict from standard input and prints whether the verdict is right";
+    "Reads a history and a verdict from standard input and prints whether the verdict is evidence";
 
 pub(crate) const VERIFY_HELP: &str = "\
 Input: the text of a history, directly followed by the text of a verdict, as `check` and `stress`
@@ -64,8 +64,8 @@ Input: the text of a schedule: the line `fifo-schedule 1`, the line `threads T r
 threads and rings of 2 to 65536 events, one line for each step, and the line `end` with their number.
 
 Output: a line `REJECTED`, with the number of the step from 1 and the reason, for each step that the
-recorder refuses; then `OPEN` where threads, rings or operations are left open, else the text of the
-recorded history and its verdict.
+recorder refuses; then `OPEN` where some thread is not closed or some ring not empty, else the text
+of the recorded history and its verdict.
 
 Status: 0 yes or open, 1 no, 2 the input is refused (a line `REFUSED ..` says why), 3 a read, a write
 or memory failed (a line `FAULT ..`).
@@ -84,8 +84,8 @@ Input: none.
 Output: the text of the recorded history and its verdict. Runs with the same options differ, since
 the workers run at the same time.
 
-Queues: locked, two-lock, array and seg are sound; lifo, doubling, inventing, shy and losing are
-faulty on purpose.
+Queues: locked, two-lock, array and seg are made to keep the order; lifo, doubling, inventing, shy
+and losing break it now and then, on purpose.
 
 Status: 0 yes, 1 no, 2 there is no such queue, or threads times operations is above 1000000 (a line
 `REFUSED ..` says which), 3 the run, a write or memory failed (a line `FAULT ..`).

@@ -12,7 +12,8 @@ use std::alloc::{AllocError, Global};
 
 /// The history of lists that merge to a complete one, as those of a recorded run do.
 ///
-/// A complete history is refused for want of memory alone, so no other fault comes. Time O(n log n) for n events, memory for them and for the history.
+/// A complete history is refused for want of memory alone, so no other fault comes. Time O(n log n) for n events, memory for
+/// them and for the history.
 pub fn merged_history(alloc: Global, lists: &Lists) -> Result<History, AllocError>
     requires complete { (merged : List Event) → IsMerged lists.now merged → IsCompleteHistory merged }
     requires few { length (flat_map (λ list. list) lists.now) ≤ MAX_EVENTS }

@@ -4,7 +4,6 @@ use Rattle.std.specs.List.{flat_map}
 use Rattle.history_merge.specs.declared.operation.Operation.{Operation}
 use Rattle.history_merge.specs.declared.operation.OpKind.{OpKind}
 use Rattle.history_merge.specs.declared.operation.OpKind.TheVariants.{Enq, Deq, Empty, Not}
-use Rattle.value_match.specs.declared.violation.CoverStep.{CoverStep}
 use Rattle.value_match.specs.declared.violation.Violation.{Violation}
 use Rattle.value_match.specs.declared.violation.Violation.TheVariants.{Fresh, Repeat, Order, Witness}
 use Rattle.verdicts.specs.declared.claim.ViolationKind.{ViolationKind}
@@ -14,6 +13,8 @@ use Rattle.verdicts.specs.declared.claim.Claimed.TheVariants as claimed
 use Rattle.verdicts.specs.declared.verdict.Verdict.{Verdict}
 use Rattle.verdicts.specs.declared.verdict.Verdict.TheVariants as found
 use Rattle.history_text.specs.Lines.{line, spaced}
+-- the places of a violation's operations, and of a value's in its cover, in the order in which they are shown
+pub use Rattle.verdicts.specs.Shown.{places_of_step, places_of as places_of_violation}
 
 -- ---- what is written
 
@@ -45,17 +46,6 @@ verdict_text (claimed.Yes operations) = line (codes "YES") ++ flat_map operation
 verdict_text (claimed.No kind operations) = line (codes "NO " ++ kind_name kind) ++ flat_map operation_line operations
 
 -- ---- what a verdict claims
-
--- the places of the operations of a value in a cover
-abbrev pub places_of_step : CoverStep → List ℕ
-places_of_step step = step.enqueue ∷ option_to_list step.dequeue
-
--- the places of a violation's operations, in the order in which they are shown
-abbrev pub places_of_violation : Violation → List ℕ
-places_of_violation (Fresh deq enq) = deq ∷ option_to_list enq
-places_of_violation (Repeat enq first second) = enq ∷ first ∷ second ∷ []
-places_of_violation (Order enq_a enq_b deq_b deq_a) = enq_a ∷ enq_b ∷ deq_b ∷ option_to_list deq_a
-places_of_violation (Witness empty cover) = empty ∷ flat_map places_of_step cover
 
 -- the places of a verdict's operations, in the order in which they are shown
 abbrev pub places_of : Verdict → List ℕ

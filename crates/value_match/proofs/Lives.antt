@@ -62,7 +62,8 @@ same_dequeue operations enq x y v clear did did_x did_y =
       | inr (inr more) ↦ absurd (clear.no_repeat enq y x (record { value = v; enqueues = did; dequeues = did_y; dequeues_again = did_x; in_order = more }))
     ]
 
-same_found : (operations : List Operation) (enq : Operation) (v : ℕ) (a b : Option Operation) → IsClear operations → Did operations enq (Enq v)
+-- what is found where the value was enqueued is one answer
+pub same_found : (operations : List Operation) (enq : Operation) (v : ℕ) (a b : Option Operation) → IsClear operations → Did operations enq (Enq v)
     → MatchOption a (NoneDid operations (Deq v)) (λ d. Did operations d (Deq v)) → MatchOption b (NoneDid operations (Deq v)) (λ d. Did operations d (Deq v)) → a ≡ b
 same_found operations enq v None None clear did x y = refl
 same_found operations enq v None (Some d) clear did x y = absurd (x d y.0 y.1)

@@ -1,17 +1,16 @@
 -- The one dequeue of each accepted value.
-use Rattle.std.proofs.Common.{◌≡◌, ℕ, ◌<◌, ◌⊎◌, Bool, true, false, cond, List, [], ◌∷◌, length, get_or, Option, Some, None, refl, sym, ◌∙◌, ap, subst, inl, inr, arith}
-use Rattle.std.specs.Prelude.{Contains, MatchOption, find}
-use Rattle.std.proofs.lemmas.Bool.{eqb-true, eq-eqb}
+use Rattle.std.proofs.Common.{◌≡◌, ℕ, ◌<◌, List, length, get_or, Option, Some, None, refl, sym, ◌∙◌, ap, subst, arith}
+use Rattle.std.specs.Prelude.{MatchOption, find}
 use Rattle.std.proofs.lemmas.Option.{slice_get-get_or, slice_get_within}
 use Rattle.history_merge.specs.declared.operation.Operation.{Operation}
-use Rattle.history_merge.specs.declared.operation.OpKind.{OpKind}
-use Rattle.history_merge.specs.declared.operation.OpKind.TheVariants.{Enq, Deq, Empty, Not}
+use Rattle.history_merge.specs.declared.operation.OpKind.TheVariants.{Enq, Deq, Empty}
 use Rattle.history_merge.specs.Complete.{AreComplete}
 use Rattle.history_merge.specs.Operations.{Did, NoneDid, IsAt}
-use Rattle.history_merge.proofs.Distinct.{contains_cons, not_in_none, contains_at, found_first, place_of, one_at, same_return}
-use Rattle.value_match.specs.Lives.{is_dequeue_of, dequeues_kind, IsMaybeAt}
+use Rattle.history_merge.proofs.Distinct.{contains_at, place_of, one_at}
+use Rattle.value_match.specs.Lives.{is_dequeue_of, IsMaybeAt}
 use Rattle.value_match.specs.Violations.{IsClear, NoFreshViolation, NoRepeatViolation}
 use Rattle.value_match.specs.Sources.{HoldsSources, HoldsTakers, HoldsDequeues, IsDequeuePlace, TakesFrom}
+use Rattle.value_match.proofs.Lives.{found_dequeue, same_found}
 use Rattle.value_match.proofs.RepeatedDequeues.{taken_from, takes_from_enqueue}
 
 -- ---- the dequeues by their enqueues
@@ -50,49 +49,6 @@ dequeues_by_enqueues operations sources takers complete no_fresh holds taken = r
         let kinds : Enq t.value ≡ Enq v = sym t.accepted ∙ ap (λ y. y.kind) calls ∙ is in
         let value : t.value ≡ v = cc in
         (x, at_j, t.dequeues ∙ ap Deq value)
-
--- ---- what `find` finds
-
--- what `find` tells where it gives nothing
-none_found : {X : Type 0} (p : X → Bool) (xs : List X) (x : X) → find p xs ≡ None → Contains xs x → p x ≡ false
-none_found p [] x none among = absurd (not_in_none x among)
-none_found {X} p (z ∷ xs) x none among = pick (λ h there. none_found p xs x h there) (p z) refl none (contains_cons z xs x among)
-  where
-    pick : (find p xs ≡ None → Contains xs x → p x ≡ false) → (b : Bool) → p z ≡ b → cond b (Some z) (find p xs) ≡ None → (z ≡ x) ⊎ Contains xs x → p x ≡ false
-    pick rest true is h here = cc
-    pick rest false is h (inl here) = sym (ap p here) ∙ is
-    pick rest false is h (inr there) = rest h there
-
-dequeues : (v : ℕ) (k : OpKind) → dequeues_kind v k ≡ true → k ≡ Deq v
-dequeues v (Deq w) is = ap (λ u. Deq u) (eqb-true w v is)
-dequeues v (Enq w) is = cc
-dequeues v Empty is = cc
-dequeues v (Not w) is = cc
-
-passes : (v : ℕ) (o : Operation) → o.kind ≡ Deq v → is_dequeue_of v o ≡ true
-passes v o is = rw (is, eq-eqb v v refl)
-
--- the dequeue that is found is one, and where none is found there is none
-pub found_dequeue : (operations : List Operation) (v : ℕ) (found : Option Operation) → find (is_dequeue_of v) operations ≡ found → MatchOption found (NoneDid operations (Deq v)) (λ d. Did operations d (Deq v))
-found_dequeue operations v None none = λ o among is. let fails = none_found (is_dequeue_of v) operations o none among in let clash : true ≡ false = sym (passes v o is) ∙ fails in cc
-found_dequeue operations v (Some d) same = let first = found_first (is_dequeue_of v) operations d same in (contains_at operations first.place d first.at, dequeues v d.kind first.passes)
-
--- dequeues of one value are one, where the value was enqueued
-pub same_dequeue : (operations : List Operation) (enq x y : Operation) (v : ℕ) → IsClear operations → Did operations enq (Enq v) → Did operations x (Deq v) → Did operations y (Deq v) → x ≡ y
-same_dequeue operations enq x y v clear did did_x did_y =
-    let order : (x.ret < y.ret) ⊎ ((x.ret ≡ y.ret) ⊎ (y.ret < x.ret)) = grind arith in
-    elim order [
-      | inl less ↦ absurd (clear.no_repeat enq x y (record { value = v; enqueues = did; dequeues = did_x; dequeues_again = did_y; in_order = less }))
-      | inr (inl same) ↦ same_return operations x y clear.complete did_x.0 did_y.0 same
-      | inr (inr more) ↦ absurd (clear.no_repeat enq y x (record { value = v; enqueues = did; dequeues = did_y; dequeues_again = did_x; in_order = more }))
-    ]
-
-pub same_found : (operations : List Operation) (enq : Operation) (v : ℕ) (a b : Option Operation) → IsClear operations → Did operations enq (Enq v)
-    → MatchOption a (NoneDid operations (Deq v)) (λ d. Did operations d (Deq v)) → MatchOption b (NoneDid operations (Deq v)) (λ d. Did operations d (Deq v)) → a ≡ b
-same_found operations enq v None None clear did x y = refl
-same_found operations enq v None (Some d) clear did x y = absurd (x d y.0 y.1)
-same_found operations enq v (Some d) None clear did x y = absurd (y d x.0 x.1)
-same_found operations enq v (Some d) (Some e) clear did x y = ap (λ o. Some o) (same_dequeue operations enq d e v clear did x y)
 
 -- the dequeue at the place is the one that is found
 pub found_at_place : (operations : List Operation) (enq : Operation) (v : ℕ) (place : Option ℕ) (dequeue : Option Operation) → IsClear operations → Did operations enq (Enq v) → IsDequeuePlace operations v place
