@@ -9,16 +9,21 @@ use two_stacks::TwoStacks;
 use verdicts::{Verdict, decide};
 use workloads::Plan;
 
-/// From which the plan is made.
+/// The plan is made from this number.
 const SEED: u64 = 1;
 
+/// How many workers run, each in a thread of its own.
 const WORKERS: usize = 4;
-/// Of each worker.
+
+/// How many operations each worker makes.
 const OPERATIONS: usize = 1000;
-/// Of a hundred operations so many are enqueues.
+
+/// How many of a hundred operations are enqueues.
 const PERCENT: u8 = 50;
+
 /// For how many events the ring of each worker has room.
 const RING: usize = 64;
+
 /// How often a push into a full ring is tried.
 const TRIES: u32 = 1_000_000;
 
