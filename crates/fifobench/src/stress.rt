@@ -19,6 +19,8 @@ use workloads::Plan;
 const TRIES: u32 = 1_000_000;
 
 /// A queue under the name by which `stress` finds it.
+///
+/// A run takes the queue as empty: a value that an earlier run left in it is dequeued as one that nobody enqueued.
 #[derive(Drop)]
 pub struct Shelved<'a> {
     pub name: &'a str,

@@ -1,17 +1,27 @@
+mod checks;
+mod recorded;
+mod schedules;
+mod shrinking;
+mod stressing;
+mod verifying;
+
 use crate::command::run_command;
+use crate::stress::Shelved;
 use history_text::{MemorySource, TextSource, Watched};
 use std::alloc::AllocError;
-use std::test::Fail;
+use std::process::Abort;
+use std::str;
 use std::thread::Threads;
 
 /// What a run of the program writes, and its status. Want of memory is an error of its own.
-fn run<R: AllocGlobal + Threads + Sync, S: TextSource + Drop>(
+fn run<'a, R: AllocGlobal + Threads + Sync, S: TextSource + Drop>(
     rt: &R,
-    words: &[&str],
+    words: &'a [&'a str],
     source: S,
+    shelf: &[Shelved<'a>],
 ) -> Result<(Vec<u8>, u8), AllocError> {
     let mut writer = Watched::new(Vec::new(rt.alloc()));
-    let status = run_command(rt, words, source, &mut writer, &[]);
+    let status = run_command(rt, words, source, &mut writer, shelf);
     let written = writer.into_inner();
     if written.as_slice() == b"FAULT Memory\n".as_slice() {
         return Err(AllocError);
@@ -19,212 +29,17 @@ fn run<R: AllocGlobal + Threads + Sync, S: TextSource + Drop>(
     Ok((written, status))
 }
 
-/// Whether `check` answers the input with this text and this status.
-fn checks_to<R: AllocGlobal + Threads + Sync>(
+/// Asserts that a command answers the input with this text and this status.
+fn assert_answer<R: AllocGlobal + Threads + Sync + Abort>(
     rt: &R,
-    input: &[u8],
-    text: &[u8],
+    command: &str,
+    input: &str,
+    text: &str,
     status: u8,
-) -> Result<bool, AllocError> {
-    let answer = run(rt, &["fifobench", "check"], MemorySource::new(input))?;
-    Ok(answer.0.as_slice() == text && answer.1 == status)
-}
-
-const ORDERS: [(&[u8], &[u8]); 9] = [
-    (b"fifo-history 1\nend 0\n", b"YES\n"),
-    (
-        b"fifo-history 1\n0 0 call-enq 7\n1 0 ret-enq\nend 2\n",
-        b"YES\n0 1 0 enq 7\n",
-    ),
-    (
-        b"fifo-history 1\n0 0 call-enq 7\n1 1 call-enq 9\n2 0 ret-enq\n3 1 ret-enq\n4 0 call-deq\n5 0 ret-deq 9\n6 0 call-deq\n7 0 ret-deq 7\nend 8\n",
-        b"YES\n1 3 1 enq 9\n0 2 0 enq 7\n4 5 0 deq 9\n6 7 0 deq 7\n",
-    ),
-    (
-        b"fifo-history 1\n0 0 call-enq 7\n1 0 ret-enq\n2 0 call-enq 9\n3 0 ret-enq\n4 0 call-deq\n5 1 call-deq\n6 1 ret-deq 7\n7 0 ret-deq 9\nend 8\n",
-        b"YES\n0 1 0 enq 7\n2 3 0 enq 9\n5 6 1 deq 7\n4 7 0 deq 9\n",
-    ),
-    (
-        b"fifo-history 1\n0 0 call-enq 7\n1 0 ret-enq\n2 1 call-deq\n3 0 call-enq 9\n4 2 call-deq\n5 2 ret-deq 7\n6 0 ret-enq\n9 1 ret-empty\n10 0 call-deq\n11 0 ret-deq 9\nend 10\n",
-        b"YES\n0 1 0 enq 7\n4 5 2 deq 7\n2 9 1 empty\n3 6 0 enq 9\n10 11 0 deq 9\n",
-    ),
-    (
-        b"fifo-history 1\n0 0 call-enq 7\n1 1 call-deq\n2 2 call-deq\n3 1 ret-deq 7\n4 1 call-enq 9\n5 1 ret-enq\n6 0 ret-enq\n7 2 ret-deq 9\nend 8\n",
-        b"YES\n0 6 0 enq 7\n1 3 1 deq 7\n4 5 1 enq 9\n2 7 2 deq 9\n",
-    ),
-    (
-        b"fifo-history 1\n0 0 call-enq 7\n1 1 call-deq\n2 1 ret-empty\n3 1 call-deq\n4 1 ret-empty\n5 0 ret-enq\nend 6\n",
-        b"YES\n1 2 1 empty\n3 4 1 empty\n0 5 0 enq 7\n",
-    ),
-    (
-        b"fifo-history 1\n999999999998 63 call-enq 18446744073709551615\n999999999999 63 ret-enq\nend 2\n",
-        b"YES\n999999999998 999999999999 63 enq 18446744073709551615\n",
-    ),
-    (
-        b"fifo-history 1\n0 0 call-enq 7\n1 0 ret-not\nend 2\n",
-        b"YES\n0 1 0 not 7\n",
-    ),
-];
-
-#[test]
-fn legal_orders(rt: HostRuntime) -> Result<(), Fail> {
-    for (input, text) in ORDERS {
-        assert!(rt; checks_to(&rt, input, text, 0)?);
-    }
-    Ok(())
-}
-
-const VIOLATIONS: [(&[u8], &[u8]); 4] = [
-    (
-        b"fifo-history 1\n0 0 call-deq\n1 0 ret-deq 9\nend 2\n",
-        b"NO VFresh\n0 1 0 deq 9\n",
-    ),
-    (
-        b"fifo-history 1\n0 0 call-deq\n1 0 ret-deq 7\n2 0 call-enq 7\n3 0 ret-enq\nend 4\n",
-        b"NO VFresh\n0 1 0 deq 7\n2 3 0 enq 7\n",
-    ),
-    (
-        b"fifo-history 1\n0 0 call-enq 7\n1 0 ret-not\n2 0 call-deq\n3 0 ret-deq 7\nend 4\n",
-        b"NO VFresh\n2 3 0 deq 7\n0 1 0 not 7\n",
-    ),
-    (
-        b"fifo-history 1\n0 0 call-enq 7\n1 0 ret-enq\n2 0 call-deq\n3 0 ret-deq 7\n4 0 call-deq\n5 0 ret-deq 7\nend 6\n",
-        b"NO VRepeat\n0 1 0 enq 7\n2 3 0 deq 7\n4 5 0 deq 7\n",
-    ),
-];
-
-const OVERTAKEN_OR_NEVER_EMPTY: [(&[u8], &[u8]); 5] = [
-    (
-        b"fifo-history 1\n0 0 call-enq 7\n1 0 ret-enq\n2 0 call-enq 9\n3 0 ret-enq\n4 0 call-deq\n5 0 ret-deq 9\nend 6\n",
-        b"NO VOrd\n0 1 0 enq 7\n2 3 0 enq 9\n4 5 0 deq 9\n",
-    ),
-    (
-        b"fifo-history 1\n0 0 call-enq 7\n1 0 ret-enq\n2 0 call-enq 9\n3 0 ret-enq\n4 0 call-deq\n5 0 ret-deq 9\n6 0 call-deq\n7 0 ret-deq 7\nend 8\n",
-        b"NO VOrd\n0 1 0 enq 7\n2 3 0 enq 9\n4 5 0 deq 9\n6 7 0 deq 7\n",
-    ),
-    (
-        b"fifo-history 1\n0 0 call-enq 7\n1 0 ret-enq\n2 1 call-deq\n3 0 call-enq 9\n4 0 ret-enq\n5 0 call-deq\n6 0 ret-deq 7\n9 1 ret-empty\n10 0 call-deq\n11 0 ret-deq 9\nend 10\n",
-        b"NO VWit\n2 9 1 empty\n0 1 0 enq 7\n5 6 0 deq 7\n3 4 0 enq 9\n10 11 0 deq 9\n",
-    ),
-    (
-        b"fifo-history 1\n0 0 call-enq 5\n1 0 ret-enq\n2 0 call-enq 6\n3 0 ret-enq\n4 0 call-enq 7\n5 0 ret-enq\n6 0 call-deq\n7 0 ret-deq 7\nend 8\n",
-        b"NO VOrd\n0 1 0 enq 5\n4 5 0 enq 7\n6 7 0 deq 7\n",
-    ),
-    (
-        b"fifo-history 1\n0 0 call-enq 1\n1 0 ret-enq\n2 1 call-deq\n3 0 call-enq 2\n4 0 ret-enq\n5 0 call-enq 3\n6 0 ret-enq\n7 0 call-deq\n8 0 ret-deq 1\n9 0 call-deq\n10 0 ret-deq 2\n11 1 ret-empty\n12 0 call-deq\n13 0 ret-deq 3\nend 14\n",
-        b"NO VWit\n2 11 1 empty\n0 1 0 enq 1\n7 8 0 deq 1\n5 6 0 enq 3\n12 13 0 deq 3\n",
-    ),
-];
-
-#[test]
-fn violations(rt: HostRuntime) -> Result<(), Fail> {
-    for (input, text) in VIOLATIONS {
-        assert!(rt; checks_to(&rt, input, text, 1)?);
-    }
-    Ok(())
-}
-
-#[test]
-fn violations_of_the_order_and_of_empty_answers(rt: HostRuntime) -> Result<(), Fail> {
-    for (input, text) in OVERTAKEN_OR_NEVER_EMPTY {
-        assert!(rt; checks_to(&rt, input, text, 1)?);
-    }
-    Ok(())
-}
-
-const REFUSALS: [(&[u8], &[u8]); 19] = [
-    (b"", b"REFUSED Cut\n"),
-    (b"fifo-history 3\nend 0\n", b"REFUSED Header\n"),
-    (
-        b"fifo-history 1\n0 0 call-enq 7\n1 0 ret-enq\n",
-        b"REFUSED Cut\n",
-    ),
-    (
-        b"fifo-history 1\n0 0 call-enq 7\n1 0 ret-enq\n2 0 call-deq\n3 0 ret-deq 7\nend 3\n",
-        b"REFUSED Count\n",
-    ),
-    (
-        b"fifo-history 1\n0 0 call-enq 07\n1 0 ret-enq\nend 2\n",
-        b"REFUSED Number 2\n",
-    ),
-    (
-        b"fifo-history 1\n0 0 call-enq\n1 0 ret-enq\nend 2\n",
-        b"REFUSED Line 2\n",
-    ),
-    (b"fifo-history 1\nend 0\n\n", b"REFUSED Trailing\n"),
-    (
-        b"fifo-history 1\n1000000000000 63 call-enq 7\n1000000000001 63 ret-enq\nend 2\n",
-        b"REFUSED Limit 2\n",
-    ),
-    (
-        b"fifo-history 1\n0 64 call-enq 7\n1 64 ret-enq\nend 2\n",
-        b"REFUSED Limit 2\n",
-    ),
-    (
-        b"fifo-history 1\n0 0 call-enq 18446744073709551616\n1 0 ret-enq\nend 2\n",
-        b"REFUSED Limit 2\n",
-    ),
-    (
-        b"fifo-history 1\n0 0 call-enq 7\nend 1\n",
-        b"REFUSED Pending 0\n",
-    ),
-    (
-        b"fifo-history 1\n10 0 call-enq 7\n11 0 ret-enq\n12 0 call-enq 7\n13 0 ret-enq\nend 4\n",
-        b"REFUSED DuplicateValue 2\n",
-    ),
-    (
-        b"fifo-history 1\n5 0 call-deq\n5 0 ret-empty\nend 2\n",
-        b"REFUSED TicketOrder 1\n",
-    ),
-    (
-        b"fifo-history 1\n0 0 call-deq\n1 0 call-deq\nend 2\n",
-        b"REFUSED CallWhilePending 1\n",
-    ),
-    (
-        b"fifo-history 1\n0 0 ret-empty\nend 1\n",
-        b"REFUSED ReturnWithoutCall 0\n",
-    ),
-    (
-        b"fifo-history 1\n0 0 call-enq 7\n1 0 ret-empty\nend 2\n",
-        b"REFUSED WrongReturn 1\n",
-    ),
-    (b"fifo-history 2\ninitial 0\nend 0\n", b"REFUSED Header\n"),
-    (b"fifo-history 1\n0 0 call-e", b"REFUSED Cut\n"),
-    (b"fifo-history 1\r\nend 0\n", b"REFUSED Header\n"),
-];
-
-#[test]
-fn refusals(rt: HostRuntime) -> Result<(), Fail> {
-    for (input, text) in REFUSALS {
-        assert!(rt; checks_to(&rt, input, text, 2)?);
-    }
-    Ok(())
-}
-
-#[test]
-fn a_failed_read_is_a_fault(rt: HostRuntime) -> Result<(), Fail> {
-    let words = ["fifobench", "check"];
-    for input in [
-        b"fifo-history 1\nend 0\n".as_slice(),
-        b"fifo-history 1\n0 0 c",
-    ] {
-        let (written, status) = run(&rt, &words, MemorySource::failing(input))?;
-        assert_eq!(rt; written.as_slice(), b"FAULT Read\n".as_slice());
-        assert_eq!(rt; status, 3);
-    }
-    let (written, status) = run(&rt, &words, MemorySource::failing(b"fifo-history 3\n"))?;
-    assert_eq!(rt; written.as_slice(), b"REFUSED Header\n".as_slice());
-    assert_eq!(rt; status, 2);
-    Ok(())
-}
-
-#[test]
-fn words_are_explained(rt: HostRuntime) -> Result<(), Fail> {
-    let help = run(&rt, &["fifobench", "help", "check"], MemorySource::new(b""))?;
-    assert!(rt; help.1 == 0 && help.0.starts_with(b"Reads a history"));
-    let wrong = run(&rt, &["fifobench", "chekc"], MemorySource::new(b""))?;
-    assert!(rt; wrong.1 == 2 && wrong.0.starts_with(b"error: "));
-    let none = run(&rt, &["fifobench"], MemorySource::new(b""))?;
-    assert!(rt; none.1 == 2 && !none.0.is_empty());
+) -> Result<(), AllocError> {
+    let words = ["fifobench", command];
+    let answer = run(rt, &words, MemorySource::new(input.as_bytes()), &[])?;
+    assert_eq!(rt; str::from_utf8(&answer.0), Ok(text), "{command} of {input}");
+    assert_eq!(rt; answer.1, status, "{command} of {input}");
     Ok(())
 }

@@ -1,0 +1,124 @@
+use super::run;
+use history_text::{MemorySource, Watched, write_history};
+use queue_interface::{
+    ArrayBack, Doubling, Inventing, Lifo, LockedQueue, Losing, SegBack, Shy, TestQueue,
+    TwoLockQueue,
+};
+use std::alloc::{AllocError, Global};
+use std::process::Abort;
+use std::str;
+use std::test::Fail;
+use std::thread::Threads;
+use stress_run::{Recorded, RunFault};
+use workloads::Plan;
+
+/// What `check` writes of a recorded run, and the status.
+fn checked<R: AllocGlobal + Threads + Sync>(
+    rt: &R,
+    recorded: &Recorded,
+) -> Result<(Vec<u8>, u8), Fail> {
+    let history = recorded.history(rt.alloc())?;
+    let mut text = Watched::new(Vec::new(rt.alloc()));
+    write_history(&history, &mut text)?;
+    let text = text.into_inner();
+    let source = MemorySource::new(text.as_slice());
+    Ok(run(rt, &["fifobench", "check"], source, &[])?)
+}
+
+/// Asserts what `check` writes of a run of this plan.
+fn assert_verdict<R: AllocGlobal + Threads + Sync + Abort>(
+    rt: &R,
+    queue: &dyn TestQueue,
+    plan: &str,
+    text: &str,
+) -> Result<(), Fail> {
+    let alloc = rt.alloc();
+    let plan = Plan::from_text(alloc, plan)?;
+    let recorded = stress_run::run(rt, alloc, queue, &plan, 64, 1_000_000)?;
+    let answer = checked(rt, &recorded)?;
+    assert_eq!(rt; str::from_utf8(&answer.0), Ok(text));
+    Ok(())
+}
+
+const OVERTAKEN: &str = "NO VOrd\n0 1 0 enq 0\n2 3 0 enq 1\n4 5 0 deq 1\n6 7 0 deq 0\n";
+
+const DOUBLED: &str = "NO VRepeat\n6 7 0 enq 3\n14 15 0 deq 3\n16 17 0 deq 3\n";
+
+const LOST: &str = "NO VOrd\n6 7 0 enq 3\n8 9 0 enq 4\n16 17 0 deq 4\n";
+
+const UNSEEN: &str = "NO VWit\n8 9 0 empty\n6 7 0 enq 3\n";
+
+const INVENTED: &str = "NO VFresh\n6 7 0 deq 9223372036854775808\n";
+
+// Each of these queues but the first counts its calls: the recorder makes no call that it doesn't record.
+#[test]
+fn faulty_queues_are_reported(rt: HostRuntime) -> Result<(), Fail> {
+    let alloc = rt.alloc();
+    assert_verdict(&rt, &Lifo::new(alloc, rt), "EEDD\n", OVERTAKEN)?;
+    assert_verdict(&rt, &Doubling::new(alloc, rt), "EEEEDDDDD\n", DOUBLED)?;
+    assert_verdict(&rt, &Losing::new(alloc, rt), "EEEEEDDDDD\n", LOST)?;
+    assert_verdict(&rt, &Shy::new(alloc, rt), "DDDED\n", UNSEEN)?;
+    assert_verdict(&rt, &Inventing::new(alloc, rt), "DDDD\n", INVENTED)?;
+    Ok(())
+}
+
+const KEPT_IN_ORDER: &str = "YES\n0 1 0 enq 0\n2 3 0 deq 0\n";
+
+#[test]
+fn sound_queues_are_not_reported(rt: HostRuntime) -> Result<(), Fail> {
+    let alloc = rt.alloc();
+    assert_verdict(&rt, &LockedQueue::new(alloc, rt), "ED\n", KEPT_IN_ORDER)?;
+    assert_verdict(&rt, &TwoLockQueue::new(alloc, rt), "ED\n", KEPT_IN_ORDER)?;
+    assert_verdict(&rt, &ArrayBack::new(alloc, rt, 4)?, "ED\n", KEPT_IN_ORDER)?;
+    assert_verdict(&rt, &SegBack::new(alloc, rt)?, "ED\n", KEPT_IN_ORDER)?;
+    Ok(())
+}
+
+/// A plan of four workers with 5,000 operations each, enqueues and dequeues in turn.
+fn four_rows(alloc: Global) -> Result<String, AllocError> {
+    let mut text = String::new(alloc);
+    for _ in 0..4 {
+        for _ in 0..2500 {
+            text.push_str("ED")?;
+        }
+        text.push_str("\n")?;
+    }
+    Ok(text)
+}
+
+// Rings of two have room for a small part of the 40,000 events: they are drained while the workers run.
+#[test]
+fn a_sound_queue_over_small_rings_is_not_reported(rt: HostRuntime) -> Result<(), Fail> {
+    let alloc = rt.alloc();
+    let plan = Plan::from_text(alloc, four_rows(alloc)?.as_str())?;
+    let queue = LockedQueue::new(alloc, rt);
+    let recorded = stress_run::run(&rt, alloc, &queue, &plan, 2, 10_000_000)?;
+    assert_eq!(rt; recorded.total(), 40_000);
+    let (written, status) = checked(&rt, &recorded)?;
+    assert!(rt; status == 0 && written.starts_with(b"YES\n"));
+    Ok(())
+}
+
+/// Whether a run of a sound queue ended as it may where some growth was refused: with want of memory or a lost close
+/// token, with a worker that stalled since no thread could be started, or with a record that gets a yes.
+fn ends_well<R: AllocGlobal + Threads + Sync>(
+    rt: &R,
+    ended: Result<Recorded, RunFault>,
+) -> Result<bool, Fail> {
+    match ended {
+        Ok(recorded) => Ok(checked(rt, &recorded)?.1 == 0),
+        Err(RunFault::Memory | RunFault::CloseLost(_) | RunFault::Stalled(_)) => Ok(true),
+        Err(RunFault::Limit | RunFault::Uncertified(_)) => Ok(false),
+    }
+}
+
+// With ample memory it gets a yes; it is of use where each allocation fails in turn.
+#[test]
+fn a_refused_growth_is_not_reported_as_the_queues(rt: HostRuntime) -> Result<(), Fail> {
+    let alloc = rt.alloc();
+    let plan = Plan::from_text(alloc, "EED\nEED\n")?;
+    let queue = LockedQueue::new(alloc, rt);
+    let ended = stress_run::run(&rt, alloc, &queue, &plan, 2, 1_000_000);
+    assert!(rt; ends_well(&rt, ended)?);
+    Ok(())
+}
