@@ -1,13 +1,13 @@
 -- An honest schedule that is done is answered by a yes.
-use Rattle.std.proofs.Common.{◌≡◌, ◌≤◌, List, Option, inl, inr, ap, ◌∙◌}
+use Rattle.std.proofs.Common.{◌≡◌, ◌≤◌, List, inl, inr, ap, ◌∙◌}
 use Rattle.event_records.specs.declared.event.Event.{Event}
 use Rattle.history_merge.specs.declared.operation.Operation.{Operation}
-use Rattle.history_merge.specs.Legal.{IsLegalOrder, IsLinearizable}
+use Rattle.history_merge.specs.Legal.{IsLinearizable}
 use Rattle.history_merge.specs.Operations.{operations_of}
 use Rattle.recorder_core.specs.declared.limits.TheConstants.{MAX_THREADS}
 use Rattle.recorder_core.specs.Setting.{Setting}
 use Rattle.recorder_core.specs.Schedule.{Attempt, accepted}
-use Rattle.recorder_core.specs.Laws.{IsDone, collected_lists}
+use Rattle.recorder_core.specs.Laws.{IsDone}
 use Rattle.recorder_core.specs.Replay.{IsHonest, effects_order}
 use Rattle.recorder_core.proofs.Legal.{effects_order_is_legal}
 use Rattle.simulation.specs.Simulations.{rejections}
@@ -18,7 +18,7 @@ use Rattle.verdicts.specs.declared.verdict.Verdict.TheVariants.{Yes, No}
 use Rattle.verdicts.specs.Verdicts.{IsExact}
 use Rattle.history_text.specs.Verdicts.{claim_of, operations_at}
 use Rattle.fifobench.specs.Answers.{Answer, played}
-use Rattle.fifobench.specs.Judging.{IsVerdictClaim, SimulatesIn}
+use Rattle.fifobench.specs.Judging.{SimulatesIn}
 
 -- an exact verdict on operations that have a legal order claims a yes
 claims_yes : (operations : List Operation) (verdict : Verdict) (claimed : Claimed) → IsLinearizable operations → IsExact operations verdict → claimed ≡ claim_of operations verdict → (order : List Operation) × (claimed ≡ claim.Yes order)

@@ -1,8 +1,8 @@
 -- What is answered of a schedule that was played.
-use Rattle.std.proofs.Common.{◌≡◌, ◌≤◌, ◌*◌, List, length, Option, inl, inr, ap, ◌∙◌, sym, subst, arith}
+use Rattle.std.proofs.Common.{◌≡◌, ◌≤◌, List, length, inl, inr, ap, subst, arith}
 use Rattle.std.specs.List.{flat_map}
 use Rattle.event_records.specs.declared.event.Event.{Event}
-use Rattle.event_records.specs.declared.limits.TheConstants.{MAX_EVENTS, MAX_OPERATIONS}
+use Rattle.event_records.specs.declared.limits.TheConstants.{MAX_EVENTS}
 use Rattle.history_merge.specs.Complete.{IsCompleteHistory}
 use Rattle.history_merge.specs.Merge.{IsMerged}
 use Rattle.history_merge.specs.Operations.{operations_of}
@@ -15,7 +15,7 @@ use Rattle.recorder_core.proofs.Fitting.{merged_is_complete}
 use Rattle.simulation.specs.declared.playing.Rejection.{Rejection}
 use Rattle.simulation.specs.Simulations.{rejections}
 use Rattle.verdicts.specs.declared.claim.Claimed.{Claimed}
-use Rattle.fifobench.specs.Answers.{Answer, left_open, played}
+use Rattle.fifobench.specs.Answers.{left_open, played}
 use Rattle.fifobench.specs.Judging.{IsVerdictClaim, SimulatesIn}
 
 module _ (setting : Setting) (schedule : List Attempt) (rejected : List Rejection) (is : rejected ≡ rejections setting schedule) where

@@ -1,6 +1,5 @@
 use Rattle.std.proofs.Common.{inl, inr, refl, sym, ◌∙◌}
 use Rattle.std.proofs.lemmas.Option.{same_Some}
-use Rattle.command_words.specs.Commands.{stress}
 use Rattle.fifobench.specs.Answers.{memory_fault}
 use Rattle.fifobench.specs.Outcomes.{answer_of}
 use Rattle.fifobench.proofs.Runs.{memory_ran_out, reads_out_of_memory, reads_printed}
