@@ -1,5 +1,5 @@
 // One thread's ring, with what was drained from it.
-ghost use Rattle.std.specs.Prelude.{◌≡◌, ◌≢◌, ◌≤◌, ◌<◌, ◌+◌, ◌++◌, IfOk, IfErr, [], length, vec_len, vec_capacity};
+ghost use Rattle.std.specs.Prelude.{◌≡◌, ◌≢◌, ◌≤◌, ◌<◌, ◌+◌, IfOk, IfErr, [], length};
 ghost use Rattle.collector.specs.Ends.{Fits, Drains};
 ghost use Rattle.event_rings.specs.declared.drain_end.FinishFault.TheVariants.{Uncertified};
 ghost use Rattle.event_rings.specs.declared.TheConstants.{MAX_CAPACITY};
@@ -28,14 +28,17 @@ impl Model for Drained {
 }
 
 impl Drained {
-    pub(crate) fn of(alloc: Global, end: DrainEnd) -> Drained
+    // The ring of an end, and a list with room for so many events.
+    pub(crate) fn with_room(
+        alloc: Global,
+        end: DrainEnd,
+        room: usize,
+    ) -> Result<Drained, AllocError>
         requires { end.received ≡ [] }
-        ensures { result ≡ end }
+        ensures { IfOk result (λ ring. ring ≡ end) }
     {
-        Drained {
-            end,
-            events: Vec::new(alloc),
-        }
+        let events = Vec::with_capacity(alloc, room)?;
+        Ok(Drained { end, events })
     }
 
     // The thread whose ring it is.
@@ -53,10 +56,8 @@ impl Drained {
         ensures count { IfOk result (λ n. length self.new.received ≡ length self.old.received + n) }
         ensures few { IfOk result (λ n. n ≤ MAX_CAPACITY) }
     {
-        self.events.reserve(max)?;
-        let drained = self.end.drain(max)?;
-        append_reserved(&mut self.events, &drained);
-        Ok(drained.len() as u64)
+        let drained = self.end.drain_into(&mut self.events, max)?;
+        Ok(drained as u64)
     }
 
     // All that the thread pushed, by its close token.
@@ -73,15 +74,5 @@ impl Drained {
             Ok(()) => Ok(events),
             Err(_) => Err(FinishFault::Memory),
         }
-    }
-}
-
-// Puts events for which there is room behind the others.
-fn append_reserved(events: &mut Vec<Event>, more: &[Event])
-    requires { vec_len events.old + length more.now ≤ vec_capacity events.old }
-    ensures { events.new.items ≡ events.old.items ++ more.now }
-{
-    for event in more {
-        events.push_reserved(*event);
     }
 }

@@ -48,7 +48,20 @@ impl Collector {
         requires fresh { AreFresh ends.items }
         ensures { IfOk result (λ collector. collector ≡ ends.items) }
     {
-        let rings = all_drained(alloc, ends)?;
+        Collector::with_room(alloc, ends, 0)
+    }
+
+    /// The same, with room for `room` events in the list of each ring. Rounds that drain no more than that take no memory.
+    pub fn with_room(
+        alloc: Global,
+        ends: Vec<DrainEnd>,
+        room: usize,
+    ) -> Result<Collector, AllocError>
+        requires order { AreInOrder ends.items }
+        requires fresh { AreFresh ends.items }
+        ensures { IfOk result (λ collector. collector ≡ ends.items) }
+    {
+        let rings = all_drained(alloc, ends, room)?;
         Ok(Collector { alloc, rings })
     }
 
@@ -80,14 +93,15 @@ impl Collector {
     }
 }
 
-// Each end, with nothing drained from it yet.
-fn all_drained(alloc: Global, ends: Vec<DrainEnd>) -> Result<Vec<Drained>, AllocError>
+// Each end, with nothing drained from it yet, and room for so many events.
+fn all_drained(alloc: Global, ends: Vec<DrainEnd>, room: usize) -> Result<Vec<Drained>, AllocError>
     requires { AreFresh ends.items }
     ensures { IfOk result (λ rings. rings.items ≡ ends.items) }
 {
     let mut rings = Vec::new(alloc);
     for end in ends {
-        rings.push(Drained::of(alloc, end))?;
+        let ring = Drained::with_room(alloc, end, room)?;
+        rings.push(ring)?;
     }
     Ok(rings)
 }

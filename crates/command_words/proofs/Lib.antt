@@ -6,3 +6,4 @@ pub mod Levels
 pub mod Texts
 pub mod Answerable
 pub mod Parses
+pub mod Requests

@@ -3,10 +3,14 @@
 
 mod commands;
 mod help;
+mod laws;
 mod options;
 mod tasks;
 #[cfg(test)]
 mod tests;
+#[cfg(test)]
+mod tests_help;
 
+pub use laws::words_without_a_fault_are_a_command;
 pub use options::StressOptions;
 pub use tasks::{Task, task_in};

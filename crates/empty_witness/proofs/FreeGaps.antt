@@ -1,4 +1,4 @@
--- The window of an operation has a least free gap, or is covered; and which gaps the least one may be.
+-- The window of an operation has a least free gap, or is covered.
 use Rattle.std.proofs.Common.{◌≡◌, ℕ, zero, suc, ◌+◌, ◌-◌, ◌<◌, ◌≤◌, ◌⊎◌, List, [], ◌∷◌, refl, sym, subst, inl, inr, arith}
 use Rattle.std.specs.Prelude.{Contains}
 use Rattle.history_merge.specs.declared.operation.Operation.{Operation}
@@ -61,28 +61,3 @@ pub free_gap_or_covered : (operations : List Operation) (o : Operation) → IsCl
 free_gap_or_covered operations o clear among =
     let less = call_before_return operations o clear.complete among in
     free_from (o.ret - o.call) o.call operations o clear (λ b above below. absurd (omega arith)) (omega arith) (omega arith)
-
--- the least free gap is the operation's call, or the call of the dequeue of the value that covers the gap before it
-pub least_free_is_candidate : (operations : List Operation) (o : Operation) (c : ℕ) → IsClear operations → IsLeastFreeGap operations o c → (c ≡ o.call) ⊎ ((life : Life) × IsLife operations life × (dequeue_call life ≡ c))
-least_free_is_candidate operations o c clear is =
-    let cases : (c ≡ o.call) ⊎ ((b : ℕ) × (c ≡ suc b) × (o.call ≤ b)) = before_it c is.in_window.0 in
-    elim cases [
-      | inl first ↦ inl first
-      | inr before ↦ elim (covering (lives_of operations) before.0) [
-        | inl found ↦ inr (found.0, life_of_contained operations found.0 found.1, ends_here found.0 (life_of_contained operations found.0 found.1) before.0 before.1 found.2)
-        | inr none ↦
-            let early = is.least before.0 (before.2, omega (arith, before.1, is.in_window.1)) (λ life is_life covers. none life (life_is_contained operations life clear is_life) covers) in
-            absurd (omega (arith, before.1))
-      ]
-    ]
-  where
-    before_it : (c : ℕ) → o.call ≤ c → (c ≡ o.call) ⊎ ((b : ℕ) × (c ≡ suc b) × (o.call ≤ b))
-    before_it zero le = inl (omega arith)
-    before_it (suc b) le =
-        let cases : (suc b ≡ o.call) ⊎ (o.call ≤ b) = grind arith in
-        elim cases [ inl same ↦ inl same | inr within ↦ inr (b, refl, within) ]
-
-    ends_here : (life : Life) → IsLife operations life → (b : ℕ) → c ≡ suc b → Covers life b → dequeue_call life ≡ c
-    ends_here life is_life b next covers =
-        let cases : (dequeue_call life ≡ c) ⊎ (c < dequeue_call life) = grind (arith, covers.1) in
-        elim cases [ inl same ↦ same | inr after ↦ absurd (is.is_free life is_life (omega (arith, covers.0), after)) ]

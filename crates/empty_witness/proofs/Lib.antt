@@ -1,5 +1,7 @@
+pub mod Joined
+pub mod Outside
+pub mod ValueSpans
 pub mod Covers
 pub mod FreeGaps
-pub mod Scans
 pub mod Walks
 pub mod Answers

@@ -15,10 +15,9 @@ use Rattle.value_match.specs.Lives.{IsLife, HoldsLives, IsMaybeAt, IsCovered, ca
 use Rattle.value_match.specs.Violations.{IsClear}
 use Rattle.value_match.specs.Choice.{StaysAtLeast, IsNextOfCover, IsChosenCoverFrom, IsChosenCover}
 use Rattle.value_match.specs.Outcome.{NamesCover}
-use Rattle.value_match.specs.Longest.{IsLongestOf, FindsLongest}
+use Rattle.value_match.specs.Longest.{EntersBefore, IsLongestOf, FindsLongest}
 use Rattle.value_match.proofs.Lists.{one_more_zipped}
 use Rattle.value_match.proofs.Lives.{value_is_life, value_of_life, places_of_value}
-use Rattle.empty_witness.specs.Gaps.{EntersBefore}
 use Rattle.empty_witness.specs.Covered.{NamesChosenCover}
 use Rattle.empty_witness.proofs.Covers.{chosen_cover_violates}
 

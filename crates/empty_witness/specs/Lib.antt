@@ -1,3 +1,3 @@
-pub mod Gaps
+pub mod Spans
 pub mod Covered
 pub mod Answers

@@ -5,6 +5,7 @@ mod answer;
 mod cover;
 mod gaps;
 mod search;
+mod spans;
 
 pub use answer::{GapAnswer, Gaps, WitnessAnswer};
 pub use search::{find_witness, gap_for};

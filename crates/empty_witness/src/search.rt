@@ -4,10 +4,12 @@ ghost use Rattle.history_merge.specs.Operations.{Did, IsAt};
 ghost use Rattle.value_match.specs.Lives.{AreLeastFreeGaps, is_empty_answer};
 ghost use Rattle.empty_witness.specs.Answers.{IsEmptyAnswerAt, IsGapAnswer, IsWitnessAnswer};
 ghost use Rattle.empty_witness.specs.Covered.{IsSoonerOf, NoneIsCovered, FindsFirstCovered};
+ghost use Rattle.empty_witness.specs.Spans.{AreSpansOf};
 
 use crate::answer::{GapAnswer, Gaps, WitnessAnswer};
 use crate::cover::cover_of;
 use crate::gaps::least_free_gap;
+use crate::spans::{Span, spans_of};
 use history_merge::{OpId, Operation};
 use std::alloc::{AllocError, Global};
 use value_match::Matching;
@@ -22,15 +24,15 @@ struct EmptyAnswer {
 /// The least free gap in the window of an empty answer, or the chosen cover of the window.
 ///
 /// Gap c is the place just after ticket c, and an operation's window has the gaps from its call to before its return.
-/// The gaps at which a dequeue is called are looked at, with all values for each, and all values for each step of a
-/// cover, so the cost grows as the square of the number of values, whatever the width of the window. `AllocError` comes
-/// only where the memory of a cover's steps is refused.
+/// Time O(n log n) for n values, whatever the width of the window: a sort of the values' stays, and one more where the
+/// window is covered. The error is want of memory alone.
 pub fn gap_for(alloc: Global, matching: &Matching, empty: OpId) -> Result<GapAnswer, AllocError>
     requires { IsEmptyAnswerAt matching.now empty }
     ensures { IfOk result (λ answer. IsGapAnswer matching.now empty answer) }
 {
     let answer = answer_at(matching, empty);
-    match least_free_gap(matching, &answer) {
+    let spans = spans_of(alloc, matching)?;
+    match least_free_gap(spans.as_slice(), &answer) {
         Some(gap) => Ok(GapAnswer::Free(gap)),
         None => Ok(GapAnswer::Covered(cover_of(alloc, matching, &answer)?)),
     }
@@ -39,13 +41,15 @@ pub fn gap_for(alloc: Global, matching: &Matching, empty: OpId) -> Result<GapAns
 /// The least free gap of each empty answer, in the order of their calls, or the chosen empty answer whose window is
 /// covered, with its cover.
 ///
-/// Each empty answer costs what `gap_for` costs for it. `AllocError` comes only where the memory of the gaps or of the
-/// cover's steps is refused.
+/// Time O((n + m) log n) for n values and m empty answers: the values' stays are sorted once, and each window is one
+/// look-up among them. The error is want of memory alone.
 pub fn find_witness(alloc: Global, matching: &Matching) -> Result<WitnessAnswer, AllocError>
     ensures { IfOk result (λ answer. IsWitnessAnswer matching.now answer) }
 {
-    let Some(first) = first_covered(matching) else {
-        return Ok(WitnessAnswer::Gaps(least_free_gaps(alloc, matching)?));
+    let spans = spans_of(alloc, matching)?;
+    let Some(first) = first_covered(matching, spans.as_slice()) else {
+        let gaps = least_free_gaps(alloc, matching, spans.as_slice())?;
+        return Ok(WitnessAnswer::Gaps(gaps));
     };
     Ok(WitnessAnswer::Covered {
         empty: first.place,
@@ -74,7 +78,8 @@ fn sooner_of(first: EmptyAnswer, second: EmptyAnswer) -> EmptyAnswer
 }
 
 /// Of the empty answers whose windows are covered, the one that returned first.
-fn first_covered(matching: &Matching) -> Option<EmptyAnswer>
+fn first_covered(matching: &Matching, spans: &[Span]) -> Option<EmptyAnswer>
+    requires { AreSpansOf matching.now spans.now }
     ensures { FindsFirstCovered matching.now (filter is_empty_answer matching.now) result }
 {
     let mut first: Option<EmptyAnswer> = None;
@@ -83,7 +88,7 @@ fn first_covered(matching: &Matching) -> Option<EmptyAnswer>
             place: *empty,
             operation: answer_at(matching, *empty),
         };
-        if least_free_gap(matching, &answer.operation).is_none() {
+        if least_free_gap(spans, &answer.operation).is_none() {
             first = Some(first.map_or(answer, |so_far| sooner_of(so_far, answer)));
         }
     }
@@ -91,14 +96,15 @@ fn first_covered(matching: &Matching) -> Option<EmptyAnswer>
 }
 
 /// The least free gap of each empty answer, where no window is covered.
-fn least_free_gaps(alloc: Global, matching: &Matching) -> Result<Gaps, AllocError>
-    requires { NoneIsCovered matching.now (filter is_empty_answer matching.now) }
+fn least_free_gaps(alloc: Global, matching: &Matching, spans: &[Span]) -> Result<Gaps, AllocError>
+    requires none { NoneIsCovered matching.now (filter is_empty_answer matching.now) }
+    requires spans { AreSpansOf matching.now spans.now }
     ensures { IfOk result (λ gaps. AreLeastFreeGaps matching.now gaps) }
 {
     let mut gaps = Vec::new(alloc);
     for empty in matching.empties() {
         let answer = answer_at(matching, *empty);
-        gaps.push(least_free_gap(matching, &answer).unwrap())?;
+        gaps.push(least_free_gap(spans, &answer).unwrap())?;
     }
     Ok(Gaps::from_vec(gaps))
 }

@@ -1,25 +1,20 @@
--- One element more of a list's front, and one less of its rest.
-use Rattle.std.proofs.Common.{◌≡◌, ℕ, zero, suc, ◌+◌, List, [], ◌∷◌, ◌++◌, take, drop, ap, sym, ◌∙◌, arith, add-one, append_assoc}
+-- Lists whose places beyond the first ones were written over.
+use Rattle.std.proofs.Common.{◌≡◌, ◌≤◌, ℕ, ◌+◌, List, ◌++◌, length, take, ap, sym, ◌∙◌, append_assoc, length-append}
+use Rattle.std.proofs.Math.Seq.{take-append_seam}
+use Rattle.std.proofs.lemmas.List.{take-append-le, take_all}
 
 module _ {X : Type 0} where
-  take_next : (n : ℕ) (xs : List X) (x : X) (r : List X) → drop n xs ≡ x ∷ r → take (suc n) xs ≡ take n xs ++ x ∷ []
-  take_next zero [] x r e = cc
-  take_next zero (y ∷ ys) x r e = grind (arith, e)
-  take_next (suc n) [] x r e = cc
-  take_next (suc n) (y ∷ ys) x r e = ap (λ l. y ∷ l) (take_next n ys x r e)
+  -- of two lists with one continuation, the shorter is the front of the other
+  pub front_of : (front rest known more : List X) → known ++ more ≡ front ++ rest → length front ≤ length known → front ≡ take (length front) known
+  front_of front rest known more e h = sym (take-append_seam front rest) ∙ ap (take (length front)) (sym e) ∙ take-append-le (length front) known more h
 
-  drop_next : (n : ℕ) (xs : List X) (x : X) (r : List X) → drop n xs ≡ x ∷ r → drop (suc n) xs ≡ r
-  drop_next zero [] x r e = cc
-  drop_next zero (y ∷ ys) x r e = grind (arith, e)
-  drop_next (suc n) [] x r e = cc
-  drop_next (suc n) (y ∷ ys) x r e = drop_next n ys x r e
-
-  pub take_one : (n : ℕ) (xs : List X) (x : X) (r : List X) → drop n xs ≡ x ∷ r → take (n + 1) xs ≡ take n xs ++ x ∷ []
-  take_one n xs x r e = rw add-one (take_next n xs x r e)
-
-  pub drop_one : (n : ℕ) (xs : List X) (x : X) (r : List X) → drop n xs ≡ x ∷ r → drop (n + 1) xs ≡ r
-  drop_one n xs x r e = rw add-one (drop_next n xs x r e)
-
-  -- a list that has grown by `t`, and then by one element more
-  pub grown_once : (new old front t t' : List X) (x y : X) → new ≡ old ++ x ∷ [] → x ≡ y → old ≡ front ++ t → t' ≡ t ++ y ∷ [] → new ≡ front ++ t'
-  grown_once new old front t t' x y e i o p = e ∙ ap (λ z. old ++ z ∷ []) i ∙ ap (λ l. l ++ y ∷ []) o ∙ append_assoc front t (y ∷ []) ∙ ap (λ l. front ++ l) (sym p)
+  -- a list to which blanks were added, once these are written over
+  pub written_over : (old blanks whole front post tail : List X) (start more n : ℕ) → whole ≡ take more old ++ blanks → length old ≤ more → start ≡ length old → n ≡ start + length front → take n (take start whole ++ (front ++ post) ++ tail) ≡ old ++ front
+  written_over old blanks whole front post tail start more n e m s h =
+      let kept : take start whole ≡ old = ap (λ l. take start l) (e ∙ ap (λ l. l ++ blanks) (take_all more old m)) ∙ ap (λ k. take k (old ++ blanks)) s ∙ take-append_seam old blanks in
+      let many : n ≡ length (old ++ front) = h ∙ ap (λ k. k + length front) s ∙ sym (length-append old front) in
+      ap (λ l. take n (l ++ (front ++ post) ++ tail)) kept
+      ∙ ap (λ l. take n (l ++ tail)) (sym (append_assoc old front post))
+      ∙ ap (λ l. take n l) (append_assoc (old ++ front) post tail)
+      ∙ ap (λ k. take k (old ++ front ++ (post ++ tail))) many
+      ∙ take-append_seam (old ++ front) (post ++ tail)

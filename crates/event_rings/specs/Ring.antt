@@ -1,5 +1,5 @@
 -- What contracts see of the two ends of a ring and of a close token.
-use Rattle.std.specs.Prelude.{ℕ, List}
+use Rattle.std.specs.Prelude.{◌≡◌, ℕ, List, ◌++◌, length}
 use Rattle.std.specs.declared.alloc.Global.{Global}
 use denote.RawPtr.{Ptr}
 use Rattle.rtrb.specs.Shared.{Names}
@@ -42,6 +42,13 @@ pub record DrainView : Type 0 where
   pub ring : RingName
   pub thread : ℕ
   pub received : List Event
+
+-- the end has received `n` events more, and they were put behind the others of a list
+pub record DrainsInto (n : ℕ) (before after : DrainView) (events events' : List Event) : Type 0 where
+  pub drained : List Event
+  pub many : length drained ≡ n
+  pub received : after ≡ record before { received = before.received ++ drained }
+  pub put : events' ≡ events ++ drained
 
 -- a closed ring: all that was ever sent
 pub record TokenView : Type 0 where

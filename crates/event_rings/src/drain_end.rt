@@ -1,19 +1,26 @@
 // The end of a ring that the collector drains, and seals with the close token.
-ghost use Rattle.std.specs.Prelude.{◌≡◌, ◌≤◌, ◌+◌, ◌++◌, length, take, vec_len, vec_capacity};
+ghost use Rattle.std.specs.Prelude.{◌≡◌, ◌≤◌, ◌++◌, length, take, OnOk, OnErr};
 ghost use Rattle.rtrb.specs.Ring.{received, known_items, SameConsumer};
 
 use crate::push_end::CloseToken;
-use event_records::{Event, Noted, ThreadNo};
+use event_records::{Event, ThreadNo, What};
 use rtrb::Consumer;
 use std::alloc::{AllocError, Global};
 use std::marker::Model;
+
+// What a list holds at a place until an event is moved there.
+const BLANK: Event = Event {
+    ticket: 0,
+    thread: 0,
+    what: What::CallDeq,
+};
 
 /// The end of a thread's ring that drains events. A collector holds it.
 #[derive(Drop)]
 pub struct DrainEnd {
     alloc: Global,
     thread: ThreadNo,
-    consumer: Consumer<Noted>,
+    consumer: Consumer<Event>,
 }
 
 impl Model for DrainEnd {
@@ -61,12 +68,12 @@ impl Sealed {
 
 impl DrainEnd {
     ghost use Rattle.std.specs.Prelude.{◌≡◌, ◌≤◌, ◌++◌, vec_len, IfOk, IfErr, OnErr, length, ◌≢◌};
-    ghost use Rattle.event_rings.specs.Ring.{ring_of_consumer};
+    ghost use Rattle.event_rings.specs.Ring.{ring_of_consumer, DrainsInto};
     ghost use Rattle.event_rings.specs.declared.drain_end.FinishFault.TheVariants.{Uncertified, Memory};
     ghost use Rattle.event_rings.specs.declared.TheConstants.{MAX_CAPACITY};
     ghost use Rattle.rtrb.specs.Ring.{received};
 
-    pub(crate) fn over(alloc: Global, thread: ThreadNo, consumer: Consumer<Noted>) -> DrainEnd
+    pub(crate) fn over(alloc: Global, thread: ThreadNo, consumer: Consumer<Event>) -> DrainEnd
         ensures { result ≡ record { ring = ring_of_consumer consumer; thread = thread; received = received consumer } }
     {
         DrainEnd {
@@ -92,10 +99,25 @@ impl DrainEnd {
         ensures most { IfOk result (λ events. vec_len events ≤ max) }
         ensures refused { OnErr result (self.new ≡ self.old) }
     {
-        let count = self.consumer.slots().min(max);
-        let mut events = Vec::with_capacity(self.alloc, count)?;
-        pop_into(&mut self.consumer, &mut events, count);
+        let mut events = Vec::new(self.alloc);
+        self.drain_into(&mut events, max)?;
         Ok(events)
+    }
+
+    /// Takes events out of the ring as `drain` does, puts them behind those of a list, and tells how many.
+    ///
+    /// It makes room for what it sees in the ring first, so where that is refused the events are all still in the ring. Of
+    /// an empty ring it takes no memory.
+    pub fn drain_into(&mut self, events: &mut Vec<Event>, max: usize) -> Result<usize, AllocError>
+        requires { max ≤ MAX_CAPACITY }
+        ensures drained { IfOk result (λ n. DrainsInto n self.old self.new events.old.items events.new.items) }
+        ensures most { IfOk result (λ n. n ≤ max) }
+        ensures refused { OnErr result (self.new ≡ self.old) }
+        ensures kept { OnErr result (events.new.items ≡ events.old.items) }
+    {
+        let count = self.consumer.slots().min(max);
+        pop_into(&mut self.consumer, events, count)?;
+        Ok(count)
     }
 
     /// Takes all that is left, certified by the token that closed the ring.
@@ -119,24 +141,29 @@ impl DrainEnd {
             return Err(FinishFault::Uncertified);
         }
         let count = consumer.slots_after(&mut finished);
-        let Ok(mut events) = Vec::with_capacity(alloc, count) else {
-            return Err(FinishFault::Memory);
-        };
-        pop_into(&mut consumer, &mut events, count);
-        Ok(Sealed { events })
+        let mut events = Vec::new(alloc);
+        match pop_into(&mut consumer, &mut events, count) {
+            Ok(()) => Ok(Sealed { events }),
+            Err(_) => Err(FinishFault::Memory),
+        }
     }
 }
 
-// Moves `count` events out of the ring, for which there is room.
-fn pop_into(consumer: &mut Consumer<Noted>, events: &mut Vec<Event>, count: usize)
+// Moves the next `count` events out of the ring, behind those of the list. There is room for them before any leaves the
+// ring, and their places are free for the other end all at once.
+fn pop_into(
+    consumer: &mut Consumer<Event>,
+    events: &mut Vec<Event>,
+    count: usize,
+) -> Result<(), AllocError>
     requires known { count ≤ length (known_items consumer.old) }
-    requires room { vec_len events.old + count ≤ vec_capacity events.old }
     ensures ring { SameConsumer consumer.old consumer.new }
-    ensures moved { events.new.items ≡ events.old.items ++ take count (known_items consumer.old) }
-    ensures received { received consumer.new ≡ received consumer.old ++ take count (known_items consumer.old) }
+    ensures moved { OnOk result (events.new.items ≡ events.old.items ++ take count (known_items consumer.old)) }
+    ensures received { OnOk result (received consumer.new ≡ received consumer.old ++ take count (known_items consumer.old)) }
+    ensures refused { OnErr result ((consumer.new ≡ consumer.old) × (events.new.items ≡ events.old.items)) }
 {
-    for _ in 0..count {
-        let noted = consumer.pop_known();
-        events.push_reserved(noted.event());
-    }
+    let start = events.len();
+    events.resize(start + count, BLANK)?;
+    consumer.pop_entire_slice(&mut events[start..]).unwrap();
+    Ok(())
 }

@@ -1,7 +1,7 @@
 // The end of a ring that a worker pushes into, and the token that closes it.
 ghost use Rattle.std.specs.Prelude.{◌≡◌};
 
-use event_records::{Noted, ThreadNo};
+use event_records::{Event, Noted, ThreadNo};
 use rtrb::{Finished, Producer, PushError};
 use std::marker::Model;
 
@@ -9,7 +9,7 @@ use std::marker::Model;
 #[derive(Drop)]
 pub struct PushEnd {
     thread: ThreadNo,
-    producer: Producer<Noted>,
+    producer: Producer<Event>,
 }
 
 impl Model for PushEnd {
@@ -25,7 +25,7 @@ impl Model for PushEnd {
 #[derive(Drop)]
 pub struct CloseToken {
     thread: ThreadNo,
-    finished: Finished<Noted>,
+    finished: Finished<Event>,
 }
 
 impl Model for CloseToken {
@@ -45,7 +45,7 @@ impl CloseToken {
     ghost use Rattle.event_rings.specs.Ring.{ring_of_finished};
     ghost use Rattle.rtrb.specs.Ring.{all_sent};
 
-    pub(crate) fn into_parts(self) -> (ThreadNo, Finished<Noted>)
+    pub(crate) fn into_parts(self) -> (ThreadNo, Finished<Event>)
         ensures { self ≡ record { ring = ring_of_finished result.1; thread = result.0; sent = all_sent result.1 } }
     {
         let CloseToken { thread, finished } = self;
@@ -58,7 +58,7 @@ impl PushEnd {
     ghost use Rattle.event_rings.specs.Ring.{ring_of_producer};
     ghost use Rattle.rtrb.specs.Ring.{sent, known_free};
 
-    pub(crate) fn over(thread: ThreadNo, producer: Producer<Noted>) -> PushEnd
+    pub(crate) fn over(thread: ThreadNo, producer: Producer<Event>) -> PushEnd
         ensures { result ≡ record { ring = ring_of_producer producer; thread = thread; sent = sent producer; room = known_free producer } }
     {
         PushEnd { thread, producer }
@@ -81,9 +81,9 @@ impl PushEnd {
         ensures full { IfErr result (λ back. (back ≡ noted) × (self.new ≡ self.old)) }
         ensures succeeds { 0 < self.old.room → IsOk result }
     {
-        match self.producer.push(noted) {
+        match self.producer.push(noted.event()) {
             Ok(()) => Ok(()),
-            Err(PushError::Full(back)) => Err(back),
+            Err(PushError::Full(_)) => Err(noted),
         }
     }
 

@@ -11,8 +11,8 @@ use Rattle.recorder_core.specs.Laws.{IsDone}
 use Rattle.recorder_core.specs.Replay.{IsHonest, effects_order}
 use Rattle.recorder_core.proofs.Legal.{effects_order_is_legal}
 use Rattle.simulation.specs.Simulations.{rejections}
-use Rattle.verdicts.specs.declared.claim.Claimed.{Claimed}
-use Rattle.verdicts.specs.declared.claim.Claimed.TheVariants as claim
+use Rattle.verdicts.specs.declared.verifying.Claimed.{Claimed}
+use Rattle.verdicts.specs.declared.verifying.Claimed.TheVariants as claim
 use Rattle.verdicts.specs.declared.verdict.Verdict.{Verdict}
 use Rattle.verdicts.specs.declared.verdict.Verdict.TheVariants.{Yes, No}
 use Rattle.verdicts.specs.Verdicts.{IsExact}

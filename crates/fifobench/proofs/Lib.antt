@@ -1,4 +1,5 @@
 pub mod Fronts
+pub mod Asked
 pub mod Rejections
 pub mod Printing
 pub mod InputFaults
@@ -7,3 +8,5 @@ pub mod Findings
 pub mod Honest
 pub mod Searched
 pub mod Played
+pub mod Validity
+pub mod ShrunkTexts

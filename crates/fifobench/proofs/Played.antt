@@ -14,7 +14,7 @@ use Rattle.recorder_core.proofs.Collecting.{collected_is_fit}
 use Rattle.recorder_core.proofs.Fitting.{merged_is_complete}
 use Rattle.simulation.specs.declared.playing.Rejection.{Rejection}
 use Rattle.simulation.specs.Simulations.{rejections}
-use Rattle.verdicts.specs.declared.claim.Claimed.{Claimed}
+use Rattle.verdicts.specs.declared.verifying.Claimed.{Claimed}
 use Rattle.fifobench.specs.Answers.{left_open, played}
 use Rattle.fifobench.specs.Judging.{IsVerdictClaim, SimulatesIn}
 

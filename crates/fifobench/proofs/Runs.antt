@@ -5,9 +5,10 @@ use Rattle.history_text.specs.Input.{Ahead}
 use Rattle.clap.specs.Kinds.{Kinds, HasKind, IsAmong}
 use Rattle.clap.specs.Values.{kind_of}
 use Rattle.clap.specs.declared.error.Error.{Error}
-use Rattle.command_words.specs.Commands.{Request, check, shrink, verify, sim, stress}
+use Rattle.command_words.specs.Commands.{Request, stress}
 use Rattle.command_words.specs.Options.{Settings}
 use Rattle.fifobench.specs.Answers.{Answer, memory_fault}
+use Rattle.fifobench.specs.Judging.{AnswersOrNoMemory}
 use Rattle.fifobench.specs.Running.{AnswersOf, PrintsOneOf, PrintsAnswer, Explains}
 
 -- memory ran out, and that is printed
@@ -17,21 +18,13 @@ memory_ran_out e kinds old new refused result none (inl memory) (inr printed) = 
 memory_ran_out e kinds old new refused result none (inr among) (inl text) = absurd (subst (λ (ks : Kinds). IsAmong (kind_of e) ks) none among)
 memory_ran_out e kinds old new refused result none (inr among) (inr printed) = printed
 
--- want of memory may be answered of any input
-memory_of_any : (request : Request) (a : Ahead) → AnswersOf request a memory_fault
-memory_of_any check a = inr (inr refl)
-memory_of_any shrink a = inr (inr refl)
-memory_of_any verify a = inr (inr refl)
-memory_of_any sim a = inr (inr refl)
-memory_of_any (stress settings) a = tt
-
 -- a command that reads
 pub reads_out_of_memory : (request : Request) (e : Error) (kinds : Kinds) (input : Option Ahead) (old new : Option (List ℕ)) (refused : Bool) (result : ℕ) → kinds ≡ [] → HasKind kinds e → Explains (kind_of e) old new refused result
-    → IfSome input (λ a. PrintsOneOf (AnswersOf request a) old new refused result)
+    → IfSome input (λ a. PrintsOneOf (AnswersOrNoMemory (AnswersOf request) a) old new refused result)
 reads_out_of_memory request e kinds None old new refused result none has explained = tt
 reads_out_of_memory request e kinds (Some a) old new refused result none has explained = record {
   answer = memory_fault;
-  right = memory_of_any request a;
+  right = inr refl;
   printed = memory_ran_out e kinds old new refused result none has explained;
 }
 
@@ -39,11 +32,11 @@ reads_out_of_memory request e kinds (Some a) old new refused result none has exp
 
 module _ (asked : Option Request) (given : Request) (is_given : asked ≡ Some given) (answer : Answer) (old new : Option (List ℕ)) (refused : Bool) (result : ℕ) (printed : PrintsAnswer old new refused result answer) where
   -- of a command that reads
-  pub reads_printed : (request : Request) (input : Option Ahead) → asked ≡ Some request → IfSome input (λ a. AnswersOf given a answer) → IfSome input (λ a. PrintsOneOf (AnswersOf request a) old new refused result)
+  pub reads_printed : (request : Request) (input : Option Ahead) → asked ≡ Some request → IfSome input (λ a. AnswersOf given a answer) → IfSome input (λ a. PrintsOneOf (AnswersOrNoMemory (AnswersOf request) a) old new refused result)
   reads_printed request None is found = tt
   reads_printed request (Some a) is found = record {
     answer = answer;
-    right = subst (λ (r : Request). AnswersOf r a answer) (same_Some given request (sym is_given ∙ is)) found;
+    right = inl (subst (λ (r : Request). AnswersOf r a answer) (same_Some given request (sym is_given ∙ is)) found);
     printed = printed;
   }
 

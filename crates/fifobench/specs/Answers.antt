@@ -14,8 +14,8 @@ use Rattle.recorder_core.specs.declared.step.StepRefused.TheVariants as step
 use Rattle.simulation.specs.declared.playing.Rejection.{Rejection}
 use Rattle.stress_run.specs.declared.faults.RunFault.{RunFault}
 use Rattle.stress_run.specs.declared.faults.RunFault.TheVariants as run
-use Rattle.verdicts.specs.declared.claim.Claimed.{Claimed}
-use Rattle.verdicts.specs.declared.claim.Claimed.TheVariants as claim
+use Rattle.verdicts.specs.declared.verifying.Claimed.{Claimed}
+use Rattle.verdicts.specs.declared.verifying.Claimed.TheVariants as claim
 
 -- what a command answers
 pub data Answer : Type 0 where

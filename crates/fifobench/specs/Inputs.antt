@@ -1,7 +1,7 @@
 -- Inputs that should be one text, or one after another.
 use Rattle.std.specs.Prelude.{◌≡◌, ℕ, ◌+◌, List, ◌∷◌, ◌++◌, ◌⊎◌, length}
 use Rattle.event_records.specs.declared.event.Event.{Event}
-use Rattle.verdicts.specs.declared.claim.Claimed.{Claimed}
+use Rattle.verdicts.specs.declared.verifying.Claimed.{Claimed}
 use Rattle.history_text.specs.declared.fault.TextFault.{TextFault}
 use Rattle.history_text.specs.declared.fault.TextFault.TheVariants as text
 use Rattle.history_text.specs.declared.schedule.Schedule.{Schedule}

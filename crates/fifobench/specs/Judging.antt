@@ -15,7 +15,7 @@ use Rattle.recorder_core.specs.Setting.{Setting}
 use Rattle.recorder_core.specs.Schedule.{Attempt}
 use Rattle.recorder_core.specs.Laws.{IsDone, collected_lists}
 use Rattle.simulation.specs.Simulations.{schedule_of, rejections}
-use Rattle.verdicts.specs.declared.claim.Claimed.{Claimed}
+use Rattle.verdicts.specs.declared.verifying.Claimed.{Claimed}
 use Rattle.verdicts.specs.declared.verdict.Verdict.{Verdict}
 use Rattle.verdicts.specs.Claims.{IsTrueClaim}
 use Rattle.verdicts.specs.Verdicts.{IsVerdictOf, IsEvidence, IsExact}
@@ -56,13 +56,14 @@ abbrev pub Judges : List Event → Answer → Type 0
 Judges events answer = IsFaulty events answer ⊎ IsJudged events answer
 
 -- the events are a complete history that isn't linearizable; those of the chosen violation are shown, with their own verdict. They
--- are values with all their operations, and an empty answer; nothing can be left out of them, and no shorter cover exists
+-- are a complete history: values with all their operations, and an empty answer; nothing can be left out of them, and no shorter cover exists
 pub record IsShrunk (events : List Event) (answer : Answer) : Type 0 where
   pub complete : IsCompleteHistory events
   pub not_linearizable : ¬ (IsLinearizable (operations_of events))
   pub violation : Violation
   pub chosen : IsChosenViolation (operations_of events) violation
   pub small : List Event
+  pub small_is_complete : IsCompleteHistory small
   pub part : ArePartOf events small
   pub kept : KeepsViolation (operations_of events) violation (operations_of small)
   pub same : StaysChosen (operations_of events) violation (operations_of small)
@@ -128,11 +129,11 @@ pub record IsOfFault (IsFaultOf : Ahead → TextFault → Type 0) (input : Ahead
   pub first : IsFaultOf input fault
   pub is : answer ≡ answer_of_text_fault fault
 
--- what is answered of an input: want of memory may be answered of any
-abbrev pub AnswersFor : {A : Type 0} → (Ahead → A → Type 0) → (Ahead → TextFault → Type 0) → (A → Answer → Type 0) → Ahead → Answer → Type 0
-AnswersFor IsInputOf IsFaultOf OfValue input answer =
-    IsOfValue IsInputOf OfValue input answer ⊎ (IsOfFault IsFaultOf input answer ⊎ (answer ≡ memory_fault))
-
 -- what is answered of a value: want of memory may be answered of any
 abbrev pub AnswersOrNoMemory : {A : Type 0} → (A → Answer → Type 0) → A → Answer → Type 0
 AnswersOrNoMemory OfValue value answer = OfValue value answer ⊎ (answer ≡ memory_fault)
+
+-- what is answered of an input: the answer of what it says, or its fault. Want of memory is answered where the input says
+-- something, or where a line without fault stands in it
+abbrev pub AnswersFor : {A : Type 0} → (Ahead → A → Type 0) → (Ahead → TextFault → Type 0) → (A → Answer → Type 0) → Ahead → Answer → Type 0
+AnswersFor IsInputOf IsFaultOf OfValue input answer = IsOfValue IsInputOf (AnswersOrNoMemory OfValue) input answer ⊎ IsOfFault IsFaultOf input answer

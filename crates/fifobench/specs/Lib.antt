@@ -4,3 +4,5 @@ pub mod Judging
 pub mod Outcomes
 pub mod Running
 pub mod Stressing
+pub mod Evidence
+pub mod Shelf

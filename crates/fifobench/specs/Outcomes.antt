@@ -10,7 +10,7 @@ use Rattle.fifobench.specs.Answers.{Answer, judged, shown, left_open, played, ve
 
 -- the answer that an outcome prints: of a verdict what it claims, of the rest the same
 abbrev pub answer_of : Outcome → Answer
-answer_of (Judged history verdict) = judged (claim_of (operations_of history) verdict)
+answer_of (Judged operations verdict) = judged (claim_of operations.items verdict)
 answer_of (Shown history verdict) = shown history (claim_of (operations_of history) verdict)
 answer_of (LeftOpen rejections) = left_open rejections
 answer_of (Played rejections history verdict) = played rejections history (claim_of (operations_of history) verdict)
@@ -29,7 +29,7 @@ IsWithin history verdict = All (λ place. place < length (operations_of history)
 
 -- a verdict names places of its own history
 abbrev pub NamesPlaces : Outcome → Type 0
-NamesPlaces (Judged history verdict) = IsWithin history verdict
+NamesPlaces (Judged operations verdict) = All (λ place. place < length operations.items) (places_of verdict)
 NamesPlaces (Shown history verdict) = IsWithin history verdict
 NamesPlaces (Played rejections history verdict) = IsWithin history verdict
 NamesPlaces _ = ⊤

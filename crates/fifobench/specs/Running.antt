@@ -1,8 +1,9 @@
 -- What a run of the program leaves behind.
-use Rattle.std.specs.Prelude.{◌≡◌, ◌≢◌, ℕ, Bool, true, false, List, Option, ◌⊎◌}
+use Rattle.std.specs.Prelude.{◌≡◌, ◌≢◌, ℕ, Bool, true, false, List, Option, ◌⊎◌, codes}
 use Rattle.std.specs.Io.KnownBytes.{Appends}
 use Rattle.history_text.specs.Input.{Ahead}
-use Rattle.history_text.specs.Writing.{AppendsFront}
+use Rattle.history_text.specs.Lines.{line}
+use Rattle.history_text.specs.Writing.{AppendsFront, Asked, IsRefused, IsFlushed}
 use Rattle.clap.specs.Kinds.{Kinds, IsAmong}
 use Rattle.clap.specs.declared.error.kind.ErrorKind.{ErrorKind}
 use Rattle.clap.specs.declared.error.kind.ErrorKind.TheVariants as kind
@@ -15,6 +16,11 @@ use Rattle.fifobench.specs.Judging.{AnswersFor, Judges, Shrinks, Verifies, Simul
 abbrev pub Prints : Option (List ℕ) → Option (List ℕ) → Bool → ℕ → List ℕ → ℕ → Type 0
 Prints old new false result text status = Appends old new text × (result ≡ status)
 Prints old new true result text status = AppendsFront old new text × (result ≡ 3)
+
+-- where nothing was refused the writer took bytes and then was flushed, once; else the refusal was the last that it was asked
+abbrev pub WritesAndFlushes : {S : Type 0} → (S → Asked → S → Type 0) → Bool → S → S → Type 0
+WritesAndFlushes goes false old new = IsFlushed goes old new
+WritesAndFlushes goes true old new = IsRefused goes old new
 
 -- the answer's text is printed, with its status
 abbrev pub PrintsAnswer : Option (List ℕ) → Option (List ℕ) → Bool → ℕ → Answer → Type 0
@@ -39,6 +45,10 @@ abbrev pub usage_status : ErrorKind → ℕ
 usage_status kind.DisplayHelp = 0
 usage_status kind.DisplayVersion = 0
 usage_status _ = 2
+
+-- what is said of words that aren't UTF-8
+abbrev pub no_text : List ℕ
+no_text = line (codes "error: a word is not valid UTF-8")
 
 -- a text about the use of the program, of one of these kinds
 pub record PrintsUsage (kinds : Kinds) (old new : Option (List ℕ)) (refused : Bool) (result : ℕ) : Type 0 where

@@ -13,7 +13,7 @@ use Rattle.workloads.specs.Seeds.{IsSeeded}
 use Rattle.stress_run.specs.declared.faults.RunFault.{RunFault}
 use Rattle.stress_run.specs.declared.faults.RunFault.TheVariants.{Limit}
 use Rattle.stress_run.specs.Operations.{IsRun}
-use Rattle.verdicts.specs.declared.claim.Claimed.{Claimed}
+use Rattle.verdicts.specs.declared.verifying.Claimed.{Claimed}
 use Rattle.command_words.specs.Options.{Settings}
 use Rattle.fifobench.specs.Answers.{Answer, shown, refused_queue, refused_limit, memory_fault, run_fault}
 use Rattle.fifobench.specs.Judging.{IsVerdictClaim}

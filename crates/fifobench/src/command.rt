@@ -4,7 +4,7 @@ ghost use Rattle.command_words.specs.Commands.{Request, stress, request_in, requ
 ghost use Rattle.command_words.specs.Options.{Settings};
 ghost use Rattle.fifobench.specs.Judging.{AnswersOrNoMemory};
 ghost use Rattle.fifobench.specs.Outcomes.{answer_of, NamesPlaces};
-ghost use Rattle.fifobench.specs.Running.{AnswersOf, PrintsOneOf, ExplainsUse, Explains, usage_status};
+ghost use Rattle.fifobench.specs.Running.{AnswersOf, PrintsOneOf, ExplainsUse, Explains, WritesAndFlushes, usage_status};
 ghost use Rattle.fifobench.specs.Stressing.{Stresses};
 ghost use Rattle.clap.specs.Values.{kind_of};
 
@@ -42,9 +42,9 @@ where
     W: TextSink,
     requires fresh { W.has_refused writer.old ≡ false }
 
-    // Words that are a command which reads: what it answers of the input is printed.
+    // Words that are a command which reads: what it answers of the input is printed, or want of memory for the words.
     ensures reads { (request : Request) → faults_in (map T.text words.entry.now) ≡ [] → request_in (map T.text words.entry.now) ≡ Some request
-        → IfSome (S.ahead reader) (λ input. PrintsOneOf (AnswersOf request input) (W.contents writer.old) (W.contents writer.new) (W.has_refused writer.new) result) }
+        → IfSome (S.ahead reader) (λ input. PrintsOneOf (AnswersOrNoMemory (AnswersOf request) input) (W.contents writer.old) (W.contents writer.new) (W.has_refused writer.new) result) }
 
     // Words that are `stress`: what a run on the shelf gives is printed.
     ensures stresses { (settings : Settings) → faults_in (map T.text words.entry.now) ≡ [] → request_in (map T.text words.entry.now) ≡ Some (stress settings)
@@ -52,6 +52,12 @@ where
 
     // Other words are answered by a text about the use of the program.
     ensures usage { (faults_in (map T.text words.entry.now) ≢ []) → ExplainsUse (faults_in (map T.text words.entry.now)) (W.contents writer.old) (W.contents writer.new) (W.has_refused writer.new) result }
+
+    // Whatever the words: the writer is written to and then flushed, once; or it refuses, and is asked for nothing more.
+    ensures asked { WritesAndFlushes W.goes (W.has_refused writer.new) writer.old writer.new }
+
+    // So where it refused nothing, it holds nothing back.
+    ensures passed_on { W.has_refused writer.new ≡ false → W.holds_back writer.new ≡ false }
 {
     match task_in(rt.alloc(), words) {
         Ok(task) => {
@@ -94,7 +100,9 @@ fn usage_status(kind: ErrorKind) -> u8
 /// Writes what clap says of the words.
 fn explain<W: TextSink>(alloc: Global, error: &Error, writer: &mut W) -> u8
     requires fresh { W.has_refused writer.old ≡ false }
-    ensures { Explains (kind_of error.now) (W.contents writer.old) (W.contents writer.new) (W.has_refused writer.new) result }
+    ensures printed { Explains (kind_of error.now) (W.contents writer.old) (W.contents writer.new) (W.has_refused writer.new) result }
+    ensures asked { WritesAndFlushes W.goes (W.has_refused writer.new) writer.old writer.new }
+    ensures passed_on { W.has_refused writer.new ≡ false → W.holds_back writer.new ≡ false }
 {
     if error.kind() == ErrorKind::OutOfMemory {
         return print_outcome(writer, &Outcome::MemoryFault);

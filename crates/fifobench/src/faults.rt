@@ -2,7 +2,7 @@
 ghost use Rattle.std.specs.Prelude.{◌≡◌, ◌++◌, ◌||◌, OnOk, OnErr, codes, decimal, is_err};
 ghost use Rattle.std.specs.Io.KnownBytes.{Appends};
 ghost use Rattle.history_text.specs.Lines.{line};
-ghost use Rattle.history_text.specs.Writing.{AppendsFront};
+ghost use Rattle.history_text.specs.Writing.{AppendsFront, IsWritten, IsRefused};
 ghost use Rattle.fifobench.specs.Answers.{answer_of_text_fault, answer_of_history_fault, text_fault_name, history_fault_name, run_fault_name};
 ghost use Rattle.fifobench.specs.Outcomes.{answer_of, NamesPlaces};
 
@@ -42,6 +42,8 @@ pub fn write_text_refusal<W: TextSink>(writer: &mut W, fault: TextFault) -> Resu
     ensures ok { OnOk result (Appends (W.contents writer.old) (W.contents writer.new) (line (codes "REFUSED " ++ text_fault_name fault))) }
     ensures err { OnErr result (AppendsFront (W.contents writer.old) (W.contents writer.new) (line (codes "REFUSED " ++ text_fault_name fault))) }
     ensures refused { W.has_refused writer.new ≡ (W.has_refused writer.old || is_err result) }
+    ensures written { OnOk result (IsWritten W.goes writer.old writer.new) }
+    ensures stopped { OnErr result (IsRefused W.goes writer.old writer.new) }
 {
     match fault {
         TextFault::Read => return write_piece(writer, b"REFUSED Read\n"),
@@ -64,6 +66,8 @@ pub fn write_history_refusal<W: TextSink>(
     ensures ok { OnOk result (Appends (W.contents writer.old) (W.contents writer.new) (line (codes "REFUSED " ++ history_fault_name fault))) }
     ensures err { OnErr result (AppendsFront (W.contents writer.old) (W.contents writer.new) (line (codes "REFUSED " ++ history_fault_name fault))) }
     ensures refused { W.has_refused writer.new ≡ (W.has_refused writer.old || is_err result) }
+    ensures written { OnOk result (IsWritten W.goes writer.old writer.new) }
+    ensures stopped { OnErr result (IsRefused W.goes writer.old writer.new) }
 {
     match fault {
         HistoryFault::TicketOrder(i) => {
@@ -96,6 +100,8 @@ pub fn write_run_fault<W: TextSink>(writer: &mut W, fault: RunFault) -> Result<(
     ensures ok { OnOk result (Appends (W.contents writer.old) (W.contents writer.new) (line (codes "FAULT " ++ run_fault_name fault))) }
     ensures err { OnErr result (AppendsFront (W.contents writer.old) (W.contents writer.new) (line (codes "FAULT " ++ run_fault_name fault))) }
     ensures refused { W.has_refused writer.new ≡ (W.has_refused writer.old || is_err result) }
+    ensures written { OnOk result (IsWritten W.goes writer.old writer.new) }
+    ensures stopped { OnErr result (IsRefused W.goes writer.old writer.new) }
 {
     match fault {
         RunFault::Limit => return write_piece(writer, b"FAULT Limit\n"),

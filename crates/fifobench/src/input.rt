@@ -1,11 +1,16 @@
 //! What a command reads.
-ghost use Rattle.std.specs.Prelude.{◌≤◌, IfOk, IfErr, IfSome, vec_len};
+ghost use Rattle.std.specs.Prelude.{◌≤◌, IfOk, IfErr, IfSome, List, vec_len};
+ghost use Rattle.event_records.specs.declared.event.Event.{Event};
+ghost use Rattle.history_merge.specs.Gathering.{HasGathered};
+ghost use Rattle.history_text.specs.Histories.{HasHistoryText};
 ghost use Rattle.history_text.specs.Schedules.{IsSetting};
 ghost use Rattle.fifobench.specs.Inputs.{IsHistoryOf, IsFaultOfHistoryInput, IsScheduleOf, IsFaultOfScheduleInput, IsClaimOf, IsFaultOfClaimInput};
 
 use event_records::{Event, MAX_EVENTS};
+use history_merge::HistoryBuilder;
 use history_text::{
-    Schedule, TextFault, TextReader, TextSource, at_end, read_history, read_schedule, read_verdict,
+    Schedule, TextFault, TextReader, TextSource, at_end, gather_history, read_history,
+    read_schedule, read_verdict,
 };
 use std::alloc::Global;
 use verdicts::Claimed;
@@ -25,6 +30,25 @@ where
     };
     match at_end(&mut texts) {
         Ok(()) => return Ok(events),
+        Err(fault) => return Err(fault),
+    }
+}
+
+/// The one history text that the reader gives, as a history in the making, which keeps none of its events.
+pub fn gathered_of<S: TextSource>(alloc: Global, reader: S) -> Result<HistoryBuilder, TextFault>
+where
+    S: Drop,
+    ensures events { IfOk result (λ builder. (events : List Event) × HasGathered events builder × HasHistoryText events × IfSome (S.ahead reader) (λ input. IsHistoryOf input events)) }
+    ensures fault { IfErr result (λ fault. IfSome (S.ahead reader) (λ input. IsFaultOfHistoryInput input fault)) }
+{
+    let mut texts = TextReader::new(reader);
+    let mut builder = HistoryBuilder::new(alloc);
+    match gather_history(&mut builder, &mut texts) {
+        Ok(()) => {}
+        Err(fault) => return Err(fault),
+    }
+    match at_end(&mut texts) {
+        Ok(()) => return Ok(builder),
         Err(fault) => return Err(fault),
     }
 }

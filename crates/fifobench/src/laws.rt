@@ -8,7 +8,7 @@ ghost use Rattle.recorder_core.specs.Schedule.{Attempt};
 ghost use Rattle.recorder_core.specs.Laws.{IsDone};
 ghost use Rattle.recorder_core.specs.Replay.{IsHonest};
 ghost use Rattle.simulation.specs.Simulations.{rejections};
-ghost use Rattle.verdicts.specs.declared.claim.Claimed.TheVariants.{Yes};
+ghost use Rattle.verdicts.specs.declared.verifying.Claimed.TheVariants.{Yes};
 ghost use Rattle.fifobench.specs.Answers.{Answer, played};
 ghost use Rattle.fifobench.specs.Judging.{SimulatesIn};
 

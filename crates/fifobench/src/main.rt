@@ -3,11 +3,13 @@
 
 mod check;
 mod command;
+mod evidence;
 mod faults;
 mod input;
 mod laws;
 mod outcome;
 mod print;
+mod shelf;
 mod show;
 mod shrink;
 mod sim;
@@ -15,64 +17,58 @@ mod stress;
 #[cfg(test)]
 mod tests;
 mod verify;
+mod words;
 
 use command::run_command;
-use history_text::Watched;
-use queue_interface::{
-    ArrayBack, Doubling, Inventing, Lifo, LockedQueue, Losing, SegBack, Shy, TwoLockQueue,
-};
-use std::io::{BufWriter, Write};
+use history_text::{Buffered, Watched};
+use shelf::built_ins;
+use std::io::{Read, Write};
 use std::process::ExitCode;
+use std::thread::Threads;
 use stress::Shelved;
-
-/// For how many values the queue `array` has room.
-const ARRAY_CAPACITY: usize = 1024;
-
-/// Puts a queue on the shelf under its name.
-macro_rules! shelve {
-    ($rt:ident, $shelf:ident, $name:literal, $queue:expr) => {
-        let Ok(queue) = Box::new($rt.alloc(), $queue) else {
-            return out_of_memory(&$rt);
-        };
-        if $shelf.push(Shelved { name: $name, queue }).is_err() {
-            return out_of_memory(&$rt);
-        }
-    };
-}
+use words::{StartFault, print_start_fault, words_of};
 
 fn main(rt: HostRuntime) -> ExitCode {
-    let Ok(words) = std::env::args(&rt) else {
-        return out_of_memory(&rt);
+    let words = match words_of(&rt) {
+        Ok(words) => words,
+        Err(fault) => return explain_start(&rt, fault),
     };
-    let Ok(words) = words.collect::<Vec<String>>(rt.alloc()) else {
-        return out_of_memory(&rt);
-    };
-    let Ok(output) = BufWriter::new(rt.alloc(), std::io::writer(&rt)) else {
-        return out_of_memory(&rt);
-    };
-    let Ok(array) = ArrayBack::new(rt.alloc(), rt, ARRAY_CAPACITY) else {
-        return out_of_memory(&rt);
-    };
-    let Ok(seg) = SegBack::new(rt.alloc(), rt) else {
-        return out_of_memory(&rt);
+    let Ok(queues) = built_ins(rt, rt.alloc()) else {
+        return explain_start(&rt, StartFault::Memory);
     };
     let mut shelf: Vec<Shelved> = Vec::new(rt.alloc());
-    shelve!(rt, shelf, "locked", LockedQueue::new(rt.alloc(), rt));
-    shelve!(rt, shelf, "two-lock", TwoLockQueue::new(rt.alloc(), rt));
-    shelve!(rt, shelf, "array", array);
-    shelve!(rt, shelf, "seg", seg);
-    shelve!(rt, shelf, "lifo", Lifo::new(rt.alloc(), rt));
-    shelve!(rt, shelf, "doubling", Doubling::new(rt.alloc(), rt));
-    shelve!(rt, shelf, "inventing", Inventing::new(rt.alloc(), rt));
-    shelve!(rt, shelf, "shy", Shy::new(rt.alloc(), rt));
-    shelve!(rt, shelf, "losing", Losing::new(rt.alloc(), rt));
-    let mut writer = Watched::new(output);
-    let reader = Watched::new(rt.reader());
-    ExitCode::from(run_command(&rt, &words, reader, &mut writer, &shelf))
+    for queue in queues {
+        let name = queue.name();
+        let Ok(queue) = Box::new(rt.alloc(), queue) else {
+            return explain_start(&rt, StartFault::Memory);
+        };
+        if shelf.push(Shelved { name, queue }).is_err() {
+            return explain_start(&rt, StartFault::Memory);
+        }
+    }
+    let status = run_over(&rt, &words, rt.reader(), std::io::writer(&rt), &shelf);
+    ExitCode::from(status)
 }
 
-/// Says that memory ran out before the command began.
-fn out_of_memory<R: Print>(rt: &R) -> ExitCode {
-    let _ = std::io::writer(rt).write_all(b"FAULT Memory\n");
-    ExitCode::from(3)
+/// Runs the command over a reader and a writer of std.
+fn run_over<'a, R, I, O>(
+    rt: &R,
+    words: &'a [String],
+    input: I,
+    output: O,
+    shelf: &[Shelved<'a>],
+) -> u8
+where
+    R: AllocGlobal + Threads + Sync,
+    I: Read + Drop,
+    O: Write + Drop,
+{
+    let mut writer = Buffered::new(Watched::new(output));
+    run_command(rt, words, Watched::new(input), &mut writer, shelf)
+}
+
+/// Says why the command can't begin.
+fn explain_start<R: Print>(rt: &R, fault: StartFault) -> ExitCode {
+    let mut writer = Buffered::new(Watched::new(std::io::writer(rt)));
+    ExitCode::from(print_start_fault(&mut writer, fault))
 }

@@ -1,5 +1,5 @@
 //! What a command found.
-use history_merge::{History, HistoryFault};
+use history_merge::{History, HistoryFault, Operation};
 use history_text::TextFault;
 use simulation::Rejections;
 use stress_run::RunFault;
@@ -8,8 +8,8 @@ use verdicts::Verdict;
 /// What a command found, to be printed.
 #[derive(Debug, Drop)]
 pub enum Outcome {
-    /// The verdict on a history.
-    Judged(History, Verdict),
+    /// The verdict on a history, with its operations.
+    Judged(Vec<Operation>, Verdict),
     /// A history to be shown, with its verdict.
     Shown(History, Verdict),
     /// The refused steps of a schedule, after which the machine isn't done.

@@ -4,15 +4,15 @@ ghost use Rattle.std.specs.Io.KnownBytes.{Appends};
 ghost use Rattle.history_merge.specs.declared.operation.Operation.{Operation};
 ghost use Rattle.history_text.specs.Lines.{line};
 ghost use Rattle.history_text.specs.Verdicts.{claim_of};
-ghost use Rattle.history_text.specs.Writing.{AppendsFront};
+ghost use Rattle.history_text.specs.Writing.{AppendsFront, IsWritten, IsRefused};
 ghost use Rattle.fifobench.specs.Answers.{answer_text, answer_status, claim_status};
 ghost use Rattle.fifobench.specs.Outcomes.{answer_of, NamesPlaces};
-ghost use Rattle.fifobench.specs.Running.{Prints, PrintsAnswer};
+ghost use Rattle.fifobench.specs.Running.{Prints, PrintsAnswer, WritesAndFlushes};
 
 use crate::faults::{write_history_refusal, write_run_fault, write_text_refusal};
 use crate::outcome::Outcome;
 use crate::show::{write_left_open, write_played, write_shown};
-use history_text::{TextSink, WriteFault, write_piece, write_verdict};
+use history_text::{TextSink, WriteFault, write_piece, write_verdict_on};
 use verdicts::Verdict;
 
 /// A line of words and a number.
@@ -24,6 +24,8 @@ pub fn write_numbered<W: TextSink>(
     ensures ok { OnOk result (Appends (W.contents writer.old) (W.contents writer.new) (line (words.now ++ decimal number))) }
     ensures err { OnErr result (AppendsFront (W.contents writer.old) (W.contents writer.new) (line (words.now ++ decimal number))) }
     ensures refused { W.has_refused writer.new ≡ (W.has_refused writer.old || is_err result) }
+    ensures written { OnOk result (IsWritten W.goes writer.old writer.new) }
+    ensures stopped { OnErr result (IsRefused W.goes writer.old writer.new) }
 {
     write_piece(writer, words)?;
     write_number(writer, number)?;
@@ -35,6 +37,8 @@ pub fn write_number<W: TextSink>(writer: &mut W, number: u64) -> Result<(), Writ
     ensures ok { OnOk result (Appends (W.contents writer.old) (W.contents writer.new) (decimal number)) }
     ensures err { OnErr result (AppendsFront (W.contents writer.old) (W.contents writer.new) (decimal number)) }
     ensures refused { W.has_refused writer.new ≡ (W.has_refused writer.old || is_err result) }
+    ensures written { OnOk result (IsWritten W.goes writer.old writer.new) }
+    ensures stopped { OnErr result (IsRefused W.goes writer.old writer.new) }
 {
     let mut buffer = itoa::Buffer::new();
     write_piece(writer, buffer.format(number).as_bytes())
@@ -46,9 +50,13 @@ fn write_outcome<W: TextSink>(writer: &mut W, outcome: &Outcome) -> Result<(), W
     ensures ok { OnOk result (Appends (W.contents writer.old) (W.contents writer.new) (answer_text (answer_of outcome.now))) }
     ensures err { OnErr result (AppendsFront (W.contents writer.old) (W.contents writer.new) (answer_text (answer_of outcome.now))) }
     ensures refused { W.has_refused writer.new ≡ (W.has_refused writer.old || is_err result) }
+    ensures written { OnOk result (IsWritten W.goes writer.old writer.new) }
+    ensures stopped { OnErr result (IsRefused W.goes writer.old writer.new) }
 {
     match outcome {
-        Outcome::Judged(history, verdict) => return write_verdict(history, verdict, writer),
+        Outcome::Judged(operations, verdict) => {
+            return write_verdict_on(operations, verdict, writer);
+        }
         Outcome::Shown(history, verdict) => return write_shown(writer, history, verdict),
         Outcome::LeftOpen(rejections) => return write_left_open(writer, rejections),
         Outcome::Played(rejections, history, verdict) => {
@@ -99,7 +107,9 @@ fn status_of(outcome: &Outcome) -> u8
 pub fn print_outcome<W: TextSink>(writer: &mut W, outcome: &Outcome) -> u8
     requires fresh { W.has_refused writer.old ≡ false }
     requires places { NamesPlaces outcome.now }
-    ensures { PrintsAnswer (W.contents writer.old) (W.contents writer.new) (W.has_refused writer.new) result (answer_of outcome.now) }
+    ensures printed { PrintsAnswer (W.contents writer.old) (W.contents writer.new) (W.has_refused writer.new) result (answer_of outcome.now) }
+    ensures asked { WritesAndFlushes W.goes (W.has_refused writer.new) writer.old writer.new }
+    ensures passed_on { W.has_refused writer.new ≡ false → W.holds_back writer.new ≡ false }
 {
     if write_outcome(writer, outcome).is_err() {
         return 3;
@@ -113,7 +123,9 @@ pub fn print_outcome<W: TextSink>(writer: &mut W, outcome: &Outcome) -> u8
 /// Writes a text and flushes the writer; answers the status.
 pub fn print_text<W: TextSink>(writer: &mut W, text: &[u8], status: u8) -> u8
     requires fresh { W.has_refused writer.old ≡ false }
-    ensures { Prints (W.contents writer.old) (W.contents writer.new) (W.has_refused writer.new) result text.now status }
+    ensures printed { Prints (W.contents writer.old) (W.contents writer.new) (W.has_refused writer.new) result text.now status }
+    ensures asked { WritesAndFlushes W.goes (W.has_refused writer.new) writer.old writer.new }
+    ensures passed_on { W.has_refused writer.new ≡ false → W.holds_back writer.new ≡ false }
 {
     if write_piece(writer, text).is_err() {
         return 3;

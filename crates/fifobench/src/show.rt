@@ -5,7 +5,7 @@ ghost use Rattle.history_merge.specs.Operations.{operations_of};
 ghost use Rattle.history_text.specs.Histories.{history_text};
 ghost use Rattle.history_text.specs.Lines.{line};
 ghost use Rattle.history_text.specs.Verdicts.{claim_of, verdict_text};
-ghost use Rattle.history_text.specs.Writing.{AppendsFront};
+ghost use Rattle.history_text.specs.Writing.{AppendsFront, IsWritten, IsRefused};
 ghost use Rattle.fifobench.specs.Answers.{reason_name, rejection_line, rejection_lines};
 ghost use Rattle.fifobench.specs.Outcomes.{IsWithin};
 
@@ -26,6 +26,8 @@ pub fn write_shown<W: TextSink>(
     ensures ok { OnOk result (Appends (W.contents writer.old) (W.contents writer.new) (history_text history.now ++ verdict_text (claim_of (operations_of history.now) verdict.now))) }
     ensures err { OnErr result (AppendsFront (W.contents writer.old) (W.contents writer.new) (history_text history.now ++ verdict_text (claim_of (operations_of history.now) verdict.now))) }
     ensures refused { W.has_refused writer.new ≡ (W.has_refused writer.old || is_err result) }
+    ensures written { OnOk result (IsWritten W.goes writer.old writer.new) }
+    ensures stopped { OnErr result (IsRefused W.goes writer.old writer.new) }
 {
     write_history(history, writer)?;
     write_verdict(history, verdict, writer)
@@ -39,6 +41,8 @@ pub fn write_left_open<W: TextSink>(
     ensures ok { OnOk result (Appends (W.contents writer.old) (W.contents writer.new) (rejection_lines rejections.now ++ line (codes "OPEN"))) }
     ensures err { OnErr result (AppendsFront (W.contents writer.old) (W.contents writer.new) (rejection_lines rejections.now ++ line (codes "OPEN"))) }
     ensures refused { W.has_refused writer.new ≡ (W.has_refused writer.old || is_err result) }
+    ensures written { OnOk result (IsWritten W.goes writer.old writer.new) }
+    ensures stopped { OnErr result (IsRefused W.goes writer.old writer.new) }
 {
     write_rejections(writer, rejections.as_slice())?;
     write_piece(writer, b"OPEN\n")
@@ -55,6 +59,8 @@ pub fn write_played<W: TextSink>(
     ensures ok { OnOk result (Appends (W.contents writer.old) (W.contents writer.new) (rejection_lines rejections.now ++ (history_text history.now ++ verdict_text (claim_of (operations_of history.now) verdict.now)))) }
     ensures err { OnErr result (AppendsFront (W.contents writer.old) (W.contents writer.new) (rejection_lines rejections.now ++ (history_text history.now ++ verdict_text (claim_of (operations_of history.now) verdict.now)))) }
     ensures refused { W.has_refused writer.new ≡ (W.has_refused writer.old || is_err result) }
+    ensures written { OnOk result (IsWritten W.goes writer.old writer.new) }
+    ensures stopped { OnErr result (IsRefused W.goes writer.old writer.new) }
 {
     write_rejections(writer, rejections.as_slice())?;
     write_shown(writer, history, verdict)
@@ -65,6 +71,8 @@ fn write_rejections<W: TextSink>(writer: &mut W, rejections: &[Rejection]) -> Re
     ensures ok { OnOk result (Appends (W.contents writer.old) (W.contents writer.new) (rejection_lines rejections.now)) }
     ensures err { OnErr result (AppendsFront (W.contents writer.old) (W.contents writer.new) (rejection_lines rejections.now)) }
     ensures refused { W.has_refused writer.new ≡ (W.has_refused writer.old || is_err result) }
+    ensures written { OnOk result (IsWritten W.goes writer.old writer.new) }
+    ensures stopped { OnErr result (IsRefused W.goes writer.old writer.new) }
 {
     for rejection in rejections {
         write_rejection(writer, *rejection)?;
@@ -77,6 +85,8 @@ fn write_rejection<W: TextSink>(writer: &mut W, rejection: Rejection) -> Result<
     ensures ok { OnOk result (Appends (W.contents writer.old) (W.contents writer.new) (rejection_line rejection)) }
     ensures err { OnErr result (AppendsFront (W.contents writer.old) (W.contents writer.new) (rejection_line rejection)) }
     ensures refused { W.has_refused writer.new ≡ (W.has_refused writer.old || is_err result) }
+    ensures written { OnOk result (IsWritten W.goes writer.old writer.new) }
+    ensures stopped { OnErr result (IsRefused W.goes writer.old writer.new) }
 {
     write_piece(writer, b"REJECTED ")?;
     write_number(writer, rejection.step)?;

@@ -42,7 +42,9 @@ fn shrink_events(alloc: Global, events: Vec<Event>) -> Outcome
         Err(fault) => return Outcome::of_history_fault(fault),
     };
     match decide(alloc, &history) {
-        Ok(Verdict::Yes(order)) => Outcome::Judged(history, Verdict::Yes(order)),
+        Ok(Verdict::Yes(order)) => {
+            Outcome::Judged(history.into_operations(), Verdict::Yes(order))
+        }
         Ok(Verdict::No(violation)) => shrink_history(alloc, &history, &violation),
         Err(_) => Outcome::MemoryFault,
     }
@@ -59,6 +61,8 @@ fn shrink_history(alloc: Global, history: &History, violation: &Violation) -> Ou
     let Ok(small) = verdicts::shrink(alloc, history, violation) else {
         return Outcome::MemoryFault;
     };
+    // A history is complete, as its accessor says.
+    let _events = small.events();
     match decide(alloc, &small) {
         Ok(verdict) => Outcome::Shown(small, verdict),
         Err(_) => Outcome::MemoryFault,

@@ -1,17 +1,39 @@
+ghost use Rattle.std.specs.Prelude.{◌≡◌, false};
+
 mod checks;
+mod lying;
 mod recorded;
 mod schedules;
 mod shrinking;
 mod stressing;
 mod verifying;
+mod words;
+mod writing;
 
 use crate::command::run_command;
 use crate::stress::Shelved;
-use history_text::{MemorySource, TextSource, Watched};
+use history_text::{MemorySource, TextSink, TextSource, Watched};
 use std::alloc::AllocError;
 use std::process::Abort;
 use std::str;
 use std::thread::Threads;
+
+/// The status of a run of the program that writes to this sink, to which nothing was written before.
+fn run_on<'a, R, S, W>(
+    rt: &R,
+    words: &'a [&'a str],
+    source: S,
+    writer: &mut W,
+    shelf: &[Shelved<'a>],
+) -> u8
+where
+    R: AllocGlobal + Threads + Sync,
+    S: TextSource + Drop,
+    W: TextSink,
+    requires { W.has_refused writer.old ≡ false }
+{
+    run_command(rt, words, source, writer, shelf)
+}
 
 /// What a run of the program writes, and its status. Want of memory is an error of its own.
 fn run<'a, R: AllocGlobal + Threads + Sync, S: TextSource + Drop>(

@@ -1,5 +1,5 @@
 -- Values that no two calls share.
-use Rattle.std.proofs.Common.{◌≡◌, ◌≢◌, ℕ, zero, suc, ◌+◌, ◌≤◌, ◌<◌, ◌||◌, ◌↔◌, Bool, true, false, cond, List, [], ◌∷◌, ◌++◌, length, get_or, take, drop, Option, Some, None, IsTrue, refl, sym, ◌∙◌, ap, subst, inl, inr, arith, nat_eq, nat_lt, length-append}
+use Rattle.std.proofs.Common.{◌≡◌, ◌≢◌, ℕ, zero, suc, ◌+◌, ◌≤◌, ◌<◌, ◌||◌, ◌↔◌, Bool, true, false, cond, List, [], ◌∷◌, ◌++◌, length, get_or, take, drop, Option, Some, None, IsTrue, refl, sym, ◌∙◌, ap, subst, inl, inr, arith, nat_eq, nat_lt, length-append, get_or-set_other, get_or-set_same, length-set, set}
 use Rattle.std.specs.Prelude.{AllPairs, IsPermutation, slice_get}
 use Rattle.std.specs.Option.{option_map_or}
 use Rattle.std.specs.Ordering.{nat_cmp}
@@ -155,3 +155,53 @@ no_repeat_from_distinct events distinct i e below here =
 -- a value that was met is called again
 pub met_again : (events : List Event) (i : ℕ) (e : Event) (v : ℕ) (met : ℕ → Bool) → slice_get events i ≡ Some e → called_value e.what ≡ Some v → met v ≡ true → HasMet events i met → IsFirstRepeat events (Some i)
 met_again events i e v met here calls again m = (m.no_repeat, (e, here, repeats_if (take i events) (Some v) e calls ∙ sym (m.called v) ∙ again))
+
+-- a walk over the first n events has met no value twice, and each value that it met is below the least that its name may have next
+pub record RisesTo (name : ℕ → ℕ) (events : List Event) (n : ℕ) (least : List ℕ) : Type 0 where
+  pub one_each : length least ≡ 64
+  pub below : (v : ℕ) → was_called (take n events) v ≡ true → v < get_or least (name v) 0
+  pub no_repeat : NoRepeatBefore events n
+
+pub rises_at_first : (name : ℕ → ℕ) (events : List Event) (least : List ℕ) → length least ≡ 64 → RisesTo name events 0 least
+rises_at_first name events least long = record {
+  one_each = long;
+  below = λ v called. absurd (false≢true called);
+  no_repeat = λ i e below at. absurd (omega arith);
+}
+
+pub rises_none : (name : ℕ → ℕ) (events : List Event) (i : ℕ) (e : Event) (least : List ℕ) → slice_get events i ≡ Some e → called_value e.what ≡ None → RisesTo name events i least → RisesTo name events (i + 1) least
+rises_none name events i e least here none r = record {
+  one_each = r.one_each;
+  below = λ v called. r.below v (sym (was_called-more events i e None v here none ∙ or_false (was_called (take i events) v)) ∙ called);
+  no_repeat = each_more (λ k x. repeats_value (take k events) x ≡ false) events i e here (repeats_if (take i events) None e none) r.no_repeat;
+}
+
+pub rises_more : (name : ℕ → ℕ) (events : List Event) (i : ℕ) (e : Event) (v : ℕ) (least : List ℕ) → slice_get events i ≡ Some e → called_value e.what ≡ Some v
+    → name v < 64 → get_or least (name v) 0 ≤ v → RisesTo name events i least → RisesTo name events (i + 1) (set least (name v) (v + 1))
+rises_more name events i e v least here calls fits above r = record {
+  one_each = simp length-set r.one_each;
+  below = each;
+  no_repeat = each_more (λ k x. repeats_value (take k events) x ≡ false) events i e here (repeats_if (take i events) (Some v) e calls ∙ new) r.no_repeat;
+}
+  where
+    new : was_called (take i events) v ≡ false
+    new = false_from_ne_true (was_called (take i events) v) (λ called. let less = r.below v called in omega arith)
+
+    within : name v < length least
+    within = omega (arith, r.one_each)
+
+    each : (w : ℕ) → was_called (take (i + 1) events) w ≡ true → w < get_or (set least (name v) (v + 1)) (name w) 0
+    each w called = elim (eqb_tells v w) [
+      | inl h ↦ subst (λ x. x < get_or (set least (name v) (v + 1)) (name x) 0) h.1 (rw (get_or-set_same least (name v) (v + 1) 0 within) (omega arith))
+      | inr h ↦
+          let before : was_called (take i events) w ≡ true = sym (was_called-more events i e (Some v) w here calls ∙ ap (λ b. was_called (take i events) w || b) h.0 ∙ or_false (was_called (take i events) w)) ∙ called in
+          let less = r.below w before in
+          elim (eqb_tells (name w) (name v)) [
+            | inl same ↦ let at : get_or least (name w) 0 ≤ v = rw same.1 above in rw (same.1, get_or-set_same least (name v) (v + 1) 0 within) (omega arith)
+            | inr other ↦ rw (get_or-set_other least (name v) (name w) (v + 1) 0 other.1) less
+          ]
+    ]
+
+-- all events are behind the walk
+pub rises_all : (name : ℕ → ℕ) (events : List Event) (n : ℕ) (least : List ℕ) → length events ≤ n → RisesTo name events n least → IsFirstRepeat events None
+rises_all name events n least all r i e below at = r.no_repeat i e (omega arith) at

@@ -10,7 +10,8 @@ use Rattle.event_records.specs.Turns.{is_call, answers}
 use Rattle.history_merge.specs.declared.fault.HistoryFault.{HistoryFault}
 use Rattle.history_merge.specs.declared.fault.HistoryFault.TheVariants.{TicketOrder, BadThread, CallWhilePending, ReturnWithoutCall, WrongReturn, DuplicateValue}
 use Rattle.history_merge.specs.Faults.{fault_at, breaks_ticket_order, answers_pending, repeats_value, pending_call}
-use Rattle.history_merge.proofs.Turns.{FitsTurn, answer_is_return}
+use Rattle.history_merge.specs.Forming.{FitsTurn}
+use Rattle.history_merge.proofs.Turns.{answer_is_return}
 
 -- the event breaks no rule after the events before it
 pub record MayFollow (before : List Event) (e : Event) : Type 0 where

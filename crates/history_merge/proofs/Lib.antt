@@ -1,3 +1,7 @@
+pub mod Gathered
+pub mod KnownValues
+pub mod MetFaults
+pub mod Formed
 pub mod Runs
 pub mod Places
 pub mod Completeness

@@ -6,6 +6,7 @@ use Rattle.event_records.specs.declared.event.Event.{Event}
 use Rattle.event_records.specs.declared.event.What.{What}
 use Rattle.event_records.specs.declared.event.What.TheVariants.{CallEnq, RetEnq, RetNot, CallDeq, RetDeq, RetEmpty}
 use Rattle.event_records.specs.Turns.{TakesTurns, is_call, answers}
+use Rattle.history_merge.specs.Forming.{FitsTurn}
 use Rattle.history_merge.proofs.Tracking.{pending_in, pending_in-push}
 
 pub answered_is_call : (call answer : What) → answers call answer ≡ true → is_call call ≡ true
@@ -29,10 +30,6 @@ answer_is_return RetEnq _ h = cc
 answer_is_return RetNot _ h = cc
 answer_is_return (RetDeq v) _ h = cc
 answer_is_return RetEmpty _ h = cc
-
--- the event may follow these events of its thread
-abbrev pub FitsTurn : Option Event → Event → Type 0
-FitsTurn pending e = MatchOption pending (is_call e.what ≡ true) (λ call. answers call.what e.what ≡ true)
 
 -- a call with its answer leaves what the events after it leave
 pending_in-pair : (call answer : Event) (rest : List Event) → is_call answer.what ≡ false → pending_in (call ∷ answer ∷ rest) ≡ pending_in rest

@@ -54,7 +54,21 @@ impl History {
     pub fn operations(&self) -> &[Operation]
         ensures operations { result.now ≡ operations_of self.now }
         ensures complete { IsCompleteHistory self.now }
+        ensures few { length result.now ≤ MAX_EVENTS }
     {
         self.operations.as_slice()
+    }
+
+    /// The operations alone, in the order of their calls. The memory of the events is given back.
+    pub fn into_operations(self) -> Vec<Operation>
+        ensures operations { result.items ≡ operations_of self }
+        ensures complete { IsCompleteHistory self }
+        ensures few { length result.items ≤ MAX_EVENTS }
+    {
+        let History {
+            events: _events,
+            operations,
+        } = self;
+        operations
     }
 }

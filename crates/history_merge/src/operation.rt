@@ -15,6 +15,21 @@ pub enum OpKind {
     Not(u64),
 }
 
+impl OpKind {
+    ghost use Rattle.history_merge.specs.Operations.{enqueued_value};
+
+    /// The value that the operation called to enqueue, taken or not.
+    #[inline(always)]
+    pub fn enqueued_value(self) -> Option<u64>
+        ensures { result ≡ enqueued_value self }
+    {
+        match self {
+            OpKind::Enq(value) | OpKind::Not(value) => Some(value),
+            OpKind::Deq(_) | OpKind::Empty => None,
+        }
+    }
+}
+
 /// A call with its return (Herlihy and Wing 1990, section 2.1).
 ///
 /// Plain data: only in the operations of a history is it known that `call` is below `ret`.

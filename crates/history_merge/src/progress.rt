@@ -1,4 +1,4 @@
-ghost use Rattle.std.specs.Prelude.{◌≡◌, ◌++◌, ◌∷◌, ◌≤◌, List, [], MatchOption};
+ghost use Rattle.std.specs.Prelude.{◌≡◌, ◌++◌, ◌∷◌, ◌≤◌, List, [], IfNone, MatchOption};
 ghost use Rattle.event_records.specs.declared.event.Event.{Event};
 ghost use Rattle.history_merge.specs.Faults.{IsLeastPending, NothingPending, fault_at, repeats_value};
 ghost use Rattle.history_merge.specs.Progress.{HasTracked};
@@ -27,7 +27,8 @@ impl Progress {
     /// The fault of the event at this place, after the events so far; `repeats` tells whether it calls with a value
     /// that one of these called with.
     pub fn fault_of(&self, event: Event, place: usize, repeats: bool) -> Option<HistoryFault>
-        ensures { (before : List Event) → HasTracked before self.now → repeats ≡ repeats_value before event → result ≡ fault_at before place event }
+        ensures fault { (before : List Event) → HasTracked before self.now → repeats ≡ repeats_value before event → result ≡ fault_at before place event }
+        ensures in_range { IfNone result (event.thread ≤ MAX_THREAD) }
     {
         if event.ticket > MAX_TICKET || self.last_ticket.is_some_and(|last| event.ticket <= last) {
             return Some(HistoryFault::TicketOrder(place));

@@ -1,13 +1,13 @@
-ghost use Rattle.std.specs.Prelude.{◌≤◌, List, IfOk, flat_map, length};
+ghost use Rattle.std.specs.Prelude.{◌≡◌, ◌≤◌, List, IfOk, flat_map, length, vec_len};
 ghost use Rattle.event_records.specs.declared.event.Event.{Event};
-ghost use Rattle.event_records.specs.declared.limits.TheConstants.{MAX_EVENTS};
 ghost use Rattle.history_merge.specs.Complete.{IsCompleteHistory};
 ghost use Rattle.history_merge.specs.Merge.{IsMerged};
 
 use crate::build::history;
 use crate::complete::History;
+use crate::fault::HistoryFault;
 use crate::merging::merge;
-use event_records::Lists;
+use event_records::{Event, Lists, MAX_EVENTS};
 use std::alloc::{AllocError, Global};
 
 /// The history of lists that merge to a complete one, as those of a recorded run do.
@@ -20,9 +20,21 @@ pub fn merged_history(alloc: Global, lists: &Lists) -> Result<History, AllocErro
     ensures merged { IfOk result (IsMerged lists.now) }
     ensures complete { IfOk result IsCompleteHistory }
 {
-    let events = merge(alloc, lists)?;
+    complete_history(alloc, merge(alloc, lists)?)
+}
+
+/// The history of events that are known to be those of a complete one.
+///
+/// Time and memory are those of [`history`]. `AllocError` comes only where a growth was refused.
+pub fn complete_history(alloc: Global, events: Vec<Event>) -> Result<History, AllocError>
+    requires few { vec_len events ≤ MAX_EVENTS }
+    requires complete { IsCompleteHistory events.items }
+    ensures events { IfOk result (λ whole. whole ≡ events.items) }
+    ensures complete { IfOk result IsCompleteHistory }
+{
     match history(alloc, events) {
-        Ok(history) => Ok(history),
-        Err(_) => Err(AllocError),
+        Ok(whole) => Ok(whole),
+        Err(HistoryFault::Memory) => Err(AllocError),
+        Err(_) => unreachable!("a complete history has no fault"),
     }
 }

@@ -1,5 +1,6 @@
 -- From a fault of one line to the first fault of the whole input.
-use Rattle.std.proofs.Common.{◌≡◌, ℕ, ◌+◌, ◌<◌, List, [], ◌∷◌, ◌++◌, length, arith, ap, sym, subst, ◌∙◌, refl, append-nil, length-append, Option, Some, None, Ok, Err, IfSome, IfOk, IfErr, MatchResult}
+use Rattle.std.proofs.Common.{◌≡◌, ℕ, ◌+◌, ◌<◌, false, List, [], ◌∷◌, ◌++◌, length, arith, ap, sym, subst, ◌∙◌, refl, append-nil, length-append, Option, Some, None, Ok, Err, IfSome, IfOk, IfErr, MatchResult}
+use Rattle.std.specs.Prelude.{OnOk, is_err}
 use Rattle.std.specs.declared.result.Result.{Result}
 use Rattle.std.specs.List.{flat_map, AllByRecursion}
 use Rattle.std.proofs.lemmas.Grind.{flat_map-append}
@@ -83,6 +84,11 @@ no_room kind items x (Some a) (Some b) (Some c) right taken few range now = reco
 }
 
 -- ---- answers
+
+-- what holds on success holds where there was no error
+pub on_ok : {V E : Type 0} (r : Result V E) (P : Type 0) → false ≡ is_err r → OnOk r P → P
+on_ok (Ok v) P ok h = h
+on_ok (Err e) P ok h = cc
 
 -- what follows of one fault follows of that of an answer
 pub faults_by : {V : Type 0} (r : Result V TextFault) (P Q : TextFault → Type 0) → ((fault : TextFault) → P fault → Q fault) → IfErr r P → IfErr r Q

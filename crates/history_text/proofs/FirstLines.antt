@@ -1,6 +1,6 @@
 -- The first line of a verdict as it is read, and what comes after it.
 use Rattle.std.proofs.Common.{◌≡◌, ℕ, ◌+◌, List, ap, subst, refl, Option, Some, None, inl, inr}
-use Rattle.verdicts.specs.declared.claim.ViolationKind.{ViolationKind}
+use Rattle.verdicts.specs.declared.verifying.ViolationKind.{ViolationKind}
 use Rattle.history_text.specs.declared.fault.TextFault.{TextFault}
 use Rattle.history_text.specs.declared.fault.TextFault.TheVariants.{Line}
 use Rattle.history_text.specs.Lines.{line, front_of, Front, Whole, TooLong, Unfinished, Nothing}

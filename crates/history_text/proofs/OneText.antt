@@ -63,6 +63,16 @@ reads_what_is_there {V} items lines (Some a) new r ok err events wanted begins =
     (λ v found. same_text (items v) events a new begins.0 found.0 found.1 wanted begins.1)
     (λ fault first. text_has_no_fault lines a.ending events begins.0 fault wanted (subst (λ (b : List ℕ). IsHistoryTextFault lines a.ending b fault) begins.1 first))
 
+-- the same where only something is told of the events
+pub tells_what_is_there : {V : Type 0} (Told : List Event → Type 0) (lines : ℕ) (old new : Option Ahead) (count : ℕ) (r : Result V TextFault)
+    → IfOk r (λ v. (events : List Event) × HasHistoryText events × Takes old new (history_text events) × (count ≡ lines + 2 + length events) × Told events) → IfErr r (HasHistoryTextFault lines old)
+    → (events : List Event) → HasHistoryText events → BeginsWith old (history_text events) → MatchResult r (λ v. Told events) (λ fault. fault ≡ Memory)
+tells_what_is_there Told lines None new count r ok err events wanted begins = absurd begins
+tells_what_is_there {V} Told lines (Some a) new count r ok err events wanted begins =
+    is_read (IsHistoryTextFault lines) NoRoomFor (λ v. (found : List Event) × HasHistoryText found × Takes (Some a) new (history_text found) × (count ≡ lines + 2 + length found) × Told found) (λ v. Told events) a r ok err
+    (λ v found. subst Told (same_text found.0 events a new begins.0 found.1 found.2 wanted begins.1) found.4)
+    (λ fault first. text_has_no_fault lines a.ending events begins.0 fault wanted (subst (λ (b : List ℕ). IsHistoryTextFault lines a.ending b fault) begins.1 first))
+
 -- an input has one first fault
 pub one_first_fault : (lines : ℕ) (ending : Ending) (bytes : List ℕ) (f g : TextFault) → IsHistoryTextFault lines ending bytes f → IsHistoryTextFault lines ending bytes g → f ≡ g
 one_first_fault lines ending bytes f g (inl a) (inl b) = some_is f g (sym a ∙ b)

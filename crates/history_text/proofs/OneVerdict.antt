@@ -3,10 +3,10 @@ use Rattle.std.proofs.Common.{◌≡◌, ℕ, ◌+◌, List, [], ◌++◌, lengt
 use Rattle.std.specs.declared.result.Result.{Result}
 use Rattle.std.specs.Str.{bytes_eq}
 use Rattle.history_merge.specs.declared.operation.Operation.{Operation}
-use Rattle.verdicts.specs.declared.claim.ViolationKind.{ViolationKind}
-use Rattle.verdicts.specs.declared.claim.ViolationKind.TheVariants.{VFresh, VRepeat, VOrd, VWit}
-use Rattle.verdicts.specs.declared.claim.Claimed.{Claimed}
-use Rattle.verdicts.specs.declared.claim.Claimed.TheVariants.{Yes, No}
+use Rattle.verdicts.specs.declared.verifying.ViolationKind.{ViolationKind}
+use Rattle.verdicts.specs.declared.verifying.ViolationKind.TheVariants.{VFresh, VRepeat, VOrd, VWit}
+use Rattle.verdicts.specs.declared.verifying.Claimed.{Claimed}
+use Rattle.verdicts.specs.declared.verifying.Claimed.TheVariants.{Yes, No}
 use Rattle.history_text.specs.declared.fault.TextFault.{TextFault}
 use Rattle.history_text.specs.declared.fault.TextFault.TheVariants.{Memory}
 use Rattle.history_text.specs.Lines.{line, front_of, Front, Whole, TooLong, Unfinished, Nothing}

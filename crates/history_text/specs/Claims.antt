@@ -7,9 +7,9 @@ use Rattle.event_records.specs.declared.limits.TheConstants.{MAX_TICKET, MAX_THR
 use Rattle.history_merge.specs.declared.operation.Operation.{Operation}
 use Rattle.history_merge.specs.declared.operation.OpKind.{OpKind}
 use Rattle.history_merge.specs.declared.operation.OpKind.TheVariants.{Enq, Deq, Empty, Not}
-use Rattle.verdicts.specs.declared.claim.ViolationKind.{ViolationKind}
-use Rattle.verdicts.specs.declared.claim.Claimed.{Claimed}
-use Rattle.verdicts.specs.declared.claim.Claimed.TheVariants.{Yes, No}
+use Rattle.verdicts.specs.declared.verifying.ViolationKind.{ViolationKind}
+use Rattle.verdicts.specs.declared.verifying.Claimed.{Claimed}
+use Rattle.verdicts.specs.declared.verifying.Claimed.TheVariants.{Yes, No}
 use Rattle.history_text.specs.declared.fault.TextFault.{TextFault}
 use Rattle.history_text.specs.declared.fault.TextFault.TheVariants.{Line}
 use Rattle.history_text.specs.Input.{Ending}

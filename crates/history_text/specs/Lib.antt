@@ -8,5 +8,6 @@ pub mod Verdicts
 pub mod Claims
 pub mod Reading
 pub mod Taking
-pub mod Watching
 pub mod Writing
+pub mod Watching
+pub mod Holding

@@ -107,6 +107,7 @@ fn event_in(line: u64, bytes: &[u8]) -> Result<Event, TextFault>
 }
 
 /// What a thread called or was answered, at the front, and the bytes after it.
+#[inline(always)]
 fn what_front(bytes: &[u8]) -> Option<(What, &[u8])>
     ensures { IfSome result (λ p. (bytes.now ≡ spaced (what_fields p.0) ++ p.1.now) × HasValueInRange p.0) }
 {
@@ -136,6 +137,7 @@ fn what_front(bytes: &[u8]) -> Option<(What, &[u8])>
 /// The event whose line stands whole at the front, and the bytes after it.
 ///
 /// It finds most lines that are right and none that is wrong. What it doesn't find, `event_in` judges.
+#[inline(always)]
 fn event_front(bytes: &[u8]) -> Option<(Event, &[u8])>
     ensures { IfSome result (λ p. (bytes.now ≡ event_line p.0 ++ p.1.now) × HasEventLine p.0) }
 {
@@ -176,6 +178,7 @@ impl Item for Event {
         event_in(line, bytes)
     }
 
+    #[inline(always)]
     fn at_front(bytes: &[u8]) -> Option<(Event, &[u8])> {
         event_front(bytes)
     }

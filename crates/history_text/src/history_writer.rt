@@ -5,7 +5,7 @@ ghost use Rattle.std.specs.Io.KnownBytes.{Appends};
 ghost use Rattle.event_records.specs.declared.limits.TheConstants.{MAX_EVENTS};
 ghost use Rattle.history_text.specs.Lines.{spaced};
 ghost use Rattle.history_text.specs.Histories.{what_fields, event_line, history_text, HasHistoryText, HasValueInRange};
-ghost use Rattle.history_text.specs.Writing.{AppendsFront, Puts};
+ghost use Rattle.history_text.specs.Writing.{AppendsFront, Puts, IsWritten, IsRefused};
 
 use crate::kept::{Kept, make_room};
 use crate::sink::{TextSink, WriteFault, write_piece};
@@ -49,6 +49,8 @@ fn put_event<W: TextSink>(writer: &mut W, kept: &mut Kept, event: &Event) -> Res
     ensures ok { OnOk result (Puts (W.contents writer.old) (W.contents writer.new) kept.old kept.new (event_line event.now)) }
     ensures err { OnErr result (AppendsFront (W.contents writer.old) (W.contents writer.new) kept.old) }
     ensures refused { W.has_refused writer.new ≡ (W.has_refused writer.old || is_err result) }
+    ensures written { OnOk result (IsWritten W.goes writer.old writer.new) }
+    ensures stopped { OnErr result (IsRefused W.goes writer.old writer.new) }
     ensures fits { OnOk result (HasValueInRange event.now.what) }
 {
     make_room(writer, kept)?;
@@ -64,6 +66,8 @@ fn put_events<W: TextSink>(
     ensures ok { OnOk result (Puts (W.contents writer.old) (W.contents writer.new) kept.old kept.new (flat_map event_line events.now)) }
     ensures err { OnErr result (AppendsFront (W.contents writer.old) (W.contents writer.new) (kept.old ++ flat_map event_line events.now)) }
     ensures refused { W.has_refused writer.new ≡ (W.has_refused writer.old || is_err result) }
+    ensures written { OnOk result (IsWritten W.goes writer.old writer.new) }
+    ensures stopped { OnErr result (IsRefused W.goes writer.old writer.new) }
     ensures fits { OnOk result (All (λ e. HasValueInRange e.what) events.now) }
 {
     for event in events {
@@ -82,6 +86,8 @@ fn put_history<W: TextSink>(
     ensures ok { OnOk result (Puts (W.contents writer.old) (W.contents writer.new) [] kept.new (history_text events.now)) }
     ensures err { OnErr result (AppendsFront (W.contents writer.old) (W.contents writer.new) (history_text events.now)) }
     ensures refused { W.has_refused writer.new ≡ (W.has_refused writer.old || is_err result) }
+    ensures written { OnOk result (IsWritten W.goes writer.old writer.new) }
+    ensures stopped { OnErr result (IsRefused W.goes writer.old writer.new) }
     ensures fits { OnOk result (All (λ e. HasValueInRange e.what) events.now) }
 {
     kept.push(b"fifo-history 1\n");
@@ -100,6 +106,8 @@ pub fn write_history<W: TextSink>(history: &History, writer: &mut W) -> Result<(
     ensures ok { OnOk result (Appends (W.contents writer.old) (W.contents writer.new) (history_text history.now)) }
     ensures err { OnErr result (AppendsFront (W.contents writer.old) (W.contents writer.new) (history_text history.now)) }
     ensures refused { W.has_refused writer.new ≡ (W.has_refused writer.old || is_err result) }
+    ensures written { OnOk result (IsWritten W.goes writer.old writer.new) }
+    ensures stopped { OnErr result (IsRefused W.goes writer.old writer.new) }
 
     // What is written is read again, since `read_history` reads each text that stands at the front of its input.
     ensures readable { OnOk result (HasHistoryText history.now) }

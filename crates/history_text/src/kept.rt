@@ -1,5 +1,5 @@
 ghost use Rattle.std.specs.Prelude.{◌≡◌, ◌+◌, ◌≤◌, ◌||◌, ◌∷◌, ◌++◌, List, [], length, take, ℕ, decimal, is_err, OnOk, OnErr};
-ghost use Rattle.history_text.specs.Writing.{AppendsFront, Puts};
+ghost use Rattle.history_text.specs.Writing.{AppendsFront, Puts, IsWritten, IsRefused};
 
 use crate::sink::{TextSink, WriteFault, write_piece};
 use itoa::Buffer;
@@ -57,6 +57,7 @@ impl Kept {
         self.len = 0;
     }
 
+    #[inline(always)]
     pub(crate) fn push(&mut self, bytes: &[u8])
         requires { length self.old + length bytes.now ≤ 4096 }
         ensures bytes { self.new ≡ self.old ++ bytes.now }
@@ -67,6 +68,7 @@ impl Kept {
         self.len = end;
     }
 
+    #[inline(always)]
     pub(crate) fn push_number(&mut self, number: u64)
         requires { length self.old + 20 ≤ 4096 }
         ensures digits { self.new ≡ self.old ++ decimal number }
@@ -77,6 +79,7 @@ impl Kept {
     }
 
     /// A field with a number, and the space after it.
+    #[inline(always)]
     pub(crate) fn push_field(&mut self, number: u64)
         requires { length self.old + 21 ≤ 4096 }
         ensures field { self.new ≡ self.old ++ (decimal number ++ 32 ∷ []) }
@@ -93,6 +96,8 @@ pub(crate) fn make_room<W: TextSink>(writer: &mut W, kept: &mut Kept) -> Result<
     ensures err { OnErr result (AppendsFront (W.contents writer.old) (W.contents writer.new) kept.old) }
     ensures room { OnOk result (length kept.new + 96 ≤ 4096) }
     ensures refused { W.has_refused writer.new ≡ (W.has_refused writer.old || is_err result) }
+    ensures written { OnOk result (IsWritten W.goes writer.old writer.new) }
+    ensures stopped { OnErr result (IsRefused W.goes writer.old writer.new) }
 {
     if kept.len() + LINE_ROOM <= KEPT_LEN {
         return Ok(());

@@ -3,18 +3,15 @@ ghost use Rattle.std.specs.Prelude.{◌≡◌, ◌≤◌, ◌++◌, ℕ, List, [
 ghost use Rattle.event_records.specs.declared.limits.TheConstants.{MAX_OPERATIONS};
 ghost use Rattle.history_merge.specs.Operations.{operations_of};
 ghost use Rattle.event_records.specs.declared.event.Event.{Event};
-ghost use Rattle.history_merge.specs.declared.operation.Operation.{Operation};
-ghost use Rattle.verdicts.specs.declared.claim.Claimed.{Claimed};
+ghost use Rattle.verdicts.specs.declared.verifying.Claimed.{Claimed};
 ghost use Rattle.verdicts.specs.declared.verdict.Verdict.{Verdict};
-ghost use Rattle.verdicts.specs.Claims.{IsTrueClaim};
-ghost use Rattle.verdicts.specs.Verdicts.{IsEvidence};
 ghost use Rattle.history_text.specs.declared.fault.TextFault.{TextFault};
 ghost use Rattle.history_text.specs.declared.schedule.Schedule.{Schedule};
 ghost use Rattle.history_text.specs.Verdicts.{claim_of, places_of, verdict_text};
 ghost use Rattle.history_text.specs.Claims.{HasVerdictText, IsVerdictTextFault};
 ghost use Rattle.history_text.specs.Histories.{HasHistoryText, history_text, IsHistoryTextFault};
 ghost use Rattle.history_text.specs.Schedules.{HasScheduleText, schedule_text, IsScheduleTextFault};
-ghost use Rattle.history_text.specs.Input.{Ending};
+ghost use Rattle.history_text.specs.Input.{Ending, EndOfInput};
 
 /// A text is the text of one list of events.
 pub fn a_text_has_one_history()
@@ -55,7 +52,10 @@ pub fn one_first_fault()
     ensures verdict { (lines : ℕ) (ending : Ending) (bytes : List ℕ) (f g : TextFault) → IsVerdictTextFault lines ending bytes f → IsVerdictTextFault lines ending bytes g → f ≡ g }
 {}
 
-/// What the text of a verdict claims is so where the verdict is evidence.
-pub fn evidence_is_a_true_claim()
-    ensures { (operations : List Operation) (verdict : Verdict) → IsEvidence operations verdict → IsTrueClaim operations (claim_of operations verdict) }
+/// Where a text stands at the front of the input, that has no fault of such a text; for a verdict, where the text is all of the
+/// input. So `read_history`, `read_schedule` and `read_verdict` answer a fault exactly where no text stands, or want of memory.
+pub fn a_text_has_no_fault()
+    ensures history { (lines : ℕ) (ending : Ending) (events : List Event) (rest : List ℕ) (fault : TextFault) → HasHistoryText events → IsHistoryTextFault lines ending (history_text events ++ rest) fault → ⊥ }
+    ensures schedule { (lines : ℕ) (ending : Ending) (schedule : Schedule) (rest : List ℕ) (fault : TextFault) → HasScheduleText schedule → IsScheduleTextFault lines ending (schedule_text schedule ++ rest) fault → ⊥ }
+    ensures verdict { (lines : ℕ) (claimed : Claimed) (fault : TextFault) → HasVerdictText claimed → IsVerdictTextFault lines EndOfInput (verdict_text claimed) fault → ⊥ }
 {}

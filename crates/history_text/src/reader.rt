@@ -1,7 +1,8 @@
 //! Reading texts line by line.
 ghost use Rattle.std.specs.Prelude.{◌≡◌, ◌+◌, ◌<◌, ◌^◌, ◌∷◌, true, false, IfOk, IfErr, OnErr, OnOk, MatchResult, IfNone, IfSome, option_to_list, is_err, Err, Ok, length, List, []};
 ghost use Rattle.event_records.specs.declared.event.Event.{Event};
-ghost use Rattle.verdicts.specs.declared.claim.Claimed.{Claimed};
+ghost use Rattle.history_merge.specs.Gathering.{HasGathered};
+ghost use Rattle.verdicts.specs.declared.verifying.Claimed.{Claimed};
 ghost use Rattle.history_text.specs.declared.schedule.Schedule.{Schedule};
 ghost use Rattle.history_text.specs.Input.{EndOfInput, Failure, Takes, IsOver};
 ghost use Rattle.history_text.specs.Lines.{line, spaced};
@@ -13,6 +14,7 @@ ghost use Rattle.history_text.specs.Claims.{operations_in, HasVerdictText, first
 ghost use Rattle.history_text.specs.Reading.{HasHistoryTextFault, HasScheduleTextFault, HasVerdictTextFault, HasEndFault, BeginsWith, IsAll};
 ghost use Rattle.history_text.specs.Taking.{TakesLine, StopsInLine, IsPartOfLine, TakesItem, TakesItems, HasNoLine, HasHeaderFault, HasSettingFault, HasFirstLineFault, HasItemFault, HasItemsFault, IsOfInput};
 
+use crate::collecting::Collects;
 use crate::fault::TextFault;
 use crate::item::{Item, item_in};
 use crate::line::{LONGEST_LINE, Line};
@@ -21,6 +23,7 @@ use crate::schedule::{Schedule, Steps};
 use crate::source::{ReadFailed, TextSource};
 use crate::step_line::setting_in;
 use event_records::Event;
+use history_merge::HistoryBuilder;
 use std::alloc::Global;
 use std::marker::Model;
 use verdicts::{Claimed, Lines, ViolationKind};
@@ -176,6 +179,7 @@ impl<R: TextSource> TextReader<R> {
     }
 
     /// The item of the next line, where that stands whole in the buffer.
+    #[inline(always)]
     fn item_in_buffer<T: Item>(&mut self) -> Option<T>
         requires { self.old.lines + 1 < 2 ^ 64 }
         ensures item { IfSome result (λ item. Takes self.old.left self.new.left (line_of T.kind item) × T.kind.HasLine item) }
@@ -191,6 +195,7 @@ impl<R: TextSource> TextReader<R> {
     }
 
     /// The same for any line.
+    #[inline(never)]
     fn item_by_line<T: Item>(&mut self, count: usize) -> Result<Option<T>, TextFault>
         requires { self.old.lines + 1 < 2 ^ 64 }
         ensures ok { IfOk result (TakesItem T.kind self.old.left self.new.left count) }
@@ -215,6 +220,7 @@ impl<R: TextSource> TextReader<R> {
     }
 
     /// The next line of a text after so many items: an item, or none at the last line or the end of the input.
+    #[inline(always)]
     fn next_item<T: Item>(&mut self, count: usize) -> Result<Option<T>, TextFault>
         requires { self.old.lines + 1 < 2 ^ 64 }
         ensures ok { IfOk result (TakesItem T.kind self.old.left self.new.left count) }
@@ -231,6 +237,24 @@ impl<R: TextSource> TextReader<R> {
         self.item_by_line(count)
     }
 
+    /// The items from here on, up to the last line or the end of the input, go where they are collected.
+    fn collect_items<T: Item, C: Collects<T>>(&mut self, into: &mut C) -> Result<(), TextFault>
+        requires { self.old.lines < 2 ^ 63 + 2 }
+        ensures collected { IfOk result (λ _. (items : List T) × HaveLines T.kind items × TakesItems T.kind self.old.left self.new.left items
+            × (self.new.lines ≡ self.old.lines + 1 + length items) × (C.Holds into.old [] → C.Holds into.new items)) }
+        ensures fault { IfErr result (HasItemsFault T.kind (self.old.lines + 1) self.old.left) }
+        ensures is_stopped { self.new.is_stopped ≡ self.old.is_stopped }
+    {
+        let mut count = 0;
+        while let Some(item) = self.next_item(count)? {
+            if into.add(item).is_err() {
+                return Err(TextFault::Memory);
+            }
+            count += 1;
+        }
+        Ok(())
+    }
+
     /// The items from here on, up to the last line or the end of the input.
     fn items<T: Item>(&mut self, alloc: Global) -> Result<Vec<T>, TextFault>
         requires { self.old.lines < 2 ^ 63 + 2 }
@@ -241,12 +265,20 @@ impl<R: TextSource> TextReader<R> {
         ensures is_stopped { self.new.is_stopped ≡ self.old.is_stopped }
     {
         let mut items = Vec::new(alloc);
-        while let Some(item) = self.next_item(items.len())? {
-            if items.push(item).is_err() {
-                return Err(TextFault::Memory);
-            }
-        }
+        self.collect_items(&mut items)?;
         Ok(items)
+    }
+
+    /// The events of the history that the input begins with are added to a history in the making.
+    fn gathered(&mut self, builder: &mut HistoryBuilder) -> Result<(), TextFault>
+        requires { self.old.lines < 2 ^ 63 }
+        ensures events { IfOk result (λ _. (events : List Event) × HasHistoryText events × Takes self.old.left self.new.left (history_text events)
+            × (self.new.lines ≡ self.old.lines + 2 + length events) × (HasGathered [] builder.old → HasGathered events builder.new)) }
+        ensures fault { IfErr result (HasHistoryTextFault self.old.lines self.old.left) }
+        ensures is_stopped { self.new.is_stopped ≡ self.old.is_stopped }
+    {
+        self.header_line(b"fifo-history 1")?;
+        self.collect_items(builder)
     }
 
     /// The events of the history that the input begins with.
@@ -331,7 +363,9 @@ impl<R: TextSource> TextReader<R> {
 pub fn at_end<R: TextSource>(reader: &mut TextReader<R>) -> Result<(), TextFault>
     requires { reader.old.is_stopped ≡ false }
     ensures ok { OnOk result (IsOver EndOfInput reader.old.left) }
+    ensures left { OnOk result (Takes reader.old.left reader.new.left [] × IsOver EndOfInput reader.new.left) }
     ensures fault { IfErr result (HasEndFault reader.old.left) }
+    ensures lines { reader.new.lines ≡ reader.old.lines }
     ensures stopped { reader.new.is_stopped ≡ is_err result }
 {
     let result = match reader.next_byte() {
@@ -367,6 +401,32 @@ pub fn read_history<R: TextSource>(
     ensures stopped { reader.new.is_stopped ≡ is_err result }
 {
     let result = reader.history(alloc);
+    reader.is_stopped = result.is_err();
+    result
+}
+
+/// Reads the text of a history as [`read_history`] does, and adds its events to a history in the making, which keeps none of
+/// them. The time is linear in the bytes read, beside that of the adding.
+pub fn gather_history<R: TextSource>(
+    builder: &mut HistoryBuilder,
+    reader: &mut TextReader<R>,
+) -> Result<(), TextFault>
+    requires running { reader.old.is_stopped ≡ false }
+    requires lines { reader.old.lines < 2 ^ 63 }
+
+    // What is read is the text of some events, nothing else is taken, and just these events are added.
+    ensures events { IfOk result (λ _. (events : List Event) × HasHistoryText events × Takes reader.old.left reader.new.left (history_text events)
+        × (reader.new.lines ≡ reader.old.lines + 2 + length events) × (HasGathered [] builder.old → HasGathered events builder.new)) }
+
+    // Where the text of some events stands at the front it is read, unless memory is refused.
+    ensures whole { (events : List Event) → HasHistoryText events → BeginsWith reader.old.left (history_text events) → MatchResult result (λ _. HasGathered [] builder.old → HasGathered events builder.new) (λ fault. fault ≡ TextFault.Memory) }
+
+    // A fault is the first one.
+    ensures fault { IfErr result (HasHistoryTextFault reader.old.lines reader.old.left) }
+
+    ensures stopped { reader.new.is_stopped ≡ is_err result }
+{
+    let result = reader.gathered(builder);
     reader.is_stopped = result.is_err();
     result
 }

@@ -2,6 +2,7 @@
 ghost use Rattle.std.specs.Prelude.{◌≡◌, ◌++◌, IfSome, decimal};
 
 /// The number at the front, of at most 19 digits, and the bytes after it.
+#[inline(always)]
 pub(crate) fn number_front(bytes: &[u8]) -> Option<(u64, &[u8])>
     ensures { IfSome result (λ p. bytes.now ≡ decimal p.0 ++ p.1.now) }
 {
@@ -28,6 +29,7 @@ pub(crate) fn number_front(bytes: &[u8]) -> Option<(u64, &[u8])>
 }
 
 /// The bytes after the word that they begin with.
+#[inline(always)]
 pub(crate) fn after_word<'a>(bytes: &'a [u8], word: &[u8]) -> Option<&'a [u8]>
     ensures { IfSome result (λ rest. bytes.now ≡ word.now ++ rest.now) }
 {

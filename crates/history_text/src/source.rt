@@ -26,11 +26,14 @@ pub trait TextSource {
 
 /// A reader or a writer of std as a source or a sink of texts, with whether a write or a flush has failed.
 ///
-/// Of a reader nothing is known to contracts, since none of std says how its bytes end; `MemorySource` tells it.
+/// Each call makes one call of the reader or writer, and fails where that fails: a call that is interrupted isn't tried
+/// again. std's traits don't tell contracts of failures, so that tests show this. Of a reader nothing is known to contracts,
+/// since none of std says how its bytes end; `MemorySource` tells it.
 #[derive(Drop)]
 pub struct Watched<T> {
     pub(crate) inner: T,
     pub(crate) has_refused: bool,
+    pub(crate) holds_back: bool,
 }
 
 impl<T> Model for Watched<T> {
@@ -38,16 +41,17 @@ impl<T> Model for Watched<T> {
 
     ghost Value = { Watching T };
 
-    ghost view = { λ w. record { inner = w.inner; has_refused = w.has_refused } };
+    ghost view = { λ w. record { inner = w.inner; has_refused = w.has_refused; holds_back = w.holds_back } };
 }
 
 impl<T> Watched<T> {
     pub fn new(inner: T) -> Self
-        ensures { result ≡ record { inner = inner; has_refused = false } }
+        ensures { result ≡ record { inner = inner; has_refused = false; holds_back = false } }
     {
         Watched {
             inner,
             has_refused: false,
+            holds_back: false,
         }
     }
 
@@ -57,6 +61,7 @@ impl<T> Watched<T> {
         let Watched {
             inner,
             has_refused: _,
+            holds_back: _,
         } = self;
         inner
     }

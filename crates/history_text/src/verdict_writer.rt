@@ -6,7 +6,7 @@ ghost use Rattle.std.specs.Option.{option_to_list};
 ghost use Rattle.history_merge.specs.Operations.{operations_of};
 ghost use Rattle.history_text.specs.Lines.{line, spaced};
 ghost use Rattle.history_text.specs.Verdicts.{kind_fields, kind_name, operation_line, verdict_text, lines_at, places_of, places_of_violation, places_of_step, violation_kind, claim_of};
-ghost use Rattle.history_text.specs.Writing.{AppendsFront, Puts};
+ghost use Rattle.history_text.specs.Writing.{AppendsFront, Puts, IsWritten, IsRefused};
 
 use crate::kept::{Kept, make_room};
 use crate::sink::{TextSink, WriteFault, write_piece};
@@ -14,6 +14,7 @@ use history_merge::{History, OpId, OpKind, Operation};
 use value_match::{CoverStep, Violation};
 use verdicts::Verdict;
 
+#[inline(always)]
 fn push_kind(kept: &mut Kept, kind: OpKind)
     requires { length kept.old + 29 ≤ 4096 }
     ensures words { kept.new ≡ kept.old ++ spaced (kind_fields kind) }
@@ -36,6 +37,7 @@ fn push_kind(kept: &mut Kept, kind: OpKind)
     }
 }
 
+#[inline(always)]
 fn push_operation(kept: &mut Kept, operation: &Operation)
     requires { length kept.old + 96 ≤ 4096 }
     ensures { kept.new ≡ kept.old ++ operation_line operation.now }
@@ -58,6 +60,8 @@ fn put_places<W: TextSink>(
     ensures ok { OnOk result (Puts (W.contents writer.old) (W.contents writer.new) kept.old kept.new (lines_at operations.now places.now)) }
     ensures err { OnErr result (AppendsFront (W.contents writer.old) (W.contents writer.new) (kept.old ++ lines_at operations.now places.now)) }
     ensures refused { W.has_refused writer.new ≡ (W.has_refused writer.old || is_err result) }
+    ensures written { OnOk result (IsWritten W.goes writer.old writer.new) }
+    ensures stopped { OnErr result (IsRefused W.goes writer.old writer.new) }
 {
     for id in places {
         make_room(writer, kept)?;
@@ -76,6 +80,8 @@ fn put_maybe<W: TextSink>(
     ensures ok { OnOk result (Puts (W.contents writer.old) (W.contents writer.new) kept.old kept.new (lines_at operations.now (option_to_list place))) }
     ensures err { OnErr result (AppendsFront (W.contents writer.old) (W.contents writer.new) (kept.old ++ lines_at operations.now (option_to_list place))) }
     ensures refused { W.has_refused writer.new ≡ (W.has_refused writer.old || is_err result) }
+    ensures written { OnOk result (IsWritten W.goes writer.old writer.new) }
+    ensures stopped { OnErr result (IsRefused W.goes writer.old writer.new) }
 {
     match place {
         Some(place) => put_places(writer, kept, operations, &[place]),
@@ -95,6 +101,8 @@ fn put_with_last<W: TextSink>(
     ensures ok { OnOk result (Puts (W.contents writer.old) (W.contents writer.new) kept.old kept.new (lines_at operations.now (first.now ++ option_to_list last))) }
     ensures err { OnErr result (AppendsFront (W.contents writer.old) (W.contents writer.new) (kept.old ++ lines_at operations.now (first.now ++ option_to_list last))) }
     ensures refused { W.has_refused writer.new ≡ (W.has_refused writer.old || is_err result) }
+    ensures written { OnOk result (IsWritten W.goes writer.old writer.new) }
+    ensures stopped { OnErr result (IsRefused W.goes writer.old writer.new) }
 {
     put_places(writer, kept, operations, first)?;
     put_maybe(writer, kept, operations, last)
@@ -110,6 +118,8 @@ fn put_cover<W: TextSink>(
     ensures ok { OnOk result (Puts (W.contents writer.old) (W.contents writer.new) kept.old kept.new (lines_at operations.now (flat_map places_of_step steps.now))) }
     ensures err { OnErr result (AppendsFront (W.contents writer.old) (W.contents writer.new) (kept.old ++ lines_at operations.now (flat_map places_of_step steps.now))) }
     ensures refused { W.has_refused writer.new ≡ (W.has_refused writer.old || is_err result) }
+    ensures written { OnOk result (IsWritten W.goes writer.old writer.new) }
+    ensures stopped { OnErr result (IsRefused W.goes writer.old writer.new) }
 {
     for step in steps {
         put_with_last(writer, kept, operations, &[step.enqueue], step.dequeue)?;
@@ -128,6 +138,8 @@ fn put_witness<W: TextSink>(
     ensures ok { OnOk result (Puts (W.contents writer.old) (W.contents writer.new) kept.old kept.new (lines_at operations.now (empty ∷ flat_map places_of_step cover.now))) }
     ensures err { OnErr result (AppendsFront (W.contents writer.old) (W.contents writer.new) (kept.old ++ lines_at operations.now (empty ∷ flat_map places_of_step cover.now))) }
     ensures refused { W.has_refused writer.new ≡ (W.has_refused writer.old || is_err result) }
+    ensures written { OnOk result (IsWritten W.goes writer.old writer.new) }
+    ensures stopped { OnErr result (IsRefused W.goes writer.old writer.new) }
 {
     put_places(writer, kept, operations, &[empty])?;
     put_cover(writer, kept, operations, cover)
@@ -156,6 +168,8 @@ fn put_violation<W: TextSink>(
     ensures ok { OnOk result (Puts (W.contents writer.old) (W.contents writer.new) kept.old kept.new (lines_at operations.now (places_of_violation violation.now))) }
     ensures err { OnErr result (AppendsFront (W.contents writer.old) (W.contents writer.new) (kept.old ++ lines_at operations.now (places_of_violation violation.now))) }
     ensures refused { W.has_refused writer.new ≡ (W.has_refused writer.old || is_err result) }
+    ensures written { OnOk result (IsWritten W.goes writer.old writer.new) }
+    ensures stopped { OnErr result (IsRefused W.goes writer.old writer.new) }
 {
     match violation {
         Violation::Fresh { deq, enq } => put_with_last(writer, kept, operations, &[*deq], *enq),
@@ -186,6 +200,8 @@ fn put_verdict<W: TextSink>(
     ensures ok { OnOk result (Puts (W.contents writer.old) (W.contents writer.new) [] kept.new (verdict_text (claim_of operations.now verdict.now))) }
     ensures err { OnErr result (AppendsFront (W.contents writer.old) (W.contents writer.new) (verdict_text (claim_of operations.now verdict.now))) }
     ensures refused { W.has_refused writer.new ≡ (W.has_refused writer.old || is_err result) }
+    ensures written { OnOk result (IsWritten W.goes writer.old writer.new) }
+    ensures stopped { OnErr result (IsRefused W.goes writer.old writer.new) }
 {
     match verdict {
         Verdict::Yes(order) => {
@@ -214,8 +230,28 @@ pub fn write_verdict<W: TextSink>(
     ensures ok { OnOk result (Appends (W.contents writer.old) (W.contents writer.new) (verdict_text (claim_of (operations_of history.now) verdict.now))) }
     ensures err { OnErr result (AppendsFront (W.contents writer.old) (W.contents writer.new) (verdict_text (claim_of (operations_of history.now) verdict.now))) }
     ensures refused { W.has_refused writer.new ≡ (W.has_refused writer.old || is_err result) }
+    ensures written { OnOk result (IsWritten W.goes writer.old writer.new) }
+    ensures stopped { OnErr result (IsRefused W.goes writer.old writer.new) }
+{
+    write_verdict_on(history.operations(), verdict, writer)
+}
+
+/// The same of a verdict on operations, where the events of their history aren't kept.
+pub fn write_verdict_on<W: TextSink>(
+    operations: &[Operation],
+    verdict: &Verdict,
+    writer: &mut W,
+) -> Result<(), WriteFault>
+    // The verdict's operations are places of these.
+    requires { All (λ place. place < length operations.now) (places_of verdict.now) }
+
+    ensures ok { OnOk result (Appends (W.contents writer.old) (W.contents writer.new) (verdict_text (claim_of operations.now verdict.now))) }
+    ensures err { OnErr result (AppendsFront (W.contents writer.old) (W.contents writer.new) (verdict_text (claim_of operations.now verdict.now))) }
+    ensures refused { W.has_refused writer.new ≡ (W.has_refused writer.old || is_err result) }
+    ensures written { OnOk result (IsWritten W.goes writer.old writer.new) }
+    ensures stopped { OnErr result (IsRefused W.goes writer.old writer.new) }
 {
     let mut kept = Kept::new();
-    put_verdict(writer, &mut kept, history.operations(), verdict)?;
+    put_verdict(writer, &mut kept, operations, verdict)?;
     write_piece(writer, kept.as_slice())
 }

@@ -1,6 +1,6 @@
 -- What was placed and sorted gives the places of the chosen order, which is legal.
 use Rattle.std.proofs.Common.{◌≡◌, ℕ, ◌<◌, List, [], ◌∷◌, ◌++◌, length, get_or, map, refl, sym, ◌∙◌, ap, subst, arith}
-use Rattle.std.specs.Prelude.{All, AllPairs, IsPermutation, filter, flat_map}
+use Rattle.std.specs.Prelude.{All, AllPairs, IsPermutation, filter}
 use Rattle.std.specs.List.{AllZip}
 use Rattle.std.proofs.lemmas.List.{get_or-map, length-map}
 use Rattle.std.proofs.lemmas.List.Elements.{All-cons, All-head, All-nil, All-tail}
@@ -15,7 +15,7 @@ use Rattle.value_match.specs.Violations.{IsClear, NoOrderViolation}
 use Rattle.linearizer.specs.declared.position.Class.TheVariants.{Idle}
 use Rattle.linearizer.specs.declared.position.Placed.{Placed}
 use Rattle.linearizer.specs.Order.{StandsBefore, IsPositionOf, AreChosenAndLegal}
-use Rattle.linearizer.specs.Placement.{Adds, AreByPosition, HoldsValues, IsPlaced, operations_in, position_of}
+use Rattle.linearizer.specs.Placement.{Adds, AreByPosition, HoldsValues, IsPlaced, dequeues_of, enqueues_of, position_of}
 use Rattle.linearizer.proofs.LegalOrder.{chosen_order_is_legal}
 use Rattle.linearizer.proofs.OneOrder.{operations_rise, sorted_is_chosen}
 use Rattle.linearizer.proofs.Partition.{each_once}
@@ -80,7 +80,7 @@ pub chosen_and_legal : (operations : List Operation) (values empties all : List 
     → Adds operations (filter is_empty_answer operations) values empties → Adds operations (filter is_refused operations) empties all → AreByPosition all places → AreChosenAndLegal operations places
 chosen_and_legal operations values empties all places clear none held with_empties with_refused sorted =
     let lives = held.lives in
-    let listed = flat_map operations_in lives ++ filter is_empty_answer operations ++ filter is_refused operations in
+    let listed = (enqueues_of lives ++ dequeues_of lives) ++ filter is_empty_answer operations ++ filter is_refused operations in
     let zip : AllZip (IsPlaced operations lives) listed all = zipped in
     let same = listed_are operations lives listed all zip in
     let moved : IsPermutation operations (map (operation_of operations) sorted.sorted) =
@@ -96,9 +96,9 @@ chosen_and_legal operations values empties all places clear none held with_empti
       chosen_order_is_legal operations (map (operation_of operations) sorted.sorted) clear none chosen,
     )
   where
-    zipped : AllZip (IsPlaced operations held.lives) (flat_map operations_in held.lives ++ filter is_empty_answer operations ++ filter is_refused operations) all
+    zipped : AllZip (IsPlaced operations held.lives) ((enqueues_of held.lives ++ dequeues_of held.lives) ++ filter is_empty_answer operations ++ filter is_refused operations) all
     zipped =
-        subst (AllZip (IsPlaced operations held.lives) (flat_map operations_in held.lives ++ filter is_empty_answer operations ++ filter is_refused operations)) (sym (with_refused.after ∙ ap (λ xs. xs ++ with_refused.added) with_empties.after))
-        (zip_joined (IsPlaced operations held.lives) (flat_map operations_in held.lives ++ filter is_empty_answer operations) (filter is_refused operations) (values ++ with_empties.added) with_refused.added
-        (zip_joined (IsPlaced operations held.lives) (flat_map operations_in held.lives) (filter is_empty_answer operations) values with_empties.added held.each_placed (with_empties.each_placed held.lives))
+        subst (AllZip (IsPlaced operations held.lives) ((enqueues_of held.lives ++ dequeues_of held.lives) ++ filter is_empty_answer operations ++ filter is_refused operations)) (sym (with_refused.after ∙ ap (λ xs. xs ++ with_refused.added) with_empties.after))
+        (zip_joined (IsPlaced operations held.lives) ((enqueues_of held.lives ++ dequeues_of held.lives) ++ filter is_empty_answer operations) (filter is_refused operations) (values ++ with_empties.added) with_refused.added
+        (zip_joined (IsPlaced operations held.lives) ((enqueues_of held.lives ++ dequeues_of held.lives)) (filter is_empty_answer operations) values with_empties.added held.each_placed (with_empties.each_placed held.lives))
         (with_refused.each_placed held.lives))

@@ -13,6 +13,8 @@ pub mod LegalOrder
 pub mod ValueOrder
 pub mod EachPosition
 pub mod OneOrder
+pub mod OrderedPlaces
+pub mod Sweeping
 pub mod Choosing
 pub mod LeastEntries
 pub mod Additions

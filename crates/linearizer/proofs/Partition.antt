@@ -1,6 +1,7 @@
 -- Each operation is an enqueue or the dequeue of one value, an empty answer, or a refused enqueue.
 use Rattle.std.proofs.Common.{◌≡◌, zero, ◌<◌, Bool, true, false, cond, List, [], ◌∷◌, ◌++◌, Option, None, Some, refl, sym, ◌∙◌, ap, subst, inl, inr, arith}
 use Rattle.std.specs.Prelude.{AllPairs, Contains, IsPermutation, MatchOption, filter, flat_map, option_to_list}
+use Rattle.std.specs.List.{cons_option}
 use Rattle.std.proofs.lemmas.List.Sorted.{IsPermutation-append_left, IsPermutation-cons, IsPermutation-middle, IsPermutation-refl, IsPermutation-sym, IsPermutation-trans}
 use Rattle.history_merge.specs.declared.operation.Operation.{Operation}
 use Rattle.history_merge.specs.declared.operation.OpKind.{OpKind}
@@ -11,12 +12,29 @@ use Rattle.value_match.specs.declared.life.Life.{Life}
 use Rattle.value_match.specs.Lives.{IsLife, is_empty_answer, is_empty_kind, is_refused, is_refused_kind}
 use Rattle.value_match.specs.Violations.{IsClear}
 use Rattle.linearizer.specs.Values.{IsValueOrder}
-use Rattle.linearizer.specs.Placement.{operations_in}
+use Rattle.linearizer.specs.Placement.{dequeues_of, enqueues_of}
 use Rattle.linearizer.proofs.Keys.{one_place}
 use Rattle.linearizer.proofs.Opposites.{is_life, one_deeper, stands_in_order}
 use Rattle.linearizer.proofs.DifferentTimes.{IsOf, not_both_kinds, one_life_of_operation, one_place_of_life}
 use Rattle.linearizer.proofs.EachPosition.{life_of_dequeue, life_of_enqueue}
 use Rattle.linearizer.proofs.NoneTwice.{NoneTwice, from_flat_map, into_flat_map, none_twice-append, none_twice-filter, none_twice_from_places, passed_filter, passes_filter, same_elements_permute}
+
+-- the enqueue, and the dequeue if there is one
+abbrev operations_in : Life → List Operation
+operations_in life = life.enqueue ∷ option_to_list life.dequeue
+
+-- the enqueues, and then the dequeues
+by_class : (lives : List Life) → IsPermutation (flat_map operations_in lives) (enqueues_of lives ++ dequeues_of lives)
+by_class [] = IsPermutation-refl []
+by_class (life ∷ lives) =
+    IsPermutation-cons life.enqueue (option_to_list life.dequeue ++ flat_map operations_in lives) (enqueues_of lives ++ cons_option life.dequeue (dequeues_of lives)) (step life.dequeue (by_class lives))
+  where
+    step : (o : Option Operation) → IsPermutation (flat_map operations_in lives) (enqueues_of lives ++ dequeues_of lives) → IsPermutation (option_to_list o ++ flat_map operations_in lives) (enqueues_of lives ++ cons_option o (dequeues_of lives))
+    step None more = more
+    step (Some d) more =
+        IsPermutation-trans (d ∷ flat_map operations_in lives) (d ∷ (enqueues_of lives ++ dequeues_of lives)) (enqueues_of lives ++ d ∷ dequeues_of lives)
+        (IsPermutation-cons d (flat_map operations_in lives) (enqueues_of lives ++ dequeues_of lives) more)
+        (IsPermutation-sym (enqueues_of lives ++ d ∷ dequeues_of lives) (d ∷ (enqueues_of lives ++ dequeues_of lives)) (IsPermutation-middle (enqueues_of lives) d (dequeues_of lives)))
 
 abbrev moves_kind : OpKind → Bool
 moves_kind (Enq v) = true
@@ -113,12 +131,14 @@ module _ (operations : List Operation) (clear : IsClear operations) where
             let did : Did operations o (Deq is.0) = subst (λ e. MatchOption e (NoneDid operations (Deq is.0)) (λ d. Did operations d (Deq is.0))) dequeues is.2 in
             passes_filter moves_value operations o (ap moves_kind did.1) did.0
 
-    -- the operations, value by value and then by kind
-    pub each_once : AllPairs (λ x y. x.call < y.call) operations → IsPermutation operations (flat_map operations_in lives ++ filter is_empty_answer operations ++ filter is_refused operations)
+    -- the operations by kind
+    pub each_once : AllPairs (λ x y. x.call < y.call) operations → IsPermutation operations (enqueues_of lives ++ dequeues_of lives ++ filter is_empty_answer operations ++ filter is_refused operations)
     each_once rise =
         let here = filter moves_value operations in
-        let there = flat_map operations_in lives in
+        let by_value = flat_map operations_in lives in
+        let there = enqueues_of lives ++ dequeues_of lives in
         let lives_once = none_twice_from_places lives (λ i j x y at_x at_y same. one_place_of_life operations lives i j x y clear order at_x at_y same) in
-        let moved = same_elements_permute here there (none_twice-filter moves_value operations (none_twice_by_calls operations rise)) (none_twice_in_lives lives lives_once (is_life operations lives order)) into_lives from_lives in
+        let moved = same_elements_permute here by_value (none_twice-filter moves_value operations (none_twice_by_calls operations rise)) (none_twice_in_lives lives lives_once (is_life operations lives order)) into_lives from_lives in
         IsPermutation-trans operations (here ++ filter is_empty_answer operations ++ filter is_refused operations) (there ++ filter is_empty_answer operations ++ filter is_refused operations) (split_by_kind operations)
-        (IsPermutation-append_left (filter is_refused operations) (here ++ filter is_empty_answer operations) (there ++ filter is_empty_answer operations) (IsPermutation-append_left (filter is_empty_answer operations) here there moved))
+        (IsPermutation-append_left (filter is_refused operations) (here ++ filter is_empty_answer operations) (there ++ filter is_empty_answer operations)
+        (IsPermutation-append_left (filter is_empty_answer operations) here there (IsPermutation-trans here by_value there moved (by_class lives))))

@@ -1,12 +1,10 @@
 -- The enqueues and dequeues of the values are listed, each at its position.
-use Rattle.std.proofs.Common.{◌≡◌, ℕ, ◌+◌, ◌<◌, max, List, [], ◌∷◌, ◌++◌, length, get_or, map, take, Option, Some, None, refl, sym, ◌∙◌, ap, subst, arith}
-use Rattle.std.specs.Prelude.{All, MatchOption, flat_map, fold, if◌then◌else◌, nat_lt, option_to_list, slice_get}
-use Rattle.std.specs.List.{AllZip}
-use Rattle.std.proofs.lemmas.List.{append-nil, append_assoc, get_or_default, length-map, map-append, take_more}
-use Rattle.std.proofs.lemmas.List.Concat.{flat_map-append}
-use Rattle.std.proofs.lemmas.List.Elements.{All-get_or}
-use Rattle.std.proofs.lemmas.Option.{get_or_from_slice_get, slice_get-map, slice_get_read, slice_get_within}
-use Rattle.std.specs.Option.{option_map}
+use Rattle.std.proofs.Common.{◌≡◌, ℕ, ◌+◌, ◌<◌, ◌≤◌, max, List, [], ◌∷◌, ◌++◌, length, get_or, map, take, Option, Some, None, refl, sym, ◌∙◌, ap, subst, arith}
+use Rattle.std.specs.Prelude.{MatchOption, fold, if◌then◌else◌, nat_lt, option_to_list, slice_get}
+use Rattle.std.specs.List.{AllZip, cons_option}
+use Rattle.std.proofs.lemmas.List.{append-nil, append_assoc, get_or_default, map-append, take_all, take_more}
+use Rattle.std.proofs.lemmas.List.Elements.{filter_map-append}
+use Rattle.std.proofs.lemmas.Option.{get_or_from_slice_get, slice_get_within}
 use Rattle.history_merge.specs.declared.operation.Operation.{Operation}
 use Rattle.history_merge.specs.declared.operation.OpKind.{OpKind}
 use Rattle.history_merge.specs.declared.operation.OpKind.TheVariants.{Enq, Deq}
@@ -14,17 +12,13 @@ use Rattle.history_merge.specs.Operations.{Did, IsAt, NoneDid}
 use Rattle.history_merge.proofs.Distinct.{contains_at}
 use Rattle.value_match.specs.declared.life.Life.{Life}
 use Rattle.value_match.specs.declared.life.MatchedValue.{MatchedValue}
-use Rattle.value_match.specs.Lives.{IsLife, IsMaybeAt, leaves_from}
+use Rattle.value_match.specs.Lives.{HoldsLives, IsLife, IsMaybeAt, leaves_from}
 use Rattle.linearizer.specs.declared.position.Placed.{Placed}
 use Rattle.linearizer.specs.Values.{IsValueOrder, dequeue_gap, enqueue_gap, greatest_leaves_from}
 use Rattle.linearizer.specs.Order.{IsPositionFor, dequeue_position, earlier_dequeues, enqueues, other_dequeues}
-use Rattle.linearizer.specs.Placement.{AreEnqueueGaps, HasPlaces, IsPlaced, lives_in, operations_in, position_of}
+use Rattle.linearizer.specs.Placement.{AreEnqueueGaps, HasPlaces, IsOrderOfPlaces, IsPlaced, dequeues_of, enqueues_of, lives_at, position_of}
+use Rattle.linearizer.proofs.OrderedPlaces.{IsValueAt, lives_long, value_at}
 use Rattle.linearizer.proofs.Opposites.{is_life}
-
--- the operations of the first n values are listed, each at its position
-pub record ArePlacedSoFar (operations : List Operation) (lives : List Life) (n left : ℕ) (placed : List Placed) : Type 0 where
-  pub left_is : left ≡ greatest_leaves_from (take n lives)
-  pub each_placed : AllZip (IsPlaced operations lives) (flat_map operations_in (take n lives)) placed
 
 fold_max-append : (a : ℕ) (xs ys : List ℕ) → fold max a (xs ++ ys) ≡ fold max (fold max a xs) ys
 fold_max-append a [] ys = refl
@@ -36,9 +30,6 @@ zip_joined R [] xs' [] ys' zip zip' = zip'
 zip_joined R [] xs' (y ∷ ys) ys' zip zip' = absurd zip
 zip_joined R (x ∷ xs) xs' [] ys' zip zip' = absurd zip
 zip_joined R (x ∷ xs) xs' (y ∷ ys) ys' zip zip' = (zip.0, zip_joined R xs xs' ys ys' zip.1 zip')
-
-flat_map-push : {X Y : Type 0} (f : X → List Y) (xs : List X) (x : X) → flat_map f (xs ++ x ∷ []) ≡ flat_map f xs ++ f x
-flat_map-push f xs x = flat_map-append f xs (x ∷ []) ∙ ap (λ ys. flat_map f xs ++ ys) (append-nil (f x))
 
 -- one value more, of which the gaps and the tickets are known
 module _ (operations : List Operation) (lives : List Life) (order : IsValueOrder operations lives) (i : ℕ) (life : Life) (at : slice_get lives i ≡ Some life) where
@@ -52,8 +43,15 @@ module _ (operations : List Operation) (lives : List Life) (order : IsValueOrder
   greatest_more =
       ap greatest_leaves_from longer ∙ ap (fold max 0) (map-append leaves_from (take i lives) (life ∷ [])) ∙ fold_max-append 0 (map leaves_from (take i lives)) (leaves_from life ∷ [])
 
-  listed_more : flat_map operations_in (take (i + 1) lives) ≡ flat_map operations_in (take i lives) ++ operations_in life
-  listed_more = ap (flat_map operations_in) longer ∙ flat_map-push operations_in (take i lives) life
+  enqueues_more : enqueues_of (take (i + 1) lives) ≡ enqueues_of (take i lives) ++ life.enqueue ∷ []
+  enqueues_more = ap enqueues_of longer ∙ map-append (λ life. life.enqueue) (take i lives) (life ∷ [])
+
+  dequeues_more : dequeues_of (take (i + 1) lives) ≡ dequeues_of (take i lives) ++ option_to_list life.dequeue
+  dequeues_more = ap dequeues_of longer ∙ filter_map-append (λ life. life.dequeue) (take i lives) (life ∷ []) ∙ ap (λ os. dequeues_of (take i lives) ++ os) (alone life.dequeue)
+    where
+      alone : (o : Option Operation) → cons_option o [] ≡ option_to_list o
+      alone None = refl
+      alone (Some d) = refl
 
   enqueue_placed : (gap : ℕ) (placed : Placed) → gap ≡ enqueue_gap lives i → IsAt operations placed.operation life.enqueue → position_of placed.position ≡ record { gap = gap; class = enqueues; rank = i }
       → IsPlaced operations lives life.enqueue placed
@@ -80,73 +78,85 @@ module _ (operations : List Operation) (lives : List Life) (order : IsValueOrder
       stands_for : (k : OpKind) → k ≡ Deq is.0 → IsPositionFor operations lives d k (position_of placed.position)
       stands_for k same = subst (λ k. IsPositionFor operations lives d k (position_of placed.position)) (sym same) (i, life, at, dequeues, there)
 
--- what is known at the turn of a value: its place, the numbers computed, and what is listed for its enqueue
-pub record IsTurn (operations : List Operation) (values : List MatchedValue) (i : ℕ) (m : MatchedValue) (left left' gap : ℕ) (first : Placed) : Type 0 where
-  pub order : IsValueOrder operations (lives_in values)
+-- what is known at the turn of a value: its place, and the gap of its enqueue
+pub record IsTurn (operations : List Operation) (lives : List Life) (i : ℕ) (m : MatchedValue) (gap : ℕ) : Type 0 where
+  pub order : IsValueOrder operations lives
   pub places : HasPlaces operations m
-  pub at : slice_get (lives_in values) i ≡ Some m.life
-  pub left_is : left' ≡ max (leaves_from m.life) left
-  pub gap_is : gap ≡ enqueue_gap (lives_in values) i
-  pub names : first.operation ≡ m.enqueue
-  pub stands : position_of first.position ≡ record { gap = gap; class = enqueues; rank = i }
+  pub at : slice_get lives i ≡ Some m.life
+  pub gap_is : gap ≡ enqueue_gap lives i
 
-module _ (operations : List Operation) (values : List MatchedValue) (i : ℕ) (m : MatchedValue) (left left' gap : ℕ) (first : Placed) (placed : List Placed) (turn : IsTurn operations values i m left left' gap first)
-    (so_far : ArePlacedSoFar operations (lives_in values) i left placed) where
-  left_more : left' ≡ greatest_leaves_from (take (i + 1) (lives_in values))
-  left_more = let more = greatest_more operations (lives_in values) turn.order i m.life turn.at in omega (arith, turn.left_is, so_far.left_is)
+-- the place and the rank are in range
+pub value_within : (operations : List Operation) (values : List MatchedValue) (places : List ℕ) (i place : ℕ) → HoldsLives operations values → IsOrderOfPlaces operations places → slice_get places i ≡ Some place → place < length values
+value_within operations values places i place holds order at = let here = value_at operations values places i place holds order at in slice_get_within values place here.value here.is_at
 
-  first_placed : IsPlaced operations (lives_in values) m.life.enqueue first
-  first_placed = enqueue_placed operations (lives_in values) turn.order i m.life turn.at gap first turn.gap_is (subst (λ p. IsAt operations p m.life.enqueue) (sym turn.names) turn.places.0) turn.stands
+pub gap_within : (operations : List Operation) (places gaps : List ℕ) (i place : ℕ) → IsOrderOfPlaces operations places → AreEnqueueGaps (lives_at operations places) gaps → slice_get places i ≡ Some place → i < length gaps
+gap_within operations places gaps i place order are_gaps at =
+    omega (arith, are_gaps.one_each, lives_long operations places order, slice_get_within places i place at)
 
-  with_rest : (rest : List Placed) → AllZip (IsPlaced operations (lives_in values)) (option_to_list m.life.dequeue) rest → ArePlacedSoFar operations (lives_in values) (i + 1) left' (placed ++ (first ∷ rest))
+-- the turn, by what is read in it
+pub turn_is : (operations : List Operation) (values : List MatchedValue) (places gaps : List ℕ) (i place : ℕ) (m : MatchedValue) (gap d : ℕ) → HoldsLives operations values → IsOrderOfPlaces operations places → AreEnqueueGaps (lives_at operations places) gaps
+    → slice_get places i ≡ Some place → m ≡ get_or values place m → gap ≡ get_or gaps i d → IsTurn operations (lives_at operations places) i m gap
+turn_is operations values places gaps i place m gap d holds order are_gaps at reads gap_here = record {
+  order = order.in_order;
+  places = subst (HasPlaces operations) (sym same) here.has_places;
+  at = here.has_rank ∙ ap (λ m. Some m.life) (sym same);
+  gap_is = gap_here ∙ get_or_default gaps i d 0 (gap_within operations places gaps i place order are_gaps at) ∙ are_gaps.at_each i (slice_get_within (lives_at operations places) i here.value.life here.has_rank);
+}
+  where
+    here : IsValueAt operations values places i place
+    here = value_at operations values places i place holds order at
+
+    same : m ≡ here.value
+    same = reads ∙ get_or_from_slice_get values place here.value m here.is_at
+
+module _ (operations : List Operation) (lives : List Life) (i : ℕ) (m : MatchedValue) (gap : ℕ) (turn : IsTurn operations lives i m gap) where
+  -- the enqueue is placed
+  pub enqueue_more : (placed : List Placed) (first : Placed) → AllZip (IsPlaced operations lives) (enqueues_of (take i lives)) placed → first.operation ≡ m.enqueue → position_of first.position ≡ record { gap = gap; class = enqueues; rank = i }
+      → AllZip (IsPlaced operations lives) (enqueues_of (take (i + 1) lives)) (placed ++ first ∷ [])
+  enqueue_more placed first zip names stands =
+      subst (λ os. AllZip (IsPlaced operations lives) os (placed ++ first ∷ [])) (sym (enqueues_more operations lives turn.order i m.life turn.at))
+      (zip_joined (IsPlaced operations lives) (enqueues_of (take i lives)) (m.life.enqueue ∷ []) placed (first ∷ []) zip
+      (enqueue_placed operations lives turn.order i m.life turn.at gap first turn.gap_is (subst (λ p. IsAt operations p m.life.enqueue) (sym names) turn.places.0) stands, tt))
+
+-- the enqueues are listed, and then the dequeues of the first n values, each at its position
+pub record ArePlacedSoFar (operations : List Operation) (lives : List Life) (n left : ℕ) (placed : List Placed) : Type 0 where
+  pub left_is : left ≡ greatest_leaves_from (take n lives)
+  pub each_placed : AllZip (IsPlaced operations lives) (enqueues_of lives ++ dequeues_of (take n lives)) placed
+
+pub none_dequeued : (operations : List Operation) (lives : List Life) (placed : List Placed) → AllZip (IsPlaced operations lives) (enqueues_of lives) placed → ArePlacedSoFar operations lives 0 0 placed
+none_dequeued operations lives placed zip = record { left_is = refl; each_placed = subst (λ os. AllZip (IsPlaced operations lives) os placed) (sym (append-nil (enqueues_of lives))) zip }
+
+pub all_dequeued : (operations : List Operation) (lives : List Life) (n left : ℕ) (placed : List Placed) → ArePlacedSoFar operations lives n left placed → length lives ≤ n → AllZip (IsPlaced operations lives) (enqueues_of lives ++ dequeues_of lives) placed
+all_dequeued operations lives n left placed so_far all = subst (λ ls. AllZip (IsPlaced operations lives) (enqueues_of lives ++ dequeues_of ls) placed) (take_all n lives all) so_far.each_placed
+
+module _ (operations : List Operation) (lives : List Life) (i : ℕ) (m : MatchedValue) (gap left left' : ℕ) (turn : IsTurn operations lives i m gap) (left_is : left' ≡ max (leaves_from m.life) left) (placed : List Placed) (so_far : ArePlacedSoFar operations lives i left placed) where
+  left_more : left' ≡ greatest_leaves_from (take (i + 1) lives)
+  left_more = let more = greatest_more operations lives turn.order i m.life turn.at in omega (arith, left_is, so_far.left_is)
+
+  with_rest : (rest : List Placed) → AllZip (IsPlaced operations lives) (option_to_list m.life.dequeue) rest → ArePlacedSoFar operations lives (i + 1) left' (placed ++ rest)
   with_rest rest zip = record {
     left_is = left_more;
     each_placed =
-        subst (λ os. AllZip (IsPlaced operations (lives_in values)) os (placed ++ (first ∷ rest))) (sym (listed_more operations (lives_in values) turn.order i m.life turn.at))
-        (zip_joined (IsPlaced operations (lives_in values)) (flat_map operations_in (take i (lives_in values))) (operations_in m.life) placed (first ∷ rest) so_far.each_placed (first_placed, zip));
+        subst (λ os. AllZip (IsPlaced operations lives) os (placed ++ rest)) (append_assoc (enqueues_of lives) (dequeues_of (take i lives)) (option_to_list m.life.dequeue) ∙ ap (λ os. enqueues_of lives ++ os) (sym (dequeues_more operations lives turn.order i m.life turn.at)))
+        (zip_joined (IsPlaced operations lives) (enqueues_of lives ++ dequeues_of (take i lives)) (option_to_list m.life.dequeue) placed rest so_far.each_placed zip);
   }
 
-  pub turn_alone : m.dequeue ≡ None → ArePlacedSoFar operations (lives_in values) (i + 1) left' (placed ++ first ∷ [])
-  turn_alone none = with_rest [] (nothing m.dequeue m.life.dequeue none turn.places.1)
+  pub turn_alone : m.dequeue ≡ None → ArePlacedSoFar operations lives (i + 1) left' placed
+  turn_alone none = subst (ArePlacedSoFar operations lives (i + 1) left') (append-nil placed) (with_rest [] (nothing m.dequeue m.life.dequeue none turn.places.1))
     where
-      nothing : (place : Option ℕ) (dequeue : Option Operation) → place ≡ None → IsMaybeAt operations place dequeue → AllZip (IsPlaced operations (lives_in values)) (option_to_list dequeue) []
+      nothing : (place : Option ℕ) (dequeue : Option Operation) → place ≡ None → IsMaybeAt operations place dequeue → AllZip (IsPlaced operations lives) (option_to_list dequeue) []
       nothing None None same places = tt
       nothing None (Some d) same places = absurd places
       nothing (Some p) dequeue same places = cc
 
   pub turn_with_dequeue : (p later : ℕ) (second : Placed) → m.dequeue ≡ Some p → later ≡ max left' gap → second.operation ≡ p
-      → position_of second.position ≡ record { gap = later; class = (if nat_lt gap later then earlier_dequeues else other_dequeues); rank = i }
-      → ArePlacedSoFar operations (lives_in values) (i + 1) left' ((placed ++ first ∷ []) ++ second ∷ [])
-  turn_with_dequeue p later second same later_is names stands =
-      subst (ArePlacedSoFar operations (lives_in values) (i + 1) left') (sym (append_assoc placed (first ∷ []) (second ∷ [])))
-      (with_rest (second ∷ []) (one m.dequeue m.life.dequeue same turn.places.1 refl))
+      → position_of second.position ≡ record { gap = later; class = (if nat_lt gap later then earlier_dequeues else other_dequeues); rank = i } → ArePlacedSoFar operations lives (i + 1) left' (placed ++ second ∷ [])
+  turn_with_dequeue p later second same later_is names stands = with_rest (second ∷ []) (one m.dequeue m.life.dequeue same turn.places.1 refl)
     where
-      one : (place : Option ℕ) (dequeue : Option Operation) → place ≡ Some p → IsMaybeAt operations place dequeue → m.life.dequeue ≡ dequeue → AllZip (IsPlaced operations (lives_in values)) (option_to_list dequeue) (second ∷ [])
+      one : (place : Option ℕ) (dequeue : Option Operation) → place ≡ Some p → IsMaybeAt operations place dequeue → m.life.dequeue ≡ dequeue → AllZip (IsPlaced operations lives) (option_to_list dequeue) (second ∷ [])
       one None dequeue same places is = cc
       one (Some q) None same places is = absurd places
-      one (Some q) (Some d) same places is = (dequeue_placed operations (lives_in values) turn.order i m.life turn.at gap left' later d second turn.gap_is left_more later_is is at_second stands, tt)
+      one (Some q) (Some d) same places is = (dequeue_placed operations lives turn.order i m.life turn.at gap left' later d second turn.gap_is left_more later_is is at_second stands, tt)
         where
           at_second : IsAt operations second.operation d
           at_second = let here : q ≡ second.operation = cc in subst (λ r. IsAt operations r d) here places
-
--- the turn, by what is read and computed in it
-pub turn_is : (operations : List Operation) (values read gapped : List MatchedValue) (gaps : List ℕ) (i : ℕ) (m : MatchedValue) (left leaves left' gap : ℕ) (first : Placed) → read ≡ values → gapped ≡ values
-    → IsValueOrder operations (lives_in values) → All (HasPlaces operations) values → AreEnqueueGaps (lives_in gapped) gaps → i < length read → m ≡ get_or read i m → gap ≡ get_or gaps i gap → leaves ≡ leaves_from m.life
-    → left' ≡ max leaves left → first.operation ≡ m.enqueue → position_of first.position ≡ record { gap = gap; class = enqueues; rank = i } → IsTurn operations read i m left left' gap first
-turn_is operations values read gapped gaps i m left leaves left' gap first reads gaps_read order places are_gaps within here gap_here leaves_is left_is names stands = record {
-  order = rw reads order;
-  places = subst (HasPlaces operations) (sym here) (All-get_or (HasPlaces operations) read i m within (rw reads places));
-  at = slice_get-map (λ m. m.life) read i ∙ ap (option_map (λ m. m.life)) (slice_get_read read (length read) i m refl within here);
-  left_is = left_is ∙ ap (λ n. max n left) leaves_is;
-  gap_is = gap_is;
-  names = names;
-  stands = stands;
-}
-  where
-    gap_is : gap ≡ enqueue_gap (lives_in read) i
-    gap_is =
-        let lives_long = length-map gapped (λ m. m.life) in
-        let same_long : length gapped ≡ length read = ap length (gaps_read ∙ sym reads) in
-        let inside : i < length (lives_in gapped) = omega arith in
-        let in_gaps : i < length gaps = omega (arith, are_gaps.one_each) in
-        gap_here ∙ get_or_default gaps i gap 0 in_gaps ∙ are_gaps.at_each i inside ∙ ap (λ vs. enqueue_gap (lives_in vs) i) (gaps_read ∙ sym reads)

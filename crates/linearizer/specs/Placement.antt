@@ -1,11 +1,11 @@
 -- What the steps on the way to the chosen order give.
-use Rattle.std.specs.Prelude.{◌≡◌, ℕ, ◌<◌, ◌++◌, List, ◌∷◌, AllPairs, IsPermutation, length, map, flat_map, option_to_list, slice_index}
+use Rattle.std.specs.Prelude.{◌≡◌, ℕ, ◌<◌, ◌++◌, List, All, AllPairs, IsPermutation, length, map, filter_map, slice_get, slice_index}
 use Rattle.std.specs.List.{AllZip}
 use Rattle.history_merge.specs.declared.operation.Operation.{Operation}
 use Rattle.history_merge.specs.Operations.{IsAt}
 use Rattle.value_match.specs.declared.life.Life.{Life}
 use Rattle.value_match.specs.declared.life.MatchedValue.{MatchedValue}
-use Rattle.value_match.specs.Lives.{IsMaybeAt}
+use Rattle.value_match.specs.Lives.{IsMaybeAt, lives_of}
 use Rattle.linearizer.specs.declared.position.Class.{Class}
 use Rattle.linearizer.specs.declared.position.Class.TheVariants.{EarlierDequeue, Idle, Enqueue, OtherDequeue}
 use Rattle.linearizer.specs.declared.position.Position.{Position as Stored}
@@ -16,6 +16,19 @@ use Rattle.linearizer.specs.Order.{Position, StandsBefore, IsPositionOf, earlier
 -- the values without their places
 abbrev pub lives_in : List MatchedValue → List Life
 lives_in values = map (λ m. m.life) values
+
+-- the elements at these places
+abbrev pub elements_at : {X : Type 0} → List X → List ℕ → List X
+elements_at xs places = filter_map (slice_get xs) places
+
+-- the lives of the accepted values at these places
+abbrev pub lives_at : List Operation → List ℕ → List Life
+lives_at operations places = elements_at (lives_of operations) places
+
+-- the places of the accepted values, in their chosen order
+pub record IsOrderOfPlaces (operations : List Operation) (places : List ℕ) : Type 0 where
+  pub within : All (λ place. place < length (lives_of operations)) places
+  pub in_order : IsValueOrder operations (lives_at operations places)
 
 -- the places of the value are those of its operations
 abbrev pub HasPlaces : List Operation → MatchedValue → Type 0
@@ -41,15 +54,19 @@ position_of p = record { gap = p.gap; class = class_number p.class; rank = p.ran
 abbrev pub IsPlaced : List Operation → List Life → Operation → Placed → Type 0
 IsPlaced operations lives o placed = IsAt operations placed.operation o × IsPositionOf operations lives o (position_of placed.position)
 
--- the enqueue, and the dequeue if there is one
-abbrev pub operations_in : Life → List Operation
-operations_in life = life.enqueue ∷ option_to_list life.dequeue
+-- the enqueues of the values
+abbrev pub enqueues_of : List Life → List Operation
+enqueues_of lives = map (λ life. life.enqueue) lives
+
+-- the dequeues of those that are dequeued
+abbrev pub dequeues_of : List Life → List Operation
+dequeues_of lives = filter_map (λ life. life.dequeue) lives
 
 -- the operations of the accepted values, each at its position in the order of the values
 pub record HoldsValues (operations : List Operation) (placed : List Placed) : Type 0 where
   pub lives : List Life
   pub in_order : IsValueOrder operations lives
-  pub each_placed : AllZip (IsPlaced operations lives) (flat_map operations_in lives) placed
+  pub each_placed : AllZip (IsPlaced operations lives) (enqueues_of lives ++ dequeues_of lives) placed
 
 -- the listed operations are added, each at its position, whatever the order of the values
 pub record Adds (operations listed : List Operation) (old new : List Placed) : Type 0 where

@@ -1,56 +1,54 @@
-ghost use Rattle.std.specs.Prelude.{◌<◌, All, IfOk, IsPermutation, IsSomeAnd, length, slice_get};
+ghost use Rattle.std.specs.Prelude.{◌<◌, All, IfOk, IsPermutation, length};
 ghost use Rattle.value_match.specs.Violations.{IsClear};
-ghost use Rattle.linearizer.specs.Values.{EachIsChoice, IsChoice, IsValueOrder};
-ghost use Rattle.linearizer.specs.Placement.{HasPlaces, lives_in};
+ghost use Rattle.linearizer.specs.Values.{EachIsChoice};
+ghost use Rattle.linearizer.specs.Placement.{IsOrderOfPlaces, elements_at, lives_in};
+ghost use Rattle.linearizer.specs.Sweep.{TakesOneOf};
 
-use crate::life_times::{dequeue_return, entered_by, leaves_from};
+use crate::life_times::leaves_from;
+use crate::timed::{Timed, by_dequeue, by_entry, first_left};
 use std::alloc::{AllocError, Global};
-use value_match::{MatchedValue, Matching};
+use value_match::{Matching, Values};
 
-/// The accepted values in their chosen order.
-pub(crate) fn ordered_values(
-    alloc: Global,
-    matching: &Matching,
-) -> Result<Vec<MatchedValue>, AllocError>
+/// The accepted values in their chosen order, as their places in `matching.values()`.
+pub(crate) fn ordered_places(alloc: Global, matching: &Matching) -> Result<Vec<usize>, AllocError>
     ensures clear { IsClear matching.now }
-    ensures order { IfOk result (λ values. IsValueOrder matching.now (lives_in values.items)) }
-    ensures places { IfOk result (λ values. All (HasPlaces matching.now) values.items) }
+    ensures order { IfOk result (λ places. IsOrderOfPlaces matching.now places.items) }
 {
-    put_in_order(alloc, matching.values())
+    put_in_order(alloc, &matching.values())
 }
 
-/// The values, each the choice among itself and those after it.
-fn put_in_order(alloc: Global, values: &[MatchedValue]) -> Result<Vec<MatchedValue>, AllocError>
-    ensures holds_each_once { IfOk result (λ ordered. IsPermutation values.now ordered.items) }
-    ensures each_is_choice { IfOk result (λ ordered. EachIsChoice (lives_in ordered.items)) }
+/// The places of the values, each value the choice among itself and those after it.
+///
+/// The values stand in two lists, one by when each has entered, the other by when each was dequeued. In each list
+/// those before a cursor are taken, so the one at the cursor is the first of the values that remain.
+fn put_in_order(alloc: Global, values: &Values) -> Result<Vec<usize>, AllocError>
+    ensures within { IfOk result (λ places. All (λ place. place < length values.now) places.items) }
+    ensures holds_each_once { IfOk result (λ places. IsPermutation values.now (elements_at values.now places.items)) }
+    ensures each_is_choice { IfOk result (λ places. EachIsChoice (lives_in (elements_at values.now places.items))) }
 {
-    let mut remaining = Vec::from_slice(alloc, values)?;
-    let mut ordered = Vec::new(alloc);
-    while !remaining.is_empty() {
-        let next = choice(&remaining);
-        ordered.push(remaining.remove(next))?;
+    let entries = by_entry(alloc, values)?;
+    let dequeues = by_dequeue(alloc, values)?;
+    let mut taken = vec![in alloc; false; values.len()]?;
+    let mut ordered = Vec::with_capacity(alloc, values.len())?;
+    let mut first_in = 0;
+    let mut first_out = 0;
+    while ordered.len() < values.len() {
+        first_in = first_left(&entries, &taken, first_in);
+        first_out = first_left(&dequeues, &taken, first_out);
+        let next = choice(values, entries[first_in], dequeues[first_out]);
+        taken[next] = true;
+        ordered.push(next)?;
     }
     Ok(ordered)
 }
 
-/// The place of the choice among the values that remain.
-fn choice(remaining: &[MatchedValue]) -> usize
-    requires { 0 < length remaining.now }
-    ensures { IsSomeAnd (slice_get remaining.now result)
-        (λ value. IsChoice (lives_in remaining.now) value.life) }
+/// The place of the choice among values of which the one entered first, and the other was dequeued first.
+fn choice(values: &Values, first_in: Timed, first_out: Timed) -> usize
+    requires { first_in.place < length values.now }
+    ensures { TakesOneOf values.now first_in first_out result }
 {
-    let mut first_in = 0;
-    let mut first_out = 0;
-    for (i, value) in remaining.iter().enumerate() {
-        if entered_by(&value.life) < entered_by(&remaining[first_in].life) {
-            first_in = i;
-        }
-        if dequeue_return(&value.life) < dequeue_return(&remaining[first_out].life) {
-            first_out = i;
-        }
+    if first_out.time < leaves_from(&values.get(first_in.place).life) {
+        return first_out.place;
     }
-    if dequeue_return(&remaining[first_out].life) < leaves_from(&remaining[first_in].life) {
-        return first_out;
-    }
-    first_in
+    first_in.place
 }

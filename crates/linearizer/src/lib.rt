@@ -6,5 +6,6 @@ mod life_times;
 mod order;
 mod placing;
 mod position;
+mod timed;
 
 pub use order::linearize;

@@ -16,8 +16,7 @@ use value_match::Matching;
 /// Of two operations the one at the lower gap stands first, where gap `c` is the time between
 /// tickets `c` and `c + 1`. `gaps` has the least free gap of each empty answer, in the order of
 /// their calls. The only error is want of memory, of which the call takes a few words an
-/// operation. Its time grows with the square of the number of accepted values, and otherwise as
-/// that of a sort.
+/// operation. Its time grows as that of a sort.
 pub fn linearize(alloc: Global, matching: &Matching, gaps: &[u64]) -> Result<Vec<OpId>, AllocError>
     requires no_order_violation { NoOrderViolation matching.now }
     requires least_free_gaps { AreLeastFreeGaps matching.now gaps.now }

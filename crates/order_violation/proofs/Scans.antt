@@ -4,8 +4,9 @@ use Rattle.std.specs.Prelude.{Contains, MatchOption, is_some}
 use Rattle.std.proofs.lemmas.List.Elements.{All-push, All-weaker, All-contains, Contains-push, Contains-append_left}
 use Rattle.value_match.specs.declared.life.Life.{Life}
 use Rattle.value_match.specs.declared.life.MatchedValue.{MatchedValue}
-use Rattle.value_match.specs.Lives.{dequeue_return}
-use Rattle.value_match.specs.Longest.{NonePasses, FindsLongest}
+use Rattle.value_match.specs.Lives.{enqueue_call, dequeue_call, dequeue_return}
+use Rattle.value_match.specs.Choice.{StaysAtLeast}
+use Rattle.value_match.specs.Longest.{EntersBefore, IsLongestOf, NonePasses, FindsLongest}
 use Rattle.order_violation.specs.Overtaking.{Overtakes, IsSoonerOf, IsFirstOvertaking, FindsFirst}
 use Rattle.value_match.proofs.Lists.{one_more}
 
@@ -68,6 +69,27 @@ pub first_changes : (values : List MatchedValue) (i : ℕ) (x a r : MatchedValue
     → Contains values a → Overtakes x.life a.life → MatchOption first (r ≡ x) (λ b. IsSoonerOf b x r) → FindsFirst values (take (i + 1) values) (Some r)
 first_changes values i x a r first within is so_far among overtakes sooner =
     subst (λ seen. IsFirstOvertaking values seen r) (sym (one_more values i x within is)) (first_taken values (take i values) x a r first so_far among overtakes sooner)
+
+-- the values that b overtakes are among those that entered before it, so the longest of these is the longest of those,
+-- unless b overtakes none
+pub none_overtaken : (values : List MatchedValue) (b : Life) → NonePasses (EntersBefore (enqueue_call b)) values → NonePasses (Overtakes b) values
+none_overtaken values b none =
+    All-weaker (λ value. ¬ (EntersBefore (enqueue_call b) value.life)) (λ value. ¬ (Overtakes b value.life)) (λ value not overtakes. not overtakes.0) values none
+
+pub longest_is_overtaken : (values : List MatchedValue) (b : Life) (a : MatchedValue) → IsLongestOf (EntersBefore (enqueue_call b)) values a → dequeue_return b < dequeue_call a.life → IsLongestOf (Overtakes b) values a
+longest_is_overtaken values b a is later = record {
+  among = is.among;
+  passes = (is.passes, later);
+  longest = All-weaker (λ other. EntersBefore (enqueue_call b) other.life → StaysAtLeast a.life other.life) (λ other. Overtakes b other.life → StaysAtLeast a.life other.life)
+      (λ other stays overtakes. stays overtakes.0) values is.longest;
+}
+
+pub longest_is_not_overtaken : (values : List MatchedValue) (b : Life) (a : MatchedValue) → IsLongestOf (EntersBefore (enqueue_call b)) values a → dequeue_call a.life ≤ dequeue_return b → NonePasses (Overtakes b) values
+longest_is_not_overtaken values b a is sooner =
+    All-weaker (λ other. EntersBefore (enqueue_call b) other.life → StaysAtLeast a.life other.life) (λ value. ¬ (Overtakes b value.life)) none values is.longest
+  where
+    none : (other : MatchedValue) → (EntersBefore (enqueue_call b) other.life → StaysAtLeast a.life other.life) → ¬ (Overtakes b other.life)
+    none other stays overtakes = let past = stays overtakes.0 in omega (arith, past.0, overtakes.1)
 
 -- where a longest overtaken value was found, a value is overtaken, and else none is
 pub overtaken_one : (values : List MatchedValue) (b : Life) (longest : Option MatchedValue) → FindsLongest (Overtakes b) values longest → is_some longest ≡ true → (a : MatchedValue) × Contains values a × Overtakes b a.life

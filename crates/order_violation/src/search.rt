@@ -1,29 +1,32 @@
-ghost use Rattle.std.specs.Prelude.{IfOk};
+ghost use Rattle.std.specs.Prelude.{IfOk, List};
+ghost use Rattle.history_merge.specs.declared.operation.Operation.{Operation};
+ghost use Rattle.value_match.specs.Lives.{HoldsLives};
+ghost use Rattle.value_match.specs.Violations.{IsClear};
 ghost use Rattle.order_violation.specs.Pairs.{IsOrderAnswer};
 
 use crate::overtaking::{first_overtaking, longest_overtaken};
 use crate::pair::OrderPair;
 use std::alloc::{AllocError, Global};
-use value_match::Matching;
+use value_match::{LongestTable, Matching};
 
 /// The chosen pair of values dequeued against the order of their enqueues, if there is one: of the values dequeued
 /// before another that was enqueued before them the one dequeued first, and of those others the one that stays longest.
 ///
-/// The kinds of violation are this project's own. All pairs of values are looked at, so the cost grows as the square of
-/// their number. No memory is taken, and `AllocError` never comes.
-pub fn find_order(_alloc: Global, matching: &Matching) -> Result<Option<OrderPair>, AllocError>
+/// The kinds of violation are this project's own. Time O(n log n) for n values, and two words of memory for each while
+/// it runs. `AllocError` comes only where this memory is refused.
+pub fn find_order(alloc: Global, matching: &Matching) -> Result<Option<OrderPair>, AllocError>
     ensures { IfOk result (λ found. IsOrderAnswer matching.now found) }
 {
-    Ok(chosen_pair(matching))
+    let table = LongestTable::new(alloc, matching.values())?;
+    Ok(chosen_pair(&table))
 }
 
 /// The value that overtakes another and is dequeued first, with the longest of those that it overtakes.
-fn chosen_pair(matching: &Matching) -> Option<OrderPair>
-    ensures { IsOrderAnswer matching.now result }
+fn chosen_pair(table: &LongestTable) -> Option<OrderPair>
+    ensures { (operations : List Operation) → IsClear operations → HoldsLives operations table.now → IsOrderAnswer operations result }
 {
-    let values = matching.values();
-    let b = first_overtaking(values)?;
-    let a = longest_overtaken(values, &b.life)?;
+    let b = first_overtaking(table)?;
+    let a = longest_overtaken(table, &b.life)?;
     Some(OrderPair {
         enq_a: a.enqueue,
         enq_b: b.enqueue,

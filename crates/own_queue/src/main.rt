@@ -1,41 +1,84 @@
-//! A queue of one's own, put to the test: four workers run a plan on it, and the verdict on what was recorded is printed.
+//! A queue of one's own, put to the test: workers run a plan on it, and what they did is written with the verdict on it, as
+//! texts that `fifobench` reads.
+//!
+//! `own_queue [WORKERS [OPERATIONS [SEED]]]`: how many workers run, each in a thread of its own, how many operations each of
+//! them makes, and the number from which the plan is made. The status is 0 for a yes and 1 for a no.
 #![tactic(auto)]
 
 mod two_stacks;
 
-use anyhow::Result;
+use anyhow::{Error, Result, anyhow, bail};
+use event_records::{MAX_OPERATIONS, MAX_THREAD_OPERATIONS};
+use history_merge::History;
+use history_text::{Watched, WriteFault, write_history, write_verdict};
+use std::alloc::Global;
+use std::process::ExitCode;
+use std::{env, io};
 use stress_run::run;
 use two_stacks::TwoStacks;
 use verdicts::{Verdict, decide};
-use workloads::Plan;
+use workloads::{MAX_WORKERS, Plan};
 
-/// The plan is made from this number.
+/// How many workers run where nothing else is told.
+const WORKERS: u64 = 4;
+
+/// How many operations each worker makes where nothing else is told.
+const OPERATIONS: u64 = 1000;
+
+/// The plan is made from this number where nothing else is told.
 const SEED: u64 = 1;
-
-/// How many workers run, each in a thread of its own.
-const WORKERS: usize = 4;
-
-/// How many operations each worker makes.
-const OPERATIONS: usize = 1000;
 
 /// How many of a hundred operations are enqueues.
 const PERCENT: u8 = 50;
 
 /// For how many events the ring of each worker has room.
-const RING: usize = 64;
+const RING: usize = 1024;
 
 /// How often a push into a full ring is tried.
 const TRIES: u32 = 1_000_000;
 
-fn main(rt: HostRuntime) -> Result<()> {
-    let queue = TwoStacks::new(rt.alloc(), rt);
-    let plan = Plan::from_seed(rt.alloc(), SEED, WORKERS, OPERATIONS, PERCENT)?;
-    let recorded = run(&rt, rt.alloc(), &queue, &plan, RING, TRIES)?;
-    let history = recorded.history(rt.alloc())?;
-    let answer = match decide(rt.alloc(), &history)? {
-        Verdict::Yes(_) => "YES",
-        Verdict::No(_) => "NO",
-    };
-    println!(&rt; "{answer}: {} operations", history.operations().len())?;
-    Ok(())
+/// The number that a word tells, or another one where there is no word.
+fn number_or(word: Option<String>, other: u64) -> Result<u64> {
+    match word {
+        Some(word) => Ok(word.parse::<u64>()?),
+        None => Ok(other),
+    }
+}
+
+/// Judges a history, and writes it with the verdict.
+#[tactic(auto, using(history_text::proofs::Claims::evidence_within))]
+fn show<R: Print>(rt: &R, alloc: Global, history: &History) -> Result<Verdict> {
+    let verdict = decide(alloc, history)?;
+    let mut output = Watched::new(io::writer(rt));
+    write_history(history, &mut output).map_err(unwritten)?;
+    write_verdict(history, &verdict, &mut output).map_err(unwritten)?;
+    Ok(verdict)
+}
+
+/// What is said where standard output takes no more.
+fn unwritten(_: WriteFault) -> Error {
+    anyhow!("the texts can't be written")
+}
+
+fn main(rt: HostRuntime) -> Result<ExitCode> {
+    let mut words = env::args(&rt)?.skip(1);
+    let workers = number_or(words.next(), WORKERS)?;
+    let operations = number_or(words.next(), OPERATIONS)?;
+    let seed = number_or(words.next(), SEED)?;
+    if !(1..=MAX_WORKERS as u64).contains(&workers) || operations > MAX_THREAD_OPERATIONS {
+        bail!(
+            "a run has 1 to {MAX_WORKERS} workers, with up to {MAX_THREAD_OPERATIONS} operations each"
+        );
+    }
+    if workers * operations > MAX_OPERATIONS {
+        bail!("a run has up to {MAX_OPERATIONS} operations");
+    }
+    let alloc = rt.alloc();
+    let plan = Plan::from_seed(alloc, seed, workers as usize, operations as usize, PERCENT)?;
+    let queue = TwoStacks::new(alloc, rt);
+    let recorded = run(&rt, alloc, &queue, &plan, RING, TRIES)?;
+    match show(&rt, alloc, &recorded.history(alloc)?)? {
+        Verdict::Yes(_) => Ok(ExitCode::SUCCESS),
+        Verdict::No(_) => Ok(ExitCode::FAILURE),
+    }
 }

@@ -3,6 +3,7 @@ ghost use Rattle.std.specs.Prelude.{OnOk, All, IfOk};
 ghost use Rattle.std.specs.List.{AllZip};
 ghost use Rattle.stress_run.specs.Workers.{Works, WorksOrStops, WorksIn, IsReady, IsReadyIn};
 
+use crate::start::Start;
 use crate::worker::{Worker, WorkerFault, one_call};
 use event_records::Kind;
 use queue_interface::TestQueue;
@@ -48,8 +49,8 @@ fn work_row(queue: &dyn TestQueue, tickets: &Tickets, rows: &[Row], worker: Work
     work(queue, tickets, worker, row.kinds())
 }
 
-// Each worker on its row of a plan, in a thread of its own, or one after another where no thread can be started. Where
-// memory ran out, the workers are gone.
+// Each worker on its row of a plan, in a thread of its own, or one after another where no thread can be started. They start
+// together, as far as they meet. Where memory ran out, the workers are gone.
 pub(crate) fn work_all<R: Threads + Sync>(
     rt: &R,
     queue: &dyn TestQueue,
@@ -60,9 +61,13 @@ pub(crate) fn work_all<R: Threads + Sync>(
     requires { All (IsReadyIn tickets.now.key rows.now) workers.items }
     ensures { IfOk result (λ after. AllZip (WorksIn (may queue.now) rows.now) workers.items after.items) }
 {
+    let start = Start::new(workers.len());
     let on_row = |worker: Worker| -> Worker
         requires { IsReadyIn tickets.now.key rows.now worker }
         ensures { WorksIn (may queue.entry.now) rows.entry.now worker result }
-    { work_row(queue, tickets, rows, worker) };
+    {
+        start.meet();
+        work_row(queue, tickets, rows, worker)
+    };
     thread::map_vec(rt, workers, &on_row)
 }

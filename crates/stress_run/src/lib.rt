@@ -11,6 +11,7 @@ mod crew;
 mod faults;
 mod making;
 mod runs;
+mod start;
 #[cfg(test)]
 mod tests;
 mod worker;

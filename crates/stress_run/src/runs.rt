@@ -26,6 +26,9 @@ use std::thread::Threads;
 use tickets::Tickets;
 use workloads::{Plan, Row};
 
+// How often the collector yields at most between two rounds.
+const LONGEST_PAUSE: u32 = 64;
+
 /// The events of a run, one list for each worker, and how many tickets were drawn.
 #[derive(Drop)]
 pub struct Recorded {
@@ -85,7 +88,8 @@ impl Recorded {
 }
 
 /// Runs a plan on a shared queue: each row by a worker in a thread of its own, whose ring has room for `ring` events and
-/// whose pushes are tried `tries` times, with a collector beside them that drains the rings.
+/// whose pushes are tried `tries` times, with a collector beside them that drains the rings. Each worker looks for the others
+/// before its first operation, for a bounded number of turns.
 ///
 /// Where threads can't be started, the workers run one after another, under the same promise. Then nothing is drained
 /// while they run, and one with more events than its ring has room for stalls.
@@ -133,7 +137,7 @@ fn run_within<R: Threads + Sync>(
         workers,
         ends,
     } = make_crew(alloc, &tickets, pass, rows, sizes)?;
-    let collector = Collector::new(alloc, ends)?;
+    let collector = Collector::with_room(alloc, ends, most_events(rows))?;
     let (workers, collector, standing) = work_and_collect(
         rt, queue, &tickets, rows, workers, collector, sizes,
     )?;
@@ -141,6 +145,12 @@ fn run_within<R: Threads + Sync>(
     let lists = seal(collector, tokens)?;
     let total = tickets.close(pass);
     Ok(Recorded { lists, total })
+}
+
+// How many events a row gives at most: two for each operation.
+fn most_events(rows: &[Row]) -> usize {
+    let longest = rows.iter().map(|row| row.len()).max();
+    longest.unwrap_or(0).saturating_mul(2)
 }
 
 // The workers after their rows, the collector of their rings, which it drained beside them, and the fault of a round that
@@ -189,16 +199,39 @@ fn collect_until(
     ensures limit { result.1 ≢ Some Limit }
 {
     let mut collector = collector;
+    let mut pause = 0;
     for _ in 0..u64::MAX {
         if over.load(Ordering::SeqCst) {
             break;
         }
-        if collector.drain_round(sizes.ring).is_err() {
-            return (collector, Some(RunFault::Memory));
+        match collector.drain_round(sizes.ring) {
+            Ok(drained) => pause = next_pause(pause, drained, sizes),
+            Err(_) => return (collector, Some(RunFault::Memory)),
+        }
+        rest(over, pause);
+    }
+    (collector, None)
+}
+
+// How often the collector yields after a round: not at all where it found much, so that a ring may soon be full, and else
+// twice as often as before.
+fn next_pause(pause: u32, drained: u64, sizes: Sizes) -> u32 {
+    let much = (sizes.ring as u64 / 4).max(1);
+    if drained >= much {
+        0
+    } else {
+        pause.saturating_mul(2).clamp(1, LONGEST_PAUSE)
+    }
+}
+
+// Lets other threads run so many times, or until the flag is set.
+fn rest(over: &AtomicBool, pause: u32) {
+    for _ in 0..pause {
+        if over.load(Ordering::SeqCst) {
+            break;
         }
         thread::yield_now();
     }
-    (collector, None)
 }
 
 // The whole list of each thread.

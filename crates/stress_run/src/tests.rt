@@ -1,3 +1,4 @@
 mod faults;
 mod runs;
+mod start;
 mod workers;

@@ -7,14 +7,14 @@ use Rattle.history_merge.specs.declared.operation.Operation.{Operation}
 use Rattle.history_merge.specs.declared.operation.OpKind.{OpKind}
 use Rattle.history_merge.specs.declared.operation.OpKind.TheVariants.{Enq, Deq, Empty, Not}
 use Rattle.history_merge.specs.Complete.{AreComplete}
-use Rattle.history_merge.specs.Operations.{IsAt}
+use Rattle.history_merge.specs.Operations.{IsAt, enqueued_value}
 use Rattle.history_merge.proofs.Distinct.{contains_at, place_of, one_at, same_value_call, CallsFor}
 use Rattle.history_merge.proofs.DistinctValues.{each_more}
 use Rattle.value_match.specs.Lives.{IsMaybeAt, is_refused}
 use Rattle.value_match.specs.Violations.{IsFreshViolation, IsEnqueuedTooLate, NoFreshViolation}
 use Rattle.value_match.specs.declared.violation.Violation.TheVariants.{Fresh}
 use Rattle.value_match.specs.Outcome.{NamesChosenFresh}
-use Rattle.value_match.specs.Sources.{enqueued_value, IsCallPlace, IsSourceOf, HoldsSources, IsFreshFrom}
+use Rattle.value_match.specs.Sources.{IsCallPlace, IsSourceOf, HoldsSources, IsFreshFrom}
 
 -- an operation that called to enqueue a value was accepted or refused
 pub calls_for : (kind : OpKind) (v : ℕ) → enqueued_value kind ≡ Some v → (kind ≡ Enq v) ⊎ (kind ≡ Not v)

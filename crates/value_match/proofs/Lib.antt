@@ -8,3 +8,4 @@ pub mod ReturnOrder
 pub mod RepeatedDequeues
 pub mod MatchedDequeues
 pub mod SortedOut
+pub mod Fronts

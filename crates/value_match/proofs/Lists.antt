@@ -1,8 +1,8 @@
 -- What a list contains, and what is made of lists.
-use Rattle.std.proofs.Common.{◌≡◌, ℕ, zero, suc, ◌+◌, ◌<◌, ◌⊎◌, Bool, true, false, cond, List, [], ◌∷◌, ◌++◌, length, get_or, take, Option, Some, None, refl, sym, ◌∙◌, ap, subst, inl, inr, arith}
-use Rattle.std.specs.Prelude.{Contains, filter, filter_map, map}
+use Rattle.std.proofs.Common.{◌≡◌, ℕ, zero, suc, ◌+◌, ◌<◌, ◌⊎◌, Bool, true, false, cond, List, [], ◌∷◌, ◌++◌, length, get_or, take, drop, Option, Some, None, refl, sym, ◌∙◌, ap, subst, inl, inr, arith}
+use Rattle.std.specs.Prelude.{Contains, filter, filter_map, map, IsPermutation}
 use Rattle.std.specs.List.{cons_option, AllZip}
-use Rattle.std.proofs.lemmas.List.{take_more}
+use Rattle.std.proofs.lemmas.List.{take_more, take_all, drop_all, append-nil}
 use Rattle.history_merge.proofs.Distinct.{contains_cons, not_in_none}
 
 -- what a list contains, it contains behind one more element
@@ -81,3 +81,10 @@ one_more_zipped R [] [] x y zip is = (is, zip)
 one_more_zipped R [] (z ∷ ys) x y zip is = absurd zip
 one_more_zipped R (z ∷ xs) [] x y zip is = absurd zip
 one_more_zipped R (z ∷ xs) (w ∷ ys) x y zip is = (zip.0, one_more_zipped R xs ys x y zip.1 is)
+
+-- the elements of a vector, moved in place
+pub moved_in_place : {X : Type 0} (items slice moved : List X) (len : ℕ) → slice ≡ items → length items ≡ len → length moved ≡ length slice → IsPermutation slice moved → IsPermutation items (take len (moved ++ drop (length moved) items))
+moved_in_place items slice moved len same all long permutation =
+    let none : drop (length moved) items ≡ [] = drop_all (length moved) items (omega (arith, long, ap length same)) in
+    subst (λ xs. IsPermutation xs (take len (moved ++ drop (length moved) items))) same
+    (rw (none, append-nil moved, take_all len moved (omega (arith, long, all, ap length same))) permutation)

@@ -9,13 +9,13 @@ use Rattle.history_merge.specs.declared.operation.Operation.{Operation}
 use Rattle.history_merge.specs.declared.operation.OpKind.{OpKind}
 use Rattle.history_merge.specs.declared.operation.OpKind.TheVariants.{Enq, Deq, Empty, Not}
 use Rattle.history_merge.specs.Complete.{AreComplete}
-use Rattle.history_merge.specs.Operations.{IsAt}
+use Rattle.history_merge.specs.Operations.{IsAt, enqueued_value}
 use Rattle.history_merge.proofs.Distinct.{contains_at, place_of, one_at, pairs_at, calls_rise, same_return, same_value_call}
 use Rattle.value_match.specs.declared.violation.Violation.TheVariants.{Repeat}
 use Rattle.value_match.specs.Violations.{NoFreshViolation, IsRepeatViolation}
 use Rattle.value_match.specs.Choice.{IsChosenRepeat}
 use Rattle.value_match.specs.Outcome.{NamesChosenRepeat}
-use Rattle.value_match.specs.Sources.{enqueued_value, IsCallPlace, IsSourceOf, HoldsSources, TakesFrom, IsTakenTwice, IsByReturn}
+use Rattle.value_match.specs.Sources.{IsCallPlace, IsSourceOf, HoldsSources, TakesFrom, IsTakenTwice, IsByReturn}
 use Rattle.value_match.proofs.FreshDequeues.{calls_for}
 use Rattle.value_match.proofs.TakenPlaces.{HasTaken, SeesOneMore}
 

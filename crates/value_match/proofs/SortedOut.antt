@@ -2,8 +2,8 @@
 use Rattle.std.proofs.Common.{◌≡◌, ℕ, ◌+◌, ◌<◌, ◌≤◌, Bool, true, false, cond, List, [], ◌∷◌, ◌++◌, length, get_or, take, Option, Some, None, refl, sym, ◌∙◌, ap, subst}
 use Rattle.std.specs.Prelude.{All, IfSome, find, filter, filter_map, map, slice_get}
 use Rattle.std.specs.List.{cons_option}
-use Rattle.std.proofs.lemmas.List.{take_more, take_all, append-nil, map-append}
-use Rattle.std.proofs.lemmas.List.Elements.{All-push, filter_map-append, filter-append}
+use Rattle.std.proofs.lemmas.List.{take_more, take_all, append-nil, map-append, get_or-map, length-map}
+use Rattle.std.proofs.lemmas.List.Elements.{All-get_or, All-push, filter_map-append, filter-append}
 use Rattle.std.proofs.lemmas.Option.{slice_get_within, get_or_from_slice_get}
 use Rattle.history_merge.specs.declared.operation.Operation.{Operation}
 use Rattle.history_merge.specs.declared.operation.OpKind.TheVariants.{Enq, Deq, Empty, Not}
@@ -12,13 +12,11 @@ use Rattle.history_merge.proofs.Distinct.{contains_at, one_at}
 use Rattle.value_match.specs.declared.life.Life.{Life}
 use Rattle.value_match.specs.declared.life.MatchedValue.{MatchedValue}
 use Rattle.value_match.specs.Lives.{IsMaybeAt, HoldsLives, HoldsPlaces, life_from, is_dequeue_of, is_empty_answer, is_refused}
+use Rattle.value_match.specs.Accepted.{HasPlaces, value_at, operation_at, maybe_operation_at}
+use Rattle.value_match.specs.declared.accepted.Pair.{Pair}
 use Rattle.value_match.specs.Violations.{IsClear}
 use Rattle.value_match.specs.Sources.{HoldsDequeues, IsDequeuePlace}
 use Rattle.value_match.proofs.MatchedDequeues.{found_at_place}
-
--- the value's places are those of its operations
-abbrev pub HasPlaces : List Operation → MatchedValue → Type 0
-HasPlaces operations m = IsAt operations m.enqueue m.life.enqueue × IsMaybeAt operations m.dequeue m.life.dequeue
 
 -- what the first n operations did
 pub record IsSortedOut (operations : List Operation) (n : ℕ) (values : List MatchedValue) (empties refused : List ℕ) : Type 0 where
@@ -101,6 +99,37 @@ module _ (operations : List Operation) (i : ℕ) (o : Operation) (values : List 
     empty_answers = places_same operations is_empty_answer i o empties here (rw is refl) known.empty_answers;
     refused_enqueues = places_same operations is_refused i o refused here (rw is refl) known.refused_enqueues;
   }
+
+-- ---- pairs
+
+pub IfSome-more : {X : Type 0} (P Q : X → Type 0) (o : Option X) → IfSome o P → ((x : X) → P x → Q x) → IfSome o Q
+IfSome-more P Q None p more = tt
+IfSome-more P Q (Some x) p more = more x p
+
+read_back : (operations : List Operation) (place : ℕ) (o : Operation) → IsAt operations place o → operation_at operations place ≡ o
+read_back operations place o at = get_or_from_slice_get operations place o _ at
+
+-- the value of a pair of places
+pub pair_enqueue : (operations : List Operation) (i : ℕ) (o : Operation) (pair : Pair) → pair.enqueue ≡ i → IsAt operations i o → IsAt operations i (value_at operations pair).life.enqueue
+pair_enqueue operations i o pair is here = subst (IsAt operations i) (sym (ap (operation_at operations) is ∙ read_back operations i o here)) here
+
+pub pair_dequeue : (operations : List Operation) (v : ℕ) (place : Option ℕ) (pair : Pair) → pair.dequeue ≡ place → IsDequeuePlace operations v place → IsMaybeAt operations place (value_at operations pair).life.dequeue
+pair_dequeue operations v None pair is from = rw is tt
+pair_dequeue operations v (Some p) pair is from = rw is (subst (IsAt operations p) (sym (read_back operations p from.0 from.1)) from.1)
+
+pub pair_within : (operations : List Operation) (pairs : List Pair) (i : ℕ) (pair : Pair) → All (HasPlaces operations) (map (value_at operations) pairs) → i < length pairs → pair ≡ get_or pairs i pair
+    → (pair.enqueue < length operations) × IfSome pair.dequeue (λ p. p < length operations)
+pair_within operations pairs i pair all below is =
+    let here : HasPlaces operations (value_at operations pair) =
+    subst (HasPlaces operations) (get_or-map (value_at operations) pairs i pair (value_at operations pair) below ∙ ap (value_at operations) (sym is)) (All-get_or (HasPlaces operations) (map (value_at operations) pairs) i (value_at operations pair) (rw (length-map pairs (value_at operations)) below) all) in
+    (slice_get_within operations pair.enqueue _ here.0, inside pair.dequeue here.1)
+  where
+    inside : (place : Option ℕ) → IsMaybeAt operations place (maybe_operation_at operations place) → IfSome place (λ p. p < length operations)
+    inside None none = tt
+    inside (Some p) at = slice_get_within operations p _ at
+
+pub pair_read : (operations : List Operation) (pairs : List Pair) (i : ℕ) (pair : Pair) (d : MatchedValue) → i < length pairs → pair ≡ get_or pairs i pair → value_at operations pair ≡ get_or (map (value_at operations) pairs) i d
+pair_read operations pairs i pair d below is = sym (get_or-map (value_at operations) pairs i pair d below ∙ ap (value_at operations) (sym is))
 
 -- ---- all operations
 

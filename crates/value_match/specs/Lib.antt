@@ -1,6 +1,9 @@
 pub mod Lives
 pub mod Violations
 pub mod Choice
+pub mod Accepted
 pub mod Outcome
 pub mod Sources
+pub mod Named
 pub mod Longest
+pub mod Fronts

@@ -1,8 +1,13 @@
 -- Of values that pass some test, the one that stays in the queue longest.
-use Rattle.std.specs.Prelude.{◌≡◌, ◌⊎◌, List, All, Contains, Option, MatchOption}
+use Rattle.std.specs.Prelude.{◌≡◌, ℕ, ◌<◌, ◌⊎◌, List, All, Contains, Option, MatchOption}
 use Rattle.value_match.specs.declared.life.Life.{Life}
 use Rattle.value_match.specs.declared.life.MatchedValue.{MatchedValue}
+use Rattle.value_match.specs.Lives.{enqueue_return}
 use Rattle.value_match.specs.Choice.{StaysAtLeast}
+
+-- the value's enqueue returned before this ticket
+abbrev pub EntersBefore : ℕ → Life → Type 0
+EntersBefore ticket life = enqueue_return life < ticket
 
 -- one of the two values, which stays at least as long as each
 pub record IsLongerOf (first second longer : MatchedValue) : Type 0 where

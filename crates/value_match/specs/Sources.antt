@@ -4,16 +4,9 @@ use Rattle.std.specs.List.Sorted.{IsNonDecreasingBy}
 use Rattle.history_merge.specs.declared.operation.Operation.{Operation}
 use Rattle.history_merge.specs.declared.operation.OpKind.{OpKind}
 use Rattle.history_merge.specs.declared.operation.OpKind.TheVariants.{Enq, Deq, Empty, Not}
-use Rattle.history_merge.specs.Operations.{IsAt, NoneDid}
+use Rattle.history_merge.specs.Operations.{IsAt, NoneDid, enqueued_value}
 use Rattle.value_match.specs.Lives.{IsMaybeAt}
 use Rattle.value_match.specs.Violations.{IsFreshViolation}
-
--- the value that the operation called to enqueue
-abbrev pub enqueued_value : OpKind → Option ℕ
-enqueued_value (Enq v) = Some v
-enqueued_value (Not v) = Some v
-enqueued_value (Deq v) = None
-enqueued_value Empty = None
 
 -- the place is that of an operation that called to enqueue this value; there is none only where none did
 abbrev pub IsCallPlace : List Operation → ℕ → Option ℕ → Type 0

@@ -1,18 +1,25 @@
 //! Enqueues matched with dequeues by their values, and the violations that this shows.
 #![tactic(auto)]
 
+mod accepted;
 mod fresh;
 mod life;
 mod matching;
+mod names;
 mod repeat;
+mod settling;
 mod sources;
+mod table;
 mod takers;
 mod values;
 mod violation;
 
+pub use accepted::Values;
 pub use life::{Life, MatchedValue, NEVER};
 pub use matching::{Matched, Matching};
-pub use values::match_values;
+pub use settling::settle;
+pub use table::LongestTable;
+pub use values::{match_operations, match_values};
 pub use violation::{Cover, CoverStep, Violation};
 
 #[cfg(test)]

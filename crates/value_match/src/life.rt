@@ -1,3 +1,8 @@
+ghost use Rattle.std.specs.Prelude.{◌≡◌, ◌↔◌, IsTrue};
+ghost use Rattle.value_match.specs.Choice.{StaysAtLeast};
+ghost use Rattle.value_match.specs.Lives.{enqueue_call, enqueue_return, dequeue_call, dequeue_return};
+ghost use Rattle.value_match.specs.Longest.{IsLongerOf};
+
 use event_records::MAX_TICKET;
 use history_merge::{OpId, Operation};
 
@@ -11,6 +16,45 @@ pub struct Life {
     pub dequeue: Option<Operation>,
 }
 
+impl Life {
+    /// The call of the value's enqueue.
+    pub fn enqueue_call(&self) -> u64
+        ensures { result ≡ enqueue_call self.now }
+    {
+        self.enqueue.call
+    }
+
+    /// The return of the value's enqueue.
+    pub fn enqueue_return(&self) -> u64
+        ensures { result ≡ enqueue_return self.now }
+    {
+        self.enqueue.ret
+    }
+
+    /// The call of the value's dequeue, or `NEVER`.
+    pub fn dequeue_call(&self) -> u64
+        ensures { result ≡ dequeue_call self.now }
+    {
+        self.dequeue.map_or(NEVER, |dequeue| dequeue.call)
+    }
+
+    /// The return of the value's dequeue, or `NEVER`.
+    pub fn dequeue_return(&self) -> u64
+        ensures { result ≡ dequeue_return self.now }
+    {
+        self.dequeue.map_or(NEVER, |dequeue| dequeue.ret)
+    }
+
+    /// Whether the value is dequeued later than the other, or as late and enqueued no later.
+    pub fn stays_at_least(&self, other: &Life) -> bool
+        ensures { IsTrue result ↔ StaysAtLeast self.now other.now }
+    {
+        let call = self.dequeue_call();
+        let other_call = other.dequeue_call();
+        other_call < call || (other_call == call && self.enqueue_return() <= other.enqueue_return())
+    }
+}
+
 /// A life, with the places of its two operations among those of the history.
 #[derive(Clone, Copy, Debug, PartialEq, Eq)]
 pub struct MatchedValue {
@@ -19,4 +63,17 @@ pub struct MatchedValue {
     pub enqueue: OpId,
     /// The place of the dequeue, where the value is dequeued.
     pub dequeue: Option<OpId>,
+}
+
+impl MatchedValue {
+    /// The one of the two values that stays longer.
+    pub fn longer_of(self, other: MatchedValue) -> MatchedValue
+        ensures { IsLongerOf self other result }
+    {
+        if self.life.stays_at_least(&other.life) {
+            self
+        } else {
+            other
+        }
+    }
 }

@@ -1,8 +1,9 @@
-ghost use Rattle.std.specs.Prelude.{◌≡◌};
+ghost use Rattle.std.specs.Prelude.{◌≡◌, map};
+ghost use Rattle.value_match.specs.Accepted.{value_at};
 ghost use Rattle.value_match.specs.Lives.{HoldsLives, HoldsPlaces, is_empty_answer, is_refused};
 ghost use Rattle.value_match.specs.Violations.{IsClear};
 
-use crate::life::MatchedValue;
+use crate::accepted::{Pair, Values};
 use crate::violation::Violation;
 use history_merge::{OpId, Operation};
 use std::marker::Model;
@@ -10,44 +11,45 @@ use std::marker::Model;
 /// The operations of a complete history in which no dequeue is of a value that was not there, and no value is
 /// dequeued twice; seen as the list of these operations.
 ///
-/// It holds a copy of the operations, by call ticket, and fourteen words for each accepted value.
+/// It borrows the operations, by call ticket, and holds three half words for each accepted value.
 #[derive(Debug, Drop)]
-pub struct Matching {
-    operations: Vec<Operation>,
-    values: Vec<MatchedValue>,
+pub struct Matching<'a> {
+    operations: &'a [Operation],
+    values: Vec<Pair>,
     empties: Vec<OpId>,
     refused: Vec<OpId>,
 }
 
-impl Model for Matching {
+impl<'a> Model for Matching<'a> {
     ghost use Rattle.std.specs.Prelude.{◌≡◌, List, map, filter};
     ghost use Rattle.history_merge.specs.declared.operation.Operation.{Operation};
     ghost use Rattle.value_match.specs.Lives.{HoldsLives, HoldsPlaces, is_empty_answer, is_refused};
+    ghost use Rattle.value_match.specs.Accepted.{value_at};
     ghost use Rattle.value_match.specs.Violations.{IsClear};
 
     ghost Value = { List Operation };
 
-    ghost view = { λ a. a.operations.items };
+    ghost view = { λ a. a.operations.now };
 
-    ghost invariant = { λ a. IsClear a.operations.items
-        × HoldsLives a.operations.items a.values.items
-        × HoldsPlaces a.operations.items is_empty_answer a.empties.items
-        × HoldsPlaces a.operations.items is_refused a.refused.items };
+    ghost invariant = { λ a. IsClear a.operations.now
+        × HoldsLives a.operations.now (map (value_at a.operations.now) a.values.items)
+        × HoldsPlaces a.operations.now is_empty_answer a.empties.items
+        × HoldsPlaces a.operations.now is_refused a.refused.items };
 }
 
-impl Matching {
+impl<'a> Matching<'a> {
     /// The matching of these operations.
     pub(crate) fn new(
-        operations: Vec<Operation>,
-        values: Vec<MatchedValue>,
+        operations: &'a [Operation],
+        values: Vec<Pair>,
         empties: Vec<OpId>,
         refused: Vec<OpId>,
-    ) -> Matching
-        requires clear { IsClear operations.items }
-        requires values { HoldsLives operations.items values.items }
-        requires empties { HoldsPlaces operations.items is_empty_answer empties.items }
-        requires refused { HoldsPlaces operations.items is_refused refused.items }
-        ensures { result ≡ operations.items }
+    ) -> Matching<'a>
+        requires clear { IsClear operations.now }
+        requires values { HoldsLives operations.now (map (value_at operations.now) values.items) }
+        requires empties { HoldsPlaces operations.now is_empty_answer empties.items }
+        requires refused { HoldsPlaces operations.now is_refused refused.items }
+        ensures { result ≡ operations.now }
     {
         Matching {
             operations,
@@ -58,19 +60,19 @@ impl Matching {
     }
 
     /// The operations, in the order of their calls.
-    pub fn operations(&self) -> &[Operation]
+    pub fn operations(&self) -> &'a [Operation]
         ensures operations { result.now ≡ self.now }
         ensures clear { IsClear self.now }
     {
-        self.operations.as_slice()
+        self.operations
     }
 
     /// The accepted values, in the order of their enqueues' calls.
-    pub fn values(&self) -> &[MatchedValue]
-        ensures values { HoldsLives self.now result.now }
+    pub fn values(&self) -> Values<'_>
+        ensures values { HoldsLives self.now result }
         ensures clear { IsClear self.now }
     {
-        self.values.as_slice()
+        Values::new(self.operations, self.values.as_slice())
     }
 
     /// The dequeues that answered empty, in the order of their calls.
@@ -90,9 +92,9 @@ impl Matching {
 
 /// What matching finds: that there is a matching, or the violation that rules it out.
 #[derive(Debug, Drop)]
-pub enum Matched {
+pub enum Matched<'a> {
     /// Each dequeue is of an accepted value that was there, and no two are of one value.
-    Clear(Matching),
+    Clear(Matching<'a>),
     /// A dequeue of a value that was not there, as `Violation::Fresh`.
     Fresh(Violation),
     /// Two dequeues of one value, as `Violation::Repeat`.

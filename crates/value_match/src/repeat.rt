@@ -4,6 +4,7 @@ ghost use Rattle.value_match.specs.Outcome.{NamesChosenRepeat};
 ghost use Rattle.value_match.specs.Sources.{HoldsSources, IsByReturn, IsTakenTwice};
 ghost use Rattle.value_match.specs.Violations.{NoFreshViolation};
 
+use crate::settling::settle;
 use crate::violation::Violation;
 use history_merge::{OpId, Operation};
 use std::alloc::{AllocError, Global};
@@ -55,6 +56,7 @@ fn by_return(alloc: Global, operations: &[Operation]) -> Result<Vec<(u64, usize)
     for (place, operation) in operations.iter().enumerate() {
         order.push((operation.ret, place))?;
     }
+    settle(&mut order, &|entry: &(u64, usize)| entry.0);
     order.sort_unstable_by_key(|entry| entry.0);
     Ok(order)
 }

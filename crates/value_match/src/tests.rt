@@ -1,8 +1,8 @@
 ghost use Rattle.std.specs.Prelude.{◌≤◌, length};
 
-use crate::{Life, Matched, MatchedValue, Violation, match_values};
+use crate::{Life, LongestTable, Matched, MatchedValue, Violation, match_values};
 use event_records::{Event, MAX_EVENTS, What};
-use history_merge::{HistoryFault, OpId, OpKind, Operation, history};
+use history_merge::{History, HistoryFault, OpId, OpKind, Operation, history};
 use std::alloc::Global;
 use std::test::Fail;
 
@@ -14,12 +14,11 @@ fn at(ticket: u64, thread: u8, what: What) -> Event {
     }
 }
 
-/// What `match_values` answers to the history of these events.
-fn matched(alloc: Global, events: &[Event]) -> Result<Matched, HistoryFault>
+/// The history of these events.
+fn history_of(alloc: Global, events: &[Event]) -> Result<History, HistoryFault>
     requires { length events.now ≤ MAX_EVENTS }
 {
-    let history = history(alloc, events.to_vec(alloc)?)?;
-    Ok(match_values(alloc, &history)?)
+    history(alloc, events.to_vec(alloc)?)
 }
 
 /// The places that a violation of the first two kinds names.
@@ -94,7 +93,8 @@ fn names_the_dequeue_of_a_value_that_was_not_there(rt: HostRuntime) -> Result<()
     for (events, deq, enq) in cases {
         assert!(rt; events.len() <= MAX_EVENTS);
         let named = [Some(OpId::new(deq)), enq.map(OpId::new), None];
-        assert_eq!(rt; places(&matched(rt.alloc(), events)?), Some(named));
+        let history = history_of(rt.alloc(), events)?;
+        assert_eq!(rt; places(&match_values(rt.alloc(), &history)?), Some(named));
     }
     Ok(())
 }
@@ -155,7 +155,8 @@ fn names_the_first_two_dequeues_of_a_value(rt: HostRuntime) -> Result<(), Fail> 
     for (events, enq, first, second) in cases {
         assert!(rt; events.len() <= MAX_EVENTS);
         let named = [enq, first, second].map(|place| Some(OpId::new(place)));
-        assert_eq!(rt; places(&matched(rt.alloc(), events)?), Some(named));
+        let history = history_of(rt.alloc(), events)?;
+        assert_eq!(rt; places(&match_values(rt.alloc(), &history)?), Some(named));
     }
     Ok(())
 }
@@ -174,7 +175,8 @@ fn matches_a_history_without_such_violations(rt: HostRuntime) -> Result<(), Fail
         at(8, 0, What::RetNot),
         at(9, 1, What::RetEmpty),
     ];
-    let Matched::Clear(matching) = matched(rt.alloc(), &events)? else {
+    let history = history_of(rt.alloc(), &events)?;
+    let Matched::Clear(matching) = match_values(rt.alloc(), &history)? else {
         panic!(rt; "no violation of the first two kinds");
     };
     let operation = |thread, kind, call, ret| Operation {
@@ -204,9 +206,55 @@ fn matches_a_history_without_such_violations(rt: HostRuntime) -> Result<(), Fail
             dequeue: None,
         },
     ];
-    assert_eq!(rt; matching.values(), values.as_slice());
+    let accepted = matching.values();
+    assert_eq!(rt; accepted.len(), 2);
+    for place in 0..2 {
+        assert_eq!(rt; accepted.get(place), values[place]);
+    }
     assert_eq!(rt; matching.empties(), [OpId::new(4)].as_slice());
     assert_eq!(rt; matching.refused(), [OpId::new(3)].as_slice());
     assert_eq!(rt; matching.operations().len(), 5);
+    Ok(())
+}
+
+#[test]
+fn finds_the_longest_of_the_values_before_a_ticket(rt: HostRuntime) -> Result<(), Fail> {
+    let events = [
+        at(0, 0, What::CallEnq(1)),
+        at(1, 1, What::CallEnq(2)),
+        at(2, 0, What::RetEnq),
+        at(4, 1, What::RetEnq),
+        at(5, 0, What::CallEnq(3)),
+        at(6, 1, What::CallEnq(4)),
+        at(8, 0, What::RetEnq),
+        at(10, 1, What::RetEnq),
+        at(20, 0, What::CallDeq),
+        at(21, 0, What::RetDeq(1)),
+        at(30, 0, What::CallDeq),
+        at(31, 0, What::RetDeq(2)),
+    ];
+    let history = history_of(rt.alloc(), &events)?;
+    let Matched::Clear(matching) = match_values(rt.alloc(), &history)? else {
+        panic!(rt; "no violation of the first two kinds");
+    };
+    let table = LongestTable::new(rt.alloc(), matching.values())?;
+    let cases = [
+        (0, None),
+        (2, None),
+        (3, Some(1)),
+        (4, Some(1)),
+        (5, Some(2)),
+        (8, Some(2)),
+        (9, Some(3)),
+        (11, Some(3)),
+    ];
+    for (limit, name) in cases {
+        let longest = table.longest_before(limit);
+        assert_eq!(rt;
+            longest.map(|value| value.life.enqueue.kind),
+            name.map(OpKind::Enq)
+        );
+    }
+    assert_eq!(rt; table.values().len(), 4);
     Ok(())
 }

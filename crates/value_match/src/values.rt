@@ -1,17 +1,17 @@
-ghost use Rattle.std.specs.Prelude.{◌≡◌, ◌<◌, IfOk, IfSome, length};
-ghost use Rattle.history_merge.specs.declared.operation.Operation.{Operation};
-ghost use Rattle.history_merge.specs.Operations.{IsAt, operations_of};
-ghost use Rattle.value_match.specs.Lives.{IsMaybeAt};
+ghost use Rattle.std.specs.Prelude.{◌≡◌, ◌<◌, ◌≤◌, ◌^◌, IfOk, IfSome, length};
+ghost use Rattle.history_merge.specs.Complete.{AreComplete};
+ghost use Rattle.history_merge.specs.Operations.{operations_of};
 ghost use Rattle.value_match.specs.Outcome.{IsMatchedOf};
 ghost use Rattle.value_match.specs.Sources.{HoldsDequeues};
 ghost use Rattle.value_match.specs.Violations.{IsClear};
 
+use crate::accepted::Pair;
 use crate::fresh::find_fresh;
-use crate::life::{Life, MatchedValue};
 use crate::matching::{Matched, Matching};
 use crate::repeat::find_repeat;
 use crate::sources::sources_of;
 use crate::takers::takers_of;
+use event_records::MAX_EVENTS;
 use history_merge::{History, OpId, OpKind, Operation};
 use std::alloc::{AllocError, Global};
 
@@ -21,13 +21,22 @@ use std::alloc::{AllocError, Global};
 /// where a value was dequeued twice: the value whose second dequeue returns first, with its first two dequeues by
 /// return. Else `Clear`. The error is want of memory alone.
 ///
-/// Time O(n) for n operations, as a hash map of the enqueued values is expected to take; where a value is dequeued
-/// twice, O(n log n) for a sort by return. Beside the answer memory of four words for each operation, and some four for
-/// each enqueue.
-pub fn match_values(alloc: Global, history: &History) -> Result<Matched, AllocError>
+/// Time O(n) for n operations of values with a recorder's names; the calls of other values stand in a tree, O(n log n). Where
+/// a value is dequeued twice, O(n log n) for a sort by return. The answer borrows the
+/// operations and takes three half words for each accepted value; beside it the work takes some five words for each
+/// operation.
+pub fn match_values(alloc: Global, history: &History) -> Result<Matched<'_>, AllocError>
     ensures { IfOk result (λ matched. IsMatchedOf (operations_of history.now) matched) }
 {
-    let operations = history.operations();
+    match_operations(alloc, history.operations())
+}
+
+/// The same of the operations of a history.
+pub fn match_operations(alloc: Global, operations: &[Operation]) -> Result<Matched<'_>, AllocError>
+    requires complete { AreComplete operations.now }
+    requires few { length operations.now ≤ MAX_EVENTS }
+    ensures { IfOk result (λ matched. IsMatchedOf operations.now matched) }
+{
     let sources = sources_of(alloc, operations)?;
     if let Some(violation) = find_fresh(operations, sources.as_slice()) {
         return Ok(Matched::Fresh(violation));
@@ -45,11 +54,12 @@ pub fn match_values(alloc: Global, history: &History) -> Result<Matched, AllocEr
 }
 
 /// The matching of operations whose dequeues are known by their enqueues.
-fn matching_of(
+fn matching_of<'a>(
     alloc: Global,
-    operations: &[Operation],
+    operations: &'a [Operation],
     dequeues: &[Option<usize>],
-) -> Result<Matching, AllocError>
+) -> Result<Matching<'a>, AllocError>
+    requires few { length operations.now ≤ MAX_EVENTS }
     requires clear { IsClear operations.now }
     requires dequeues { HoldsDequeues operations.now dequeues.now }
     ensures { IfOk result (λ matching. matching ≡ operations.now) }
@@ -59,34 +69,26 @@ fn matching_of(
     let mut refused = Vec::new(alloc);
     for (place, operation) in operations.iter().enumerate() {
         match operation.kind {
-            OpKind::Enq(_) => values.push(matched_value(operations, place, dequeues[place]))?,
+            OpKind::Enq(_) => values.push(pair_of(place, dequeues[place]))?,
             OpKind::Empty => empties.push(OpId::new(place))?,
             OpKind::Not(_) => refused.push(OpId::new(place))?,
             OpKind::Deq(_) => {}
         }
     }
-    let operations = Vec::from_slice(alloc, operations)?;
     Ok(Matching::new(operations, values, empties, refused))
 }
 
-/// The accepted enqueue at this place, with the dequeue of its value at that place, if there is one.
-fn matched_value(operations: &[Operation], place: usize, dequeue: Option<usize>) -> MatchedValue
-    requires place { place < length operations.now }
-    requires dequeue { IfSome dequeue (λ p. p < length operations.now) }
-    ensures enqueue { IsAt operations.now place result.life.enqueue }
-    ensures dequeue { IsMaybeAt operations.now dequeue result.life.dequeue }
-    ensures places { (result.enqueue ≡ place) × (result.dequeue ≡ dequeue) }
+/// The places of an accepted enqueue and of the dequeue of its value, if there is one.
+fn pair_of(place: usize, dequeue: Option<usize>) -> Pair
+    requires place { place < 2 ^ 32 }
+    requires dequeue { IfSome dequeue (λ p. p < 2 ^ 32) }
+    ensures { (result.enqueue ≡ place) × (result.dequeue ≡ dequeue) }
 {
-    let life = Life {
-        enqueue: operations[place],
+    Pair {
+        enqueue: place as u32,
         dequeue: match dequeue {
-            Some(dequeue) => Some(operations[dequeue]),
+            Some(dequeue) => Some(dequeue as u32),
             None => None,
         },
-    };
-    MatchedValue {
-        life,
-        enqueue: OpId::new(place),
-        dequeue: dequeue.map(OpId::new),
     }
 }

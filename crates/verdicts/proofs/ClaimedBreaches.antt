@@ -6,7 +6,7 @@ use Rattle.history_merge.specs.declared.operation.OpKind.TheVariants.{Enq, Deq, 
 use Rattle.history_merge.specs.Operations.{Did, NoneDid, Precedes}
 use Rattle.value_match.specs.Lives.{IsLife}
 use Rattle.value_match.specs.Violations.{fresh, repeat, order, witness, IsNeverEnqueued, IsEnqueuedTooLate, IsRepeatViolation, IsOrderViolation, CoversFrom}
-use Rattle.verdicts.specs.declared.claim.ViolationKind.TheVariants.{VFresh, VRepeat, VOrd, VWit}
+use Rattle.verdicts.specs.declared.verifying.ViolationKind.TheVariants.{VFresh, VRepeat, VOrd, VWit}
 use Rattle.verdicts.specs.Claims.{ShowsViolation, ShowsCover}
 
 pub through : {P Q R : Type 0} → P ↔ Q → Q ↔ R → P ↔ R

@@ -32,10 +32,10 @@ module _ (operations : List Operation) (empty : Operation) where
 
   module _ (clear : IsClear operations) (did : Did operations empty Empty) (covered : IsCovered operations empty) where
     -- an operation called while the empty answer was asked for
-    record IsCalledInside (before : Operation) : Type 0 where
-      among : Contains operations before
-      after_call : empty.call ≤ before.call
-      before_return : before.call < empty.ret
+    pub record IsCalledInside (before : Operation) : Type 0 where
+      pub among : Contains operations before
+      pub after_call : empty.call ≤ before.call
+      pub before_return : before.call < empty.ret
 
     enters_before : (before : Operation) (life : Life) → IsCalledInside before → IsLife operations life → Covers life before.call → enqueue_return life < before.call
     enters_before before life inside is covers =
@@ -48,12 +48,12 @@ module _ (operations : List Operation) (empty : Operation) where
         omega (arith, stays.0, z.2.1)
 
     -- the dequeue of a value of the cover that is not the last
-    record IsHandover (life : Life) (rest : List Life) (d : Operation) : Type 0 where
-      calls : dequeue_call life ≡ d.call
-      inside : IsCalledInside d
-      further : IsChosenCoverFrom operations empty d.call rest
+    pub record IsHandover (life : Life) (rest : List Life) (d : Operation) : Type 0 where
+      pub calls : dequeue_call life ≡ d.call
+      pub inside : IsCalledInside d
+      pub further : IsChosenCoverFrom operations empty d.call rest
 
-    handover : (before : Operation) (life : Life) (rest : List Life) (y : Life) → IsCalledInside before → IsChosenCoverFrom operations empty before.call (life ∷ rest) → Contains rest y → (d : Operation) × IsHandover life rest d
+    pub handover : (before : Operation) (life : Life) (rest : List Life) (y : Life) → IsCalledInside before → IsChosenCoverFrom operations empty before.call (life ∷ rest) → Contains rest y → (d : Operation) × IsHandover life rest d
     handover before life rest y inside chosen among =
         let others = others_chosen life rest y among (nat_lt empty.ret (dequeue_call life)) refl chosen.1 in
         let range = return_in_range operations empty clear.complete did.0 in
@@ -72,7 +72,7 @@ module _ (operations : List Operation) (empty : Operation) where
           },
         )
 
-    all_stay : (cover : List Life) (before : Operation) (y : Life) → IsCalledInside before → IsChosenCoverFrom operations empty before.call cover → Contains cover y → before.call < dequeue_call y
+    pub all_stay : (cover : List Life) (before : Operation) (y : Life) → IsCalledInside before → IsChosenCoverFrom operations empty before.call cover → Contains cover y → before.call < dequeue_call y
     all_stay [] before y inside chosen among = absurd chosen
     all_stay (life ∷ rest) before y inside chosen among = by_place (λ d inside' chosen' later. all_stay rest d y inside' chosen' later) (contains_cons life rest y among)
       where

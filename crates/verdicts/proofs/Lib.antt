@@ -18,3 +18,6 @@ pub mod Minimal
 pub mod ChosenSelections
 pub mod NamedPlaces
 pub mod ShrunkEvents
+pub mod OneVerdict
+pub mod TrueClaims
+pub mod FewLines

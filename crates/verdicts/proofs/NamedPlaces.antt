@@ -68,7 +68,7 @@ places_of_lines operations (violation.Witness empty cover) (witness o lives) nam
 places_of_lines operations (violation.Witness empty cover) _ names = absurd names
 
 -- such places are in the list
-in_range : (operations : List Operation) (places : List ℕ) (listed : List Operation) → ArePlacesOf operations places listed → All (λ place. place < length operations) places
+pub in_range : (operations : List Operation) (places : List ℕ) (listed : List Operation) → ArePlacesOf operations places listed → All (λ place. place < length operations) places
 in_range operations [] listed named = All-nil (λ place. place < length operations)
 in_range operations (p ∷ places) [] named = cc
 in_range operations (p ∷ places) (o ∷ listed) named =

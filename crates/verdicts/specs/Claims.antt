@@ -4,10 +4,10 @@ use Rattle.history_merge.specs.declared.operation.Operation.{Operation}
 use Rattle.history_merge.specs.Legal.{IsLegalOrder}
 use Rattle.value_match.specs.declared.life.Life.{Life}
 use Rattle.value_match.specs.Violations.{Breach, fresh, repeat, order, witness, CoversFrom, IsBreachOf, lines_of}
-use Rattle.verdicts.specs.declared.claim.Claimed.{Claimed}
-use Rattle.verdicts.specs.declared.claim.Claimed.TheVariants.{Yes, No}
-use Rattle.verdicts.specs.declared.claim.ViolationKind.{ViolationKind}
-use Rattle.verdicts.specs.declared.claim.ViolationKind.TheVariants.{VFresh, VRepeat, VOrd, VWit}
+use Rattle.verdicts.specs.declared.verifying.Claimed.{Claimed}
+use Rattle.verdicts.specs.declared.verifying.Claimed.TheVariants.{Yes, No}
+use Rattle.verdicts.specs.declared.verifying.ViolationKind.{ViolationKind}
+use Rattle.verdicts.specs.declared.verifying.ViolationKind.TheVariants.{VFresh, VRepeat, VOrd, VWit}
 
 -- the kind of a violation
 abbrev pub kind_of : Breach → ViolationKind

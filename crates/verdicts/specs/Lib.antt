@@ -4,3 +4,4 @@ pub mod Laws
 pub mod Selection
 pub mod Selecting
 pub mod Shown
+pub mod Claiming

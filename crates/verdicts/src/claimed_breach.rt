@@ -4,8 +4,8 @@ ghost use Rattle.value_match.specs.Lives.{IsLife};
 ghost use Rattle.value_match.specs.Violations.{IsNeverEnqueued, IsEnqueuedTooLate, IsRepeatViolation, IsOrderViolation};
 ghost use Rattle.verdicts.specs.Claims.{CallsRise, ShowsViolation, ShowsCover};
 
-use crate::claim::ViolationKind;
 use crate::lookup::{did, none_did};
+use crate::verifying::ViolationKind;
 use history_merge::{OpKind, Operation};
 
 /// Whether the lines are those of a violation of this kind.

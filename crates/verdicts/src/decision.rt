@@ -1,15 +1,18 @@
-ghost use Rattle.std.specs.Prelude.{◌≡◌, IfOk};
+ghost use Rattle.std.specs.Prelude.{◌≡◌, ◌≤◌, IfOk, length};
+ghost use Rattle.history_merge.specs.Complete.{AreComplete};
 ghost use Rattle.history_merge.specs.Operations.{operations_of};
 ghost use Rattle.value_match.specs.Violations.{IsClear};
+ghost use Rattle.verdicts.specs.Claiming.{IsWithin};
 ghost use Rattle.verdicts.specs.Verdicts.{IsVerdictOf, IsEvidence, IsExact, IsDecided};
 
 use crate::verdict::{Order, Verdict};
 use empty_witness::{WitnessAnswer, find_witness};
-use history_merge::History;
+use event_records::MAX_EVENTS;
+use history_merge::{History, Operation};
 use linearizer::linearize;
 use order_violation::{OrderPair, find_order};
 use std::alloc::{AllocError, Global};
-use value_match::{Matched, Matching, Violation, match_values};
+use value_match::{Matched, Matching, Violation, match_operations};
 
 /// Whether a history has a legal order (Herlihy and Wing 1990): yes with the chosen order, no with the chosen violation,
 /// which is of the first kind that is present: a value that was not there, a value dequeued twice, values dequeued
@@ -20,10 +23,21 @@ pub fn decide(alloc: Global, history: &History) -> Result<Verdict, AllocError>
     ensures chosen { IfOk result (λ verdict. IsVerdictOf (operations_of history.now) verdict) }
     ensures evidence { IfOk result (λ verdict. IsEvidence (operations_of history.now) verdict) }
     ensures exact { IfOk result (λ verdict. IsExact (operations_of history.now) verdict) }
+    ensures places { IfOk result (λ verdict. IsWithin (operations_of history.now) verdict) }
 {
-    // A history is complete, as its accessors say.
-    let _operations = history.operations();
-    match match_values(alloc, history)? {
+    decide_operations(alloc, history.operations())
+}
+
+/// The same of the operations of a history, where its events aren't kept.
+pub fn decide_operations(alloc: Global, operations: &[Operation]) -> Result<Verdict, AllocError>
+    requires complete { AreComplete operations.now }
+    requires few { length operations.now ≤ MAX_EVENTS }
+    ensures chosen { IfOk result (λ verdict. IsVerdictOf operations.now verdict) }
+    ensures evidence { IfOk result (λ verdict. IsEvidence operations.now verdict) }
+    ensures exact { IfOk result (λ verdict. IsExact operations.now verdict) }
+    ensures places { IfOk result (λ verdict. IsWithin operations.now verdict) }
+{
+    match match_operations(alloc, operations)? {
         Matched::Clear(matching) => decide_matching(alloc, &matching),
         Matched::Fresh(violation) => Ok(Verdict::No(violation)),
         Matched::Repeat(violation) => Ok(Verdict::No(violation)),

@@ -1,9 +1,9 @@
 //! Whether a history is linearizable, with evidence for the answer, and the history of a violation alone.
 #![tactic(auto)]
 
-mod claim;
 mod claimed_breach;
 mod claimed_order;
+mod claiming;
 mod decision;
 mod laws;
 mod lookup;
@@ -15,9 +15,14 @@ mod small_histories;
 #[cfg(test)]
 mod tests;
 mod verdict;
+mod verifying;
 
-pub use claim::{Claimed, Lines, ViolationKind, verify};
-pub use decision::decide;
-pub use laws::{no_legal_order, violations_are_all};
+pub use claiming::claim;
+pub use decision::{decide, decide_operations};
+pub use laws::{
+    a_verdict_has_few_lines, evidence_is_a_true_claim, no_legal_order, one_finding, one_verdict,
+    violations_are_all,
+};
 pub use shrinking::shrink;
 pub use verdict::{Order, Verdict};
+pub use verifying::{Claimed, Lines, ViolationKind, verify};

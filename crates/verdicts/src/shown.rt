@@ -22,7 +22,7 @@ pub fn shown(
 }
 
 /// The operations at these places, one by one.
-fn operations_at(
+pub fn operations_at(
     alloc: Global,
     operations: &[Operation],
     places: &[OpId],
@@ -38,7 +38,7 @@ fn operations_at(
 }
 
 /// The places of the operations that a violation names, in the order in which they are shown.
-fn places_of(alloc: Global, violation: &Violation) -> Result<Vec<OpId>, AllocError>
+pub fn places_of(alloc: Global, violation: &Violation) -> Result<Vec<OpId>, AllocError>
     ensures { IfOk result (λ places. places.items ≡ places_of violation.now) }
 {
     let mut places = Vec::new(alloc);

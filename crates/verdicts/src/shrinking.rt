@@ -1,4 +1,4 @@
-ghost use Rattle.std.specs.Prelude.{◌≡◌, ◌≤◌, IfOk, length};
+ghost use Rattle.std.specs.Prelude.{IfOk};
 ghost use Rattle.history_merge.specs.Complete.{IsCompleteHistory};
 ghost use Rattle.history_merge.specs.Operations.{operations_of};
 ghost use Rattle.value_match.specs.Outcome.{IsChosenViolation};
@@ -7,8 +7,8 @@ ghost use Rattle.verdicts.specs.Selecting.{AreSelectedEvents};
 
 use crate::selection::{Selection, events_at};
 use crate::shown::shown;
-use event_records::{Event, MAX_EVENTS};
-use history_merge::{History, HistoryFault, history};
+use event_records::Event;
+use history_merge::{History, complete_history};
 use std::alloc::{AllocError, Global};
 use value_match::Violation;
 
@@ -33,6 +33,7 @@ pub fn shrink(
     ensures minimal { IfOk result (λ small. IsMinimal (operations_of small)) }
     ensures shortest { IfOk result (λ _. HasShortestCover (operations_of history.now) violation.now) }
     ensures events { IfOk result (λ small. ArePartOf history.now small) }
+    ensures complete { IfOk result IsCompleteHistory }
 {
     // A history is complete, and has no more than `MAX_EVENTS`, as its accessor says.
     let _events = history.events();
@@ -54,19 +55,6 @@ fn selected_events(
     let selection = Selection::named_by(alloc, lines.as_slice())?;
     let tickets = selection.tickets(alloc, operations)?;
     events_at(alloc, history.events(), &tickets)
-}
-
-/// The history of events that are known to be those of one.
-fn complete_history(alloc: Global, events: Vec<Event>) -> Result<History, AllocError>
-    requires few { length events.items ≤ MAX_EVENTS }
-    requires complete { IsCompleteHistory events.items }
-    ensures { IfOk result (λ whole. whole ≡ events.items) }
-{
-    match history(alloc, events) {
-        Ok(whole) => Ok(whole),
-        Err(HistoryFault::Memory) => Err(AllocError),
-        Err(_) => unreachable!("the events are those of a complete history"),
-    }
 }
 
 #[cfg(test)]

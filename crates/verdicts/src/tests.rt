@@ -97,10 +97,13 @@ fn history_of(rt: &impl Abort, alloc: Global, rows: &[Row]) -> Result<History, F
     Ok(history(alloc, events)?)
 }
 
-/// The matching of the operations, in which nothing is fresh or repeated.
-fn matching_of(rt: &impl Abort, alloc: Global, rows: &[Row]) -> Result<Matching, Fail> {
-    let history = history_of(rt, alloc, rows)?;
-    match match_values(alloc, &history)? {
+/// The matching of the history, in which nothing is fresh or repeated.
+fn matching_of<'a>(
+    rt: &impl Abort,
+    alloc: Global,
+    history: &'a History,
+) -> Result<Matching<'a>, Fail> {
+    match match_values(alloc, history)? {
         Matched::Clear(matching) => Ok(matching),
         Matched::Fresh(_) | Matched::Repeat(_) => panic!(rt; "the values are not clear"),
     }
@@ -268,9 +271,11 @@ fn names_what_violates(rt: HostRuntime) -> Result<(), Fail> {
 #[test]
 fn finds_overtaken_values(rt: HostRuntime) -> Result<(), Fail> {
     let alloc = rt.alloc();
-    let overlapping = matching_of(&rt, alloc, OVERLAPPING)?;
+    let history = history_of(&rt, alloc, OVERLAPPING)?;
+    let overlapping = matching_of(&rt, alloc, &history)?;
     assert_eq!(rt; find_order(alloc, &overlapping)?, None);
-    let overtaken = matching_of(&rt, alloc, OVERTAKEN)?;
+    let history = history_of(&rt, alloc, OVERTAKEN)?;
+    let overtaken = matching_of(&rt, alloc, &history)?;
     let pair = find_order(alloc, &overtaken)?.ok_or("no pair is found")?;
     assert_eq!(rt; (pair.enq_a.place(), pair.enq_b.place()), (0, 1));
     assert_eq!(rt; pair.deq_b.place(), 2);
@@ -281,7 +286,8 @@ fn finds_overtaken_values(rt: HostRuntime) -> Result<(), Fail> {
 #[test]
 fn finds_free_gaps(rt: HostRuntime) -> Result<(), Fail> {
     let alloc = rt.alloc();
-    let once_empty = matching_of(&rt, alloc, ONCE_EMPTY)?;
+    let history = history_of(&rt, alloc, ONCE_EMPTY)?;
+    let once_empty = matching_of(&rt, alloc, &history)?;
     match find_witness(alloc, &once_empty)? {
         WitnessAnswer::Gaps(gaps) => assert_eq!(rt; gaps.as_slice(), [4].as_slice()),
         WitnessAnswer::Covered { .. } => panic!(rt; "the window is not covered"),
@@ -296,7 +302,8 @@ fn finds_free_gaps(rt: HostRuntime) -> Result<(), Fail> {
 #[test]
 fn finds_covers(rt: HostRuntime) -> Result<(), Fail> {
     let alloc = rt.alloc();
-    let never_empty = matching_of(&rt, alloc, NEVER_EMPTY)?;
+    let history = history_of(&rt, alloc, NEVER_EMPTY)?;
+    let never_empty = matching_of(&rt, alloc, &history)?;
     match first_answer(alloc, &never_empty)?.ok_or("no answer is empty")? {
         GapAnswer::Free(_) => panic!(rt; "the window is covered"),
         GapAnswer::Covered(cover) => {

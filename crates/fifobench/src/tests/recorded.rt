@@ -1,9 +1,7 @@
 use super::run;
+use crate::shelf::built_ins;
 use history_text::{MemorySource, Watched, write_history};
-use queue_interface::{
-    ArrayBack, Doubling, Inventing, Lifo, LockedQueue, Losing, SegBack, Shy, TestQueue,
-    TwoLockQueue,
-};
+use queue_interface::{LockedQueue, TestQueue};
 use std::alloc::{AllocError, Global};
 use std::process::Abort;
 use std::str;
@@ -50,27 +48,29 @@ const UNSEEN: &str = "NO VWit\n8 9 0 empty\n6 7 0 enq 3\n";
 
 const INVENTED: &str = "NO VFresh\n6 7 0 deq 9223372036854775808\n";
 
-// Each of these queues but the first counts its calls: the recorder makes no call that it doesn't record.
-#[test]
-fn faulty_queues_are_reported(rt: HostRuntime) -> Result<(), Fail> {
-    let alloc = rt.alloc();
-    assert_verdict(&rt, &Lifo::new(alloc, rt), "EEDD\n", OVERTAKEN)?;
-    assert_verdict(&rt, &Doubling::new(alloc, rt), "EEEEDDDDD\n", DOUBLED)?;
-    assert_verdict(&rt, &Losing::new(alloc, rt), "EEEEEDDDDD\n", LOST)?;
-    assert_verdict(&rt, &Shy::new(alloc, rt), "DDDED\n", UNSEEN)?;
-    assert_verdict(&rt, &Inventing::new(alloc, rt), "DDDD\n", INVENTED)?;
-    Ok(())
-}
-
 const KEPT_IN_ORDER: &str = "YES\n0 1 0 enq 0\n2 3 0 deq 0\n";
 
+// Each faulty queue but the first counts its calls: the recorder makes no call that it doesn't record.
+const FOUND: [(&str, &str, &str); 9] = [
+    ("locked", "ED\n", KEPT_IN_ORDER),
+    ("two-lock", "ED\n", KEPT_IN_ORDER),
+    ("array", "ED\n", KEPT_IN_ORDER),
+    ("seg", "ED\n", KEPT_IN_ORDER),
+    ("lifo", "EEDD\n", OVERTAKEN),
+    ("doubling", "EEEEDDDDD\n", DOUBLED),
+    ("inventing", "DDDD\n", INVENTED),
+    ("shy", "DDDED\n", UNSEEN),
+    ("losing", "EEEEEDDDDD\n", LOST),
+];
+
 #[test]
-fn sound_queues_are_not_reported(rt: HostRuntime) -> Result<(), Fail> {
-    let alloc = rt.alloc();
-    assert_verdict(&rt, &LockedQueue::new(alloc, rt), "ED\n", KEPT_IN_ORDER)?;
-    assert_verdict(&rt, &TwoLockQueue::new(alloc, rt), "ED\n", KEPT_IN_ORDER)?;
-    assert_verdict(&rt, &ArrayBack::new(alloc, rt, 4)?, "ED\n", KEPT_IN_ORDER)?;
-    assert_verdict(&rt, &SegBack::new(alloc, rt)?, "ED\n", KEPT_IN_ORDER)?;
+fn queues_of_the_shelf_are_what_they_are_called(rt: HostRuntime) -> Result<(), Fail> {
+    let queues = built_ins(rt, rt.alloc())?;
+    assert_eq!(rt; queues.len(), FOUND.len());
+    for (queue, (name, plan, text)) in queues.iter().zip(FOUND) {
+        assert_eq!(rt; queue.name(), name);
+        assert_verdict(&rt, queue, plan, text)?;
+    }
     Ok(())
 }
 

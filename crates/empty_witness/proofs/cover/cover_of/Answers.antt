@@ -1,5 +1,6 @@
 use Rattle.std.proofs.Common.{◌<◌, arith, sym, subst}
 use Rattle.value_match.specs.Lives.{dequeue_call}
+use Rattle.value_match.specs.Longest.{EntersBefore, FindsLongest}
 use Rattle.empty_witness.specs.Covered.{NamesChosenCover}
 use Rattle.empty_witness.proofs.Walks.{no_steps_yet, next_is_found, found_longest, frontier_rises, one_more_step, cover_is_whole}
 use Rattle.empty_witness.proofs.cover.cover_of.Goals as goal
@@ -7,32 +8,35 @@ use Rattle.empty_witness.proofs.cover.cover_of.Goals as goal
 pub loop-frontier-init : goal.loop-frontier-init
 loop-frontier-init c =
     rw c.new-steps.ensures.items
-    (no_steps_yet c.args.matching.now c.values-values.result.now c.args.answer.now c.values-values.ensures.clear c.values-values.ensures.values c.requires.is_empty c.requires.covered)
+    (no_steps_yet c.args.matching.now c.values.result c.args.answer.now c.values.ensures.clear c.values.ensures.values c.requires.is_empty c.requires.covered)
 
 pub unwrap-value-requires : goal.unwrap-value-requires
 unwrap-value-requires c =
-    next_is_found c.args.matching.now c.values-values.result.now c.args.answer.now c.values-values.ensures.clear c.values-values.ensures.values c.requires.is_empty c.requires.covered
-    c.loop-frontier.steps.items c.loop-frontier.frontier c.next_of_cover.result c.loop-frontier.invariant c.loop-frontier-test.true c.next_of_cover.ensures
+    let finds = subst (λ values. FindsLongest (EntersBefore c.loop-frontier.frontier) values c.longest_before.result) c.in_ok-table.ensures c.longest_before.ensures in
+    next_is_found c.args.matching.now c.values.result c.args.answer.now c.values.ensures.clear c.values.ensures.values c.requires.is_empty c.requires.covered
+    c.loop-frontier.steps.items c.loop-frontier.frontier c.longest_before.result c.loop-frontier.invariant c.loop-frontier-test.true finds
 
 pub loop-frontier-smaller : goal.loop-frontier-smaller
 loop-frontier-smaller c =
     let value = c.unwrap-value.result in
-    let longest = found_longest c.values-values.result.now c.loop-frontier.frontier c.next_of_cover.result value c.next_of_cover.ensures c.unwrap-value.ensures in
+    let finds = subst (λ values. FindsLongest (EntersBefore c.loop-frontier.frontier) values c.longest_before.result) c.in_ok-table.ensures c.longest_before.ensures in
+    let longest = found_longest c.values.result c.loop-frontier.frontier c.longest_before.result value finds c.unwrap-value.ensures in
     let rises : c.loop-frontier.frontier < dequeue_call value.life =
-    frontier_rises c.args.matching.now c.values-values.result.now c.args.answer.now c.values-values.ensures.clear c.values-values.ensures.values c.requires.is_empty c.requires.covered
+    frontier_rises c.args.matching.now c.values.result c.args.answer.now c.values.ensures.clear c.values.ensures.values c.requires.is_empty c.requires.covered
     c.loop-frontier.steps.items c.loop-frontier.frontier value c.loop-frontier.invariant c.loop-frontier-test.true longest in
     omega (arith, c.dequeue_call-frontier.ensures)
 
 pub loop-frontier-preserved : goal.loop-frontier-preserved
 loop-frontier-preserved c =
     let value = c.unwrap-value.result in
-    let longest = found_longest c.values-values.result.now c.loop-frontier.frontier c.next_of_cover.result value c.next_of_cover.ensures c.unwrap-value.ensures in
+    let finds = subst (λ values. FindsLongest (EntersBefore c.loop-frontier.frontier) values c.longest_before.result) c.in_ok-table.ensures c.longest_before.ensures in
+    let longest = found_longest c.values.result c.loop-frontier.frontier c.longest_before.result value finds c.unwrap-value.ensures in
     rw (c.in_ok-push.ensures.items, c.dequeue_call-frontier.ensures)
-    (one_more_step c.args.matching.now c.values-values.result.now c.args.answer.now c.values-values.ensures.clear c.values-values.ensures.values c.requires.is_empty c.requires.covered
+    (one_more_step c.args.matching.now c.values.result c.args.answer.now c.values.ensures.clear c.values.ensures.values c.requires.is_empty c.requires.covered
     c.loop-frontier.steps.items c.loop-frontier.frontier value c.loop-frontier.invariant c.loop-frontier-test.true longest)
 
 pub returns : goal.returns
 returns c =
     subst (NamesChosenCover c.args.matching.now c.args.answer.now) (sym c.from_vec.ensures)
-    (cover_is_whole c.args.matching.now c.values-values.result.now c.args.answer.now c.values-values.ensures.clear c.values-values.ensures.values c.requires.is_empty c.requires.covered
+    (cover_is_whole c.args.matching.now c.values.result c.args.answer.now c.values.ensures.clear c.values.ensures.values c.requires.is_empty c.requires.covered
     c.loop-frontier.steps.items c.loop-frontier.frontier c.loop-frontier.invariant c.loop-frontier-test.false)

@@ -19,12 +19,12 @@ loop-empty-preserved c =
     let listed = is_listed operations c.empties-empty-items.result.now c.loop-empty.empty-index c.empty-item.result o c.empties-empty-items.ensures c.loop-empty-test.true c.empty-item.is c.answer_at.ensures.at in
     elim c.if-is_none.branch [
       | then-is_none w ↦
-          let covered = covered_if_none operations o c.least_free_gap.result c.least_free_gap.ensures (search rules) in
+          let covered = covered_if_none operations o c.least_free_gap.result (c.least_free_gap.ensures operations c.requires) (search rules) in
           subst (FindsFirstCovered operations seen) (sym w.first-is)
           (first_changes operations answers c.loop-empty.empty-index (record { place = c.empty-item.result; operation = o }) w.map_or.result found listed.0 listed.1 c.loop-empty.invariant c.answer_at.ensures.at c.answer_at.ensures.is_empty
           covered (search rules))
       | else-is_none w ↦
-          let not = not_covered_if_some operations o c.least_free_gap.result c.least_free_gap.ensures (search rules) in
+          let not = not_covered_if_some operations o c.least_free_gap.result (c.least_free_gap.ensures operations c.requires) (search rules) in
           subst (FindsFirstCovered operations seen) (sym w.first-is) (first_stays operations answers c.loop-empty.empty-index o found listed.0 listed.1 c.loop-empty.invariant not)
     ]
 

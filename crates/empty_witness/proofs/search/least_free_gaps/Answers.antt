@@ -11,13 +11,13 @@ unwrap-requires c =
     let operations = c.args.matching.now in
     let o = c.answer_at-answer.result in
     let listed = is_listed operations c.empties-empty-items.result.now c.loop-empty.empty-index c.empty-item.result o c.empties-empty-items.ensures c.loop-empty-test.true c.empty-item.is c.answer_at-answer.ensures.at in
-    gap_if_not_covered operations o c.least_free_gap.result c.least_free_gap.ensures (none_covered_at operations c.loop-empty.empty-index o c.requires listed.0 listed.1)
+    gap_if_not_covered operations o c.least_free_gap.result (c.least_free_gap.ensures operations c.requires.spans) (none_covered_at operations c.loop-empty.empty-index o c.requires.none listed.0 listed.1)
 
 pub loop-empty-preserved : goal.loop-empty-preserved
 loop-empty-preserved c =
     let operations = c.args.matching.now in
     let o = c.answer_at-answer.result in
     let listed = is_listed operations c.empties-empty-items.result.now c.loop-empty.empty-index c.empty-item.result o c.empties-empty-items.ensures c.loop-empty-test.true c.empty-item.is c.answer_at-answer.ensures.at in
-    let free = gap_found operations o c.least_free_gap.result c.unwrap.result c.least_free_gap.ensures c.unwrap.ensures in
+    let free = gap_found operations o c.least_free_gap.result c.unwrap.result (c.least_free_gap.ensures operations c.requires.spans) c.unwrap.ensures in
     rw c.in_ok-push.ensures.items
     (one_more_gap operations (filter is_empty_answer operations) c.loop-empty.gaps.items c.loop-empty.empty-index c.unwrap.result o listed.0 listed.1 c.loop-empty.invariant free)

@@ -1,21 +1,24 @@
-use Rattle.std.proofs.Common.{sym, ◌∙◌, refl, arith}
-use Rattle.rtrb.specs.Ring.{known_items}
-use Rattle.event_rings.proofs.Taking.{take_one, drop_one, grown_once}
+use Rattle.std.proofs.Common.{◌≡◌, ◌≤◌, ◌++◌, ◌+◌, length, take, ap, ◌∙◌, arith}
+use Rattle.rtrb.specs.Ring.{received, known_items}
+use Rattle.event_rings.proofs.Taking.{front_of, written_over}
 use Rattle.event_rings.proofs.drain_end.pop_into.Goals as goal
 
--- what is known is the event that was popped, and what is known afterwards
-pub loop-preserved : goal.loop-preserved
-loop-preserved c =
-    let i = c.loop.invariant in
-    let p = c.pop_known-noted.ensures in
-    let v = c.push_reserved.ensures in
-    let e = sym i.3 ∙ p.received.1 in
-    let taken = take_one c.loop.counter (known_items c.args.consumer.now) _ _ e in
-    let dropped = drop_one c.loop.counter (known_items c.args.consumer.now) _ _ e in (
-      ((p.ring.0.0 ∙ i.0.0.0, p.ring.0.1 ∙ i.0.0.1, p.ring.0.2 ∙ i.0.0.2, p.ring.0.3 ∙ i.0.0.3), p.ring.1 ∙ i.0.1),
-      grown_once _ _ _ _ _ _ _ v.items c.event.ensures i.1 taken,
-      grown_once _ _ _ _ _ _ _ p.received.0 refl i.2 taken,
-      sym dropped,
-      omega (arith, v.len, i.4),
-      v.capacity ∙ i.5,
-    )
+pub returns-clause-moved : goal.returns-clause-moved
+returns-clause-moved c =
+    let old = c.args.events.now.items in
+    let known = known_items c.args.consumer.now in
+    let popped = rw c.unwrap.ensures at c.pop_entire_slice.ensures.ok in
+    let long : length c.pop_entire_slice.new.slice ≡ c.args.count = grind arith in
+    let few : length c.pop_entire_slice.new.slice ≤ length known = omega (arith, long, c.requires) in
+    let taken : c.pop_entire_slice.new.slice ≡ take c.args.count known = front_of _ _ known _ popped.1.1 few ∙ ap (λ n. take n known) long in
+    let start : c.len-start.result ≡ length old = grind arith in
+    let more = c.len-start.result + c.args.count in
+    written_over old _ _ _ _ _ c.len-start.result more _ (c.deref_mut.ensures.value ∙ c.in_ok-resize.ensures.items) (omega (arith, start)) start (omega (arith, long, c.in_ok-resize.ensures.len)) ∙ ap (λ l. old ++ l) taken
+
+pub returns-clause-received : goal.returns-clause-received
+returns-clause-received c =
+    let known = known_items c.args.consumer.now in
+    let popped = rw c.unwrap.ensures at c.pop_entire_slice.ensures.ok in
+    let long : length c.pop_entire_slice.new.slice ≡ c.args.count = grind arith in
+    let few : length c.pop_entire_slice.new.slice ≤ length known = omega (arith, long, c.requires) in
+    popped.0 ∙ ap (λ l. received c.args.consumer.now ++ l) (front_of _ _ known _ popped.1.1 few ∙ ap (λ n. take n known) long)

@@ -1,4 +1,4 @@
-use Rattle.history_text.proofs.Claims.{evidence_within}
+use Rattle.verdicts.proofs.TrueClaims.{evidence_within}
 use Rattle.history_merge.specs.Operations.{operations_of}
 use Rattle.fifobench.proofs.shrink.shrink_history.Goals as goal
 

@@ -1,7 +1,7 @@
 use Rattle.std.proofs.Common.{inl, refl}
 use Rattle.history_merge.specs.Operations.{operations_of}
 use Rattle.history_text.specs.Verdicts.{claim_of}
-use Rattle.history_text.proofs.Claims.{evidence_within}
+use Rattle.verdicts.proofs.TrueClaims.{evidence_within}
 use Rattle.fifobench.specs.Judging.{IsVerdictClaim}
 use Rattle.fifobench.proofs.Played.{left_open_found, played_found, merges_to_complete, few_events}
 use Rattle.fifobench.proofs.sim.play.Goals as goal

@@ -1,5 +1,5 @@
 use Rattle.history_merge.specs.Operations.{operations_of}
-use Rattle.history_text.proofs.Claims.{evidence_within}
+use Rattle.verdicts.proofs.TrueClaims.{evidence_within}
 use Rattle.fifobench.proofs.stress.run_plan.Goals as goal
 
 pub returns-in-Ok-decide-clause-places : goal.returns-in-Ok-decide-clause-places

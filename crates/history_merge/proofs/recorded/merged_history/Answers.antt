@@ -2,5 +2,8 @@ use Rattle.std.proofs.Common.{arith}
 use Rattle.std.proofs.lemmas.List.Sorted.{length_permutation}
 use Rattle.history_merge.proofs.recorded.merged_history.Goals as goal
 
-pub history-requires : goal.history-requires
-history-requires c = omega (arith, length_permutation _ _ c.in_ok-events.ensures.holds_each_once, c.in_ok-events.events.ok.0, c.requires.few)
+pub complete_history-requires-clause-few : goal.complete_history-requires-clause-few
+complete_history-requires-clause-few c = omega (arith, length_permutation _ _ c.in_ok-merge.ensures.holds_each_once, c.requires.few)
+
+pub complete_history-requires-clause-complete : goal.complete_history-requires-clause-complete
+complete_history-requires-clause-complete c = c.requires.complete _ c.in_ok-merge.ensures

@@ -1,9 +1,10 @@
+use Rattle.std.proofs.Common.{◌-◌, length}
 use Rattle.std.proofs.Common.{vec_len}
-use Rattle.linearizer.proofs.Choosing.{IsOrderedSoFar}
+use Rattle.linearizer.proofs.Choosing.{IsSwept}
 use Rattle.linearizer.proofs.choice.put_in_order.Given as goal
 
-abbrev pub invariant-loop-remaining : goal.invariant-loop-remaining
-invariant-loop-remaining l = IsOrderedSoFar l.values l.ordered.items l.remaining.items
+abbrev pub invariant-loop-entries : goal.invariant-loop-entries
+invariant-loop-entries l = IsSwept l.values l.entries.items l.dequeues.items l.taken.items l.first_in l.first_out l.ordered.items
 
-abbrev pub decreases-loop-remaining : goal.decreases-loop-remaining
-decreases-loop-remaining l = vec_len l.remaining
+abbrev pub decreases-loop-entries : goal.decreases-loop-entries
+decreases-loop-entries l = length l.values - vec_len l.ordered

@@ -1,5 +1,6 @@
+use Rattle.linearizer.specs.Placement.{lives_at}
 use Rattle.linearizer.proofs.LeastEntries.{AreGapsFrom}
 use Rattle.linearizer.proofs.placing.enqueue_gaps.Given as goal
 
-abbrev pub invariant-loop-i : goal.invariant-loop-i
-invariant-loop-i l = AreGapsFrom l.values l.i l.least l.gaps.items
+abbrev pub invariant-loop-rank : goal.invariant-loop-rank
+invariant-loop-rank l = AreGapsFrom (lives_at l.matching l.order) l.rank l.least l.gaps.items

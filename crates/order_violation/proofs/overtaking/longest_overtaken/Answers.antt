@@ -1,19 +1,26 @@
-use Rattle.std.proofs.Common.{rules, subst, sym}
-use Rattle.value_match.specs.Longest.{FindsLongest}
+use Rattle.std.proofs.Common.{arith, subst, sym}
+use Rattle.value_match.specs.Longest.{EntersBefore, NonePasses, IsLongestOf, FindsLongest}
 use Rattle.order_violation.specs.Overtaking.{Overtakes}
-use Rattle.value_match.proofs.Longest.{longest_stays, longest_changes}
+use Rattle.order_violation.proofs.Scans.{none_overtaken, longest_is_overtaken, longest_is_not_overtaken}
 use Rattle.order_violation.proofs.overtaking.longest_overtaken.Goals as goal
-use Rattle.order_violation.proofs.overtaking.longest_overtaken.Goals.{then-overtakes, else-overtakes}
 
-pub loop-a-preserved : goal.loop-a-preserved
-loop-a-preserved c =
-    let values = c.args.values.now in
+pub returns-in_err-a : goal.returns-in_err-a
+returns-in_err-a c =
     let b = c.args.b.now in
-    let a = c.a-item.result in
-    let longest = c.loop-a.longest in
-    elim c.if-overtakes.branch [
-      | then-overtakes w ↦
-          subst (FindsLongest (Overtakes b) _) (sym w.longest-is) (longest_changes (Overtakes b) values _ a w.map_or.result longest c.loop-a-test.true c.a-item.is c.loop-a.invariant (search rules) (search rules))
-      | else-overtakes w ↦
-          subst (FindsLongest (Overtakes b) _) (sym w.longest-is) (longest_stays (Overtakes b) values _ a longest c.loop-a-test.true c.a-item.is c.loop-a.invariant (search rules))
-    ]
+    let values = c.args.table.now in
+    let none = subst (λ n. NonePasses (EntersBefore n) values) c.enqueue_call.ensures c.in_err-a.ensures in
+    subst (FindsLongest (Overtakes b) values) (sym c.from_residual.ensures) (none_overtaken values b none)
+
+pub returns-then-left-dequeue_call : goal.returns-then-left-dequeue_call
+returns-then-left-dequeue_call c =
+    let b = c.args.b.now in
+    let values = c.args.table.now in
+    let longest = subst (λ n. IsLongestOf (EntersBefore n) values c.in_ok-a.a) c.enqueue_call.ensures c.in_ok-a.ensures in
+    longest_is_overtaken values b c.in_ok-a.a longest (omega arith)
+
+pub returns-else-left-dequeue_call : goal.returns-else-left-dequeue_call
+returns-else-left-dequeue_call c =
+    let b = c.args.b.now in
+    let values = c.args.table.now in
+    let longest = subst (λ n. IsLongestOf (EntersBefore n) values c.in_ok-a.a) c.enqueue_call.ensures c.in_ok-a.ensures in
+    longest_is_not_overtaken values b c.in_ok-a.a longest (omega arith)

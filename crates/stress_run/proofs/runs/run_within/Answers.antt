@@ -9,13 +9,13 @@ use Rattle.stress_run.proofs.Finished.{in_order, ends_fresh, ready, keys, rings,
 use Rattle.stress_run.proofs.Recording.{are_recorded}
 use Rattle.stress_run.proofs.runs.run_within.Goals as goal
 
-pub new-requires-2-clause-order : goal.new-requires-2-clause-order
-new-requires-2-clause-order g c =
+pub with_room-requires-clause-order : goal.with_room-requires-clause-order
+with_room-requires-clause-order g c =
     let e = c.in_ok-rest.ensures in
     subst AreInOrder (sym e.ends) (in_order _ _ _ e.workers)
 
-pub new-requires-2-clause-fresh : goal.new-requires-2-clause-fresh
-new-requires-2-clause-fresh g c =
+pub with_room-requires-clause-fresh : goal.with_room-requires-clause-fresh
+with_room-requires-clause-fresh g c =
     let e = c.in_ok-rest.ensures in
     subst AreFresh (sym e.ends) (ends_fresh c.in_ok-rest.field-0.workers.items)
 

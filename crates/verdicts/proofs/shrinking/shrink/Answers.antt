@@ -23,9 +23,10 @@ returns c =
     let small = c.complete_history.result in
     let is = λ (small : List Event) (same : small ≡ selected). is_shrunk events violation selected small complete c.in_ok-selected.ensures same in
     record {
-      kept = IfOk-weaker small (λ s. s ≡ selected) _ (λ s same. (is s same).kept) c.complete_history.ensures;
-      same_violation = IfOk-weaker small (λ s. s ≡ selected) _ (λ s same. (is s same).same_violation) c.complete_history.ensures;
-      minimal = IfOk-weaker small (λ s. s ≡ selected) _ (λ s same. (is s same).minimal) c.complete_history.ensures;
-      shortest = IfOk-weaker small (λ s. s ≡ selected) _ (λ s same. has_shortest_cover (operations_of events) violation (events, complete, refl) c.requires) c.complete_history.ensures;
-      events = IfOk-weaker small (λ s. s ≡ selected) _ (λ s same. (is s same).part) c.complete_history.ensures;
+      kept = IfOk-weaker small (λ s. s ≡ selected) _ (λ s same. (is s same).kept) c.complete_history.ensures.events;
+      same_violation = IfOk-weaker small (λ s. s ≡ selected) _ (λ s same. (is s same).same_violation) c.complete_history.ensures.events;
+      minimal = IfOk-weaker small (λ s. s ≡ selected) _ (λ s same. (is s same).minimal) c.complete_history.ensures.events;
+      shortest = IfOk-weaker small (λ s. s ≡ selected) _ (λ s same. has_shortest_cover (operations_of events) violation (events, complete, refl) c.requires) c.complete_history.ensures.events;
+      events = IfOk-weaker small (λ s. s ≡ selected) _ (λ s same. (is s same).part) c.complete_history.ensures.events;
+      complete = c.complete_history.ensures.complete;
     }

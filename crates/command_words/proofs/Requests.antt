@@ -1,0 +1,37 @@
+-- What can be answered is a request, with its numbers in their ranges.
+use Rattle.std.proofs.Common.{◌≡◌, ◌≤◌, arith, inl, inr, ℕ, List, Option, Some, None, codes, unwrap_or, []}
+use Rattle.std.specs.Prelude.{IsSomeAnd}
+use Rattle.std.specs.Str.Parse.{digits_value, without_leading_plus}
+use Rattle.clap.specs.Values.{IsUnsignedIn}
+use Rattle.clap.specs.Walk.{Row, Text, first_of}
+use Rattle.command_words.specs.Commands.{IsAnswerable, IsInRange, request_named, request_of_subcommand}
+use Rattle.command_words.specs.Options.{HasNumber, HasSettings, IsWithinRanges, number_in, settings_in}
+
+-- the value of a text that is a number in a range
+bounded : (low high : ℕ) (o : Option Text) → IsSomeAnd o (IsUnsignedIn low high)
+    → (low ≤ digits_value 10 (without_leading_plus (unwrap_or o []))) × (digits_value 10 (without_leading_plus (unwrap_or o [])) ≤ high)
+bounded low high None h = absurd h
+bounded low high (Some text) h = (h.2, h.3)
+
+in_range : (id : Text) (low high : ℕ) (rows : List Row) → HasNumber id low high rows → (low ≤ number_in id rows) × (number_in id rows ≤ high)
+in_range id low high rows h = bounded low high (first_of id rows) h
+
+within_ranges : (rows : List Row) → HasSettings rows → IsWithinRanges (settings_in rows)
+within_ranges rows h = record {
+  threads = in_range (codes "threads") 1 16 rows h.threads;
+  operations = (in_range (codes "ops") 0 100000 rows h.operations).1;
+  seed = let seed = in_range (codes "seed") 0 4294967295 rows h.seed in omega (arith, seed.1);
+  percent = (in_range (codes "percent") 0 100 rows h.percent).1;
+  ring = in_range (codes "ring") 2 65536 rows h.ring;
+}
+
+named : (name : Text) (rows : List Row) → IsAnswerable (Some (name, rows)) → IsSomeAnd (request_named name rows) IsInRange
+named name rows (inl is) = rw is tt
+named name rows (inr (inl is)) = rw is tt
+named name rows (inr (inr (inl is))) = rw is tt
+named name rows (inr (inr (inr (inl is)))) = rw is tt
+named name rows (inr (inr (inr (inr stress)))) = rw stress.0 (within_ranges rows stress.1)
+
+pub answerable_is_asked : (met : Option (Text × List Row)) → IsAnswerable met → IsSomeAnd (request_of_subcommand met) IsInRange
+answerable_is_asked None h = absurd h
+answerable_is_asked (Some (name, rows)) h = named name rows h

@@ -1,0 +1,173 @@
+//! The answers about one history beside those of plain scans.
+
+use crate::plain_gaps::{PlainWitness, operation_at, plain_cover, plain_gap, plain_witness};
+use crate::plain_order::plain_linearization;
+use crate::plain_pairs::plain_pair;
+use empty_witness::{GapAnswer, WitnessAnswer, find_witness, gap_for};
+use history_merge::{History, OpId};
+use order_violation::{OrderPair, find_order};
+use std::alloc::{AllocError, Global};
+use std::process::Abort;
+use std::test::Fail;
+use value_match::{CoverStep, Matched, MatchedValue, Matching, Values, Violation, match_values};
+use verdicts::{Verdict, decide};
+
+/// The kinds of verdict.
+#[derive(Clone, Copy, Debug, PartialEq, Eq)]
+pub enum Kind {
+    Legal,
+    Fresh,
+    Repeat,
+    Order,
+    Witness,
+}
+
+/// What plain scans answer of a matching.
+#[derive(Drop)]
+enum Plain {
+    Legal(Vec<OpId>),
+    Order(OrderPair),
+    Witness(OpId, Vec<CoverStep>),
+}
+
+pub fn kind_of(verdict: &Verdict) -> Kind {
+    match verdict {
+        Verdict::Yes(_) => Kind::Legal,
+        Verdict::No(Violation::Fresh { .. }) => Kind::Fresh,
+        Verdict::No(Violation::Repeat { .. }) => Kind::Repeat,
+        Verdict::No(Violation::Order { .. }) => Kind::Order,
+        Verdict::No(Violation::Witness { .. }) => Kind::Witness,
+    }
+}
+
+/// Compares the answers about this history, and gives the kind of its verdict.
+pub fn compare(rt: &impl Abort, alloc: Global, history: &History) -> Result<Kind, Fail> {
+    let verdict = decide(alloc, history)?;
+    let kind = kind_of(&verdict);
+    match match_values(alloc, history)? {
+        Matched::Fresh(_) => assert_eq!(rt; kind, Kind::Fresh),
+        Matched::Repeat(_) => assert_eq!(rt; kind, Kind::Repeat),
+        Matched::Clear(matching) => compare_clear(rt, alloc, &matching, &verdict)?,
+    }
+    Ok(kind)
+}
+
+/// Compares the answers about the matching of a history.
+fn compare_clear(
+    rt: &impl Abort,
+    alloc: Global,
+    matching: &Matching,
+    verdict: &Verdict,
+) -> Result<(), Fail> {
+    let values = listed(alloc, matching)?;
+    let pair = plain_pair(&values);
+    assert_eq!(rt; find_order(alloc, matching)?, pair);
+    let witness = plain_witness(alloc, matching, &values)?;
+    let found = find_witness(alloc, matching)?;
+    assert!(rt; is_same_witness(&found, &witness));
+    compare_gaps(rt, alloc, matching, &values)?;
+    let plain = plain_answer(alloc, matching, &values, pair, witness)?;
+    assert!(rt; is_same_verdict(verdict, &plain));
+    Ok(())
+}
+
+/// The value at this place, if there is one.
+fn value_at(values: &Values, place: usize) -> Option<MatchedValue> {
+    if place < values.len() {
+        Some(values.get(place))
+    } else {
+        None
+    }
+}
+
+/// The accepted values.
+fn listed(alloc: Global, matching: &Matching) -> Result<Vec<MatchedValue>, AllocError> {
+    let values = matching.values();
+    (0..values.len())
+        .filter_map(|place| value_at(&values, place))
+        .collect(alloc)
+}
+
+/// The plain answer, from the pair and the gaps that plain scans found.
+fn plain_answer(
+    alloc: Global,
+    matching: &Matching,
+    values: &[MatchedValue],
+    pair: Option<OrderPair>,
+    witness: PlainWitness,
+) -> Result<Plain, Fail> {
+    if let Some(pair) = pair {
+        return Ok(Plain::Order(pair));
+    }
+    match witness {
+        PlainWitness::Covered(empty, cover) => Ok(Plain::Witness(empty, cover)),
+        PlainWitness::Gaps(gaps) => Ok(Plain::Legal(plain_linearization(
+            alloc, matching, values, &gaps,
+        )?)),
+    }
+}
+
+fn is_same_verdict(verdict: &Verdict, plain: &Plain) -> bool {
+    match (verdict, plain) {
+        (Verdict::Yes(order), Plain::Legal(places)) => order.as_slice() == places.as_slice(),
+        (
+            Verdict::No(
+                Violation::Order {
+                    enq_a,
+                    enq_b,
+                    deq_b,
+                    deq_a,
+                },
+            ),
+            Plain::Order(pair),
+        ) => {
+            *enq_a == pair.enq_a
+                && *enq_b == pair.enq_b
+                && *deq_b == pair.deq_b
+                && *deq_a == pair.deq_a
+        }
+        (Verdict::No(Violation::Witness { empty, cover }), Plain::Witness(plain_empty, steps)) => {
+            *empty == *plain_empty && cover.as_slice() == steps.as_slice()
+        }
+        _ => false,
+    }
+}
+
+fn is_same_witness(found: &WitnessAnswer, plain: &PlainWitness) -> bool {
+    match (found, plain) {
+        (WitnessAnswer::Gaps(gaps), PlainWitness::Gaps(plain_gaps)) => {
+            gaps.as_slice() == plain_gaps.as_slice()
+        }
+        (WitnessAnswer::Covered { empty, cover }, PlainWitness::Covered(plain_empty, steps)) => {
+            *empty == *plain_empty && cover.as_slice() == steps.as_slice()
+        }
+        _ => false,
+    }
+}
+
+/// Compares what is found of the window of each empty answer.
+fn compare_gaps(
+    rt: &impl Abort,
+    alloc: Global,
+    matching: &Matching,
+    values: &[MatchedValue],
+) -> Result<(), Fail> {
+    for empty in matching.empties() {
+        let found = gap_for(alloc, matching, *empty)?;
+        let answer = operation_at(matching, *empty)?;
+        match found {
+            GapAnswer::Free(gap) => {
+                assert_eq!(rt;
+                    plain_gap(matching.operations(), values, &answer),
+                    Some(gap)
+                );
+            }
+            GapAnswer::Covered(cover) => {
+                assert_eq!(rt; plain_gap(matching.operations(), values, &answer), None);
+                let steps = plain_cover(alloc, values, &answer)?.ok_or("no cover")?;
+                assert_eq!(rt; cover.as_slice(), steps.as_slice());
+            }
+        }
+    }
+    Ok(())
+}

@@ -1,0 +1,16 @@
+//! The answers of the sweeps beside those of plain scans over all values, on small histories of every kind, and one large
+//! history decided. The crate has tests alone.
+#![tactic(auto)]
+
+#[cfg(test)]
+mod comparing;
+#[cfg(test)]
+mod histories;
+#[cfg(test)]
+mod plain_gaps;
+#[cfg(test)]
+mod plain_order;
+#[cfg(test)]
+mod plain_pairs;
+#[cfg(test)]
+mod tests;

@@ -1,0 +1,130 @@
+//! Free gaps and covers, by scans of all values.
+
+use history_merge::{OpId, Operation};
+use std::alloc::{AllocError, Global};
+use std::test::Fail;
+use value_match::{CoverStep, Life, MatchedValue, Matching};
+
+/// Whether the value surely is in the queue at this gap.
+fn covers(life: &Life, gap: u64) -> bool {
+    life.enqueue_return() <= gap && gap < life.dequeue_call()
+}
+
+/// Whether no value surely is in the queue at this gap.
+fn is_free(values: &[MatchedValue], gap: u64) -> bool {
+    !values.iter().any(|value| covers(&value.life, gap))
+}
+
+/// The least free gap of a window, looked for at its call and at each ticket in it.
+pub fn plain_gap(
+    operations: &[Operation],
+    values: &[MatchedValue],
+    answer: &Operation,
+) -> Option<u64> {
+    let mut least: Option<u64> = None;
+    for operation in operations {
+        for gap in [answer.call, operation.call, operation.ret] {
+            let is_in = answer.call <= gap && gap < answer.ret;
+            if is_in && is_free(values, gap) && least.is_none_or(|least| gap < least) {
+                least = Some(gap);
+            }
+        }
+    }
+    least
+}
+
+/// Whether one value leaves after the other, or both never and it entered before the other.
+fn is_longer(life: &Life, other: &Life) -> bool {
+    let leaves = life.dequeue_call();
+    let other_leaves = other.dequeue_call();
+    other_leaves < leaves
+        || (other_leaves == leaves && life.enqueue_return() < other.enqueue_return())
+}
+
+/// The longer of two values, where there is one so far.
+fn longer_of(so_far: Option<MatchedValue>, value: MatchedValue) -> MatchedValue {
+    match so_far {
+        None => value,
+        Some(other) => {
+            if is_longer(&value.life, &other.life) {
+                value
+            } else {
+                other
+            }
+        }
+    }
+}
+
+/// Of the values that entered before the frontier the one that stays longest, of those that never leave the first.
+fn longest_before(values: &[MatchedValue], frontier: u64) -> Option<MatchedValue> {
+    let mut longest: Option<MatchedValue> = None;
+    for value in values {
+        if value.life.enqueue_return() < frontier {
+            longest = Some(longer_of(longest, *value));
+        }
+    }
+    longest
+}
+
+/// The cover of a window, value by value; none where it isn't covered.
+pub fn plain_cover(
+    alloc: Global,
+    values: &[MatchedValue],
+    answer: &Operation,
+) -> Result<Option<Vec<CoverStep>>, AllocError> {
+    let mut steps = Vec::new(alloc);
+    let mut frontier = answer.call;
+    for _ in values {
+        let Some(value) = longest_before(values, frontier) else {
+            return Ok(None);
+        };
+        steps.push(CoverStep {
+            enqueue: value.enqueue,
+            dequeue: value.dequeue,
+        })?;
+        frontier = value.life.dequeue_call();
+        if frontier > answer.ret {
+            return Ok(Some(steps));
+        }
+    }
+    Ok(None)
+}
+
+/// What plain scans find of all empty answers.
+#[derive(Drop)]
+pub enum PlainWitness {
+    /// The least free gap of each.
+    Gaps(Vec<u64>),
+    /// The covered one that returned first, with its cover.
+    Covered(OpId, Vec<CoverStep>),
+}
+
+/// The operation at a place of a history.
+pub fn operation_at(matching: &Matching, id: OpId) -> Result<Operation, Fail> {
+    Ok(*matching.operations().get(id.place()).ok_or("no operation")?)
+}
+
+/// The least free gap of each empty answer, or the covered one that returned first with its cover.
+pub fn plain_witness(
+    alloc: Global,
+    matching: &Matching,
+    values: &[MatchedValue],
+) -> Result<PlainWitness, Fail> {
+    let mut gaps = Vec::new(alloc);
+    let mut first: Option<(OpId, Operation)> = None;
+    for empty in matching.empties() {
+        let answer = operation_at(matching, *empty)?;
+        match plain_gap(matching.operations(), values, &answer) {
+            Some(gap) => gaps.push(gap)?,
+            None if first.is_none_or(|so_far| answer.ret < so_far.1.ret) => {
+                first = Some((*empty, answer));
+            }
+            None => {}
+        }
+    }
+    let Some((empty, answer)) = first else {
+        return Ok(PlainWitness::Gaps(gaps));
+    };
+    let cover = plain_cover(alloc, values, &answer)?.ok_or("no cover")?;
+    Ok(PlainWitness::Covered(empty, cover))
+}

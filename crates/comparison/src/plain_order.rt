@@ -1,0 +1,133 @@
+//! The chosen order of all operations: the choice among all remaining values at each step, and a sort by position.
+
+use history_merge::OpId;
+use std::alloc::{AllocError, Global};
+use value_match::{Life, MatchedValue, Matching};
+
+/// Where an operation stands: its gap, the class within the gap, and the rank within the class.
+type Position = (u64, u8, u64);
+
+/// When the value has surely entered.
+fn entered_by(life: &Life) -> u64 {
+    life.enqueue_return().min(life.dequeue_return())
+}
+
+/// Before which call it has not left.
+fn leaves_from(life: &Life) -> u64 {
+    life.dequeue_call().max(life.enqueue_call())
+}
+
+/// A value with its place among those that remain.
+type Placed = (usize, MatchedValue);
+
+/// The one of two values that has surely entered first.
+fn first_entered(so_far: Option<Placed>, next: Placed) -> Placed {
+    match so_far {
+        None => next,
+        Some(other) => {
+            if entered_by(&next.1.life) < entered_by(&other.1.life) {
+                next
+            } else {
+                other
+            }
+        }
+    }
+}
+
+/// The one of two values that is dequeued first.
+fn first_dequeued(so_far: Option<Placed>, next: Placed) -> Placed {
+    match so_far {
+        None => next,
+        Some(other) => {
+            if next.1.life.dequeue_return() < other.1.life.dequeue_return() {
+                next
+            } else {
+                other
+            }
+        }
+    }
+}
+
+/// The place of the next value among those that remain.
+fn choice(remaining: &[MatchedValue]) -> Option<usize> {
+    let mut first_in: Option<Placed> = None;
+    let mut first_out: Option<Placed> = None;
+    for (place, value) in remaining.iter().enumerate() {
+        first_in = Some(first_entered(first_in, (place, *value)));
+        first_out = Some(first_dequeued(first_out, (place, *value)));
+    }
+    let (a, a_value) = first_in?;
+    let (b, b_value) = first_out?;
+    if b_value.life.dequeue_return() < leaves_from(&a_value.life) {
+        Some(b)
+    } else {
+        Some(a)
+    }
+}
+
+/// The values in their chosen order.
+fn ordered(alloc: Global, values: &[MatchedValue]) -> Result<Vec<MatchedValue>, AllocError> {
+    let mut remaining = values.to_vec(alloc)?;
+    let mut order = Vec::new(alloc);
+    for _ in values {
+        let Some(next) = choice(&remaining) else {
+            break;
+        };
+        if next < remaining.len() {
+            order.push(remaining.remove(next))?;
+        }
+    }
+    Ok(order)
+}
+
+/// The gap just before the first of the values from this rank on has surely entered.
+fn entry_gap(order: &[MatchedValue], rank: usize) -> u64 {
+    let mut least = u64::MAX;
+    for value in order.iter().skip(rank) {
+        least = least.min(entered_by(&value.life));
+    }
+    least.saturating_sub(1)
+}
+
+/// The positions of the operations of the accepted values.
+fn value_positions(
+    alloc: Global,
+    order: &[MatchedValue],
+) -> Result<Vec<(Position, OpId)>, AllocError> {
+    let mut placed = Vec::new(alloc);
+    let mut left = 0;
+    for (rank, value) in order.iter().enumerate() {
+        let enqueue_gap = entry_gap(order, rank);
+        placed.push(((enqueue_gap, 2, rank as u64), value.enqueue))?;
+        left = leaves_from(&value.life).max(left);
+        let gap = left.max(enqueue_gap);
+        let class = if enqueue_gap < gap { 0 } else { 3 };
+        if let Some(dequeue) = value.dequeue {
+            placed.push(((gap, class, rank as u64), dequeue))?;
+        }
+    }
+    Ok(placed)
+}
+
+/// The chosen order of all operations, where each empty answer has its gap.
+pub fn plain_linearization(
+    alloc: Global,
+    matching: &Matching,
+    values: &[MatchedValue],
+    gaps: &[u64],
+) -> Result<Vec<OpId>, AllocError> {
+    let order = ordered(alloc, values)?;
+    let mut placed = value_positions(alloc, &order)?;
+    for (id, gap) in matching.empties().iter().zip(gaps) {
+        if let Some(operation) = matching.operations().get(id.place()) {
+            placed.push(((*gap, 1, operation.call), *id))?;
+        }
+    }
+    for id in matching.refused() {
+        if let Some(operation) = matching.operations().get(id.place()) {
+            placed.push(((operation.call, 1, operation.call), *id))?;
+        }
+    }
+    placed.sort_by_key(|placed| placed.0)?;
+    placed.iter().map(|placed| placed.1).collect(alloc)
+}

@@ -1,0 +1,44 @@
+//! Values dequeued against the order of their enqueues, by a scan of all pairs.
+
+use order_violation::OrderPair;
+use value_match::MatchedValue;
+
+/// Whether b overtakes a.
+fn overtakes(a: &MatchedValue, b: &MatchedValue) -> bool {
+    a.life.enqueue_return() < b.life.enqueue_call()
+        && b.dequeue.is_some()
+        && b.life.dequeue_return() < a.life.dequeue_call()
+}
+
+/// Whether one pair is chosen before the other: by the dequeue of b, then by that of a, then by the enqueue of a.
+fn is_before(pair: &(MatchedValue, MatchedValue), other: &(MatchedValue, MatchedValue)) -> bool {
+    let left = pair.1.life.dequeue_return();
+    let other_left = other.1.life.dequeue_return();
+    let stays = pair.0.life.dequeue_call();
+    let other_stays = other.0.life.dequeue_call();
+    left < other_left
+        || (left == other_left
+            && (other_stays < stays
+                || (stays == other_stays
+                    && pair.0.life.enqueue_return() < other.0.life.enqueue_return())))
+}
+
+/// The chosen pair, by a scan of all pairs.
+pub fn plain_pair(values: &[MatchedValue]) -> Option<OrderPair> {
+    let mut chosen: Option<(MatchedValue, MatchedValue)> = None;
+    for a in values {
+        for b in values {
+            let pair = (*a, *b);
+            if overtakes(a, b) && chosen.is_none_or(|so_far| is_before(&pair, &so_far)) {
+                chosen = Some(pair);
+            }
+        }
+    }
+    let (a, b) = chosen?;
+    Some(OrderPair {
+        enq_a: a.enqueue,
+        enq_b: b.enqueue,
+        deq_b: b.dequeue?,
+        deq_a: a.dequeue,
+    })
+}

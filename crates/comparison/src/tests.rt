@@ -1,0 +1,73 @@
+use crate::comparing::{Kind, compare, kind_of};
+use crate::histories::{Lies, MOST_OPERATIONS, honest_history, seeded_history};
+use event_records::MAX_THREAD_OPERATIONS;
+use std::alloc::Global;
+use std::process::Abort;
+use std::test::Fail;
+use verdicts::decide;
+
+/// The histories of each rate of lies.
+const SEEDS: u64 = 100;
+
+/// The least number of histories of each kind.
+const ENOUGH: u32 = 15;
+
+/// How many histories had which answer.
+#[derive(Clone, Copy, Debug, PartialEq, Eq)]
+struct Met {
+    legal: u32,
+    fresh: u32,
+    repeat: u32,
+    order: u32,
+    witness: u32,
+}
+
+impl Met {
+    fn count(&mut self, kind: Kind) {
+        match kind {
+            Kind::Legal => self.legal = self.legal.saturating_add(1),
+            Kind::Fresh => self.fresh = self.fresh.saturating_add(1),
+            Kind::Repeat => self.repeat = self.repeat.saturating_add(1),
+            Kind::Order => self.order = self.order.saturating_add(1),
+            Kind::Witness => self.witness = self.witness.saturating_add(1),
+        }
+    }
+}
+
+/// Compares the answers about the histories with this rate of lies, and counts them.
+fn compare_all(rt: &impl Abort, alloc: Global, lies: Lies, met: &mut Met) -> Result<(), Fail> {
+    for seed in 0..SEEDS {
+        let history = seeded_history(alloc, seed, lies)?;
+        assert!(rt; history.operations().len() as u64 <= MOST_OPERATIONS);
+        met.count(compare(rt, alloc, &history)?);
+    }
+    Ok(())
+}
+
+#[test]
+fn sweeps_answer_as_plain_scans(rt: HostRuntime) -> Result<(), Fail> {
+    let mut met = Met {
+        legal: 0,
+        fresh: 0,
+        repeat: 0,
+        order: 0,
+        witness: 0,
+    };
+    for lies in [0, 1, 2, 3, 5] {
+        compare_all(&rt, rt.alloc(), Lies(lies), &mut met)?;
+    }
+    assert!(rt; met.legal >= ENOUGH, "{met:?}");
+    assert!(rt; met.fresh >= ENOUGH, "{met:?}");
+    assert!(rt; met.repeat >= ENOUGH, "{met:?}");
+    assert!(rt; met.order >= ENOUGH, "{met:?}");
+    assert!(rt; met.witness >= ENOUGH, "{met:?}");
+    Ok(())
+}
+
+#[test]
+fn a_large_history_is_legal(rt: HostRuntime) -> Result<(), Fail> {
+    let history = honest_history(rt.alloc(), MAX_THREAD_OPERATIONS)?;
+    assert_eq!(rt; history.operations().len(), 400_000);
+    assert_eq!(rt; kind_of(&decide(rt.alloc(), &history)?), Kind::Legal);
+    Ok(())
+}

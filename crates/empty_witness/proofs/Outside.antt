@@ -1,0 +1,92 @@
+-- The least gap outside of spans, and what it tells of a window.
+use Rattle.std.proofs.Common.{◌≡◌, ◌≢◌, ℕ, ◌-◌, ◌<◌, ◌≤◌, ◌⊎◌, max, Bool, true, false, List, length, get_or, Option, refl, sym, ap, subst, inl, inr, arith, leb, ltb}
+use Rattle.std.specs.Prelude.{MatchOption}
+use Rattle.std.specs.Bool.{then_some}
+use Rattle.std.specs.List.Sorted.{IsNonDecreasingBy, IsPartitionPoint}
+use Rattle.std.proofs.lemmas.Bool.{ltb-true, ltb-false, leb-true, leb-false}
+use Rattle.std.proofs.lemmas.List.{get_or_default}
+use Rattle.std.proofs.lemmas.List.Elements.{Contains-get_or}
+use Rattle.history_merge.specs.declared.operation.Operation.{Operation}
+use Rattle.value_match.specs.Lives.{IsFreeGap, IsCovered, IsLeastFreeGap}
+use Rattle.empty_witness.specs.declared.spans.Span.{Span}
+use Rattle.empty_witness.specs.Spans.{Holds, AreApart, AreSpansOf, IsFirstOutside}
+
+-- the starts of spans that are apart rise
+pub starts_rise : (spans : List Span) → AreApart spans → IsNonDecreasingBy (λ span. span.start) spans
+starts_rise spans are i j d le within =
+    let cases : (i < j) ⊎ (i ≡ j) = grind arith in
+    elim cases [
+      | inl less ↦
+          let some = are.hold_some i d (omega arith) in
+          let after = are.apart i j d less within in
+          omega arith
+      | inr same ↦ subst (λ k. (get_or spans i d).start ≤ (get_or spans k d).start) same (omega arith)
+    ]
+
+module _ (spans : List Span) (from begun : ℕ) (point : IsPartitionPoint (λ span. leb span.start from ≡ true) (λ span. leb span.start from ≡ false) spans begun) where
+  has_begun : (k : ℕ) (d : Span) → k < begun → (get_or spans k d).start ≤ from
+  has_begun k d before = leb-true _ _ (point.0 k d (omega arith) before)
+
+  begins_later : (k : ℕ) (d : Span) → begun ≤ k → k < length spans → from < (get_or spans k d).start
+  begins_later k d after within = leb-false _ _ (point.1 k d after within)
+
+  -- where no span has begun
+  pub none_begun : begun ≡ 0 → IsFirstOutside spans from from
+  none_begun none = record {
+    no_less = omega arith;
+    outside = λ lies.
+        let later = begins_later lies.1.0 lies.0 (omega arith) lies.1.1 in
+        let is = ap (λ (s : Span). s.start) lies.1.2 in
+        omega (arith, lies.2.0);
+    least = λ b above below. absurd (omega arith);
+  }
+
+  -- by the last span that has begun
+  pub after_last_begun : (d : Span) (c : ℕ) → AreApart spans → begun ≢ 0 → begun ≤ length spans → c ≡ max (get_or spans (begun - 1) d).end from → IsFirstOutside spans from c
+  after_last_begun d c are some inside is = record {
+    no_less = omega arith;
+    outside = λ lies. not_at lies.1.0 lies.0 lies.1.1 (subst (λ s. Holds s c) (sym lies.1.2) lies.2);
+    least = λ b above below. (get_or spans (begun - 1) d, Contains-get_or spans (begun - 1) d (omega arith), within b above below);
+  }
+    where
+      within : (b : ℕ) → from ≤ b → b < c → Holds (get_or spans (begun - 1) d) b
+      within b above below = let first = has_begun (begun - 1) d (omega arith) in (omega arith, omega arith)
+
+      not_at : (k : ℕ) (e : Span) → k < length spans → Holds (get_or spans k e) c → ⊥
+      not_at k e inside' holds =
+          let first = has_begun (begun - 1) e (omega arith) in
+          let ends = ap (λ (s : Span). s.end) (get_or_default spans (begun - 1) d e (omega arith)) in
+          let cases : (k < begun - 1) ⊎ ((k ≡ begun - 1) ⊎ (begun - 1 < k)) = grind arith in
+          elim cases [
+            | inl before ↦ let apart = are.apart k (begun - 1) e before (omega arith) in omega (arith, holds.1)
+            | inr (inl here) ↦ let late = subst (λ m. c < (get_or spans m e).end) here holds.1 in omega arith
+            | inr (inr after) ↦
+                let apart = are.apart (begun - 1) k e after inside' in
+                let later = begins_later k e (omega arith) inside' in
+                omega (arith, holds.0)
+          ]
+
+module _ (operations : List Operation) (spans : List Span) (o : Operation) (gap : ℕ) (are : AreSpansOf operations spans) (is : IsFirstOutside spans o.call gap) where
+  -- inside of the window it is the least free gap
+  free_in_window : gap < o.ret → IsLeastFreeGap operations o gap
+  free_in_window below = record {
+    in_window = (is.no_less, below);
+    is_free = λ life is_life covers. is.outside ((are.cover gap).1 (life, is_life, covers));
+    least = λ other window free. no_lesser other window.0 free;
+  }
+    where
+      no_lesser : (other : ℕ) → o.call ≤ other → IsFreeGap operations other → gap ≤ other
+      no_lesser other above free =
+          let cases : (gap ≤ other) ⊎ (other < gap) = grind arith in
+          elim cases [ inl le ↦ le | inr less ↦ let life = (are.cover other).0 (is.least other above less) in absurd (free life.0 life.1 life.2) ]
+
+  -- past the window, the window is covered
+  covered_to : o.ret ≤ gap → IsCovered operations o
+  covered_to past c window = (are.cover c).0 (is.least c window.0 (omega (arith, window.1)))
+
+  pub gap_of_window : (found : Option ℕ) → found ≡ then_some (ltb gap o.ret) gap → MatchOption found (IsCovered operations o) (λ c. IsLeastFreeGap operations o c)
+  gap_of_window found same = subst (λ found. MatchOption found (IsCovered operations o) (λ c. IsLeastFreeGap operations o c)) (sym same) (go (ltb gap o.ret) (λ yes. ltb-true gap o.ret yes) (λ no. ltb-false gap o.ret no))
+    where
+      go : (b : Bool) → (b ≡ true → gap < o.ret) → (b ≡ false → o.ret ≤ gap) → MatchOption (then_some b gap) (IsCovered operations o) (λ c. IsLeastFreeGap operations o c)
+      go true below past = free_in_window (below refl)
+      go false below past = covered_to (past refl)

@@ -1,0 +1,43 @@
+-- Spans of gaps, and those of the gaps at which some value surely is in the queue.
+use Rattle.std.specs.Prelude.{◌↔◌, ℕ, ◌<◌, ◌≤◌, nat_lt, Bool, List, All, AllPairs, Contains}
+use Rattle.history_merge.specs.declared.operation.Operation.{Operation}
+use Rattle.value_match.specs.declared.life.Life.{Life}
+use Rattle.value_match.specs.Lives.{IsLife, Covers, enqueue_return, dequeue_call}
+use Rattle.empty_witness.specs.declared.spans.Span.{Span}
+
+-- the gap lies in the span
+abbrev pub Holds : Span → ℕ → Type 0
+Holds span c = (span.start ≤ c) × (c < span.end)
+
+-- some gap lies in the span
+abbrev pub holds_some : Span → Bool
+holds_some span = nat_lt span.start span.end
+
+-- the gap lies in one of the spans
+abbrev pub LiesIn : List Span → ℕ → Type 0
+LiesIn spans c = (span : Span) × Contains spans span × Holds span c
+
+-- some gap lies in each span, and each ends strictly below the starts of those after it
+pub record AreApart (spans : List Span) : Type 0 where
+  pub hold_some : All (λ span. span.start < span.end) spans
+  pub apart : AllPairs (λ x y. x.end < y.start) spans
+
+-- the spans are apart, and hold the same gaps as these
+pub record AreJoined (stays spans : List Span) : Type 0 where
+  pub apart : AreApart spans
+  pub same : (c : ℕ) → LiesIn stays c ↔ LiesIn spans c
+
+-- the gaps at which the value surely is in the queue
+abbrev pub stay_of : Life → Span
+stay_of life = record { start = enqueue_return life; end = dequeue_call life }
+
+-- the spans are apart, and a gap lies in one exactly where some value surely is in the queue
+pub record AreSpansOf (operations : List Operation) (spans : List Span) : Type 0 where
+  pub apart : AreApart spans
+  pub cover : (c : ℕ) → LiesIn spans c ↔ ((life : Life) × IsLife operations life × Covers life c)
+
+-- the least gap from this one on that lies in no span
+pub record IsFirstOutside (spans : List Span) (from c : ℕ) : Type 0 where
+  pub no_less : from ≤ c
+  pub outside : ¬ (LiesIn spans c)
+  pub least : (b : ℕ) → from ≤ b → b < c → LiesIn spans b

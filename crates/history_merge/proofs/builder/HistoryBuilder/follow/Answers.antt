@@ -1,0 +1,26 @@
+use Rattle.std.proofs.Common.{◌≡◌, ◌∷◌, [], sym, refl, ◌∙◌, arith, subst, Some, None, length-append}
+use Rattle.history_merge.specs.Faults.{fault_at}
+use Rattle.history_merge.proofs.FirstFaults.{may_follow}
+use Rattle.history_merge.proofs.MetFaults.{met_fault-push, no_fault-push}
+use Rattle.history_merge.proofs.builder.HistoryBuilder.follow.Goals as goal
+
+pub returns-in-Some-clause-judged : goal.returns-in-Some-clause-judged
+returns-in-Some-clause-judged c = λ events known few.
+    let e = c.args.event in
+    let note = c.in_ok-repeats.ensures events e refl known.called (c.operations.ensures events known.formed) in
+    let fault = sym (c.fault_of.ensures.fault events known.tracked note.0) ∙ c.in-Some.is in
+    met_fault-push events e c.in-Some.fault (subst (λ n. fault_at events n e ≡ Some c.in-Some.fault) known.count fault) known.no_fault
+
+pub returns-clause-judged : goal.returns-clause-judged
+returns-clause-judged c = λ events known few.
+    let e = c.args.event in
+    let note = c.in_ok-repeats.ensures events e refl known.called (c.operations.ensures events known.formed) in
+    let none = sym (c.fault_of.ensures.fault events known.tracked note.0) ∙ c.in_default.is in
+    let fits = (may_follow events _ e none).fits in
+    record {
+      tracked = c.add-2.ensures events known.tracked;
+      called = note.1;
+      formed = c.in_ok-add.ensures events fits known.formed;
+      count = simp length-append (omega (arith, known.count, few, c.saturating_add-self.ensures));
+      no_fault = no_fault-push events e (subst (λ n. fault_at events n e ≡ None) known.count none) known.no_fault;
+    }

@@ -1,0 +1,53 @@
+-- Operations of events behind which more may come.
+use Rattle.std.specs.Prelude.{◌≡◌, ℕ, suc, Bool, true, false, MatchOption, List, [], ◌∷◌, Option, Some, None, find, nat_eq, if◌then◌else◌}
+use Rattle.std.specs.Option.{option_map_or}
+use Rattle.std.specs.List.{list_any}
+use Rattle.event_records.specs.declared.event.Event.{Event}
+use Rattle.event_records.specs.declared.event.What.{What}
+use Rattle.event_records.specs.declared.event.What.TheVariants.{CallEnq, RetNot, RetDeq}
+use Rattle.event_records.specs.Turns.{is_call, answers}
+use Rattle.history_merge.specs.declared.operation.Operation.{Operation}
+use Rattle.history_merge.specs.declared.operation.OpKind.{OpKind}
+use Rattle.history_merge.specs.declared.operation.OpKind.TheVariants.{Enq, Deq, Empty, Not}
+use Rattle.history_merge.specs.Operations.{enqueued_value}
+
+-- the event may come next in its thread: a call where none is pending, else the answer of the pending one
+abbrev pub FitsTurn : Option Event → Event → Type 0
+FitsTurn pending e = MatchOption pending (is_call e.what ≡ true) (λ call. answers call.what e.what ≡ true)
+
+-- what an operation counts as while it is pending: an enqueue as accepted, a dequeue as empty
+abbrev pub begun : What → OpKind
+begun (CallEnq v) = Enq v
+begun _ = Empty
+
+-- what it did, when the answer is there
+abbrev pub answered : OpKind → What → OpKind
+answered (Enq v) RetNot = Not v
+answered Empty (RetDeq v) = Deq v
+answered kind _ = kind
+
+-- the operation of a call, and of the next event of its thread if there is one; while there is none its return is 0
+abbrev pub operation_so_far : Event → Option Event → Operation
+operation_so_far call None = record { call = call.ticket; ret = 0; thread = call.thread; kind = begun call.what }
+operation_so_far call (Some answer) = record { call = call.ticket; ret = answer.ticket; thread = call.thread; kind = answered (begun call.what) answer.what }
+
+-- the operations of all calls, in their order
+abbrev pub operations_so_far : List Event → List Operation
+operations_so_far [] = []
+operations_so_far (e ∷ later) =
+    (if is_call e.what then operation_so_far e (find (λ r. nat_eq r.thread e.thread) later) ∷ operations_so_far later else operations_so_far later)
+
+-- the call of this thread behind which no event of the thread comes, with its place among the operations
+abbrev pub waiting : ℕ → List Event → Option (ℕ × Event)
+waiting thread [] = None
+waiting thread (e ∷ later) = elim (waiting thread later) [
+  | Some found ↦ Some ((if is_call e.what then suc found.0 else found.0), found.1)
+  | None ↦ elim (find (λ r. nat_eq r.thread thread) later) [
+    | Some r ↦ None
+    | None ↦ (if nat_eq e.thread thread then (if is_call e.what then Some (0, e) else None) else None)
+  ]
+]
+
+-- whether one of the operations called to enqueue this value
+abbrev pub is_called_in : List Operation → ℕ → Bool
+is_called_in operations v = list_any (λ o. option_map_or (λ w. nat_eq w v) (enqueued_value o.kind) false) operations

@@ -1,0 +1,108 @@
+//! The values that calls had so far.
+ghost use Rattle.std.specs.Prelude.{◌≡◌, ◌/◌, ◌%◌, ◌^◌, ℕ, List, [], ◌∷◌, ◌++◌, Some, None, IfOk};
+ghost use Rattle.std.specs.Ordering.{nat_cmp};
+ghost use Rattle.std.specs.BTreeSet.{contains};
+ghost use Rattle.event_records.specs.declared.event.Event.{Event};
+ghost use Rattle.history_merge.specs.Complete.{called_value};
+ghost use Rattle.history_merge.specs.Faults.{repeats_value, was_called};
+ghost use Rattle.history_merge.specs.Forming.{is_called_in, operations_so_far};
+ghost use Rattle.history_merge.specs.Gathering.{KnowsCalled};
+
+use crate::operation::Operation;
+use event_records::What;
+use std::alloc::{AllocError, Global};
+use std::collections::BTreeSet;
+
+/// The values that calls had so far.
+///
+/// A recorder names its values, the thread in the upper half of the bits, and those of one name rise; as long as they do, one
+/// number for each name tells that a value is new. From the first value on that doesn't rise they stand in a set.
+#[derive(Drop)]
+pub struct CalledValues {
+    alloc: Global,
+    least: [u64; 64],
+    others: Option<BTreeSet<u64>>,
+}
+
+impl CalledValues {
+    pub fn new(alloc: Global) -> CalledValues
+        ensures { KnowsCalled [] result }
+    {
+        CalledValues {
+            alloc,
+            least: [0; 64],
+            others: None,
+        }
+    }
+
+    /// Whether the event calls with a value that an earlier one called with; its value is noted. The operations are those of
+    /// the events before.
+    pub fn note(&mut self, what: What, operations: &[Operation]) -> Result<bool, AllocError>
+        ensures { (events : List Event) (e : Event) → e.what ≡ what → KnowsCalled events self.old → operations.now ≡ operations_so_far events
+            → IfOk result (λ repeats. (repeats ≡ repeats_value events e) × KnowsCalled (events ++ e ∷ []) self.new) }
+    {
+        match called_value(what) {
+            Some(value) => self.note_value(value, operations),
+            None => Ok(false),
+        }
+    }
+
+    #[inline(always)]
+    fn note_value(&mut self, value: u64, operations: &[Operation]) -> Result<bool, AllocError>
+        ensures { (events : List Event) (e : Event) → called_value e.what ≡ Some value → KnowsCalled events self.old → operations.now ≡ operations_so_far events
+            → IfOk result (λ repeats. (repeats ≡ was_called events value) × KnowsCalled (events ++ e ∷ []) self.new) }
+    {
+        match &mut self.others {
+            Some(values) => Ok(!values.insert(value)?),
+            None => self.note_rising(value, operations),
+        }
+    }
+
+    /// The same, as long as the values rise.
+    #[inline(always)]
+    fn note_rising(&mut self, value: u64, operations: &[Operation]) -> Result<bool, AllocError>
+        requires { self.old.others ≡ None }
+        ensures { (events : List Event) (e : Event) → called_value e.what ≡ Some value → KnowsCalled events self.old → operations.now ≡ operations_so_far events
+            → IfOk result (λ repeats. (repeats ≡ was_called events value) × KnowsCalled (events ++ e ∷ []) self.new) }
+    {
+        let name = name_in(value);
+        if self.least[name] <= value && value < u64::MAX {
+            self.least[name] = value + 1;
+            return Ok(false);
+        }
+        let mut values = values_of(self.alloc, operations)?;
+        let is_new = values.insert(value)?;
+        self.others = Some(values);
+        Ok(!is_new)
+    }
+}
+
+/// The thread, of 64, in the upper half of a value's bits.
+fn name_in(value: u64) -> usize
+    ensures { result ≡ value / 2 ^ 32 % 64 }
+{
+    (value / 4_294_967_296 % 64) as usize
+}
+
+/// The value that a call enqueues.
+fn called_value(what: What) -> Option<u64>
+    ensures { result ≡ called_value what }
+{
+    match what {
+        What::CallEnq(value) => Some(value),
+        _ => None,
+    }
+}
+
+/// The values of the calls of these operations.
+fn values_of(alloc: Global, operations: &[Operation]) -> Result<BTreeSet<u64>, AllocError>
+    ensures { IfOk result (λ values. (v : ℕ) → contains nat_cmp values v ≡ is_called_in operations.now v) }
+{
+    let mut values = BTreeSet::new(alloc);
+    for operation in operations {
+        if let Some(value) = operation.kind.enqueued_value() {
+            values.insert(value)?;
+        }
+    }
+    Ok(values)
+}

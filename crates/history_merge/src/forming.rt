@@ -1,0 +1,121 @@
+//! Operations of events behind which more may come.
+ghost use Rattle.std.specs.Prelude.{◌≡◌, ◌≤◌, true, false, List, [], ◌∷◌, ◌++◌, Some, None, IfOk};
+ghost use Rattle.event_records.specs.declared.event.Event.{Event};
+ghost use Rattle.event_records.specs.Turns.{is_call};
+ghost use Rattle.history_merge.specs.Faults.{pending_call};
+ghost use Rattle.history_merge.specs.Forming as judged;
+ghost use Rattle.history_merge.specs.Forming.{FitsTurn, operations_so_far};
+ghost use Rattle.history_merge.specs.Gathering.{HasFormed};
+
+use crate::matching::is_call;
+use crate::operation::{OpKind, Operation};
+use event_records::{Event, MAX_THREAD, What};
+use std::alloc::{AllocError, Global};
+
+/// The operations of the events so far, by call; and where that of each thread's last call stands.
+#[derive(Drop)]
+pub struct Forming {
+    operations: Vec<Operation>,
+    places: [usize; 64],
+}
+
+impl Forming {
+    pub fn new(alloc: Global) -> Forming
+        ensures { HasFormed [] result }
+    {
+        Forming {
+            operations: Vec::new(alloc),
+            places: [0; 64],
+        }
+    }
+
+    /// The operations; of one that is pending the return is 0, and it counts as accepted or as empty.
+    pub fn operations(&self) -> &[Operation]
+        ensures { (events : List Event) → HasFormed events self.now → result.now ≡ operations_so_far events }
+    {
+        self.operations.as_slice()
+    }
+
+    pub fn into_operations(self) -> Vec<Operation>
+        ensures { (events : List Event) → HasFormed events self → result.items ≡ operations_so_far events }
+    {
+        let Forming {
+            operations,
+            places: _places,
+        } = self;
+        operations
+    }
+
+    /// Goes on past an event that may come next in its thread.
+    #[inline(always)]
+    pub fn add(&mut self, event: Event) -> Result<(), AllocError>
+        requires { event.thread ≤ MAX_THREAD }
+        ensures { (events : List Event) → FitsTurn (pending_call event.thread events) event → HasFormed events self.old → IfOk result (λ _. HasFormed (events ++ event ∷ []) self.new) }
+    {
+        if is_call(event.what) {
+            self.call(event)
+        } else {
+            self.answer(event);
+            Ok(())
+        }
+    }
+
+    /// Goes on past a call, of a thread that has none pending.
+    #[inline(always)]
+    fn call(&mut self, event: Event) -> Result<(), AllocError>
+        requires { event.thread ≤ MAX_THREAD }
+        ensures { (events : List Event) → is_call event.what ≡ true → pending_call event.thread events ≡ None → HasFormed events self.old → IfOk result (λ _. HasFormed (events ++ event ∷ []) self.new) }
+    {
+        let place = self.operations.len();
+        self.operations.push(Operation {
+            call: event.ticket,
+            ret: 0,
+            thread: event.thread,
+            kind: begun(event.what),
+        })?;
+        self.places[usize::from(event.thread)] = place;
+        Ok(())
+    }
+
+    /// Goes on past the return of its thread's pending call.
+    #[inline(always)]
+    fn answer(&mut self, event: Event)
+        requires { event.thread ≤ MAX_THREAD }
+        ensures { (events : List Event) (call : Event) → is_call event.what ≡ false → pending_call event.thread events ≡ Some call → HasFormed events self.old → HasFormed (events ++ event ∷ []) self.new }
+    {
+        let place = self.places[usize::from(event.thread)];
+        if place >= self.operations.len() {
+            return;
+        }
+        let pending = self.operations[place];
+        self.operations[place] = Operation {
+            call: pending.call,
+            ret: event.ticket,
+            thread: pending.thread,
+            kind: answered(pending.kind, event.what),
+        };
+    }
+}
+
+/// What an operation counts as while it is pending: an enqueue as accepted, a dequeue as empty.
+#[inline(always)]
+fn begun(call: What) -> OpKind
+    ensures { result ≡ judged.begun call }
+{
+    match call {
+        What::CallEnq(value) => OpKind::Enq(value),
+        _ => OpKind::Empty,
+    }
+}
+
+/// What it did, when the answer is there.
+#[inline(always)]
+fn answered(kind: OpKind, answer: What) -> OpKind
+    ensures { result ≡ judged.answered kind answer }
+{
+    match (kind, answer) {
+        (OpKind::Enq(value), What::RetNot) => OpKind::Not(value),
+        (OpKind::Empty, What::RetDeq(value)) => OpKind::Deq(value),
+        _ => kind,
+    }
+}

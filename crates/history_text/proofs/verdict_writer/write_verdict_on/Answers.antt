@@ -1,0 +1,20 @@
+use Rattle.std.proofs.lemmas.Result.{on_ok_weaker, on_err_weaker}
+use Rattle.history_text.proofs.Appending.{puts_all, puts_front}
+use Rattle.history_text.proofs.Asking.{written_then, refused_then}
+use Rattle.history_text.proofs.verdict_writer.write_verdict_on.Goals as goal
+
+pub returns-clause-ok : goal.returns-clause-ok
+returns-clause-ok g c =
+    let put = c.in_ok-put_verdict.ensures.ok in
+    on_ok_weaker c.write_piece.result (puts_all _ _ _ _ _ put) (rw c.as_slice.ensures at c.write_piece.ensures.ok)
+
+pub returns-clause-err : goal.returns-clause-err
+returns-clause-err g c =
+    let put = c.in_ok-put_verdict.ensures.ok in
+    on_err_weaker c.write_piece.result (puts_front _ _ _ _ _ put) (rw c.as_slice.ensures at c.write_piece.ensures.err)
+
+pub returns-clause-written : goal.returns-clause-written
+returns-clause-written g c = on_ok_weaker c.write_piece.result (written_then g.W.TextSink.goes _ _ _ c.in_ok-put_verdict.ensures.written) c.write_piece.ensures.written
+
+pub returns-clause-stopped : goal.returns-clause-stopped
+returns-clause-stopped g c = on_err_weaker c.write_piece.result (refused_then g.W.TextSink.goes _ _ _ c.in_ok-put_verdict.ensures.written) c.write_piece.ensures.stopped

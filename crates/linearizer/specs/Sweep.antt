@@ -1,0 +1,36 @@
+-- The values by their times, and those of them that are left.
+use Rattle.std.specs.Prelude.{◌≡◌, ℕ, ◌<◌, ◌≤◌, ◌⊎◌, Bool, true, false, List, All, Contains, IsSomeAnd, Some, length, slice_get, take}
+use Rattle.std.specs.List.Sorted.{IsNonDecreasingBy}
+use Rattle.value_match.specs.declared.life.Life.{Life}
+use Rattle.value_match.specs.declared.life.MatchedValue.{MatchedValue}
+use Rattle.value_match.specs.Lives.{leaves_from}
+use Rattle.linearizer.specs.declared.timed.Timed.{Timed}
+
+-- the time is this number of the value at the place
+abbrev pub IsTimeOf : (Life → ℕ) → List MatchedValue → Timed → Type 0
+IsTimeOf number values timed = IsSomeAnd (slice_get values timed.place) (λ m. timed.time ≡ number m.life)
+
+-- each value by its time and its place, by times that never fall
+pub record AreByTime (number : Life → ℕ) (values : List MatchedValue) (entries : List Timed) : Type 0 where
+  pub never_falls : IsNonDecreasingBy (λ timed. timed.time) entries
+  pub are_timed : All (IsTimeOf number values) entries
+  pub has_each : (place : ℕ) → place < length values → (timed : Timed) × Contains entries timed × (timed.place ≡ place)
+
+-- the value is taken already, the value is left
+abbrev pub IsTaken : List Bool → Timed → Type 0
+IsTaken taken timed = slice_get taken timed.place ≡ Some true
+
+abbrev pub IsLeft : List Bool → Timed → Type 0
+IsLeft taken timed = slice_get taken timed.place ≡ Some false
+
+-- the first entry whose value is left
+pub record IsFirstLeft (entries : List Timed) (taken : List Bool) (i : ℕ) : Type 0 where
+  pub entry : Timed
+  pub is_at : slice_get entries i ≡ Some entry
+  pub is_left : IsLeft taken entry
+  pub before : All (IsTaken taken) (take i entries)
+
+-- the place of the second value, where that was dequeued before the first can have left, else that of the first
+abbrev pub TakesOneOf : List MatchedValue → Timed → Timed → ℕ → Type 0
+TakesOneOf values first_in first_out place =
+    (m : MatchedValue) → slice_get values first_in.place ≡ Some m → ((first_out.time < leaves_from m.life) × (place ≡ first_out.place)) ⊎ ((leaves_from m.life ≤ first_out.time) × (place ≡ first_in.place))

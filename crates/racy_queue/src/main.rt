@@ -1,0 +1,89 @@
+//! A queue that breaks the order only where threads overlap: runs of it are judged, one seed after another, until a verdict
+//! is a no.
+//!
+//! `racy_queue [WORKERS [SEEDS]]`: how many workers run, each in a thread of its own, and how many seeds are tried, from 1 on.
+//! Of the first run whose verdict is a no the history is written with its verdict, and then the history that shows the
+//! violation alone, with its verdict too: texts that `fifobench` reads. The status is 1 then, and 0 where no run shows one.
+#![tactic(auto)]
+
+mod sized_apart;
+
+use anyhow::{Error, Result, anyhow, bail};
+use history_merge::History;
+use history_text::{Watched, WriteFault, write_history, write_verdict};
+use sized_apart::SizedApart;
+use std::alloc::Global;
+use std::process::ExitCode;
+use std::{env, io};
+use stress_run::run;
+use verdicts::{Verdict, decide, shrink};
+use workloads::{MAX_WORKERS, Plan};
+
+/// How many workers run where nothing else is told.
+const WORKERS: u64 = 4;
+
+/// How many seeds are tried where nothing else is told.
+const SEEDS: u64 = 100;
+
+/// How many operations each worker makes.
+const OPERATIONS: usize = 4000;
+
+/// How many of a hundred operations are enqueues: fewer than half, so that the queue is often empty or nearly so.
+const PERCENT: u8 = 40;
+
+/// For how many events the ring of each worker has room.
+const RING: usize = 1024;
+
+/// How often a push into a full ring is tried.
+const TRIES: u32 = 1_000_000;
+
+/// The number that a word tells, or another one where there is no word.
+fn number_or(word: Option<String>, other: u64) -> Result<u64> {
+    match word {
+        Some(word) => Ok(word.parse::<u64>()?),
+        None => Ok(other),
+    }
+}
+
+/// Whether a history shows a violation. If so, it is written with its verdict, and then what shows the violation alone.
+#[tactic(auto, using(history_text::proofs::Claims::evidence_within))]
+fn shows_violation<R: Print>(rt: &R, alloc: Global, history: &History) -> Result<bool> {
+    let verdict = decide(alloc, history)?;
+    let Verdict::No(violation) = &verdict else {
+        return Ok(false);
+    };
+    let small = shrink(alloc, history, violation)?;
+    let small_verdict = decide(alloc, &small)?;
+    let mut output = Watched::new(io::writer(rt));
+    write_history(history, &mut output).map_err(unwritten)?;
+    write_verdict(history, &verdict, &mut output).map_err(unwritten)?;
+    write_history(&small, &mut output).map_err(unwritten)?;
+    write_verdict(&small, &small_verdict, &mut output).map_err(unwritten)?;
+    Ok(true)
+}
+
+/// What is said where standard output takes no more.
+fn unwritten(_: WriteFault) -> Error {
+    anyhow!("the texts can't be written")
+}
+
+fn main(rt: HostRuntime) -> Result<ExitCode> {
+    let mut words = env::args(&rt)?.skip(1);
+    let workers = number_or(words.next(), WORKERS)?;
+    let seeds = number_or(words.next(), SEEDS)?;
+    if !(1..=MAX_WORKERS as u64).contains(&workers) {
+        bail!("a run has 1 to {MAX_WORKERS} workers");
+    }
+    let alloc = rt.alloc();
+    for seed in 1..=seeds {
+        let plan = Plan::from_seed(alloc, seed, workers as usize, OPERATIONS, PERCENT)?;
+        let queue = SizedApart::new(alloc, rt);
+        let recorded = run(&rt, alloc, &queue, &plan, RING, TRIES)?;
+        if shows_violation(&rt, alloc, &recorded.history(alloc)?)? {
+            eprintln!(&rt; "seed {seed} of {seeds} shows a violation")?;
+            return Ok(ExitCode::FAILURE);
+        }
+    }
+    println!(&rt; "no violation in {seeds} runs")?;
+    Ok(ExitCode::SUCCESS)
+}

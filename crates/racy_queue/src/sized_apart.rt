@@ -1,0 +1,57 @@
+//! The tested queue: its size is counted apart from the list.
+use event_records::{AnsweredDeq, AnsweredEnq, AskDeq, AskEnq};
+use queue_interface::TestQueue;
+use std::alloc::Global;
+use std::collections::VecDeque;
+use std::sync::atomic::{AtomicU64, Ordering};
+use std::sync::{Mutex, Wait};
+
+/// A list under a lock, and its size beside it.
+#[derive(Drop)]
+pub struct SizedApart<R: Wait + Drop> {
+    rt: R,
+    values: Mutex<VecDeque<u64>>,
+    size: AtomicU64,
+}
+
+impl<R: Wait + Drop> SizedApart<R> {
+    /// An empty queue. Its memory grows with its values.
+    pub fn new(alloc: Global, rt: R) -> SizedApart<R> {
+        SizedApart {
+            rt,
+            values: Mutex::new(VecDeque::new(alloc)),
+            size: AtomicU64::new(0),
+        }
+    }
+}
+
+impl<R: Wait + Drop + Send + Sync> TestQueue for SizedApart<R> {
+    ghost use Rattle.queue_interface.specs.Answers.{AnswersInKind};
+
+    // Any answer of the question's kind.
+    ghost may = { λ _. AnswersInKind };
+
+    fn enqueue(&self, ask: AskEnq) -> AnsweredEnq {
+        let taken = self.values.lock(&self.rt).push_back(ask.value()).is_ok();
+        if taken {
+            self.size.fetch_add(1, Ordering::SeqCst);
+            ask.taken()
+        } else {
+            ask.not_taken()
+        }
+    }
+
+    fn dequeue(&self, ask: AskDeq) -> AnsweredDeq {
+        if self.size.load(Ordering::SeqCst) == 0 {
+            return ask.empty();
+        }
+        let got = self.values.lock(&self.rt).pop_front();
+        match got {
+            Some(value) => {
+                self.size.fetch_sub(1, Ordering::SeqCst);
+                ask.got(value)
+            }
+            None => ask.empty(),
+        }
+    }
+}

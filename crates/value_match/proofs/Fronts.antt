@@ -1,0 +1,211 @@
+-- Values in the order of their enqueues' returns, and the longest of each front.
+use Rattle.std.proofs.Common.{◌≡◌, ℕ, ◌+◌, ◌<◌, ◌≤◌, ◌⊎◌, true, false, List, [], ◌∷◌, ◌++◌, length, get_or, take, Option, Some, None, refl, sym, ◌∙◌, ap, subst, inl, inr, arith, below_more, rules}
+use Rattle.std.specs.Prelude.{All, Contains, MatchOption, IfSome}
+use Rattle.std.specs.List.Sorted.{IsNonDecreasingBy, IsPermutation, IsPartitionPoint}
+use Rattle.std.proofs.Math.ListN.{set}
+use Rattle.std.proofs.lemmas.Bool.{ltb-true, ltb-false}
+use Rattle.std.proofs.lemmas.List.{get_or-map, get_or-take, get_or-set_other, get_or-set_same, get_or_default, length-map, length-set, length-take-le, map-append, take_all, take_more}
+use Rattle.std.proofs.lemmas.List.Elements.{All-nil, All-push, All-get_or, All-from_get_or}
+use Rattle.std.proofs.lemmas.List.Sorted.{All-permutation, Contains-permutation, IsPermutation-map, IsPermutation-sym}
+use lib.Dec.{ltb}
+use Rattle.history_merge.specs.declared.operation.OpKind.TheVariants.{Empty}
+use Rattle.value_match.specs.declared.life.MatchedValue.{MatchedValue}
+use Rattle.value_match.specs.declared.table.Front.{Front}
+use Rattle.value_match.specs.Lives.{enqueue_return}
+use Rattle.value_match.specs.Choice.{StaysAtLeast}
+use Rattle.value_match.specs.Longest.{EntersBefore, IsLongerOf, IsLongestOf, NonePasses, FindsLongest}
+use Rattle.value_match.specs.Fronts.{IsEntryOf, values_at, IsByReturn, Any, IsFrontAt, HasFronts, IsTableOf}
+use Rattle.value_match.proofs.Longest.{longest_changes}
+
+-- where there is no value, and no front
+abbrev nobody : MatchedValue
+nobody = record { life = record { enqueue = record { call = 0; ret = 0; thread = 0; kind = Empty }; dequeue = None }; enqueue = 0; dequeue = None }
+
+abbrev pub nowhere : Front
+nowhere = record { enqueue_return = 0; place = 0 }
+
+-- the value, with its place
+abbrev entry_of : MatchedValue → ℕ → Front
+entry_of x n = record { enqueue_return = enqueue_return x.life; place = n }
+
+-- the returns and places of the first n values
+pub record ListsValues (values : List MatchedValue) (n : ℕ) (entries : List Front) : Type 0 where
+  pub names : All (IsEntryOf values) entries
+  pub each_once : (d : MatchedValue) → values_at values entries d ≡ take n values
+
+-- with the next value
+pub lists_more : (values : List MatchedValue) (n : ℕ) (x : MatchedValue) (entries : List Front) → n < length values → x ≡ get_or values n x → ListsValues values n entries → ListsValues values (n + 1) (entries ++ entry_of x n ∷ [])
+lists_more values n x entries within is known = record {
+  names = All-push (IsEntryOf values) entries (entry_of x n) known.names
+      (record { within = within; returns = λ d. ap (λ (v : MatchedValue). enqueue_return v.life) (is ∙ get_or_default values n x d within) });
+  each_once = λ d.
+      map-append (λ (e : Front). get_or values e.place d) entries (entry_of x n ∷ [])
+      ∙ ap (λ (l : List MatchedValue). l ++ get_or values n d ∷ []) (known.each_once d) ∙ sym (take_more values n d within);
+}
+
+-- all of them, sorted
+pub sorted_by_return : (values : List MatchedValue) (n : ℕ) (listed entries : List Front) → length values ≤ n → ListsValues values n listed → IsPermutation listed entries → IsNonDecreasingBy (λ e. e.enqueue_return) entries → IsByReturn values entries
+sorted_by_return values n listed entries all known moved rises = record {
+  names = All-permutation (IsEntryOf values) listed entries moved known.names;
+  each_once = λ d.
+      subst (λ (vs : List MatchedValue). IsPermutation vs (values_at values entries d)) (known.each_once d ∙ take_all n values all) (IsPermutation-map (λ (e : Front). get_or values e.place d) listed entries moved);
+  rises = rises;
+}
+
+-- the value at the place, if there is one
+abbrev value_at : List MatchedValue → MatchedValue → Option ℕ → Option MatchedValue
+value_at values d None = None
+value_at values d (Some p) = Some (get_or values p d)
+
+-- the first n entries name the longest of their front, and the others are as they were
+pub record HasSoFar (values : List MatchedValue) (entries : List Front) (n : ℕ) (fronts : List Front) (so_far : Option ℕ) : Type 0 where
+  pub one_each : length fronts ≡ length entries
+  pub each : (i : ℕ) → i < n → (f : Front) → IsFrontAt values entries i (get_or fronts i f)
+  pub others : (i : ℕ) → n ≤ i → (f : Front) → get_or fronts i f ≡ get_or entries i f
+  pub within : IfSome so_far (λ p. p < length values)
+  pub longest : (d : MatchedValue) → FindsLongest Any (take n (values_at values entries d)) (value_at values d so_far)
+
+pub none_so_far : (values : List MatchedValue) (entries : List Front) → HasSoFar values entries 0 entries None
+none_so_far values entries = record {
+  one_each = refl;
+  each = λ i less f. absurd (omega arith);
+  others = λ i after f. refl;
+  within = search rules;
+  longest = λ d. All-nil (λ value. ¬ (Any value.life));
+}
+
+longer_at : (values : List MatchedValue) (d : MatchedValue) (so_far : Option ℕ) (place p : ℕ) → MatchOption so_far (p ≡ place) (λ q. IsLongerOf (get_or values q d) (get_or values place d) (get_or values p d))
+    → MatchOption (value_at values d so_far) (get_or values p d ≡ get_or values place d) (λ a. IsLongerOf a (get_or values place d) (get_or values p d))
+longer_at values d None place p same = ap (λ q. get_or values q d) same
+longer_at values d (Some q) place p longer = longer
+
+-- with the next entry
+pub one_more_front : (values : List MatchedValue) (entries : List Front) (n p : ℕ) (e : Front) (fronts : List Front) (so_far : Option ℕ) → n < length fronts → e ≡ get_or fronts n e → HasSoFar values entries n fronts so_far
+    → p < length values → ((d : MatchedValue) → MatchOption so_far (p ≡ e.place) (λ q. IsLongerOf (get_or values q d) (get_or values e.place d) (get_or values p d)))
+    → HasSoFar values entries (n + 1) (set fronts n (record e { place = p })) (Some p)
+one_more_front values entries n p e fronts so_far inside read known within longer = record {
+  one_each = length-set fronts n front ∙ known.one_each;
+  each = below_more (λ i. (f : Front) → IsFrontAt values entries i (get_or (set fronts n front) i f)) n before last;
+  others = λ i after f. get_or-set_other fronts n i front f (omega arith) ∙ known.others i (omega arith) f;
+  within = within;
+  longest = stays_longest;
+}
+  where
+    front : Front
+    front = record { enqueue_return = e.enqueue_return; place = p }
+
+    below : n < length entries
+    below = omega (arith, known.one_each)
+
+    is : e ≡ get_or entries n e
+    is = read ∙ known.others n (omega arith) e
+
+    stays_longest : (d : MatchedValue) → IsLongestOf Any (take (n + 1) (values_at values entries d)) (get_or values p d)
+    stays_longest d =
+        let order = values_at values entries d in
+        let x = get_or values e.place d in
+        let many = length-map entries (λ (e : Front). get_or values e.place d) in
+        let here : x ≡ get_or order n x = sym (get_or-map (λ (e : Front). get_or values e.place d) entries n e x below ∙ ap (λ (e : Front). get_or values e.place d) (sym is)) in
+        longest_changes Any order n x (get_or values p d) (value_at values d so_far) (omega (arith, many)) here (known.longest d) tt (longer_at values d so_far e.place p (longer d))
+
+    is_front : IsFrontAt values entries n front
+    is_front = record {
+      returns = λ e'. ap (λ (e : Front). e.enqueue_return) (is ∙ get_or_default entries n e e' below);
+      within = within;
+      longest = stays_longest;
+    }
+
+    last : (f : Front) → IsFrontAt values entries n (get_or (set fronts n front) n f)
+    last f = subst (IsFrontAt values entries n) (sym (get_or-set_same fronts n front f inside)) is_front
+
+    before : (i : ℕ) → i < n → (f : Front) → IsFrontAt values entries i (get_or (set fronts n front) i f)
+    before i less f = subst (IsFrontAt values entries i) (sym (get_or-set_other fronts n i front f (omega arith))) (known.each i less f)
+
+-- all of them
+pub all_fronts : (values : List MatchedValue) (entries fronts : List Front) (n : ℕ) (so_far : Option ℕ) → length fronts ≤ n → HasSoFar values entries n fronts so_far → HasFronts values entries fronts
+all_fronts values entries fronts n so_far all known = record { one_each = known.one_each; each = λ i less f. known.each i (omega (arith, known.one_each)) f }
+
+pub fronts_rise : (values : List MatchedValue) (fronts : List Front) → IsTableOf values fronts → IsNonDecreasingBy (λ f. f.enqueue_return) fronts
+fronts_rise values fronts table i j f le inside =
+    let upper : j < length table.0 = omega (arith, table.2.one_each) in
+    let lower : i < length table.0 = omega arith in
+    let here = (table.2.each i lower f).returns nowhere in
+    let there = (table.2.each j upper f).returns nowhere in
+    let rises = table.1.rises i j nowhere le upper in
+    omega arith
+
+pub longest_within : (values : List MatchedValue) (fronts : List Front) (i : ℕ) (front : Front) → IsTableOf values fronts → i < length fronts → front ≡ get_or fronts i front → front.place < length values
+longest_within values fronts i front table inside is = subst (λ (f : Front). f.place < length values) (sym is) (table.2.each i (omega (arith, table.2.one_each)) front).within
+
+-- what the fronts tell of the values that entered before a limit, where the first i of them returned before it
+module _ (values : List MatchedValue) (fronts : List Front) (limit i : ℕ) (table : IsTableOf values fronts)
+    (point : IsPartitionPoint (λ (f : Front). ltb f.enqueue_return limit ≡ true) (λ (f : Front). ltb f.enqueue_return limit ≡ false) fronts i) (within : i ≤ length fronts) where
+  counted : (d : MatchedValue) → length (values_at values table.0 d) ≡ length fronts
+  counted d = length-map table.0 (λ (e : Front). get_or values e.place d) ∙ sym table.2.one_each
+
+  return_at : (d e : MatchedValue) (k : ℕ) (f : Front) → k < length fronts → (get_or fronts k f).enqueue_return ≡ enqueue_return (get_or (values_at values table.0 d) k e).life
+  return_at d e k f inside =
+      let below : k < length table.0 = omega (arith, table.2.one_each) in
+      (table.2.each k below f).returns nowhere ∙ (All-get_or (IsEntryOf values) table.0 k nowhere below table.1.names).returns d
+      ∙ ap (λ (v : MatchedValue). enqueue_return v.life) (sym (get_or-map (λ (e : Front). get_or values e.place d) table.0 k nowhere e below))
+
+  enters : (d e : MatchedValue) (k : ℕ) → k < i → EntersBefore limit (get_or (values_at values table.0 d) k e).life
+  enters d e k less =
+      let yes = ltb-true (get_or fronts k nowhere).enqueue_return limit (point.0 k nowhere (omega arith) less) in
+      omega (arith, yes, return_at d e k nowhere (omega arith))
+
+  enters_not : (d e : MatchedValue) (k : ℕ) → i ≤ k → k < length fronts → ¬ (EntersBefore limit (get_or (values_at values table.0 d) k e).life)
+  enters_not d e k after inside less =
+      let no = ltb-false (get_or fronts k nowhere).enqueue_return limit (point.1 k nowhere after inside) in
+      omega (arith, no, less, return_at d e k nowhere inside)
+
+  pub none_before : i ≡ 0 → NonePasses (EntersBefore limit) values
+  none_before none =
+      let order = values_at values table.0 nobody in
+      All-permutation (λ v. ¬ (EntersBefore limit v.life)) order values (IsPermutation-sym values order (table.1.each_once nobody))
+      (All-from_get_or (λ v. ¬ (EntersBefore limit v.life)) order nobody (λ k inside. enters_not nobody nobody k (omega arith) (omega (arith, counted nobody))))
+
+  pub longest_found : (last : ℕ) (front : Front) (d : MatchedValue) → last + 1 ≡ i → front ≡ get_or fronts last front → IsLongestOf (EntersBefore limit) values (get_or values front.place d)
+  longest_found last front d is here = record {
+    among = Contains-permutation order values value back among;
+    passes = subst (λ (v : MatchedValue). EntersBefore limit v.life) same (enters d value k less);
+    longest = All-permutation (λ other. EntersBefore limit other.life → StaysAtLeast value.life other.life) order values back
+        (All-from_get_or (λ other. EntersBefore limit other.life → StaysAtLeast value.life other.life) order d stays);
+  }
+    where
+      order : List MatchedValue
+      order = values_at values table.0 d
+
+      value : MatchedValue
+      value = get_or values front.place d
+
+      back : IsPermutation order values
+      back = IsPermutation-sym values order (table.1.each_once d)
+
+      is_longest : IsLongestOf Any (take i order) value
+      is_longest =
+          let front_at = (table.2.each last (omega (arith, table.2.one_each)) front).longest d in
+          subst (λ n. IsLongestOf Any (take n order) value) is (subst (λ (f : Front). IsLongestOf Any (take (last + 1) order) (get_or values f.place d)) (sym here) front_at)
+
+      k : ℕ
+      k = is_longest.among.0
+
+      less : k < i
+      less = omega (arith, is_longest.among.1, length-take-le i order (omega (arith, counted d)))
+
+      same : get_or order k value ≡ value
+      same = sym (get_or-take i order k value less) ∙ is_longest.among.2
+
+      among : Contains order value
+      among = (k, omega (arith, less, counted d), same)
+
+      stays : (j : ℕ) → j < length order → EntersBefore limit (get_or order j d).life → StaysAtLeast value.life (get_or order j d).life
+      stays j inside passes =
+          let cases : (j < i) ⊎ (i ≤ j) = grind arith in
+          elim cases [
+            | inl before ↦
+                let seen : j < length (take i order) = omega (arith, length-take-le i order (omega (arith, counted d))) in
+                subst (λ (v : MatchedValue). StaysAtLeast value.life v.life) (get_or-take i order j d before)
+                (All-get_or (λ other. Any other.life → StaysAtLeast value.life other.life) (take i order) j d seen is_longest.longest tt)
+            | inr after ↦ absurd (enters_not d d j after (omega (arith, counted d)) passes)
+          ]

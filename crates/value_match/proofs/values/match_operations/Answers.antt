@@ -1,0 +1,22 @@
+use Rattle.std.proofs.Common.{sym, subst}
+use Rattle.std.proofs.lemmas.Option.{MatchOption-at_some}
+use Rattle.value_match.specs.Sources.{HoldsSources, HoldsTakers, IsTakenTwice}
+use Rattle.value_match.proofs.MatchedDequeues.{clear_from_takers, dequeues_by_enqueues, sources_in_range}
+use Rattle.value_match.proofs.values.match_operations.Goals as goal
+
+pub takers_of-requires : goal.takers_of-requires
+takers_of-requires c =
+    let holds = subst (HoldsSources c.args.operations.now) (sym c.as_slice-2.ensures.value) c.in_ok-sources.ensures in
+    sources_in_range _ _ c.in_default.ensures holds
+
+pub matching_of-requires-clause-clear : goal.matching_of-requires-clause-clear
+matching_of-requires-clause-clear c =
+    let holds = subst (HoldsSources c.args.operations.now) (sym c.as_slice-2.ensures.value) c.in_ok-sources.ensures in
+    let taken = MatchOption-at_some (IsTakenTwice c.as_slice-2.result.now) (λ takers. HoldsTakers c.as_slice-2.result.now takers.items) c.in-Some-2.dequeues c.in-Some-2.is c.in_ok-dequeues.ensures in
+    clear_from_takers _ _ _ c.requires.complete c.in_default.ensures holds taken
+
+pub matching_of-requires-clause-dequeues : goal.matching_of-requires-clause-dequeues
+matching_of-requires-clause-dequeues c =
+    let holds = subst (HoldsSources c.args.operations.now) (sym c.as_slice-2.ensures.value) c.in_ok-sources.ensures in
+    let taken = MatchOption-at_some (IsTakenTwice c.as_slice-2.result.now) (λ takers. HoldsTakers c.as_slice-2.result.now takers.items) c.in-Some-2.dequeues c.in-Some-2.is c.in_ok-dequeues.ensures in
+    rw c.as_slice-in-Some-2.ensures.value (dequeues_by_enqueues _ _ _ c.requires.complete c.in_default.ensures holds taken)

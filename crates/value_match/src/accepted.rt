@@ -1,0 +1,102 @@
+ghost use Rattle.std.specs.Prelude.{◌≡◌, ◌<◌, All, IfSome, length, map, slice_index_or};
+ghost use Rattle.value_match.specs.Accepted.{HasPlaces, maybe_operation_at, value_at};
+
+use crate::life::{Life, MatchedValue};
+use history_merge::{OpId, Operation};
+use std::marker::Model;
+
+/// The places of an accepted enqueue and of the dequeue of its value, if there is one.
+#[derive(Clone, Copy, Debug)]
+pub(crate) struct Pair {
+    pub(crate) enqueue: u32,
+    pub(crate) dequeue: Option<u32>,
+}
+
+/// Accepted values, seen as the list of them.
+///
+/// It borrows the operations, and three half words for each value.
+#[derive(Debug, Drop)]
+pub struct Values<'a> {
+    operations: &'a [Operation],
+    pairs: &'a [Pair],
+}
+
+impl<'a> Model for Values<'a> {
+    ghost use Rattle.std.specs.Prelude.{List, All, map};
+    ghost use Rattle.value_match.specs.declared.life.MatchedValue.{MatchedValue};
+    ghost use Rattle.value_match.specs.Accepted.{HasPlaces, value_at};
+
+    ghost Value = { List MatchedValue };
+
+    ghost view = { λ v. map (value_at v.operations.now) v.pairs.now };
+
+    ghost invariant = { λ v. All (HasPlaces v.operations.now) (map (value_at v.operations.now) v.pairs.now) };
+}
+
+impl<'a> Values<'a> {
+    pub(crate) fn new(operations: &'a [Operation], pairs: &'a [Pair]) -> Values<'a>
+        requires { All (HasPlaces operations.now) (map (value_at operations.now) pairs.now) }
+        ensures { result ≡ map (value_at operations.now) pairs.now }
+    {
+        Values { operations, pairs }
+    }
+
+    /// How many there are.
+    #[inline(always)]
+    pub fn len(&self) -> usize
+        ensures { result ≡ length self.now }
+    {
+        self.pairs.len()
+    }
+
+    /// The value at this place of the list.
+    #[inline(always)]
+    pub fn get(&self, place: usize) -> MatchedValue
+        requires { place < length self.now }
+        ensures { result ≡ slice_index_or self.now place result }
+    {
+        let pairs = self.pairs;
+        if place >= pairs.len() {
+            unreachable!("a place of a value is that of a pair");
+        }
+        value_of(self.operations, pairs[place])
+    }
+}
+
+/// The value whose operations stand at these places.
+#[inline(always)]
+fn value_of(operations: &[Operation], pair: Pair) -> MatchedValue
+    requires enqueue { pair.enqueue < length operations.now }
+    requires dequeue { IfSome pair.dequeue (λ p. p < length operations.now) }
+    ensures { result ≡ value_at operations.now pair }
+{
+    MatchedValue {
+        life: Life {
+            enqueue: operations[pair.enqueue as usize],
+            dequeue: maybe_operation(operations, pair.dequeue),
+        },
+        enqueue: OpId::new(pair.enqueue as usize),
+        dequeue: maybe_id(pair.dequeue),
+    }
+}
+
+#[inline(always)]
+fn maybe_operation(operations: &[Operation], place: Option<u32>) -> Option<Operation>
+    requires { IfSome place (λ p. p < length operations.now) }
+    ensures { result ≡ maybe_operation_at operations.now place }
+{
+    match place {
+        Some(place) => Some(operations[place as usize]),
+        None => None,
+    }
+}
+
+#[inline(always)]
+fn maybe_id(place: Option<u32>) -> Option<OpId>
+    ensures { result ≡ place }
+{
+    match place {
+        Some(place) => Some(OpId::new(place as usize)),
+        None => None,
+    }
+}

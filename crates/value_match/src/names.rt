@@ -1,0 +1,67 @@
+ghost use Rattle.std.specs.Prelude.{◌≡◌, ◌≤◌, length};
+ghost use Rattle.value_match.specs.Named as named;
+
+use event_records::MAX_EVENTS;
+use history_merge::Operation;
+use std::alloc::{AllocError, Global};
+
+/// The places of operations by their threads and their numbers in these. A recorder names its values so: the thread in
+/// the upper half of the bits, the number in the lower one.
+///
+/// Nothing rests on the place that it tells for a value: who asks looks there.
+#[derive(Drop)]
+pub(crate) struct Names {
+    starts: [u32; 64],
+    places: Vec<u32>,
+}
+
+impl Names {
+    /// The names of these operations. It takes half a word for each.
+    pub(crate) fn new(alloc: Global, operations: &[Operation]) -> Result<Names, AllocError>
+        requires { length operations.now ≤ MAX_EVENTS }
+    {
+        let starts = starts_of(operations);
+        let mut next = starts;
+        let mut places = vec![in alloc; 0; operations.len()]?;
+        for (place, operation) in operations.iter().enumerate() {
+            let thread = usize::from(operation.thread % 64);
+            let at = next[thread];
+            next[thread] = at.wrapping_add(1);
+            if let Ok(at) = usize::try_from(at)
+                && let Some(named) = places.get_mut(at)
+            {
+                *named = place as u32;
+            }
+        }
+        Ok(Names { starts, places })
+    }
+
+    /// The place that the value's name tells, in range or not.
+    #[inline(always)]
+    pub(crate) fn place_of(&self, value: u64) -> usize
+        ensures { result ≡ named.place_of self.now value }
+    {
+        let start = self.starts[(value / 4_294_967_296 % 64) as usize];
+        let at = u64::from(start) + value % 4_294_967_296;
+        match self.places.get(at as usize) {
+            Some(place) => *place as usize,
+            None => 0,
+        }
+    }
+}
+
+/// For each thread how many operations those of lower number have.
+fn starts_of(operations: &[Operation]) -> [u32; 64] {
+    let mut counts = [0u32; 64];
+    for operation in operations {
+        let thread = usize::from(operation.thread % 64);
+        counts[thread] = counts[thread].wrapping_add(1);
+    }
+    let mut starts = [0; 64];
+    let mut sum = 0u32;
+    for thread in 0..64 {
+        starts[thread] = sum;
+        sum = sum.wrapping_add(counts[thread]);
+    }
+    starts
+}

@@ -1,0 +1,130 @@
+ghost use Rattle.std.specs.Prelude.{◌≡◌, ◌<◌, ◌↔◌, IfOk, IfSome, IsTrue, MatchOption, length, slice_index_or};
+ghost use Rattle.value_match.specs.Choice.{StaysAtLeast};
+ghost use Rattle.value_match.specs.declared.life.MatchedValue.{MatchedValue};
+ghost use Rattle.value_match.specs.Longest.{EntersBefore, FindsLongest, IsLongerOf};
+ghost use Rattle.value_match.specs.Fronts.{IsByReturn, HasFronts, IsTableOf};
+
+use crate::accepted::Values;
+use crate::life::MatchedValue;
+use crate::settling::settle;
+use std::alloc::{AllocError, Global};
+use std::marker::Model;
+
+/// A value's enqueue return, with its place; in a table, with the place of the longest of the values up to it.
+#[derive(Clone, Copy, Debug)]
+struct Front {
+    enqueue_return: u64,
+    place: usize,
+}
+
+/// Values, seen as the list of them, that are asked which of those that entered the queue before some ticket stays
+/// longest.
+///
+/// It borrows the values, and holds two words for each.
+#[derive(Debug, Drop)]
+pub struct LongestTable<'a> {
+    values: Values<'a>,
+    fronts: Vec<Front>,
+}
+
+impl<'a> Model for LongestTable<'a> {
+    ghost use Rattle.std.specs.Prelude.{List};
+    ghost use Rattle.value_match.specs.declared.life.MatchedValue.{MatchedValue};
+    ghost use Rattle.value_match.specs.Fronts.{IsTableOf};
+
+    ghost Value = { List MatchedValue };
+
+    ghost view = { λ t. t.values };
+
+    ghost invariant = { λ t. IsTableOf t.values t.fronts.items };
+}
+
+impl<'a> LongestTable<'a> {
+    /// The table of these values, in any order.
+    ///
+    /// Time O(n log n) for n values, and little more than a pass where their enqueues nearly return in the order of the
+    /// list. The error is want of memory alone.
+    pub fn new(alloc: Global, values: Values<'a>) -> Result<LongestTable<'a>, AllocError>
+        ensures { IfOk result (λ table. table ≡ values.entry) }
+    {
+        let mut fronts = by_return(alloc, &values)?;
+        name_longest(&values, fronts.as_mut_slice());
+        Ok(LongestTable { values, fronts })
+    }
+
+    /// The values, in the order in which they were given.
+    pub fn values(&self) -> &Values<'a>
+        ensures { result.now ≡ self.now }
+    {
+        &self.values
+    }
+
+    /// Of the values whose enqueue returned before the limit, the one that stays longest, if there is one.
+    ///
+    /// Time O(log n) for n values.
+    pub fn longest_before(&self, limit: u64) -> Option<MatchedValue>
+        ensures { FindsLongest (EntersBefore limit) self.now result }
+    {
+        let before = self
+            .fronts
+            .as_slice()
+            .partition_point(|front| front.enqueue_return < limit);
+        let last = before.checked_sub(1)?;
+        Some(self.values.get(self.fronts[last].place))
+    }
+}
+
+/// The enqueue returns and places of the values, by enqueue return.
+fn by_return(alloc: Global, values: &Values) -> Result<Vec<Front>, AllocError>
+    ensures { IfOk result (λ order. IsByReturn values.now order.items) }
+{
+    let mut order = Vec::with_capacity(alloc, values.len())?;
+    for place in 0..values.len() {
+        let value = values.get(place);
+        order.push(Front {
+            enqueue_return: value.life.enqueue_return(),
+            place,
+        })?;
+    }
+    settle(&mut order, &|front: &Front| front.enqueue_return);
+    order.sort_unstable_by_key(|front| front.enqueue_return);
+    Ok(order)
+}
+
+/// Puts in the place of each value that of the longest of those up to it.
+fn name_longest(values: &Values, fronts: &mut [Front])
+    requires { IsByReturn values.now fronts.old }
+    ensures { HasFronts values.now fronts.old fronts.new }
+{
+    let mut so_far = None;
+    for front in fronts.iter_mut() {
+        let longest = longer_place(values, so_far, front.place);
+        front.place = longest;
+        so_far = Some(longest);
+    }
+}
+
+/// Of the value at a place and that at another, if there is one, the place of the longer.
+fn longer_place(values: &Values, so_far: Option<usize>, place: usize) -> usize
+    requires so_far { IfSome so_far (λ p. p < length values.now) }
+    requires place { place < length values.now }
+    ensures within { result < length values.now }
+    ensures longer { (d : MatchedValue) → MatchOption so_far (result ≡ place) (λ p. IsLongerOf (slice_index_or values.now p d) (slice_index_or values.now place d) (slice_index_or values.now result d)) }
+{
+    match so_far {
+        Some(longest) if stays_at_least(values, longest, place) => longest,
+        _ => place,
+    }
+}
+
+/// Whether the value at a place stays as long as that at another.
+#[inline(always)]
+fn stays_at_least(values: &Values, place: usize, other: usize) -> bool
+    requires place { place < length values.now }
+    requires other { other < length values.now }
+    ensures { (d : MatchedValue) → IsTrue result ↔ StaysAtLeast (slice_index_or values.now place d).life (slice_index_or values.now other d).life }
+{
+    let value = values.get(place);
+    let other = values.get(other);
+    value.life.stays_at_least(&other.life)
+}

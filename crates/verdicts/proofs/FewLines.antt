@@ -1,0 +1,254 @@
+-- A verdict shows each operation once, so it has at most half as many lines as the history has events.
+use Rattle.std.proofs.Common.{◌≡◌, ℕ, zero, suc, ◌+◌, ◌<◌, ◌≤◌, ◌⊎◌, Bool, true, false, List, [], ◌∷◌, ◌++◌, length, map, Option, Some, None, refl, sym, ◌∙◌, ap, subst, inl, inr, arith}
+use Rattle.std.specs.Prelude.{AllPairs, Contains, MatchOption, nat_eq, flat_map, option_to_list, ⊤}
+use Rattle.std.specs.List.{AllByRecursion, IsDistinct}
+use Rattle.std.specs.Set.{is_member}
+use Rattle.std.specs.Cmp.{unsigned_Decides, nat_eq_equiv}
+use Rattle.std.proofs.lemmas.Map.Made.{is_member-Decides, length-le_from_is_member}
+use Rattle.std.proofs.lemmas.List.{length-map}
+use Rattle.std.proofs.lemmas.List.Sorted.{length_permutation}
+use Rattle.event_records.specs.declared.event.Event.{Event}
+use Rattle.event_records.specs.declared.limits.TheConstants.{MAX_EVENTS, MAX_OPERATIONS}
+use Rattle.history_merge.specs.declared.operation.Operation.{Operation}
+use Rattle.history_merge.specs.declared.operation.OpKind.TheVariants.{Enq, Deq, Empty}
+use Rattle.history_merge.specs.Complete.{AreComplete, IsCompleteHistory}
+use Rattle.history_merge.specs.Legal.{ArePlacesOf}
+use Rattle.history_merge.specs.Operations.{Did, NoneDid, operations_of}
+use Rattle.history_merge.proofs.Distinct.{contains_cons, not_in_none, place_of, contains_at, pairs_at, traced, same_call, same_return, return_differs_from_call, call_before_return}
+use Rattle.value_match.specs.declared.life.Life.{Life}
+use Rattle.value_match.specs.Lives.{IsLife, IsCovered, dequeue_call, call_or_never}
+use Rattle.value_match.specs.Violations.{Breach, fresh, repeat, order, witness, IsClear, lines_of}
+use Rattle.value_match.specs.Choice.{IsChosenBreach, IsChosenCoverFrom}
+use Rattle.value_match.proofs.Lists.{one_deeper, mapped_to}
+use Rattle.value_match.proofs.Lives.{one_life_of_enqueue}
+use Rattle.linearizer.proofs.Keys.{AllPairs-tail}
+use Rattle.linearizer.proofs.OneOrder.{operations_rise}
+use Rattle.verdicts.specs.declared.verdict.Verdict.{Verdict}
+use Rattle.verdicts.specs.declared.verdict.Verdict.TheVariants.{Yes, No}
+use Rattle.verdicts.specs.Claiming.{places_of}
+use Rattle.verdicts.specs.Shown.{places_of as places_of_violation}
+use Rattle.verdicts.specs.Verdicts.{IsVerdictOf}
+use Rattle.verdicts.proofs.CoverGaps.{IsCalledInside, chosen_are_lives, handover, all_stay}
+use Rattle.verdicts.proofs.NamedPlaces.{places_of_lines}
+
+-- ---- operations apart
+
+-- no operation is one of those after it
+abbrev Apart : List Operation → Type 0
+Apart [] = ⊤
+Apart (o ∷ rest) = (Contains rest o → ⊥) × Apart rest
+
+-- the tickets of the operations
+abbrev tickets_of : List Operation → List ℕ
+tickets_of [] = []
+tickets_of (o ∷ rest) = o.call ∷ o.ret ∷ tickets_of rest
+
+double : (listed : List Operation) → length (tickets_of listed) ≡ length listed + length listed
+double [] = refl
+double (o ∷ rest) = let more = double rest in omega arith
+
+-- a ticket is the call's or the return's of one of the operations
+ticket_from : (listed : List Operation) (t : ℕ) → Contains (tickets_of listed) t → (o : Operation) × Contains listed o × ((o.call ≡ t) ⊎ (o.ret ≡ t))
+ticket_from [] t among = absurd (not_in_none t among)
+ticket_from (o ∷ rest) t among = elim (contains_cons o.call (o.ret ∷ tickets_of rest) t among) [
+  | inl called ↦ (o, (zero, omega arith, refl), inl called)
+  | inr after ↦ elim (contains_cons o.ret (tickets_of rest) t after) [
+    | inl returned ↦ (o, (zero, omega arith, refl), inr returned)
+    | inr later ↦ let found = ticket_from rest t later in (found.0, one_deeper o rest found.0 found.1, found.2)
+  ]
+]
+
+none_equal : (x : ℕ) (ys : List ℕ) → (Contains ys x → ⊥) → AllByRecursion (λ y. nat_eq x y ≡ false) ys
+none_equal x [] not = tt
+none_equal x (y ∷ ys) not = (differs (nat_eq x y) refl, none_equal x ys (λ among. not (one_deeper y ys x among)))
+  where
+    differs : (b : Bool) → nat_eq x y ≡ b → nat_eq x y ≡ false
+    differs true same = let is : x ≡ y = (unsigned_Decides x y).0 same in absurd (not (subst (Contains (y ∷ ys)) (sym is) (zero, omega arith, refl)))
+    differs false same = same
+
+module _ (operations : List Operation) (complete : AreComplete operations) where
+  call_apart : (o : Operation) (rest : List Operation) → Contains operations o → ((x : Operation) → Contains rest x → Contains operations x) → (Contains rest o → ⊥) → Contains (o.ret ∷ tickets_of rest) o.call → ⊥
+  call_apart o rest here among not in_tickets = elim (contains_cons o.ret (tickets_of rest) o.call in_tickets) [
+    | inl same ↦ return_differs_from_call operations o o complete here here same
+    | inr later ↦ by_ticket (ticket_from rest o.call later)
+  ]
+    where
+      by_ticket : (x : Operation) × Contains rest x × ((x.call ≡ o.call) ⊎ (x.ret ≡ o.call)) → ⊥
+      by_ticket (x, in_rest, inl called) = not (subst (Contains rest) (same_call operations x o complete (among x in_rest) here called) in_rest)
+      by_ticket (x, in_rest, inr returned) = return_differs_from_call operations x o complete (among x in_rest) here returned
+
+  return_apart : (o : Operation) (rest : List Operation) → Contains operations o → ((x : Operation) → Contains rest x → Contains operations x) → (Contains rest o → ⊥) → Contains (tickets_of rest) o.ret → ⊥
+  return_apart o rest here among not later = by_ticket (ticket_from rest o.ret later)
+    where
+      by_ticket : (x : Operation) × Contains rest x × ((x.call ≡ o.ret) ⊎ (x.ret ≡ o.ret)) → ⊥
+      by_ticket (x, in_rest, inl called) = return_differs_from_call operations o x complete here (among x in_rest) (sym called)
+      by_ticket (x, in_rest, inr returned) = not (subst (Contains rest) (same_return operations x o complete (among x in_rest) here returned) in_rest)
+
+  distinct_tickets : (listed : List Operation) → ((x : Operation) → Contains listed x → Contains operations x) → Apart listed → IsDistinct nat_eq (tickets_of listed)
+  unfolding IsDistinct
+  distinct_tickets [] among apart = tt
+  distinct_tickets (o ∷ rest) among apart =
+      let here = among o (zero, omega arith, refl) in
+      let others = λ (x : Operation) (in_rest : Contains rest x). among x (one_deeper o rest x in_rest) in (
+        none_equal o.call (o.ret ∷ tickets_of rest) (call_apart o rest here others apart.0),
+        (none_equal o.ret (tickets_of rest) (return_apart o rest here others apart.0), distinct_tickets rest others apart.1),
+      )
+
+-- operations of a history, each once, are at most half as many as its events
+few_apart : (events : List Event) (listed : List Operation) → IsCompleteHistory events → ((x : Operation) → Contains listed x → Contains (operations_of events) x) → Apart listed → length listed + length listed ≤ length events
+few_apart events listed complete among apart =
+    let tickets : List ℕ = map (λ e. e.ticket) events in
+    let few = length-le_from_is_member nat_eq_equiv (tickets_of listed) tickets (distinct_tickets (operations_of events) (events, complete, refl) listed among apart) member in
+    let twice = double listed in
+    let each : length (map (λ e. e.ticket) events) ≡ length events = simp length-map in
+    omega arith
+  where
+    of_event : (t : ℕ) → (o : Operation) × Contains listed o × ((o.call ≡ t) ⊎ (o.ret ≡ t)) → Contains (map (λ e. e.ticket) events) t
+    of_event t (o, in_list, inl called) =
+        let seen = traced events o (among o in_list) in
+        subst (Contains (map (λ e. e.ticket) events)) (sym seen.made.called ∙ called) (mapped_to (λ e. e.ticket) events seen.call (contains_at events seen.called_at seen.call seen.at_call))
+    of_event t (o, in_list, inr returned) =
+        let seen = traced events o (among o in_list) in
+        subst (Contains (map (λ e. e.ticket) events)) (sym seen.made.returned ∙ returned) (mapped_to (λ e. e.ticket) events seen.answer (contains_at events seen.returned_at seen.answer seen.at_return))
+
+    member : (t : ℕ) → is_member nat_eq (tickets_of listed) t ≡ true → is_member nat_eq (map (λ e. e.ticket) events) t ≡ true
+    member t is = (is_member-Decides unsigned_Decides (map (λ e. e.ticket) events) t).1 (of_event t (ticket_from listed t ((is_member-Decides unsigned_Decides (tickets_of listed) t).0 is)))
+
+apart_from_rise : (operations : List Operation) → AllPairs (λ x y. x.call < y.call) operations → Apart operations
+apart_from_rise [] rise = tt
+apart_from_rise (o ∷ rest) rise = (
+  λ among. let place = place_of rest o among in let less = pairs_at (λ x y. x.call < y.call) (o ∷ rest) zero (suc place.0) o o rise (omega arith) refl place.1 in absurd (omega arith),
+  apart_from_rise rest (AllPairs-tail (λ x y. x.call < y.call) o rest rise),
+)
+
+-- ---- covers
+
+-- the operations of a life
+abbrev lines_of_life : Life → List Operation
+lines_of_life life = life.enqueue ∷ option_to_list life.dequeue
+
+lines_from : (e : Operation) (d : Option Operation) (rest : List Operation) (o : Operation) → Contains ((e ∷ option_to_list d) ++ rest) o → (e ≡ o) ⊎ ((d ≡ Some o) ⊎ Contains rest o)
+lines_from e None rest o among = elim (contains_cons e rest o among) [ inl here ↦ inl here | inr later ↦ inr (inr later) ]
+lines_from e (Some d) rest o among = elim (contains_cons e (d ∷ rest) o among) [
+  | inl here ↦ inl here
+  | inr after ↦ elim (contains_cons d rest o after) [ inl here ↦ inr (inl (ap (λ x. Some x) here)) | inr later ↦ inr (inr later) ]
+]
+
+-- a line of a cover is the enqueue or the dequeue of one of its values
+line_from : (cover : List Life) (o : Operation) → Contains (flat_map lines_of_life cover) o → (life : Life) × Contains cover life × ((life.enqueue ≡ o) ⊎ (life.dequeue ≡ Some o))
+line_from [] o among = absurd (not_in_none o among)
+line_from (life ∷ rest) o among = elim (lines_from life.enqueue life.dequeue (flat_map lines_of_life rest) o among) [
+  | inl here ↦ (life, (zero, omega arith, refl), inl here)
+  | inr (inl here) ↦ (life, (zero, omega arith, refl), inr here)
+  | inr (inr later) ↦ let found = line_from rest o later in (found.0, one_deeper life rest found.0 found.1, found.2)
+]
+
+apart_life : (e : Operation) (d : Option Operation) (rest : List Operation) → (Contains rest e → ⊥) → ((o : Operation) → d ≡ Some o → (o ≡ e → ⊥) × (Contains rest o → ⊥)) → Apart rest → Apart ((e ∷ option_to_list d) ++ rest)
+apart_life e None rest no_e no_d apart = (no_e, apart)
+apart_life e (Some d) rest no_e no_d apart = (
+  λ among. elim (contains_cons d rest e among) [ inl same ↦ (no_d d refl).0 same | inr later ↦ no_e later ],
+  ((no_d d refl).1, apart),
+)
+
+-- the kinds of a life's operations
+life_enqueues : (operations : List Operation) (life : Life) (o : Operation) → IsLife operations life → life.enqueue ≡ o → (v : ℕ) × (o.kind ≡ Enq v)
+life_enqueues operations life o is same = (is.0, ap (λ x. x.kind) (sym same) ∙ is.1.1)
+
+life_dequeues : (operations : List Operation) (life : Life) (o : Operation) → IsLife operations life → life.dequeue ≡ Some o → (v : ℕ) × Did operations o (Deq v)
+life_dequeues operations life o is same = (is.0, subst (λ d. MatchOption d (NoneDid operations (Deq is.0)) (λ x. Did operations x (Deq is.0))) same is.2)
+
+differ : (o : Operation) (v w : ℕ) → o.kind ≡ Enq v → o.kind ≡ Deq w → ⊥
+differ o v w enqueues dequeues = let kinds : Enq v ≡ Deq w = sym enqueues ∙ dequeues in cc
+
+module _ (operations : List Operation) (empty : Operation) (clear : IsClear operations) (did : Did operations empty Empty) (covered : IsCovered operations empty) where
+  -- the lines of the first value of a cover are none of the others'
+  first_apart : (life : Life) (rest : List Life) → IsLife operations life → ((y : Life) → Contains rest y → IsLife operations y) → ((y : Life) → Contains rest y → dequeue_call life < dequeue_call y)
+      → Apart (flat_map lines_of_life rest) → Apart (flat_map lines_of_life (life ∷ rest))
+  first_apart life rest is are later apart = apart_life life.enqueue life.dequeue (flat_map lines_of_life rest) no_enqueue no_dequeue apart
+    where
+      by_enqueue : (y : Life) × Contains rest y × ((y.enqueue ≡ life.enqueue) ⊎ (y.dequeue ≡ Some life.enqueue)) → ⊥
+      by_enqueue (y, among, inl same) =
+          let one = one_life_of_enqueue operations y life clear (are y among) is same in
+          let calls = ap dequeue_call one in let less = later y among in omega arith
+      by_enqueue (y, among, inr same) = let dequeues = life_dequeues operations y life.enqueue (are y among) same in differ life.enqueue is.0 dequeues.0 is.1.1 dequeues.1.1
+
+      no_enqueue : Contains (flat_map lines_of_life rest) life.enqueue → ⊥
+      no_enqueue among = by_enqueue (line_from rest life.enqueue among)
+
+      by_dequeue : (o : Operation) → life.dequeue ≡ Some o → (y : Life) × Contains rest y × ((y.enqueue ≡ o) ⊎ (y.dequeue ≡ Some o)) → ⊥
+      by_dequeue o at (y, among, inl same) =
+          let enqueues = life_enqueues operations y o (are y among) same in let dequeues = life_dequeues operations life o is at in differ o enqueues.0 dequeues.0 enqueues.1 dequeues.1.1
+      by_dequeue o at (y, among, inr same) = let calls = ap call_or_never (at ∙ sym same) in let less = later y among in omega arith
+
+      no_dequeue : (o : Operation) → life.dequeue ≡ Some o → (o ≡ life.enqueue → ⊥) × (Contains (flat_map lines_of_life rest) o → ⊥)
+      no_dequeue o at = (
+        λ same. let dequeues = life_dequeues operations life o is at in differ o is.0 dequeues.0 (ap (λ x. x.kind) same ∙ is.1.1) dequeues.1.1,
+        λ among. by_dequeue o at (line_from rest o among),
+      )
+
+  cover_apart : (cover : List Life) (before : Operation) → IsCalledInside operations empty clear did covered before → IsChosenCoverFrom operations empty before.call cover → Apart (flat_map lines_of_life cover)
+  cover_apart [] before inside chosen = absurd chosen
+  cover_apart (life ∷ []) before inside chosen = first_apart life [] chosen.0.is_life (λ y among. absurd (not_in_none y among)) (λ y among. absurd (not_in_none y among)) tt
+  cover_apart (life ∷ next ∷ rest) before inside chosen =
+      let after = handover operations empty clear did covered before life (next ∷ rest) next inside chosen (zero, omega arith, refl) in
+      first_apart life (next ∷ rest) chosen.0.is_life
+      (λ y among. chosen_are_lives operations empty (next ∷ rest) after.0.call y after.1.further among)
+      (λ y among. let stays = all_stay operations empty clear did covered (next ∷ rest) after.0 y after.1.inside after.1.further among in omega (arith, after.1.calls))
+      (cover_apart (next ∷ rest) after.0 after.1.inside after.1.further)
+
+  among_lines : (cover : List Life) → ((y : Life) → Contains cover y → IsLife operations y) → (o : Operation) → Contains (flat_map lines_of_life cover) o → Contains operations o × ((o.kind ≡ Empty) → ⊥)
+  among_lines cover are o among = by_line (line_from cover o among)
+    where
+      by_line : (y : Life) × Contains cover y × ((y.enqueue ≡ o) ⊎ (y.dequeue ≡ Some o)) → Contains operations o × ((o.kind ≡ Empty) → ⊥)
+      by_line (y, in_cover, inl same) =
+          let is = are y in_cover in
+          (subst (Contains operations) same is.1.0, λ none. let kinds : Enq is.0 ≡ Empty = sym (ap (λ x. x.kind) (sym same) ∙ is.1.1) ∙ none in cc)
+      by_line (y, in_cover, inr same) =
+          let dequeues = life_dequeues operations y o (are y in_cover) same in
+          (dequeues.1.0, λ none. let kinds : Deq dequeues.0 ≡ Empty = sym dequeues.1.1 ∙ none in cc)
+
+-- ---- verdicts
+
+module _ (events : List Event) (complete : IsCompleteHistory events) where
+  witness_lines : (empty : Operation) (cover : List Life) → IsChosenBreach (operations_of events) (witness empty cover) → length (lines_of (witness empty cover)) + length (lines_of (witness empty cover)) ≤ length events
+  witness_lines empty cover chosen =
+      let operations = operations_of events in
+      let whole : AreComplete operations = (events, complete, refl) in
+      let clear : IsClear operations = record { complete = whole; no_fresh = chosen.0; no_repeat = chosen.1 } in
+      let did = chosen.3.answers_empty in
+      let covered = chosen.3.is_covered in
+      let window = call_before_return operations empty whole did.0 in
+      let inside : IsCalledInside operations empty clear did covered empty = record { among = did.0; after_call = omega arith; before_return = window } in
+      let apart = cover_apart operations empty clear did covered cover empty inside chosen.3.cover_is_chosen in
+      let are = λ (y : Life) (among : Contains cover y). chosen_are_lives operations empty cover empty.call y chosen.3.cover_is_chosen among in
+      let lines = among_lines operations empty clear did covered cover are in
+      few_apart events (lines_of (witness empty cover)) complete
+      (λ o among. elim (contains_cons empty (flat_map lines_of_life cover) o among) [ inl same ↦ subst (Contains operations) same did.0 | inr later ↦ (lines o later).0 ])
+      (λ among. (lines empty among).1 did.1, apart)
+
+  few_chosen : (breach : Breach) → length events ≤ MAX_EVENTS → IsChosenBreach (operations_of events) breach → length (lines_of breach) ≤ MAX_OPERATIONS
+  few_chosen (fresh deq None) few chosen = omega arith
+  few_chosen (fresh deq (Some enq)) few chosen = omega arith
+  few_chosen (repeat enq first second) few chosen = omega arith
+  few_chosen (order enq_a enq_b deq_b None) few chosen = omega arith
+  few_chosen (order enq_a enq_b deq_b (Some deq_a)) few chosen = omega arith
+  few_chosen (witness empty cover) few chosen = let half = witness_lines empty cover chosen in omega (arith, half, few)
+
+  few_operations : length events ≤ MAX_EVENTS → length (operations_of events) ≤ MAX_OPERATIONS
+  few_operations few =
+      let half = few_apart events (operations_of events) complete (λ o among. among) (apart_from_rise (operations_of events) (operations_rise (operations_of events) (events, complete, refl))) in
+      omega (arith, half, few)
+
+  as_many : (places : List ℕ) (listed : List Operation) → ArePlacesOf (operations_of events) places listed → length places ≡ length listed
+  as_many places listed at = simp length-map at (ap length at)
+
+  pub few_places : (verdict : Verdict) → length events ≤ MAX_EVENTS → IsVerdictOf (operations_of events) verdict → length (places_of verdict) ≤ MAX_OPERATIONS
+  few_places (Yes places) few chosen =
+      let many = as_many places chosen.0 chosen.1 in
+      let moved = length_permutation (operations_of events) chosen.0 chosen.2.holds_each_once in
+      let all = few_operations few in
+      omega (arith, many, moved, all)
+  few_places (No violation) few chosen =
+      let many = as_many (places_of_violation violation) (lines_of chosen.0) (places_of_lines (operations_of events) violation chosen.0 chosen.1) in
+      let lines = few_chosen chosen.0 few chosen.2 in
+      omega (arith, many, lines)

@@ -1,0 +1,223 @@
+-- What is found of a history is the only thing that can be found of it.
+use Rattle.std.proofs.Common.{◌≡◌, ℕ, zero, suc, ◌<◌, ◌≤◌, Bool, true, List, [], ◌∷◌, map, filter, Option, Some, None, refl, sym, ◌∙◌, ap, ap₂, subst, inl, inr, arith, rules}
+use Rattle.std.specs.Prelude.{Contains, AllPairs, slice_get}
+use Rattle.std.specs.List.{AllZip}
+use Rattle.std.proofs.lemmas.Bool.{cases_order}
+use Rattle.history_merge.specs.declared.operation.Operation.{Operation}
+use Rattle.history_merge.specs.declared.operation.OpKind.TheVariants.{Empty}
+use Rattle.history_merge.specs.Complete.{AreComplete}
+use Rattle.history_merge.specs.Legal.{ArePlacesOf}
+use Rattle.history_merge.specs.Operations.{IsAt, Did}
+use Rattle.history_merge.proofs.Distinct.{pairs_at, place_of, contains_at, one_at}
+use Rattle.value_match.specs.declared.life.Life.{Life}
+use Rattle.value_match.specs.declared.matching.Matched.{Matched}
+use Rattle.value_match.specs.declared.matching.Matched.TheVariants as matched
+use Rattle.value_match.specs.declared.violation.CoverStep.{CoverStep}
+use Rattle.value_match.specs.declared.violation.Violation.{Violation}
+use Rattle.value_match.specs.declared.violation.Violation.TheVariants as violation
+use Rattle.value_match.specs.Lives.{IsMaybeAt, IsLeastFreeGap, IsCovered, is_empty_answer}
+use Rattle.value_match.specs.Choice.{IsChosenCover}
+use Rattle.value_match.specs.Outcome.{Names, NamesCover, IsMatchedOf}
+use Rattle.value_match.specs.Violations.{Breach, fresh, repeat, order, witness, IsBreachOf, IsClear}
+use Rattle.value_match.proofs.Lists.{passes_filter}
+use Rattle.order_violation.specs.declared.pair.OrderPair.{OrderPair}
+use Rattle.order_violation.specs.Pairs.{IsOrderAnswer}
+use Rattle.empty_witness.specs.declared.answer.GapAnswer.{GapAnswer}
+use Rattle.empty_witness.specs.declared.answer.GapAnswer.TheVariants as gap
+use Rattle.empty_witness.specs.declared.answer.WitnessAnswer.{WitnessAnswer}
+use Rattle.empty_witness.specs.declared.answer.WitnessAnswer.TheVariants as found
+use Rattle.empty_witness.specs.Answers.{IsGapAnswer, IsWitnessAnswer}
+use Rattle.linearizer.proofs.OneOrder.{chosen_order_is_one, operations_rise}
+use Rattle.linearizer.proofs.Positions.{beside}
+use Rattle.verdicts.specs.declared.verdict.Verdict.{Verdict}
+use Rattle.verdicts.specs.declared.verdict.Verdict.TheVariants.{Yes, No}
+use Rattle.verdicts.specs.Laws.{VerdictIsOne, MatchedIsOne, PairIsOne, GapIsOne, WitnessIsOne}
+use Rattle.verdicts.proofs.Chosen.{one_chosen_breach, one_order, one_cover, one_witness}
+use Rattle.verdicts.proofs.Excludes.{breach_excludes_order}
+
+-- an operation stands at one place
+one_place_at : (operations : List Operation) (p q : ℕ) (o : Operation) → AreComplete operations → IsAt operations p o → IsAt operations q o → p ≡ q
+one_place_at operations p q o complete at_p at_q =
+    elim (cases_order p q) [
+      | inl same ↦ same
+      | inr (inl less) ↦ let calls = pairs_at (λ x y. x.call < y.call) operations p q o o (operations_rise operations complete) less at_p at_q in absurd (omega arith)
+      | inr (inr more) ↦ let calls = pairs_at (λ x y. x.call < y.call) operations q p o o (operations_rise operations complete) more at_q at_p in absurd (omega arith)
+    ]
+
+maybe_one_place : (operations : List Operation) (p q : Option ℕ) (o : Option Operation) → AreComplete operations → IsMaybeAt operations p o → IsMaybeAt operations q o → p ≡ q
+maybe_one_place operations None None o complete at_p at_q = refl
+maybe_one_place operations None (Some q) None complete at_p at_q = absurd at_q
+maybe_one_place operations None (Some q) (Some o) complete at_p at_q = absurd at_p
+maybe_one_place operations (Some p) None None complete at_p at_q = absurd at_p
+maybe_one_place operations (Some p) None (Some o) complete at_p at_q = absurd at_q
+maybe_one_place operations (Some p) (Some q) None complete at_p at_q = absurd at_p
+maybe_one_place operations (Some p) (Some q) (Some o) complete at_p at_q = ap (λ place. Some place) (one_place_at operations p q o complete at_p at_q)
+
+-- operations stand at one list of places
+one_list_of_places : (operations : List Operation) (ps qs : List ℕ) (listed : List Operation) → AreComplete operations → ArePlacesOf operations ps listed → ArePlacesOf operations qs listed → ps ≡ qs
+one_list_of_places operations [] [] listed complete at_ps at_qs = refl
+one_list_of_places operations [] (q ∷ qs) [] complete at_ps at_qs = cc
+one_list_of_places operations [] (q ∷ qs) (o ∷ listed) complete at_ps at_qs = cc
+one_list_of_places operations (p ∷ ps) [] [] complete at_ps at_qs = cc
+one_list_of_places operations (p ∷ ps) [] (o ∷ listed) complete at_ps at_qs = cc
+one_list_of_places operations (p ∷ ps) (q ∷ qs) [] complete at_ps at_qs = cc
+one_list_of_places operations (p ∷ ps) (q ∷ qs) (o ∷ listed) complete at_ps at_qs =
+    let here_p : slice_get operations p ≡ Some o = cc in
+    let here_q : slice_get operations q ≡ Some o = cc in
+    let later_p : map (slice_get operations) ps ≡ map (λ o. Some o) listed = cc in
+    let later_q : map (slice_get operations) qs ≡ map (λ o. Some o) listed = cc in
+    ap₂ (λ (x : ℕ) (xs : List ℕ). x ∷ xs) (one_place_at operations p q o complete here_p here_q) (one_list_of_places operations ps qs listed complete later_p later_q)
+
+one_step : (operations : List Operation) (p q : CoverStep) (life : Life) → AreComplete operations
+    → IsAt operations p.enqueue life.enqueue × IsMaybeAt operations p.dequeue life.dequeue → IsAt operations q.enqueue life.enqueue × IsMaybeAt operations q.dequeue life.dequeue → p ≡ q
+one_step operations p q life complete at_p at_q =
+    let step : ℕ → Option ℕ → CoverStep = λ e d. record { enqueue = e; dequeue = d } in
+    ap₂ step (one_place_at operations p.enqueue q.enqueue life.enqueue complete at_p.0 at_q.0) (maybe_one_place operations p.dequeue q.dequeue life.dequeue complete at_p.1 at_q.1)
+
+one_named_cover : (operations : List Operation) (ps qs : List CoverStep) (lives : List Life) → AreComplete operations → NamesCover operations ps lives → NamesCover operations qs lives → ps ≡ qs
+one_named_cover operations [] [] lives complete names_p names_q = refl
+one_named_cover operations [] (q ∷ qs) [] complete names_p names_q = absurd names_q
+one_named_cover operations [] (q ∷ qs) (life ∷ lives) complete names_p names_q = absurd names_p
+one_named_cover operations (p ∷ ps) [] [] complete names_p names_q = absurd names_p
+one_named_cover operations (p ∷ ps) [] (life ∷ lives) complete names_p names_q = absurd names_q
+one_named_cover operations (p ∷ ps) (q ∷ qs) [] complete names_p names_q = absurd names_p
+one_named_cover operations (p ∷ ps) (q ∷ qs) (life ∷ lives) complete names_p names_q =
+    ap₂ (λ (x : CoverStep) (xs : List CoverStep). x ∷ xs) (one_step operations p q life complete names_p.0 names_q.0) (one_named_cover operations ps qs lives complete names_p.1 names_q.1)
+
+-- the operations of a violation are named by one list of places
+one_named : (operations : List Operation) (x y : Violation) (breach : Breach) → AreComplete operations → Names operations x breach → Names operations y breach → x ≡ y
+one_named operations (violation.Fresh d e) (violation.Fresh d' e') (fresh deq enq) complete at at' =
+    ap₂ (λ (p : ℕ) (q : Option ℕ). violation.Fresh p q) (one_place_at operations d d' deq complete at.0 at'.0) (maybe_one_place operations e e' enq complete at.1 at'.1)
+one_named operations (violation.Fresh d e) y (fresh deq enq) complete at at' = absurd at'
+one_named operations (violation.Fresh d e) y _ complete at at' = absurd at
+one_named operations (violation.Repeat e d f) (violation.Repeat e' d' f') (repeat enq first second) complete at at' =
+    let enqs = one_place_at operations e e' enq complete at.0 at'.0 in
+    let firsts = one_place_at operations d d' first complete at.1 at'.1 in
+    let seconds = one_place_at operations f f' second complete at.2 at'.2 in
+    cc
+one_named operations (violation.Repeat e d f) y (repeat enq first second) complete at at' = absurd at'
+one_named operations (violation.Repeat e d f) y _ complete at at' = absurd at
+one_named operations (violation.Order a b d c) (violation.Order a' b' d' c') (order enq_a enq_b deq_b deq_a) complete at at' =
+    let as' = one_place_at operations a a' enq_a complete at.0 at'.0 in
+    let bs = one_place_at operations b b' enq_b complete at.1 at'.1 in
+    let ds = one_place_at operations d d' deq_b complete at.2 at'.2 in
+    let cs = maybe_one_place operations c c' deq_a complete at.3 at'.3 in
+    cc
+one_named operations (violation.Order a b d c) y (order enq_a enq_b deq_b deq_a) complete at at' = absurd at'
+one_named operations (violation.Order a b d c) y _ complete at at' = absurd at
+one_named operations (violation.Witness o cover) (violation.Witness o' cover') (witness empty lives) complete at at' =
+    ap₂ (λ (p : ℕ) (steps : List CoverStep). violation.Witness p steps) (one_place_at operations o o' empty complete at.0 at'.0) (one_named_cover operations cover cover' lives complete at.1 at'.1)
+one_named operations (violation.Witness o cover) y (witness empty lives) complete at at' = absurd at'
+one_named operations (violation.Witness o cover) y _ complete at at' = absurd at
+
+-- so are those of two violations that are one
+one_violation : (operations : List Operation) (x y : Violation) (b c : Breach) → AreComplete operations → b ≡ c → Names operations x b → Names operations y c → x ≡ y
+one_violation operations x y b c complete same at at' = one_named operations x y c complete (subst (Names operations x) same at) at'
+
+pub verdict_is_one : VerdictIsOne
+verdict_is_one operations (Yes ps) (Yes qs) complete x y =
+    let none = λ (b : Breach) (violates : IsBreachOf operations b). breach_excludes_order operations b complete violates x.exact in
+    let clear : IsClear operations = record { complete = complete; no_fresh = λ deq enq. none (fresh deq enq); no_repeat = λ enq first second. none (repeat enq first second) } in
+    let orders = chosen_order_is_one operations x.chosen.0 y.chosen.0 clear x.chosen.2 y.chosen.2 in
+    ap (λ places. Yes places) (one_list_of_places operations ps qs y.chosen.0 complete (subst (ArePlacesOf operations ps) orders x.chosen.1) y.chosen.1)
+verdict_is_one operations (Yes ps) (No v) complete x y = absurd (y.exact x.exact)
+verdict_is_one operations (No v) (Yes qs) complete x y = absurd (x.exact y.exact)
+verdict_is_one operations (No v) (No w) complete x y =
+    ap (λ named. No named) (one_violation operations v w x.chosen.0 y.chosen.0 complete (one_chosen_breach operations x.chosen.0 y.chosen.0 complete x.chosen.2 y.chosen.2) x.chosen.1 y.chosen.1)
+
+-- a matching excludes the violations that matching finds
+not_clear : (operations : List Operation) (v : Violation) → IsClear operations → IsMatchedOf operations (matched.Fresh v) → ⊥
+not_clear operations v clear is = clear.no_fresh is.0 is.1 is.3.violates
+
+not_repeated : (operations : List Operation) (v : Violation) → IsClear operations → IsMatchedOf operations (matched.Repeat v) → ⊥
+not_repeated operations v clear is = clear.no_repeat is.0 is.1 is.2 is.4.1.violates
+
+pub matched_is_one : MatchedIsOne
+matched_is_one operations (matched.Clear m) (matched.Clear n) complete x y = ap (λ matching. matched.Clear matching) (x.0 ∙ sym y.0)
+matched_is_one operations (matched.Clear m) (matched.Fresh v) complete x y = absurd (not_clear operations v x.1 y)
+matched_is_one operations (matched.Clear m) (matched.Repeat v) complete x y = absurd (not_repeated operations v x.1 y)
+matched_is_one operations (matched.Fresh v) (matched.Clear m) complete x y = absurd (not_clear operations v y.1 x)
+matched_is_one operations (matched.Repeat v) (matched.Clear m) complete x y = absurd (not_repeated operations v y.1 x)
+matched_is_one operations (matched.Fresh v) (matched.Repeat w) complete x y = absurd (y.4.0 x.0 x.1 x.3.violates)
+matched_is_one operations (matched.Repeat v) (matched.Fresh w) complete x y = absurd (x.4.0 y.0 y.1 y.3.violates)
+matched_is_one operations (matched.Fresh v) (matched.Fresh w) complete x y =
+    let b : Breach = fresh x.0 x.1 in
+    let c : Breach = fresh y.0 y.1 in
+    ap (λ named. matched.Fresh named) (one_violation operations v w b c complete (one_chosen_breach operations b c complete x.3 y.3) x.2 y.2)
+matched_is_one operations (matched.Repeat v) (matched.Repeat w) complete x y =
+    let b : Breach = repeat x.0 x.1 x.2 in
+    let c : Breach = repeat y.0 y.1 y.2 in
+    ap (λ named. matched.Repeat named) (one_violation operations v w b c complete (one_chosen_breach operations b c complete x.4 y.4) x.3 y.3)
+
+-- the pair that an order violation names
+abbrev pair_of : Violation → OrderPair
+pair_of (violation.Order a b d c) = record { enq_a = a; enq_b = b; deq_b = d; deq_a = c }
+pair_of _ = record { enq_a = 0; enq_b = 0; deq_b = 0; deq_a = None }
+
+pub pair_is_one : PairIsOne
+pair_is_one operations None None complete x y = refl
+pair_is_one operations None (Some q) complete x y = absurd (x y.enq_a y.enq_b y.deq_b y.deq_a y.is_chosen.violates)
+pair_is_one operations (Some p) None complete x y = absurd (y x.enq_a x.enq_b x.deq_b x.deq_a x.is_chosen.violates)
+pair_is_one operations (Some p) (Some q) complete x y =
+    let b : Breach = order x.enq_a x.enq_b x.deq_b x.deq_a in
+    let c : Breach = order y.enq_a y.enq_b y.deq_b y.deq_a in
+    let breaches : b ≡ c = one_order operations x.enq_a x.enq_b x.deq_b y.enq_a y.enq_b y.deq_b x.deq_a y.deq_a complete x.is_chosen y.is_chosen in
+    let v : Violation = violation.Order p.enq_a p.enq_b p.deq_b p.deq_a in
+    let w : Violation = violation.Order q.enq_a q.enq_b q.deq_b q.deq_a in
+    let violations = one_violation operations v w b c complete breaches (x.at_a, x.at_b, x.dequeued_b, x.dequeued_a) (y.at_a, y.at_b, y.dequeued_b, y.dequeued_a) in
+    ap (λ pair. Some pair) (ap pair_of violations)
+
+one_least_gap : (operations : List Operation) (o : Operation) (c d : ℕ) → IsLeastFreeGap operations o c → IsLeastFreeGap operations o d → c ≡ d
+one_least_gap operations o c d x y = let le = x.least d y.in_window y.is_free in let ge = y.least c x.in_window x.is_free in omega arith
+
+-- a window that is covered has no free gap
+free_or_covered : (operations : List Operation) (o : Operation) (c : ℕ) → IsLeastFreeGap operations o c → IsCovered operations o → ⊥
+free_or_covered operations o c free covered = let stays = covered c free.in_window in free.is_free stays.0 stays.1 stays.2
+
+pub gap_is_one : GapIsOne
+gap_is_one operations place (gap.Free c) (gap.Free d) clear x y =
+    let same = one_at operations place x.0 y.0 x.1 y.1 in
+    ap (λ c. gap.Free c) (one_least_gap operations y.0 c d (subst (λ o. IsLeastFreeGap operations o c) same x.2) y.2)
+gap_is_one operations place (gap.Free c) (gap.Covered cover) clear x y =
+    let same = one_at operations place x.0 y.0 x.1 y.2 in
+    absurd (free_or_covered operations y.0 c (subst (λ o. IsLeastFreeGap operations o c) same x.2) y.4)
+gap_is_one operations place (gap.Covered cover) (gap.Free c) clear x y =
+    let same = one_at operations place y.0 x.0 y.1 x.2 in
+    absurd (free_or_covered operations x.0 c (subst (λ o. IsLeastFreeGap operations o c) same y.2) x.4)
+gap_is_one operations place (gap.Covered steps) (gap.Covered steps') clear x y =
+    let same = one_at operations place x.0 y.0 x.2 y.2 in
+    let lives = one_cover operations y.0 y.0.call x.1 y.1 clear (subst (λ o. IsChosenCover operations o x.1) same x.5) y.5 in
+    ap (λ steps. gap.Covered steps) (one_named_cover operations steps steps' y.1 clear.complete (subst (NamesCover operations steps) lives x.3) y.3)
+
+one_list_of_gaps : (operations answers : List Operation) (cs ds : List ℕ) → AllZip (λ o c. IsLeastFreeGap operations o c) answers cs → AllZip (λ o c. IsLeastFreeGap operations o c) answers ds → cs ≡ ds
+one_list_of_gaps operations [] [] [] x y = refl
+one_list_of_gaps operations [] [] (d ∷ ds) x y = absurd y
+one_list_of_gaps operations [] (c ∷ cs) ds x y = absurd x
+one_list_of_gaps operations (o ∷ answers) [] ds x y = absurd x
+one_list_of_gaps operations (o ∷ answers) (c ∷ cs) [] x y = absurd y
+one_list_of_gaps operations (o ∷ answers) (c ∷ cs) (d ∷ ds) x y =
+    ap₂ (λ (n : ℕ) (ns : List ℕ). n ∷ ns) (one_least_gap operations o c d x.0 y.0) (one_list_of_gaps operations answers cs ds x.1 y.1)
+
+-- where each empty answer has a free gap, none is covered
+none_covered : (operations : List Operation) (gaps : List ℕ) (o : Operation) → AllZip (λ o c. IsLeastFreeGap operations o c) (filter is_empty_answer operations) gaps → Did operations o Empty → IsCovered operations o → ⊥
+none_covered operations gaps o each did covered =
+    let passes : is_empty_answer o ≡ true = rw did.1 refl in
+    let place = place_of (filter is_empty_answer operations) o (passes_filter is_empty_answer operations o passes did.0) in
+    let free = beside (λ o c. IsLeastFreeGap operations o c) (filter is_empty_answer operations) gaps place.0 o each place.1 in
+    free_or_covered operations o free.0 free.2 covered
+
+pub witness_is_one : WitnessIsOne
+witness_is_one operations (found.Gaps cs) (found.Gaps ds) clear x y = ap (λ gaps. found.Gaps gaps) (one_list_of_gaps operations (filter is_empty_answer operations) cs ds x y)
+witness_is_one operations (found.Gaps cs) (found.Covered place cover) clear x y = absurd (none_covered operations cs y.0 x y.4.answers_empty y.4.is_covered)
+witness_is_one operations (found.Covered place cover) (found.Gaps cs) clear x y = absurd (none_covered operations cs x.0 y x.4.answers_empty x.4.is_covered)
+witness_is_one operations (found.Covered p steps) (found.Covered q steps') clear x y =
+    let b : Breach = witness x.0 x.1 in
+    let c : Breach = witness y.0 y.1 in
+    let breaches : b ≡ c = one_witness operations x.0 y.0 x.1 y.1 clear x.4 y.4 in
+    let v : Violation = violation.Witness p steps in
+    let w : Violation = violation.Witness q steps' in
+    let violations = one_violation operations v w b c clear.complete breaches (x.2, x.3) (y.2, y.3) in
+    covered violations
+  where
+    covered : violation.Witness p steps ≡ violation.Witness q steps' → found.Covered p steps ≡ found.Covered q steps'
+    covered same = cc
