@@ -1,13 +1,9 @@
 -- What a history in the making keeps, after one more event and at the end.
-use Rattle.std.proofs.Common.{◌≡◌, ◌≢◌, ℕ, zero, suc, ◌+◌, ◌<◌, ◌≤◌, ◌⊎◌, Bool, true, false, cond, List, [], ◌∷◌, ◌++◌, length, get_or, set, take, Option, Some, None, refl, sym, ◌∙◌, ap, subst, inl, inr, arith, nat_eq, append_assoc, length-append, length-set, get_or-set_same, get_or-set_other}
-use Rattle.std.specs.Prelude.{find, slice_get, option_map, MatchOption, ⊤, IsTrue}
+use Rattle.std.proofs.Common.{◌≡◌, ◌≢◌, ℕ, ◌<◌, ◌≤◌, Bool, true, false, List, [], ◌∷◌, ◌++◌, length, get_or, set, Option, Some, None, refl, sym, ◌∙◌, ap, subst, inl, inr, arith, nat_eq, append_assoc, length-set, get_or-set_same, get_or-set_other}
+use Rattle.std.specs.Prelude.{slice_get, option_map, MatchOption, ⊤}
 use Rattle.std.specs.Bool.{then_some}
-use Rattle.std.specs.Option.{option_map_or}
-use Rattle.std.specs.List.{cons_option}
-use Rattle.std.proofs.Math.Seq.{take-append_seam}
 use Rattle.std.proofs.lemmas.Bool.Decides.{eqb_tells}
-use Rattle.std.proofs.lemmas.Bool.{eq-eqb, cases_lt, false≢true}
-use Rattle.std.proofs.lemmas.List.{take-append-le}
+use Rattle.std.proofs.lemmas.Bool.{eq-eqb, false≢true}
 use Rattle.std.proofs.lemmas.List.Elements.{filter-append}
 use Rattle.std.proofs.lemmas.Option.{slice_get_within, get_or_from_slice_get}
 use Rattle.event_records.specs.declared.event.Event.{Event}
@@ -17,7 +13,6 @@ use Rattle.event_records.specs.declared.limits.TheConstants.{MAX_THREAD}
 use Rattle.event_records.specs.Turns.{is_call, answers, TakesTurns}
 use Rattle.event_records.specs.Projection.{projection}
 use Rattle.history_merge.specs.declared.operation.Operation.{Operation}
-use Rattle.history_merge.specs.declared.operation.OpKind.{OpKind}
 use Rattle.history_merge.specs.declared.operation.OpKind.TheVariants.{Enq}
 use Rattle.history_merge.specs.declared.forming.Forming.{Forming}
 use Rattle.history_merge.specs.Complete.{IsCompleteHistory}
@@ -26,7 +21,7 @@ use Rattle.history_merge.specs.Operations.{operations_of, operation_of, kind_of}
 use Rattle.history_merge.specs.Forming.{FitsTurn, begun, answered, operation_so_far, operations_so_far, waiting}
 use Rattle.history_merge.specs.Gathering.{HasFormed}
 use Rattle.history_merge.proofs.Tracking.{pending_call-push_own, pending_call-push_other}
-use Rattle.history_merge.proofs.Turns.{answered_is_call, answer_is_return}
+use Rattle.history_merge.proofs.Turns.{answer_is_return}
 use Rattle.history_merge.proofs.Gathered.{next_of, formed_call, waits_call, waits_answer, waits_other, formed_answer}
 
 -- where there is no operation

@@ -12,3 +12,4 @@ pub mod DistinctValues
 pub mod Turns
 pub mod FirstFaults
 pub mod ExactFaults
+pub mod OneFault

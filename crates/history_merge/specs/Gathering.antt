@@ -1,5 +1,5 @@
 -- What a history in the making keeps of its events.
-use Rattle.std.specs.Prelude.{◌≡◌, ℕ, ◌+◌, ◌<◌, ◌≤◌, ◌/◌, ◌%◌, ◌^◌, ◌⊎◌, true, ◌++◌, List, ◌∷◌, [], length, Option, Some, MatchOption, ⊤, option_map, slice_index_or}
+use Rattle.std.specs.Prelude.{◌≡◌, ℕ, ◌+◌, ◌<◌, ◌≤◌, ◌/◌, ◌%◌, ◌^◌, ◌⊎◌, true, List, length, MatchOption, ⊤, option_map, slice_index_or}
 use Rattle.std.specs.Ordering.{nat_cmp}
 use Rattle.std.specs.BTreeSet.{contains}
 use Rattle.event_records.specs.declared.event.Event.{Event}

@@ -1,6 +1,5 @@
-use Rattle.std.proofs.Common.{◌≡◌, ◌++◌, ◌∷◌, [], List, Option, Some, None, true, false, sym, ap, ◌∙◌}
+use Rattle.std.proofs.Common.{sym, ap, ◌∙◌}
 use Rattle.std.specs.Prelude.{is_some}
-use Rattle.history_merge.specs.Gathering.{HasMetFault, IsForming}
 use Rattle.history_merge.proofs.MetFaults.{gathered_after_fault, gathered_without_fault, none_met}
 use Rattle.history_merge.proofs.builder.HistoryBuilder.add.Goals as goal
 

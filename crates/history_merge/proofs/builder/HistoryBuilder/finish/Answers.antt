@@ -1,6 +1,5 @@
-use Rattle.std.proofs.Common.{◌≡◌, List, sym, subst, ◌∙◌}
+use Rattle.std.proofs.Common.{subst, ◌∙◌}
 use Rattle.std.specs.Prelude.{MatchOption}
-use Rattle.event_records.specs.declared.event.Event.{Event}
 use Rattle.history_merge.specs.declared.fault.HistoryFault.TheVariants.{Pending}
 use Rattle.history_merge.specs.Gathering.{HasMetFault, IsForming}
 use Rattle.history_merge.proofs.ExactFaults.{complete_has_no_fault, complete_without_fault}

@@ -1,4 +1,4 @@
-use Rattle.std.proofs.Common.{◌≡◌, ◌∷◌, [], sym, refl, ◌∙◌, arith, subst, Some, None, length-append}
+use Rattle.std.proofs.Common.{◌≡◌, sym, refl, ◌∙◌, arith, subst, Some, None, length-append}
 use Rattle.history_merge.specs.Faults.{fault_at}
 use Rattle.history_merge.proofs.FirstFaults.{may_follow}
 use Rattle.history_merge.proofs.MetFaults.{met_fault-push, no_fault-push}

@@ -1,4 +1,4 @@
-use Rattle.std.proofs.Common.{◌≡◌, ℕ, get_or, sym, subst, refl, ◌∙◌, arith}
+use Rattle.std.proofs.Common.{◌≡◌, ℕ, sym, subst, refl, ◌∙◌}
 use Rattle.history_merge.proofs.Gathered.{called_in_operations}
 use Rattle.history_merge.proofs.KnownValues.{knows_set, repeats_by_set}
 use Rattle.history_merge.specs.Forming.{is_called_in}

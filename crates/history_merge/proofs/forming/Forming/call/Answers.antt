@@ -1,4 +1,4 @@
-use Rattle.std.proofs.Common.{◌≡◌, ◌++◌, ◌∷◌, [], arith, ap, refl}
+use Rattle.std.proofs.Common.{arith, refl}
 use Rattle.history_merge.proofs.Formed.{formed_after_call}
 use Rattle.history_merge.proofs.forming.Forming.call.Goals as goal
 
