@@ -133,7 +133,7 @@ traced (e ∷ later) o among = join (traced later o) (operation_of e (find (λ r
         ]
 
 -- events with one ticket are one event, at one place
-same_event : (events : List Event) (i j : ℕ) (e r : Event) → TicketsRise events → slice_get events i ≡ Some e → slice_get events j ≡ Some r → e.ticket ≡ r.ticket → i ≡ j
+pub same_event : (events : List Event) (i j : ℕ) (e r : Event) → TicketsRise events → slice_get events i ≡ Some e → slice_get events j ≡ Some r → e.ticket ≡ r.ticket → i ≡ j
 same_event events i j e r rise at_i at_j same =
     let order : (i < j) ⊎ ((i ≡ j) ⊎ (j < i)) = grind arith in
     elim order [

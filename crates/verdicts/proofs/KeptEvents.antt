@@ -34,7 +34,7 @@ find_kept {X} p keeps (x ∷ xs) r found is = pick (p x) refl (keeps x) refl (fi
     pick false test false kept more h = more h is
 
 -- the first that passes is found
-first_is_found : {X : Type 0} (p : X → Bool) (xs : List X) (r : X) (rest : List X) → filter p xs ≡ r ∷ rest → find p xs ≡ Some r
+pub first_is_found : {X : Type 0} (p : X → Bool) (xs : List X) (r : X) (rest : List X) → filter p xs ≡ r ∷ rest → find p xs ≡ Some r
 first_is_found p [] r rest same = cc
 first_is_found {X} p (x ∷ xs) r rest same = pick (p x) (first_is_found p xs r rest) same
   where
@@ -50,7 +50,7 @@ answered_kind CallDeq RetEmpty is = (Empty, refl)
 answered_kind _ _ is = cc
 
 -- a call and a return of its kind are an operation
-operation_made : (call answer : Event) → answers call.what answer.what ≡ true → (o : Operation) × (operation_of call (Some answer) ≡ Some o) × (o.call ≡ call.ticket) × (o.ret ≡ answer.ticket)
+pub operation_made : (call answer : Event) → answers call.what answer.what ≡ true → (o : Operation) × (operation_of call (Some answer) ≡ Some o) × (o.call ≡ call.ticket) × (o.ret ≡ answer.ticket)
 operation_made call answer is =
     let kind = answered_kind call.what answer.what is in
     (record { call = call.ticket; ret = answer.ticket; thread = call.thread; kind = kind.0 }, rw (kind.1, operation_of) refl, refl, refl)
@@ -69,7 +69,7 @@ return_begins_none e (Some answer) is = rw (no_kind e.what answer.what is, opera
     no_kind CallDeq answer is = cc
 
 -- calls and returns take turns, after a call that waits if there is one
-abbrev TurnsAfter : Option Event → List Event → Type 0
+abbrev pub TurnsAfter : Option Event → List Event → Type 0
 TurnsAfter None events = TakesTurns events
 TurnsAfter (Some call) events = TakesTurns (call ∷ events)
 
@@ -88,11 +88,11 @@ each_turns_later e later each thread = pick (nat_eq e.thread thread) (each threa
     pick false pending turns = (pending, turns)
 
 -- among the operations after one more event, if it begins one
-among_later : (made : Option Operation) (later : List Operation) (o : Operation) → Contains later o → Contains (cons_option made later) o
+pub among_later : (made : Option Operation) (later : List Operation) (o : Operation) → Contains later o → Contains (cons_option made later) o
 among_later None later o among = among
 among_later (Some x) later o among = one_deeper x later o among
 
-among_first : (made : Option Operation) (later : List Operation) (o : Operation) → made ≡ Some o → Contains (cons_option made later) o
+pub among_first : (made : Option Operation) (later : List Operation) (o : Operation) → made ≡ Some o → Contains (cons_option made later) o
 among_first None later o same = cc
 among_first (Some x) later o same = let here : x ≡ o = cc in (zero, omega arith, here)
 

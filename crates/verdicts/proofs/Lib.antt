@@ -21,3 +21,5 @@ pub mod ShrunkEvents
 pub mod OneVerdict
 pub mod TrueClaims
 pub mod FewLines
+pub mod EventsHeld
+pub mod OneSelection

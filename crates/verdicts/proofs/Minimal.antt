@@ -25,7 +25,7 @@ use Rattle.verdicts.proofs.NamedLines.{HasValue, IsOpOf, IsOpOfTwo, IsOpOfLife, 
 use Rattle.verdicts.proofs.Selections.{breach_in_whole, breach_in_selected, life_in_whole}
 
 -- a filter keeps all, or some element fails its test
-all_or_one : {X : Type 0} (p : X → Bool) (xs : List X) → (filter p xs ≡ xs) ⊎ ((x : X) × Contains xs x × (p x ≡ false))
+pub all_or_one : {X : Type 0} (p : X → Bool) (xs : List X) → (filter p xs ≡ xs) ⊎ ((x : X) × Contains xs x × (p x ≡ false))
 all_or_one p [] = inl refl
 all_or_one {X} p (x ∷ xs) = pick (p x) refl (all_or_one p xs)
   where

@@ -19,7 +19,7 @@ below_later key x xs y rises among = let place = place_of xs y among in pairs_at
 among_later : {X : Type 0} (key : X → ℕ) (y z : X) (ys : List X) → key y < key z → Contains (y ∷ ys) z → Contains ys z
 among_later key y z ys above among = elim (contains_cons y ys z among) [ inl same ↦ let keys = ap key same in absurd (omega arith) | inr later ↦ later ]
 
-same_lists : {X : Type 0} (key : X → ℕ) (xs ys : List X) → KeysRise key xs → KeysRise key ys → ((z : X) → Contains xs z → Contains ys z) → ((z : X) → Contains ys z → Contains xs z) → xs ≡ ys
+pub same_lists : {X : Type 0} (key : X → ℕ) (xs ys : List X) → KeysRise key xs → KeysRise key ys → ((z : X) → Contains xs z → Contains ys z) → ((z : X) → Contains ys z → Contains xs z) → xs ≡ ys
 same_lists key [] [] rises rises' into back = refl
 same_lists key [] (y ∷ ys) rises rises' into back = absurd (not_in_none y (back y (zero, omega arith, refl)))
 same_lists key (x ∷ xs) [] rises rises' into back = absurd (not_in_none x (into x (zero, omega arith, refl)))
