@@ -46,7 +46,6 @@ fn number_or(word: Option<String>, other: u64) -> Result<u64> {
 }
 
 /// Judges a history, and writes it with the verdict.
-#[tactic(auto, using(history_text::proofs::Claims::evidence_within))]
 fn show<R: Print>(rt: &R, alloc: Global, history: &History) -> Result<Verdict> {
     let verdict = decide(alloc, history)?;
     let mut output = Watched::new(io::writer(rt));

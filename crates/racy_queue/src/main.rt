@@ -46,7 +46,6 @@ fn number_or(word: Option<String>, other: u64) -> Result<u64> {
 }
 
 /// Whether a history shows a violation. If so, it is written with its verdict, and then what shows the violation alone.
-#[tactic(auto, using(history_text::proofs::Claims::evidence_within))]
 fn shows_violation<R: Print>(rt: &R, alloc: Global, history: &History) -> Result<bool> {
     let verdict = decide(alloc, history)?;
     let Verdict::No(violation) = &verdict else {
