@@ -10,3 +10,5 @@ pub mod Searched
 pub mod Played
 pub mod Validity
 pub mod ShrunkTexts
+pub mod OneInput
+pub mod OneAnswer

@@ -1,10 +1,9 @@
 -- The text of a shrunk history and of its verdict, read again.
-use Rattle.std.proofs.Common.{◌≡◌, ℕ, ◌+◌, ◌≤◌, ◌⊎◌, Bool, true, false, List, [], ◌∷◌, ◌++◌, length, filter, refl, sym, ◌∙◌, ap, subst, inl, inr, arith, append-nil, cond}
+use Rattle.std.proofs.Common.{◌≡◌, ℕ, ◌≤◌, ◌⊎◌, Bool, true, false, List, [], ◌∷◌, ◌++◌, length, filter, refl, sym, ◌∙◌, ap, subst, inl, inr, arith, append-nil, cond}
 use Rattle.std.specs.List.{AllByRecursion}
 use Rattle.event_records.specs.declared.event.Event.{Event}
 use Rattle.history_merge.specs.Complete.{IsCompleteHistory}
 use Rattle.history_merge.specs.Operations.{operations_of}
-use Rattle.history_merge.specs.declared.operation.Operation.{Operation}
 use Rattle.history_merge.specs.declared.fault.HistoryFault.{HistoryFault}
 use Rattle.history_merge.specs.declared.fault.HistoryFault.TheVariants as history
 use Rattle.history_merge.proofs.ExactFaults.{complete_has_no_fault}
@@ -13,9 +12,9 @@ use Rattle.verdicts.specs.Verdicts.{IsDecided}
 use Rattle.verdicts.proofs.OneVerdict.{verdict_is_one}
 use Rattle.history_text.specs.declared.fault.TextFault.{TextFault}
 use Rattle.history_text.specs.declared.fault.TextFault.TheVariants as text
-use Rattle.history_text.specs.Input.{Ahead, EndOfInput, Failure, Ending}
+use Rattle.history_text.specs.Input.{Ahead, EndOfInput, Failure}
 use Rattle.history_text.specs.Histories.{history_text, HasHistoryText, HasEventLine, IsHistoryTextFault}
-use Rattle.history_text.specs.Verdicts.{claim_of, verdict_text}
+use Rattle.history_text.specs.Verdicts.{claim_of}
 use Rattle.history_text.proofs.OneText as histories
 use Rattle.fifobench.specs.Answers.{Answer, judged, shown, memory_fault, answer_of_text_fault, answer_of_history_fault}
 use Rattle.fifobench.specs.Inputs.{IsHistoryOf, IsFaultOfHistoryInput, IsFaultAfter}
@@ -115,7 +114,7 @@ only_memory events text.Cut has is = absurd (whole_has_no_fault events text.Cut 
 only_memory events text.Trailing has is = absurd (whole_has_no_fault events text.Trailing has is)
 
 -- a history has one claim of a verdict
-one_verdict_claim : (events : List Event) (c d : Claimed) → IsCompleteHistory events → IsVerdictClaim (operations_of events) c → IsVerdictClaim (operations_of events) d → c ≡ d
+pub one_verdict_claim : (events : List Event) (c d : Claimed) → IsCompleteHistory events → IsVerdictClaim (operations_of events) c → IsVerdictClaim (operations_of events) d → c ≡ d
 one_verdict_claim events c d complete x y =
     let operations = operations_of events in
     let decided_x : IsDecided operations x.verdict = record { chosen = x.chosen; evidence = x.evidence; exact = x.exact } in

@@ -1,5 +1,5 @@
 -- The text of a history and of its verdict, read again, is a claim that is true.
-use Rattle.std.proofs.Common.{◌≡◌, ◌≢◌, ℕ, ◌+◌, ◌≤◌, ◌⊎◌, Bool, true, false, IsTrue, List, ◌++◌, length, refl, sym, ◌∙◌, ap, subst, inl, inr}
+use Rattle.std.proofs.Common.{◌≡◌, ◌+◌, ◌⊎◌, List, ◌++◌, length, refl, sym, ◌∙◌, ap, subst, inl, inr}
 use Rattle.event_records.specs.declared.event.Event.{Event}
 use Rattle.history_merge.specs.Complete.{IsCompleteHistory}
 use Rattle.history_merge.specs.Operations.{operations_of}
@@ -19,7 +19,7 @@ use Rattle.history_text.specs.Claims.{HasVerdictText, IsVerdictTextFault}
 use Rattle.history_text.proofs.OneText as histories
 use Rattle.history_text.proofs.OneVerdict as verdict_texts
 use Rattle.history_text.proofs.WrittenClaims.{claim_has_text}
-use Rattle.fifobench.specs.Answers.{Answer, judged, shown, verified, refused_text, refused_history, read_fault, memory_fault, answer_of_text_fault, answer_of_history_fault}
+use Rattle.fifobench.specs.Answers.{Answer, judged, verified, memory_fault, answer_of_text_fault, answer_of_history_fault}
 use Rattle.fifobench.specs.Inputs.{ClaimOnEvents, AfterHistory, IsClaimOf, IsFaultOfClaimInput, IsHistoryOf, IsFaultOfHistoryInput}
 use Rattle.fifobench.specs.Judging.{IsVerdictClaim, Judges, Verifies, AnswersFor, AnswersOrNoMemory}
 use Rattle.fifobench.specs.Evidence.{CheckedIsValid, IsValidOrNoMemory, input_of}

@@ -6,3 +6,4 @@ pub mod Running
 pub mod Stressing
 pub mod Evidence
 pub mod Shelf
+pub mod OneAnswer

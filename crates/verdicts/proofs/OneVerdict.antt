@@ -17,7 +17,7 @@ use Rattle.value_match.specs.declared.violation.Violation.{Violation}
 use Rattle.value_match.specs.declared.violation.Violation.TheVariants as violation
 use Rattle.value_match.specs.Lives.{IsMaybeAt, IsLeastFreeGap, IsCovered, is_empty_answer}
 use Rattle.value_match.specs.Choice.{IsChosenCover}
-use Rattle.value_match.specs.Outcome.{Names, NamesCover, IsMatchedOf}
+use Rattle.value_match.specs.Outcome.{Names, NamesCover, IsMatchedOf, IsChosenViolation}
 use Rattle.value_match.specs.Violations.{Breach, fresh, repeat, order, witness, IsBreachOf, IsClear}
 use Rattle.value_match.proofs.Lists.{passes_filter}
 use Rattle.order_violation.specs.declared.pair.OrderPair.{OrderPair}
@@ -114,6 +114,11 @@ one_named operations (violation.Witness o cover) y _ complete at at' = absurd at
 one_violation : (operations : List Operation) (x y : Violation) (b c : Breach) → AreComplete operations → b ≡ c → Names operations x b → Names operations y c → x ≡ y
 one_violation operations x y b c complete same at at' = one_named operations x y c complete (subst (Names operations x) same at) at'
 
+-- a complete history has one chosen violation
+pub chosen_violation_is_one : (operations : List Operation) (x y : Violation) → AreComplete operations → IsChosenViolation operations x → IsChosenViolation operations y → x ≡ y
+chosen_violation_is_one operations x y complete chosen_x chosen_y =
+    one_violation operations x y chosen_x.0 chosen_y.0 complete (one_chosen_breach operations chosen_x.0 chosen_y.0 complete chosen_x.2 chosen_y.2) chosen_x.1 chosen_y.1
+
 pub verdict_is_one : VerdictIsOne
 verdict_is_one operations (Yes ps) (Yes qs) complete x y =
     let none = λ (b : Breach) (violates : IsBreachOf operations b). breach_excludes_order operations b complete violates x.exact in
@@ -123,7 +128,7 @@ verdict_is_one operations (Yes ps) (Yes qs) complete x y =
 verdict_is_one operations (Yes ps) (No v) complete x y = absurd (y.exact x.exact)
 verdict_is_one operations (No v) (Yes qs) complete x y = absurd (x.exact y.exact)
 verdict_is_one operations (No v) (No w) complete x y =
-    ap (λ named. No named) (one_violation operations v w x.chosen.0 y.chosen.0 complete (one_chosen_breach operations x.chosen.0 y.chosen.0 complete x.chosen.2 y.chosen.2) x.chosen.1 y.chosen.1)
+    ap (λ named. No named) (chosen_violation_is_one operations v w complete x.chosen y.chosen)
 
 -- a matching excludes the violations that matching finds
 not_clear : (operations : List Operation) (v : Violation) → IsClear operations → IsMatchedOf operations (matched.Fresh v) → ⊥

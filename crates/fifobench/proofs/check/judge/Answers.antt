@@ -1,5 +1,5 @@
 use Rattle.verdicts.proofs.TrueClaims.{evidence_within}
-use Rattle.std.proofs.Common.{inl, inr, arith, ap, length, ◌≤◌}
+use Rattle.std.proofs.Common.{inl, inr, arith, length, ◌≤◌}
 use Rattle.history_merge.proofs.Completeness.{few_operations}
 use Rattle.event_records.specs.declared.limits.TheConstants.{MAX_EVENTS}
 use Rattle.fifobench.specs.Outcomes.{answer_of}
