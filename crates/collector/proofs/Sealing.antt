@@ -7,7 +7,7 @@ use Rattle.event_rings.specs.Ring.{DrainView, TokenView}
 use Rattle.event_records.specs.declared.event.Event.{Event}
 use Rattle.tickets.proofs.Rising.{range-push}
 use Rattle.std.proofs.lemmas.Slice.Zip.{AllZip-long}
-use Rattle.collector.specs.Ends.{Fits, AreInOrder, IsFirstForeign, threads_of, threads_of_tokens}
+use Rattle.collector.specs.Ends.{Fits, AreInOrder, IsFirstForeign, AreOwnUpTo, threads_of, threads_of_tokens}
 
 -- the tokens that were used are of their places' threads, and the lists so far are all that they tell
 pub record IsSealing (tokens : List TokenView) (rings : List DrainView) (left : List TokenView) (lists : List (List Event)) : Type 0 where
@@ -61,6 +61,18 @@ module _ (tokens : List TokenView) (rings rings' : List DrainView) (left left' :
         ∙ map-append (λ (token : TokenView). token.thread) p.done (t ∷ left')
         ∙ ap (λ l. l ++ t.thread ∷ map (λ token. token.thread) left') (p.own ∙ ap numbers_below (sym own_place));
     foreign = other;
+  }
+
+  -- the token is of its place's thread, as those before it
+  pub own_so_far : t.thread ≡ r.thread → AreOwnUpTo tokens
+  own_so_far own = record {
+    place = length p.done;
+    rest = map (λ token. token.thread) left';
+    threads =
+        ap (map (λ (token : TokenView). token.thread)) (p.tokens_are ∙ ap (λ l. p.done ++ l) next_token)
+        ∙ map-append (λ (token : TokenView). token.thread) p.done (t ∷ left')
+        ∙ ap (λ l. l ++ t.thread ∷ map (λ token. token.thread) left') p.own
+        ∙ ap (λ (x : ℕ). numbers_below (length p.done) ++ x ∷ map (λ token. token.thread) left') (own ∙ own_place);
   }
 
 none_left : (left : List TokenView) → AllZip Fits [] left → left ≡ []

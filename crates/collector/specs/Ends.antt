@@ -1,8 +1,14 @@
 -- Drain ends and close tokens, one for each thread.
-use Rattle.std.specs.Prelude.{◌≡◌, ◌≢◌, ℕ, ◌≤◌, List, [], ◌∷◌, ◌++◌, length, map, All, sum_by}
+use Rattle.std.specs.Prelude.{◌≡◌, ◌≢◌, ℕ, ◌<◌, ◌≤◌, Bool, List, [], ◌∷◌, ◌++◌, length, map, take, drop, All, sum_by}
+use Rattle.std.specs.List.{AllZip}
 use Rattle.tickets.specs.Views.{numbers_below}
 use Rattle.event_rings.specs.Ring.{RingName, DrainView, TokenView}
 use Rattle.event_records.specs.declared.event.Event.{Event}
+
+-- the ends that are drained, each with all that was received from it, and whether a round was refused its room
+pub record CollectorView : Type 0 where
+  pub rings : List DrainView
+  pub refused : Bool
 
 -- the threads of these ends, in their order
 abbrev pub threads_of : List DrainView → List ℕ
@@ -40,6 +46,13 @@ pub record Drains (max : ℕ) (before after : DrainView) : Type 0 where
   pub few : length drained ≤ max
   pub received : after.received ≡ before.received ++ drained
 
+-- the ends before a place were drained of at most `max` events each, and those from there on are as they were
+pub record StopsAt (max : ℕ) (before after : List DrainView) : Type 0 where
+  pub place : ℕ
+  pub inside : place < length before
+  pub drained : AllZip (Drains max) (take place before) (take place after)
+  pub left : drop place after ≡ drop place before
+
 -- how many events were received in all
 abbrev pub count_received : List DrainView → ℕ
 count_received ends = sum_by (λ e. length e.received) ends
@@ -50,3 +63,9 @@ pub record IsFirstForeign (tokens : List TokenView) (place : ℕ) : Type 0 where
   pub rest : List ℕ
   pub threads : threads_of_tokens tokens ≡ numbers_below place ++ other ∷ rest
   pub foreign : other ≢ place
+
+-- the token at some place is of its place's thread, and each one before it is
+pub record AreOwnUpTo (tokens : List TokenView) : Type 0 where
+  pub place : ℕ
+  pub rest : List ℕ
+  pub threads : threads_of_tokens tokens ≡ numbers_below place ++ place ∷ rest

@@ -1,7 +1,7 @@
 // One thread's ring, with what was drained from it.
-ghost use Rattle.std.specs.Prelude.{◌≡◌, ◌≢◌, ◌≤◌, ◌<◌, ◌+◌, IfOk, IfErr, [], length};
+ghost use Rattle.std.specs.Prelude.{◌≡◌, ◌≢◌, ◌≤◌, ◌<◌, ◌+◌, IfOk, IfErr, OnErr, [], length};
 ghost use Rattle.collector.specs.Ends.{Fits, Drains};
-ghost use Rattle.event_rings.specs.declared.drain_end.FinishFault.TheVariants.{Uncertified};
+ghost use Rattle.event_rings.specs.declared.drain_end.FinishFault.TheVariants.{Uncertified, Memory};
 ghost use Rattle.event_rings.specs.declared.TheConstants.{MAX_CAPACITY};
 
 use event_records::Event;
@@ -55,6 +55,7 @@ impl Drained {
         ensures drains { Drains max self.old self.new }
         ensures count { IfOk result (λ n. length self.new.received ≡ length self.old.received + n) }
         ensures few { IfOk result (λ n. n ≤ MAX_CAPACITY) }
+        ensures refused { OnErr result (self.new ≡ self.old) }
     {
         let drained = self.end.drain_into(&mut self.events, max)?;
         Ok(drained as u64)
@@ -66,6 +67,7 @@ impl Drained {
         ensures sealed { IfOk result (λ events. events.items ≡ token.sent) }
         ensures certified { IfOk result (λ _. token.thread ≡ self.thread) }
         ensures uncertified { IfErr result (λ fault. fault ≡ Uncertified → token.thread ≢ self.thread) }
+        ensures memory { IfErr result (λ fault. fault ≡ Memory → token.thread ≡ self.thread) }
     {
         let Drained { end, mut events } = self;
         let sealed = end.finish(token)?;

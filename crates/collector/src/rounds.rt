@@ -1,8 +1,8 @@
 // All rings together: rounds of draining, and the seal.
-ghost use Rattle.std.specs.Prelude.{◌≡◌, ◌≢◌, ◌≤◌, ◌+◌, IfOk, IfErr, map, ℕ};
+ghost use Rattle.std.specs.Prelude.{◌≡◌, ◌≢◌, ◌≤◌, ◌+◌, IfOk, IfErr, OnOk, OnErr, map, ℕ, true, false};
 ghost use Rattle.std.specs.List.{AllZip};
-ghost use Rattle.collector.specs.Ends.{AreInOrder, AreFresh, Drains, Fits, IsFirstForeign, count_received, rings_of, threads_of, threads_of_tokens};
-ghost use Rattle.collector.specs.declared.rounds.CollectError.TheVariants.{Uncertified};
+ghost use Rattle.collector.specs.Ends.{AreInOrder, AreFresh, AreOwnUpTo, Drains, Fits, IsFirstForeign, StopsAt, count_received, rings_of, threads_of, threads_of_tokens};
+ghost use Rattle.collector.specs.declared.rounds.CollectError.TheVariants.{Memory, Uncertified};
 ghost use Rattle.event_rings.specs.declared.TheConstants.{MAX_CAPACITY};
 
 use crate::drained::Drained;
@@ -13,21 +13,20 @@ use std::marker::Model;
 
 /// Drains the rings of threads 0, 1, 2 and on, and keeps what it drained.
 ///
-/// Contracts see the list of the drain ends, each with all that was received from it.
+/// Contracts see the list of the drain ends, each with all that was received from it, and whether a round was refused.
 #[derive(Drop)]
 pub struct Collector {
     alloc: Global,
     rings: Vec<Drained>,
+    refused: bool,
 }
 
 impl Model for Collector {
-    ghost use Rattle.std.specs.Prelude.{List};
-    ghost use Rattle.event_rings.specs.Ring.{DrainView};
-    ghost use Rattle.collector.specs.Ends.{AreInOrder};
+    ghost use Rattle.collector.specs.Ends.{AreInOrder, CollectorView};
 
-    ghost Value = { List DrainView };
+    ghost Value = { CollectorView };
 
-    ghost view = { λ c. c.rings.items };
+    ghost view = { λ c. record { rings = c.rings.items; refused = c.refused } };
 
     ghost invariant = { λ c. AreInOrder c.rings.items };
 }
@@ -35,7 +34,7 @@ impl Model for Collector {
 /// Why the rings were not sealed. No list is given, and the rings are gone.
 #[derive(Debug, Drop)]
 pub enum CollectError {
-    /// There was no memory for the lists.
+    /// There was no memory for the list of some thread. The tokens up to that thread's are of their places' threads.
     Memory,
     /// The token at this thread's place is of another thread's ring, and no token before it is.
     Uncertified(u8),
@@ -46,7 +45,7 @@ impl Collector {
     pub fn new(alloc: Global, ends: Vec<DrainEnd>) -> Result<Collector, AllocError>
         requires order { AreInOrder ends.items }
         requires fresh { AreFresh ends.items }
-        ensures { IfOk result (λ collector. collector ≡ ends.items) }
+        ensures { IfOk result (λ collector. collector ≡ record { rings = ends.items; refused = false }) }
     {
         Collector::with_room(alloc, ends, 0)
     }
@@ -59,35 +58,56 @@ impl Collector {
     ) -> Result<Collector, AllocError>
         requires order { AreInOrder ends.items }
         requires fresh { AreFresh ends.items }
-        ensures { IfOk result (λ collector. collector ≡ ends.items) }
+        ensures { IfOk result (λ collector. collector ≡ record { rings = ends.items; refused = false }) }
     {
         let rings = all_drained(alloc, ends, room)?;
-        Ok(Collector { alloc, rings })
+        Ok(Collector {
+            alloc,
+            rings,
+            refused: false,
+        })
     }
 
     /// Drains at most `max` events from each ring, in order of thread, and tells how many.
     ///
     /// Where room for a ring's events is refused, the round ends there. What was drained before is kept, and that ring
-    /// and those after it are as they were: no event is lost.
+    /// and those after it are as they were: no event is lost. A later round may have more luck.
     pub fn drain_round(&mut self, max: usize) -> Result<u64, AllocError>
         requires { max ≤ MAX_CAPACITY }
-        ensures rings { rings_of self.new ≡ rings_of self.old }
-        ensures drains { AllZip (Drains max) self.old self.new }
-        ensures count { IfOk result (λ n. count_received self.new ≡ count_received self.old + n) }
+        ensures rings { rings_of self.new.rings ≡ rings_of self.old.rings }
+        ensures drains { AllZip (Drains max) self.old.rings self.new.rings }
+        ensures count { IfOk result (λ n. count_received self.new.rings ≡ count_received self.old.rings + n) }
+        ensures granted { OnOk result (self.new.refused ≡ self.old.refused) }
+        ensures refused { OnErr result (self.new.refused ≡ true) }
+        ensures stops { OnErr result (StopsAt max self.old.rings self.new.rings) }
     {
-        drain_each(&mut self.rings, max)
+        let drained = drain_each(&mut self.rings, max);
+        self.refused |= drained.is_err();
+        drained
+    }
+
+    /// Whether a round was refused its room. No event was lost by it.
+    pub fn was_refused(&self) -> bool
+        ensures { result ≡ self.now.refused }
+    {
+        self.refused
     }
 
     /// The events of each thread, all that it pushed, by the close tokens of the rings in order of thread.
     ///
     /// Each list is what was drained before, and what was left in the ring.
     pub fn seal(self, tokens: Vec<CloseToken>) -> Result<Lists, CollectError>
-        requires { AllZip Fits self tokens.items }
+        requires { AllZip Fits self.rings tokens.items }
         ensures sealed { IfOk result (λ lists. lists ≡ map (λ token. token.sent) tokens.items) }
-        ensures certified { IfOk result (λ _. threads_of_tokens tokens.items ≡ threads_of self) }
+        ensures certified { IfOk result (λ _. threads_of_tokens tokens.items ≡ threads_of self.rings) }
         ensures uncertified { IfErr result (λ fault. (thread : ℕ) → fault ≡ Uncertified thread → IsFirstForeign tokens.items thread) }
+        ensures memory { IfErr result (λ fault. fault ≡ Memory → AreOwnUpTo tokens.items) }
     {
-        let Collector { alloc, rings } = self;
+        let Collector {
+            alloc,
+            rings,
+            refused: _,
+        } = self;
         let lists = seal_each(alloc, rings, tokens)?;
         Ok(Lists::from_vec(lists))
     }
@@ -113,6 +133,7 @@ fn drain_each(rings: &mut Vec<Drained>, max: usize) -> Result<u64, AllocError>
     ensures drains { AllZip (Drains max) rings.old.items rings.new.items }
     ensures order { AreInOrder rings.new.items }
     ensures count { IfOk result (λ n. count_received rings.new.items ≡ count_received rings.old.items + n) }
+    ensures stops { OnErr result (StopsAt max rings.old.items rings.new.items) }
 {
     let mut total = 0;
     for place in 0..rings.len() {
@@ -134,6 +155,7 @@ fn seal_each(
     ensures sealed { IfOk result (λ lists. map (λ list. list.items) lists.items ≡ map (λ token. token.sent) tokens.items) }
     ensures certified { IfOk result (λ _. threads_of_tokens tokens.items ≡ threads_of rings.items) }
     ensures uncertified { IfErr result (λ fault. (thread : ℕ) → fault ≡ Uncertified thread → IsFirstForeign tokens.items thread) }
+    ensures memory { IfErr result (λ fault. fault ≡ Memory → AreOwnUpTo tokens.items) }
 {
     let mut lists = Vec::new(alloc);
     let mut left = tokens.into_iter();
@@ -156,6 +178,7 @@ fn seal_one(ring: Drained, token: CloseToken) -> Result<Vec<Event>, CollectError
     ensures sealed { IfOk result (λ events. events.items ≡ token.sent) }
     ensures certified { IfOk result (λ _. token.thread ≡ ring.thread) }
     ensures uncertified { IfErr result (λ fault. (thread : ℕ) → fault ≡ Uncertified thread → (thread ≡ ring.thread) × (token.thread ≢ ring.thread)) }
+    ensures memory { IfErr result (λ fault. fault ≡ Memory → token.thread ≡ ring.thread) }
 {
     let thread = ring.thread();
     match ring.seal(token) {

@@ -77,7 +77,7 @@ fn tokens_in_their_places_seal(rt: HostRuntime) -> Result<(), Fail> {
 
 // A round of two events from each ring, and another one where that is refused its room.
 fn drain_two(collector: &mut Collector) -> Result<u64, AllocError>
-    ensures { rings_of collector.new ≡ rings_of collector.old }
+    ensures { rings_of collector.new.rings ≡ rings_of collector.old.rings }
 {
     match collector.drain_round(2) {
         Ok(drained) => Ok(drained),
@@ -87,7 +87,7 @@ fn drain_two(collector: &mut Collector) -> Result<u64, AllocError>
 
 // The events of the one ring, by its token.
 fn seal_one(alloc: Global, collector: Collector, token: CloseToken) -> Result<Vec<Vec<Event>>, Fail>
-    requires { rings_of collector ≡ (token.ring, token.thread) ∷ [] }
+    requires { rings_of collector.rings ≡ (token.ring, token.thread) ∷ [] }
 {
     Ok(collector.seal(vec![in alloc; token]?)?.into_vec())
 }

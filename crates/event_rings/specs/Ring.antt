@@ -30,10 +30,12 @@ module _ {T P : Type 0} where
   abbrev pub ring_of_finished : Finished T Global P → RingName
   ring_of_finished f = name_of f.end
 
--- the end that pushes: all that it has sent, oldest first, and how many more events it knows to have room for
+-- the end that pushes: for how many events the ring has room in all, what was sent, oldest first, and how many more events the end knows to
+-- have room for
 pub record PushView : Type 0 where
   pub ring : RingName
   pub thread : ℕ
+  pub capacity : ℕ
   pub sent : List Event
   pub room : ℕ
 

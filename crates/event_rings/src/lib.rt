@@ -35,7 +35,7 @@ pub fn ring(
     ensures pair { IfOk result (λ ends. ends.1.ring ≡ ends.0.ring) }
     ensures threads { IfOk result (λ ends. (ends.0.thread ≡ thread) × (ends.1.thread ≡ thread)) }
     ensures empty { IfOk result (λ ends. (ends.0.sent ≡ []) × (ends.1.received ≡ [])) }
-    ensures room { IfOk result (λ ends. ends.0.room ≡ capacity) }
+    ensures room { IfOk result (λ ends. (ends.0.capacity ≡ capacity) × (ends.0.room ≡ capacity)) }
 {
     let (producer, consumer) = RingBuffer::new(alloc, capacity)?;
     let push = PushEnd::over(thread, producer);

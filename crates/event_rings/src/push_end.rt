@@ -13,12 +13,15 @@ pub struct PushEnd {
 }
 
 impl Model for PushEnd {
+    ghost use Rattle.std.specs.Prelude.{◌≤◌, ◌+◌, length};
     ghost use Rattle.event_rings.specs.Ring.{PushView, ring_of_producer};
-    ghost use Rattle.rtrb.specs.Ring.{sent, known_free};
+    ghost use Rattle.rtrb.specs.Ring.{sent, known_free, producer_capacity};
 
     ghost Value = { PushView };
 
-    ghost view = { λ p. record { ring = ring_of_producer p.producer; thread = p.thread; sent = sent p.producer; room = known_free p.producer } };
+    ghost view = { λ p. record { ring = ring_of_producer p.producer; thread = p.thread; capacity = producer_capacity p.producer; sent = sent p.producer; room = known_free p.producer } };
+
+    ghost invariant = { λ p. producer_capacity p.producer ≤ known_free p.producer + length (sent p.producer) };
 }
 
 /// Shows all that a thread pushed. Its ring's push end is gone, so nothing is pushed any more.
@@ -37,7 +40,9 @@ impl Model for CloseToken {
     ghost view = { λ t. record { ring = ring_of_finished t.finished; thread = t.thread; sent = all_sent t.finished } };
 }
 
-/// The ring gave no close token: its other end had left before. What was pushed is lost.
+/// The ring gave no close token. What was pushed is lost.
+///
+/// The base gives none where the drain end was dropped before. No contract says so.
 #[derive(Debug, Drop)]
 pub struct CloseLost;
 
@@ -54,12 +59,13 @@ impl CloseToken {
 }
 
 impl PushEnd {
-    ghost use Rattle.std.specs.Prelude.{◌≡◌, ◌∷◌, ◌++◌, [], ◌+◌, ◌<◌, ◌≤◌, IfOk, IfErr, IsOk, OnOk};
+    ghost use Rattle.std.specs.Prelude.{◌≡◌, ◌∷◌, ◌++◌, [], ◌+◌, ◌<◌, ◌≤◌, length, IfOk, IfErr, IsOk, OnOk, OnErr};
     ghost use Rattle.event_rings.specs.Ring.{ring_of_producer};
-    ghost use Rattle.rtrb.specs.Ring.{sent, known_free};
+    ghost use Rattle.rtrb.specs.Ring.{sent, known_free, producer_capacity};
 
     pub(crate) fn over(thread: ThreadNo, producer: Producer<Event>) -> PushEnd
-        ensures { result ≡ record { ring = ring_of_producer producer; thread = thread; sent = sent producer; room = known_free producer } }
+        requires { producer_capacity producer ≤ known_free producer + length (sent producer) }
+        ensures { result ≡ record { ring = ring_of_producer producer; thread = thread; capacity = producer_capacity producer; sent = sent producer; room = known_free producer } }
     {
         PushEnd { thread, producer }
     }
@@ -73,13 +79,15 @@ impl PushEnd {
 
     /// Pushes an event of this thread, or gives it back where no room was seen. It takes no memory.
     ///
-    /// The end learns of room that the other end made only when it knows of none itself.
+    /// The end learns of room that the other end made only when it knows of none itself. So it is refused only when as many
+    /// events were sent as the ring has room for.
     pub fn push(&mut self, noted: Noted) -> Result<(), Noted>
         requires { noted.thread ≡ self.old.thread }
         ensures pushed { OnOk result (self.new ≡ record self.old { sent = self.old.sent ++ noted ∷ []; room = self.new.room }) }
         ensures room { OnOk result (self.old.room ≤ self.new.room + 1) }
         ensures full { IfErr result (λ back. (back ≡ noted) × (self.new ≡ self.old)) }
         ensures succeeds { 0 < self.old.room → IsOk result }
+        ensures filled { OnErr result (self.old.capacity ≤ length self.old.sent) }
     {
         match self.producer.push(noted.event()) {
             Ok(()) => Ok(()),
@@ -89,7 +97,7 @@ impl PushEnd {
 
     /// Closes the ring. The token tells all that was sent.
     ///
-    /// `CloseLost` comes only where the drain end had left before. It takes no memory.
+    /// It takes no memory.
     pub fn close(self) -> Result<CloseToken, CloseLost>
         ensures { IfOk result (λ token. (token.ring ≡ self.ring) × (token.thread ≡ self.thread) × (token.sent ≡ self.sent)) }
     {

@@ -1,5 +1,5 @@
 -- From workers that made their rows to the events of a run.
-use Rattle.std.proofs.Common.{◌≡◌, ℕ, zero, suc, ◌*◌, ◌<◌, List, [], ◌∷◌, ◌++◌, length, map, All, sum_by, flat_map, get_or, IsPermutation, false, refl, ap, sym, subst, ◌∙◌, arith}
+use Rattle.std.proofs.Common.{◌≡◌, ℕ, zero, suc, ◌*◌, ◌<◌, List, [], ◌∷◌, ◌++◌, length, map, All, sum_by, flat_map, get_or, IsPermutation, Contains, Option, Some, None, IfSome, inl, inr, true, false, refl, ap, sym, subst, ◌∙◌, arith}
 use Rattle.std.proofs.lemmas.List.{map-append, length-map, get_or_default}
 use Rattle.std.proofs.lemmas.List.Concat.{length-flat_map}
 use Rattle.std.proofs.lemmas.List.FromFn.{length-range_with_len}
@@ -18,7 +18,12 @@ use Rattle.event_rings.specs.Ring.{TokenView}
 use Rattle.workloads.specs.Plans.{IsPlan}
 use Rattle.stress_run.specs.Operations.{Operates, IsRun, ticket_of}
 use Rattle.stress_run.specs.Workers.{WorkerView, Works, WorksIn, IsReadyIn, row_of}
-use Rattle.stress_run.specs.Crew.{IsNew, IsCrew, AreClosed, end_of, token_of}
+use Rattle.stress_run.specs.Crew.{SizesView, IsNew, IsCrew, AreClosed, IsNotAfterStall, IsFaultOfWorker, Stands, end_of, token_of}
+use Rattle.stress_run.specs.Failed.{IsFaultAfter, IsFaultOfRun, Overflows}
+use Rattle.stress_run.specs.Faults.{IsWithinLimits}
+use Rattle.stress_run.specs.declared.faults.RunFault.{RunFault}
+use Rattle.stress_run.specs.declared.faults.RunFault.TheVariants.{Limit, Memory, Stalled, CloseLost, Uncertified}
+use Rattle.stress_run.proofs.Composed.{stays, runs, overflows}
 use Rattle.collector.specs.Ends.{rings_of, rings_of_tokens}
 use Rattle.stress_run.proofs.Places.{IsAt, zip_at, zip_of, map_at, numbered_at}
 
@@ -34,14 +39,14 @@ lefts [] (a ∷ rest) z = absurd z
 lefts (r ∷ rs) [] z = absurd z
 lefts (r ∷ rs) (a ∷ rest) z = let one = sum_by-cons (λ (w : WorkerView). w.pass.left) a rest in let more = lefts rs rest z.1 in let none = z.0.left in omega (arith, one, more, none)
 
-sizes : (rows : List (List Kind)) (after : List WorkerView) → AllZip IsDone rows after → sum_by (λ a. length a.pass.drawn) after ≡ 2 * sum_by length rows
-sizes [] [] z = refl
-sizes [] (a ∷ rest) z = absurd z
-sizes (r ∷ rs) [] z = absurd z
-sizes (r ∷ rs) (a ∷ rest) z =
+all_sizes : (rows : List (List Kind)) (after : List WorkerView) → AllZip IsDone rows after → sum_by (λ a. length a.pass.drawn) after ≡ 2 * sum_by length rows
+all_sizes [] [] z = refl
+all_sizes [] (a ∷ rest) z = absurd z
+all_sizes (r ∷ rs) [] z = absurd z
+all_sizes (r ∷ rs) (a ∷ rest) z =
     let one = sum_by-cons (λ (w : WorkerView). length w.pass.drawn) a rest in
     let row = sum_by-cons length r rs in
-    let more = sizes rs rest z.1 in
+    let more = all_sizes rs rest z.1 in
     let all = z.0.size in
     omega (arith, one, row, more, all)
 
@@ -63,6 +68,12 @@ same_rings (w ∷ ws) (a ∷ rest) z = pairs a.ring w.ring a.thread w.thread _ _
     pairs : {X Y : Type 0} (x x' : X) (y y' : Y) (xs xs' : List (X × Y)) → x ≡ x' → y ≡ y' → xs ≡ xs' → (x, y) ∷ xs ≡ (x', y') ∷ xs'
     pairs x x' y y' xs xs' p q r = cc
 
+same_threads : (workers after : List WorkerView) → AllZip (λ w a. (a.ring ≡ w.ring) × (a.thread ≡ w.thread)) workers after → map (λ t. t.thread) (map token_of after) ≡ map (λ w. w.thread) workers
+same_threads [] [] z = refl
+same_threads [] (a ∷ rest) z = absurd z
+same_threads (w ∷ ws) [] z = absurd z
+same_threads (w ∷ ws) (a ∷ rest) z = ap (λ n. n ∷ map (λ (t : TokenView). t.thread) (map token_of rest)) z.0.1 ∙ ap (λ l. w.thread ∷ l) (same_threads ws rest z.1)
+
 sent_of : (after : List WorkerView) → map (λ token. token.sent) (map token_of after) ≡ map (λ a. a.sent) after
 sent_of [] = refl
 sent_of (a ∷ rest) = ap (λ l. a.sent ∷ l) (sent_of rest)
@@ -76,9 +87,9 @@ ends_fresh [] k d h = absurd (omega (arith, h))
 ends_fresh (w ∷ ws) zero d h = refl
 ends_fresh (w ∷ ws) (suc k) d h = ends_fresh ws k d (omega (arith, h))
 
-module _ (key : TableId) (rows : List (List Kind)) (workers : List WorkerView) (crew : IsCrew key rows workers) where
+module _ (key : TableId) (sizes : SizesView) (rows : List (List Kind)) (workers : List WorkerView) (crew : IsCrew key sizes rows workers) where
   pub crew_long : length workers ≡ length rows
-  crew_long = AllZip-long (IsNew key) rows workers crew.each
+  crew_long = AllZip-long (IsNew key sizes) rows workers crew.each
 
   pub in_order : map (λ e. e.thread) (map end_of workers) ≡ numbers_below (length (map end_of workers))
   in_order = ends_threads workers ∙ crew.threads ∙ ap numbers_below (sym (length-map workers end_of ∙ crew_long))
@@ -87,18 +98,18 @@ module _ (key : TableId) (rows : List (List Kind)) (workers : List WorkerView) (
   record Place (t : ℕ) (w : WorkerView) : Type 0 where
     pub row : List Kind
     pub at_row : IsAt rows t row
-    pub new : IsNew key row w
+    pub new : IsNew key sizes row w
     pub thread : w.thread ≡ t
     pub row_is : row_of rows w ≡ row
 
   place : (t : ℕ) (w : WorkerView) → t < length rows → IsAt workers t w → Place t w
   place t w h at =
-      let z = zip_at (IsNew key) rows workers t crew.each h in
+      let z = zip_at (IsNew key sizes) rows workers t crew.each h in
       let same : z.1 ≡ w = sym (z.3 w) ∙ at w in
       let long = crew_long in
       let inside : t < length workers = omega (arith, h, long) in
       let number = numbered_at (λ (v : WorkerView). v.thread) workers (length rows) t w crew.threads h inside at in
-      record { row = z.0; at_row = z.2; new = subst (IsNew key z.0) same z.4; thread = number; row_is = ap (λ n. get_or rows n []) number ∙ z.2 [] }
+      record { row = z.0; at_row = z.2; new = subst (IsNew key sizes z.0) same z.4; thread = number; row_is = ap (λ n. get_or rows n []) number ∙ z.2 [] }
 
   pub ready : IsPlan rows → All (IsReadyIn key rows) workers
   ready plan k d h =
@@ -145,23 +156,82 @@ module _ (key : TableId) (rows : List (List Kind)) (workers : List WorkerView) (
         let long = after_long in
         let inside : k < length rows = omega (arith, h, long) in
         let p = past k (get_or after k d) inside (λ e. get_or_default after k e d h) in
-        p.did.stays.key ∙ ap (λ (v : PassView). v.key) p.place_of.new.pass
+        (stays may (row_of rows p.w) p.w (get_or after k d) p.did).key ∙ ap (λ (v : PassView). v.key) p.place_of.new.pass
+
+    -- the place of a worker is its thread
+    own_thread : (t : ℕ) (a : WorkerView) → t < length rows → IsAt after t a → a.thread ≡ t
+    own_thread t a h at = let p = past t a h at in (stays may (row_of rows p.w) p.w a p.did).thread ∙ p.place_of.thread
+
+    module _ (f : RunFault) (a : WorkerView) (among : Contains after a) (is : IsFaultOfWorker f a) (first : All (IsNotAfterStall f) after) where
+      fault_after : IsFaultAfter may rows sizes f
+      fault_after = record { key = key; workers = workers; crew = crew; after = after; worked = worked; faulty = a; among = among; is = is; first = first }
+
+      here : among.0 < length rows
+      here = let long = after_long in let inside = among.1 in omega (arith, long, inside)
+
+      found : IsAt after among.0 a
+      found d = sym (get_or_default after among.0 a d among.1) ∙ among.2
+
+      pub in_plan : (t : ℕ) → t ≡ a.thread → t < length rows
+      in_plan t e = let own = own_thread among.0 a here found in let inside = here in omega (arith, e, own, inside)
+
+      pub row_overflows : (t : ℕ) → t ≡ a.thread → a.stopped ≡ true → Overflows rows sizes t
+      row_overflows t e stopped =
+          let p = past among.0 a here found in
+          let new = p.place_of.new in
+          let few = overflows may (row_of rows p.w) p.w a p.did new.sent new.running stopped in
+          let room = new.capacity in
+          let same : t ≡ p.w.thread = e ∙ (stays may (row_of rows p.w) p.w a p.did).thread in
+          let row = ap (λ (n : ℕ). length (get_or rows n [])) same in
+          omega (arith, few, room, row)
+
+      pub fault_is : (g : RunFault) → f ≡ g → IsWithinLimits sizes.ring sizes.tries → IsFaultOfRun may rows sizes g
+      fault_is Limit e within = absurd (subst (λ (x : RunFault). IsFaultOfWorker x a) e is)
+      fault_is Memory e within = within
+      fault_is (Stalled t) e within =
+          let own = subst (λ (x : RunFault). IsFaultOfWorker x a) e is in
+          (in_plan t own.1, row_overflows t own.1 own.0, subst (IsFaultAfter may rows sizes) e fault_after)
+      fault_is (CloseLost t) e within =
+          let own = subst (λ (x : RunFault). IsFaultOfWorker x a) e is in
+          (in_plan t own, subst (IsFaultAfter may rows sizes) e fault_after)
+      fault_is (Uncertified t) e within = absurd (subst (λ (x : RunFault). IsFaultOfWorker x a) e is)
+
+    -- what stands after the workers' rows is a fault of the run
+    pub stands_in_run : (standing : Option RunFault) (f : RunFault) → IsWithinLimits sizes.ring sizes.tries → IfSome standing (λ g. g ≡ Memory) → Stands standing after f → All (IsNotAfterStall f) after → IsFaultOfRun may rows sizes f
+    stands_in_run standing f within memory (inl e) first = subst (IsFaultOfRun may rows sizes) (sym (was standing e memory)) within
+      where
+        was : (o : Option RunFault) → o ≡ Some f → IfSome o (λ g. g ≡ Memory) → f ≡ Memory
+        was None e m = cc
+        was (Some g) e m = sym (same g e) ∙ m
+          where
+            same : (x : RunFault) → Some x ≡ Some f → x ≡ f
+            same x p = cc
+    stands_in_run standing f within memory (inr (inl e)) first = subst (IsFaultOfRun may rows sizes) (sym e) within
+    stands_in_run standing f within memory (inr (inr own)) first = fault_is f own.0 own.1 own.2 first f refl within
+
+    each_same : (ws vs : List WorkerView) → AllZip (WorksIn may rows) ws vs → AllZip (λ w a. (a.ring ≡ w.ring) × (a.thread ≡ w.thread)) ws vs
+    each_same [] [] z = tt
+    each_same [] (v ∷ vs) z = absurd z
+    each_same (w ∷ ws) [] z = absurd z
+    each_same (w ∷ ws) (v ∷ vs) z = (let s = stays may (row_of rows w) w v z.0 in (s.ring, s.thread), each_same ws vs z.1)
 
     pub rings : rings_of_tokens (map token_of after) ≡ rings_of (map end_of workers)
-    rings = same_rings workers after (zip_weaken workers after worked)
-      where
-        zip_weaken : (ws vs : List WorkerView) → AllZip (WorksIn may rows) ws vs → AllZip (λ w a. (a.ring ≡ w.ring) × (a.thread ≡ w.thread)) ws vs
-        zip_weaken [] [] z = tt
-        zip_weaken [] (v ∷ vs) z = absurd z
-        zip_weaken (w ∷ ws) [] z = absurd z
-        zip_weaken (w ∷ ws) (v ∷ vs) z = ((z.0.stays.ring, z.0.stays.thread), zip_weaken ws vs z.1)
+    rings = same_rings workers after (each_same workers after worked)
+
+    -- the tokens stand in the order of their threads
+    pub tokens_own : (tokens : List TokenView) → tokens ≡ map token_of after → map (λ t. t.thread) tokens ≡ numbers_below (length tokens)
+    tokens_own tokens are =
+        ap (map (λ (t : TokenView). t.thread)) are
+        ∙ same_threads workers after (each_same workers after worked)
+        ∙ crew.threads
+        ∙ ap numbers_below (sym (ap length are ∙ length-map after token_of ∙ after_long))
 
     module _ (tokens : List TokenView) (pass : PassView) (closed : AreClosed (record { key = key; left = 0; drawn = [] }) after tokens pass) where
       works : (t : ℕ) (a : WorkerView) → t < length rows → IsAt after t a → (p : Past t a) → Works may (row_of rows p.w) p.w a
       works t a h at p =
           let long = after_long in
           let inside : t < length after = omega (arith, h, long) in
-          p.did.works (subst (λ (v : WorkerView). v.stopped ≡ false) (at a) (closed.running t a inside))
+          runs may (row_of rows p.w) p.w a p.did (subst (λ (v : WorkerView). v.stopped ≡ false) (at a) (closed.running t a inside))
 
       done_each : AllZip IsDone rows after
       done_each = zip_of IsDone rows after after_long (λ t row a h at_row at. one t row a h at_row at)
@@ -188,7 +258,7 @@ module _ (key : TableId) (rows : List (List Kind)) (workers : List WorkerView) (
           let none = lefts rows after done_each in
           let all = length_permutation _ _ closed.drawn in
           let flat = length-flat_map (λ (a : WorkerView). a.pass.drawn) after in
-          let size = sizes rows after done_each in
+          let size = all_sizes rows after done_each in
           omega (arith, left, none, all, flat, size)
 
       module _ (total : ℕ) (lists : List (List Event)) (drawn : pass.drawn ≡ numbers_below total) (sealed : lists ≡ map (λ token. token.sent) tokens) where
@@ -231,9 +301,7 @@ module _ (key : TableId) (rows : List (List Kind)) (workers : List WorkerView) (
             let k = works t z.0 h z.1 p in
             let new = p.place_of.new in
             let sent = k.sent ∙ ap (λ l. l ++ k.events) new.sent in
-            let drawn_is = k.drawn ∙ ap (λ (v : PassView). v.drawn ++ map ticket_of k.events) new.pass in
-            let same = drawn_is ∙ sym (ap (map ticket_of) sent) ∙ sym (ap (map ticket_of) (list_at t z.0 h z.1)) in
-            subst IsStrictlyIncreasing same (k.rising (subst IsStrictlyIncreasing (sym (ap (λ (v : PassView). v.drawn) new.pass)) (λ i b. absurd (omega (arith, b)))))
+            subst (λ (l : List Event). IsStrictlyIncreasing (map ticket_of l)) (sym (list_at t z.0 h z.1 ∙ sent)) k.rising
 
         pub is_run : IsRun may rows lists total
         is_run = record {

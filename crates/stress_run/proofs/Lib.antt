@@ -6,4 +6,5 @@ mod Made
 mod Closed
 mod Finished
 mod Order
+mod Own
 mod Recording

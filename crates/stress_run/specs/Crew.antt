@@ -1,5 +1,5 @@
 -- The workers of a run: as they are made, and as they are closed.
-use Rattle.std.specs.Prelude.{◌≡◌, ◌+◌, ◌*◌, List, [], ◌++◌, length, map, All, sum_by, flat_map, IsPermutation, Contains, ◌⊎◌, Option, Some, true, false}
+use Rattle.std.specs.Prelude.{◌≡◌, ℕ, ◌+◌, ◌*◌, List, [], ◌++◌, length, map, All, sum_by, flat_map, IsPermutation, Contains, ◌⊎◌, Option, Some, true, false}
 use Rattle.std.specs.List.{AllZip}
 use Rattle.atomic_table.specs.Seated.{TableId}
 use Rattle.tickets.specs.Views.{PassView, numbers_below}
@@ -10,16 +10,24 @@ use Rattle.stress_run.specs.Faults.{IsNotAfter}
 use Rattle.stress_run.specs.declared.faults.RunFault.{RunFault}
 use Rattle.stress_run.specs.declared.faults.RunFault.TheVariants.{Memory, Stalled, CloseLost}
 
--- a worker that has a share for this row, and has done nothing yet
-pub record IsNew (key : TableId) (row : List Kind) (w : WorkerView) : Type 0 where
+-- for how many events each ring of a run has room, and how often each push is tried
+pub record SizesView : Type 0 where
+  pub ring : ℕ
+  pub tries : ℕ
+
+-- a worker that has a share for this row and a ring and tries of these sizes, and has done nothing yet
+pub record IsNew (key : TableId) (sizes : SizesView) (row : List Kind) (w : WorkerView) : Type 0 where
   pub pass : w.pass ≡ record { key = key; left = 2 * length row; drawn = [] }
+  pub capacity : w.capacity ≡ sizes.ring
+  pub tries : w.tries ≡ sizes.tries
   pub asked : w.asked ≡ 0
   pub sent : w.sent ≡ []
+  pub running : w.stopped ≡ false
 
 -- a new worker for each row, of threads 0, 1, 2 and so on
-pub record IsCrew (key : TableId) (rows : List (List Kind)) (workers : List WorkerView) : Type 0 where
+pub record IsCrew (key : TableId) (sizes : SizesView) (rows : List (List Kind)) (workers : List WorkerView) : Type 0 where
   pub threads : map (λ w. w.thread) workers ≡ numbers_below (length rows)
-  pub each : AllZip (IsNew key) rows workers
+  pub each : AllZip (IsNew key sizes) rows workers
 
 -- the end of a worker's ring that nothing was drained from
 abbrev pub end_of : WorkerView → DrainView

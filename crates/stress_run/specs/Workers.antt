@@ -1,5 +1,5 @@
 -- What contracts see of a worker, and what its calls do.
-use Rattle.std.specs.Prelude.{◌≡◌, ℕ, ◌+◌, ◌*◌, ◌≤◌, ◌<◌, ◌^◌, List, [], ◌∷◌, ◌++◌, length, slice_index_or, Bool, true, false, ◌⊎◌}
+use Rattle.std.specs.Prelude.{◌≡◌, ℕ, ◌+◌, ◌*◌, ◌≤◌, ◌<◌, ◌^◌, List, [], ◌∷◌, ◌++◌, length, All, slice_index_or, Bool, true, ◌⊎◌}
 use Rattle.std.specs.List.Sorted.{IsStrictlyIncreasing}
 use Rattle.atomic_table.specs.Seated.{TableId}
 use Rattle.tickets.specs.Views.{PassView, share_of}
@@ -10,23 +10,33 @@ use Rattle.event_records.specs.declared.event.Event.{Event}
 use Rattle.event_rings.specs.Ring.{RingName}
 use Rattle.stress_run.specs.Operations.{Operates, tickets_of}
 
--- the pass, the thread, how many operations were asked, the ring, all that was pushed, and whether the worker is stopped
+-- the pass, the thread, how many operations were asked, the ring, for how many events it has room, how often a push is tried, all that was
+-- pushed, and whether the worker is stopped
 pub record WorkerView : Type 0 where
   pub pass : PassView
   pub thread : ℕ
   pub asked : ℕ
   pub ring : RingName
+  pub capacity : ℕ
+  pub tries : ℕ
   pub sent : List Event
   pub stopped : Bool
 
--- the same thread and ring, and a pass of the same ticket word with the same share
+-- the same thread, ring and tries, and a pass of the same ticket word with the same share
 pub record SameWorker (w w' : WorkerView) : Type 0 where
   pub thread : w'.thread ≡ w.thread
   pub ring : w'.ring ≡ w.ring
+  pub capacity : w'.capacity ≡ w.capacity
+  pub tries : w'.tries ≡ w.tries
   pub key : w'.pass.key ≡ w.pass.key
   pub share : share_of w'.pass ≡ share_of w.pass
 
--- the worker made operations of these kinds: it has sent their events, has drawn the tickets of these alone, and runs on
+-- each of these tickets is above all that were held
+abbrev pub AreAbove : List ℕ → List ℕ → Type 0
+AreAbove held tickets = All (λ ticket. All (λ t. t < ticket) held) tickets
+
+-- the worker made operations of these kinds: it has sent their events, has drawn the tickets of these alone, in rising order and above all
+-- that its pass held, and runs on
 pub record Works (may : Question → Answer → Type 0) (kinds : List Kind) (w w' : WorkerView) : Type 0 where
   pub same : SameWorker w w'
   pub running : w'.stopped ≡ w.stopped
@@ -36,22 +46,33 @@ pub record Works (may : Question → Answer → Type 0) (kinds : List Kind) (w w
   pub operates : Operates may w.thread w.pass.key w.asked kinds events
   pub sent : w'.sent ≡ w.sent ++ events
   pub drawn : w'.pass.drawn ≡ w.pass.drawn ++ tickets_of events
-  pub rising : IsStrictlyIncreasing w.pass.drawn → IsStrictlyIncreasing w'.pass.drawn
+  pub rising : IsStrictlyIncreasing (tickets_of events)
+  pub above : AreAbove w.pass.drawn (tickets_of events)
 
--- the worker is stopped; it has sent nothing or the call of its next question alone, has drawn two tickets at most and asked one question
--- at most; one that was stopped before is as it was
+-- the worker is stopped, and has sent as many events as its ring has room for; it has sent nothing or the call of its next question alone,
+-- has drawn two tickets at most and asked one question at most; one that was stopped before is as it was
 pub record Stalls (kind : Kind) (w w' : WorkerView) : Type 0 where
   pub same : SameWorker w w'
   pub stopped : w'.stopped ≡ true
+  pub filled : w'.capacity ≤ length w'.sent
   pub sent : (w'.sent ≡ w.sent) ⊎ ((q : Question) × (q.thread ≡ w.thread) × (q.number ≡ w.asked) × (q.kind ≡ kind) × (w'.sent ≡ w.sent ++ call_event q ∷ []))
   pub draws_few : w.pass.left ≤ w'.pass.left + 2
   pub asks_one : w'.asked ≤ w.asked + 1
   pub idle : w.stopped ≡ true → w' ≡ w
 
--- the worker made operations of these kinds, or is stopped
-pub record WorksOrStops (may : Question → Answer → Type 0) (kinds : List Kind) (w w' : WorkerView) : Type 0 where
-  pub stays : SameWorker w w'
-  pub works : w'.stopped ≡ false → Works may kinds w w'
+-- the worker made operations of the first of these kinds, and stalled in the next
+pub record StallsIn (may : Question → Answer → Type 0) (kinds : List Kind) (w w' : WorkerView) : Type 0 where
+  pub made : List Kind
+  pub next : Kind
+  pub rest : List Kind
+  pub kinds_are : kinds ≡ made ++ next ∷ rest
+  pub until : WorkerView
+  pub works : Works may made w until
+  pub stalls : Stalls next until w'
+
+-- the worker made operations of these kinds, or stalled in one of them
+abbrev pub WorksOrStalls : (Question → Answer → Type 0) → List Kind → WorkerView → WorkerView → Type 0
+WorksOrStalls may kinds w w' = Works may kinds w w' ⊎ StallsIn may kinds w w'
 
 -- the worker draws from this word, and may make operations of these kinds
 pub record IsReady (key : TableId) (kinds : List Kind) (w : WorkerView) : Type 0 where
@@ -68,6 +89,6 @@ pub record IsReadyIn (key : TableId) (rows : List (List Kind)) (w : WorkerView) 
   pub has_row : w.thread < length rows
   pub ready : IsReady key (row_of rows w) w
 
--- the worker made the operations of its row, or is stopped
+-- the worker made the operations of its row, or stalled in one of them
 abbrev pub WorksIn : (Question → Answer → Type 0) → List (List Kind) → WorkerView → WorkerView → Type 0
-WorksIn may rows w w' = WorksOrStops may (row_of rows w) w w'
+WorksIn may rows w w' = WorksOrStalls may (row_of rows w) w w'

@@ -1,8 +1,8 @@
 // The end of a run: rings are closed and passes joined.
-ghost use Rattle.std.specs.Prelude.{◌≡◌, ◌≢◌, ◌⊎◌, ◌++◌, ◌∷◌, [], ◌+◌, IfOk, IfErr, IfSome, IfNone, Some, None, All, IsPermutation, false};
+ghost use Rattle.std.specs.Prelude.{◌≡◌, ◌⊎◌, ◌++◌, ◌∷◌, [], ◌+◌, IfOk, IfErr, IsOk, IsErr, OnErr, IfSome, IfNone, IsSome, Some, None, All, IsPermutation, false};
 ghost use Rattle.stress_run.specs.Crew.{AreClosed, IsFaultOfWorker, IsNotAfterStall, Stands, token_of};
 ghost use Rattle.stress_run.specs.Faults.{IsNotAfter};
-ghost use Rattle.stress_run.specs.declared.faults.RunFault.TheVariants.{Limit, Memory};
+ghost use Rattle.stress_run.specs.declared.faults.RunFault.TheVariants.{Memory, CloseLost};
 
 use crate::faults::{RunFault, least_fault};
 use crate::worker::Worker;
@@ -30,30 +30,30 @@ fn least_with(standing: Option<RunFault>, fault: RunFault) -> RunFault
     }
 }
 
-// Closes one worker's ring and joins its pass. A stopped worker's too.
-fn close_one(tickets: &Tickets, closing: Closing, worker: Worker) -> Closing
+// Keeps the token of a thread's ring and joins its pass to the others, or notes that the ring gave none.
+fn keep_closed(
+    tickets: &Tickets,
+    closing: Closing,
+    thread: u8,
+    closed: Result<(CloseToken, Pass), event_rings::CloseLost>,
+) -> Closing
     requires pass { closing.pass.key ≡ tickets.now.key }
-    requires worker { worker.pass.key ≡ tickets.now.key }
-    ensures limit { closing.fault ≢ Some Limit → result.fault ≢ Some Limit }
-    ensures standing { IfSome closing.fault (λ before. IfSome result.fault (λ f. IsNotAfter f before)) }
-    ensures stall { IfSome result.fault (λ f. IsNotAfterStall f worker) }
-    ensures stands { IfSome result.fault (λ f. (closing.fault ≡ Some f) ⊎ ((f ≡ Memory) ⊎ IsFaultOfWorker f worker)) }
+    requires own { IfOk closed (λ c. c.1.key ≡ tickets.now.key) }
     ensures key { result.pass.key ≡ closing.pass.key }
-    ensures running { IfNone result.fault ((closing.fault ≡ None) × (worker.stopped ≡ false)) }
-    ensures token { IfNone result.fault (result.tokens.items ≡ closing.tokens.items ++ token_of worker ∷ []) }
-    ensures left { IfNone result.fault (result.pass.left ≡ closing.pass.left + worker.pass.left) }
-    ensures drawn { IfNone result.fault (IsPermutation (closing.pass.drawn ++ worker.pass.drawn) result.pass.drawn) }
+    ensures standing { IfSome closing.fault (λ before. IfSome result.fault (λ f. IsNotAfter f before)) }
+    ensures stands { IfSome result.fault (λ f. (closing.fault ≡ Some f) ⊎ (((f ≡ Memory) × IsOk closed) ⊎ ((f ≡ CloseLost thread) × IsErr closed))) }
+    ensures lost { OnErr closed (IsSome result.fault) }
+    ensures running { IfNone result.fault (closing.fault ≡ None) }
+    ensures token { IfNone result.fault (IfOk closed (λ c. result.tokens.items ≡ closing.tokens.items ++ c.0 ∷ [])) }
+    ensures left { IfNone result.fault (IfOk closed (λ c. result.pass.left ≡ closing.pass.left + c.1.left)) }
+    ensures drawn { IfNone result.fault (IfOk closed (λ c. IsPermutation (closing.pass.drawn ++ c.1.drawn) result.pass.drawn)) }
 {
     let Closing {
         mut tokens,
         mut pass,
         mut fault,
     } = closing;
-    let thread = worker.thread();
-    if worker.is_stopped() {
-        fault = Some(least_with(fault, RunFault::Stalled(thread)));
-    }
-    match worker.close() {
+    match closed {
         Ok((token, own)) => {
             pass = pass.join(tickets, own);
             if tokens.push(token).is_err() {
@@ -69,6 +69,27 @@ fn close_one(tickets: &Tickets, closing: Closing, worker: Worker) -> Closing
     }
 }
 
+// Closes one worker's ring and joins its pass. A stopped worker's too.
+fn close_one(tickets: &Tickets, closing: Closing, worker: Worker) -> Closing
+    requires pass { closing.pass.key ≡ tickets.now.key }
+    requires worker { worker.pass.key ≡ tickets.now.key }
+    ensures standing { IfSome closing.fault (λ before. IfSome result.fault (λ f. IsNotAfter f before)) }
+    ensures stall { IfSome result.fault (λ f. IsNotAfterStall f worker) }
+    ensures stands { IfSome result.fault (λ f. (closing.fault ≡ Some f) ⊎ ((f ≡ Memory) ⊎ IsFaultOfWorker f worker)) }
+    ensures key { result.pass.key ≡ closing.pass.key }
+    ensures running { IfNone result.fault ((closing.fault ≡ None) × (worker.stopped ≡ false)) }
+    ensures token { IfNone result.fault (result.tokens.items ≡ closing.tokens.items ++ token_of worker ∷ []) }
+    ensures left { IfNone result.fault (result.pass.left ≡ closing.pass.left + worker.pass.left) }
+    ensures drawn { IfNone result.fault (IsPermutation (closing.pass.drawn ++ worker.pass.drawn) result.pass.drawn) }
+{
+    let thread = worker.thread();
+    let mut closing = closing;
+    if worker.is_stopped() {
+        closing.fault = Some(least_with(closing.fault, RunFault::Stalled(thread)));
+    }
+    keep_closed(tickets, closing, thread, worker.close())
+}
+
 // Closes the rings of all workers, whatever fault stands, and joins their passes to the rest.
 pub(crate) fn close_all(
     alloc: Global,
@@ -81,7 +102,6 @@ pub(crate) fn close_all(
     requires keys { All (λ w. w.pass.key ≡ tickets.now.key) workers.items }
     ensures closed { IfOk result (λ closed. AreClosed rest workers.items closed.0.items closed.1) }
     ensures clear { IfOk result (λ _. standing ≡ None) }
-    ensures limit { standing ≢ Some Limit → IfErr result (λ fault. fault ≢ Limit) }
     ensures stands { IfErr result (Stands standing workers.items) }
     ensures standing { IfErr result (λ fault. IfSome standing (IsNotAfter fault)) }
     ensures stalls { IfErr result (λ fault. All (IsNotAfterStall fault) workers.items) }

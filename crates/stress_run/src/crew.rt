@@ -1,7 +1,7 @@
 // Workers at work, each on its row of a plan.
 ghost use Rattle.std.specs.Prelude.{OnOk, All, IfOk};
 ghost use Rattle.std.specs.List.{AllZip};
-ghost use Rattle.stress_run.specs.Workers.{Works, WorksOrStops, WorksIn, IsReady, IsReadyIn};
+ghost use Rattle.stress_run.specs.Workers.{Works, WorksOrStalls, WorksIn, IsReady, IsReadyIn};
 
 use crate::start::Start;
 use crate::worker::{Worker, WorkerFault, one_call};
@@ -22,7 +22,7 @@ fn make_all(
 ) -> Result<(), WorkerFault>
     requires { IsReady tickets.now.key kinds.now worker.old }
     ensures works { OnOk result (Works (may queue.now) kinds.now worker.old worker.new) }
-    ensures stays { WorksOrStops (may queue.now) kinds.now worker.old worker.new }
+    ensures stays { WorksOrStalls (may queue.now) kinds.now worker.old worker.new }
 {
     for kind in kinds {
         one_call(queue, tickets, worker, *kind)?;
@@ -33,7 +33,7 @@ fn make_all(
 // A worker after its row.
 fn work(queue: &dyn TestQueue, tickets: &Tickets, worker: Worker, kinds: &[Kind]) -> Worker
     requires { IsReady tickets.now.key kinds.now worker }
-    ensures { WorksOrStops (may queue.now) kinds.now worker result }
+    ensures { WorksOrStalls (may queue.now) kinds.now worker result }
 {
     let mut worker = worker;
     let _ = make_all(queue, tickets, &mut worker, kinds);

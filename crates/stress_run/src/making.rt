@@ -2,6 +2,7 @@
 ghost use Rattle.std.specs.Prelude.{◌≡◌, ◌-◌, ◌*◌, ◌≤◌, ◌<◌, ◌↔◌, [], length, map, sum_by, IfOk, IsSome, IfSome};
 ghost use Rattle.workloads.specs.Plans.{IsPlan};
 ghost use Rattle.event_records.specs.declared.limits.TheConstants.{MAX_THREAD_OPERATIONS};
+ghost use Rattle.event_rings.specs.declared.TheConstants.{MAX_CAPACITY};
 ghost use Rattle.stress_run.specs.Crew.{IsNew, IsCrew, end_of};
 ghost use Rattle.stress_run.specs.Faults.{IsWithinLimits};
 
@@ -10,28 +11,49 @@ use crate::worker::Worker;
 use event_records::{Namer, ThreadNo};
 use event_rings::{DrainEnd, MAX_CAPACITY, MIN_CAPACITY, ring};
 use std::alloc::{AllocError, Global};
+use std::marker::Model;
 use tickets::{Pass, Tickets};
 use workloads::Row;
 
 /// For how many events each ring of a run has room, and how often each push is tried.
 #[derive(Clone, Copy)]
 pub(crate) struct Sizes {
-    pub(crate) ring: usize,
-    pub(crate) tries: u32,
-    ghost within: { IsWithinLimits ring tries },
+    ring: usize,
+    tries: u32,
+}
+
+impl Model for Sizes {
+    ghost use Rattle.stress_run.specs.Crew.{SizesView};
+    ghost use Rattle.stress_run.specs.Faults.{IsWithinLimits};
+
+    ghost Value = { SizesView };
+
+    ghost view = { λ s. record { ring = s.ring; tries = s.tries } };
+
+    ghost invariant = { λ s. IsWithinLimits s.ring s.tries };
+
+    ghost inverse = { λ s. record { ring = s.ring; tries = s.tries } };
 }
 
 impl Sizes {
     // These sizes, or none where they are out of range.
     pub(crate) fn new(ring: usize, tries: u32) -> Option<Sizes>
         ensures limits { IsSome result ↔ IsWithinLimits ring tries }
-        ensures sizes { IfSome result (λ sizes. (sizes.ring ≡ ring) × (sizes.tries ≡ tries)) }
+        ensures sizes { IfSome result (λ sizes. sizes ≡ record { ring = ring; tries = tries }) }
     {
         if (MIN_CAPACITY..=MAX_CAPACITY).contains(&ring) && (1..=MAX_TRIES).contains(&tries) {
             Some(Sizes { ring, tries })
         } else {
             None
         }
+    }
+
+    // For how many events each ring has room.
+    pub(crate) fn ring(self) -> usize
+        ensures value { result ≡ self.ring }
+        ensures most { result ≤ MAX_CAPACITY }
+    {
+        self.ring
     }
 }
 
@@ -67,7 +89,7 @@ fn make_one(
     requires enough { 2 * length row.now ≤ pass.left }
     requires short { length row.now ≤ MAX_THREAD_OPERATIONS }
     ensures rest { IfOk result (λ made. made.0 ≡ record pass { left = pass.left - 2 * length row.now }) }
-    ensures worker { IfOk result (λ made. IsNew tickets.now.key row.now made.1 × (made.1.thread ≡ thread)) }
+    ensures worker { IfOk result (λ made. IsNew tickets.now.key sizes row.now made.1 × (made.1.thread ≡ thread)) }
     ensures end { IfOk result (λ made. made.2 ≡ end_of made.1) }
 {
     let (push, drain) = ring(alloc, thread, sizes.ring)?;
@@ -86,7 +108,7 @@ pub(crate) fn make_crew(
 ) -> Result<Crew, AllocError>
     requires plan { IsPlan rows.now }
     requires pass { pass ≡ record { key = tickets.now.key; left = 2 * sum_by length rows.now; drawn = [] } }
-    ensures workers { IfOk result (λ crew. IsCrew tickets.now.key rows.now crew.workers.items) }
+    ensures workers { IfOk result (λ crew. IsCrew tickets.now.key sizes rows.now crew.workers.items) }
     ensures ends { IfOk result (λ crew. crew.ends.items ≡ map end_of crew.workers.items) }
     ensures rest { IfOk result (λ crew. crew.rest ≡ record { key = tickets.now.key; left = 0; drawn = [] }) }
 {

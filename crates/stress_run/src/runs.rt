@@ -1,12 +1,14 @@
 // A whole run, from a plan to the recorded lists.
-ghost use Rattle.std.specs.Prelude.{◌≡◌, ◌≢◌, ◌↔◌, All, Err, Some, map, IfOk, IfErr};
+ghost use Rattle.std.specs.Prelude.{◌≡◌, ◌↔◌, All, Err, None, Some, length, map, IfOk, IfErr, IfSome, true, false};
 ghost use Rattle.std.specs.List.{AllZip};
-ghost use Rattle.collector.specs.Ends.{rings_of, rings_of_tokens};
-ghost use Rattle.recorder_core.specs.Replay.{AreRecorded};
+ghost use Rattle.collector.specs.Ends.{rings_of, rings_of_tokens, threads_of_tokens};
+ghost use Rattle.recorder_core.specs.Replay.{AreRecorded, Replays};
+ghost use Rattle.stress_run.specs.Failed.{IsFaultOfRun};
 ghost use Rattle.stress_run.specs.Faults.{IsWithinLimits};
 ghost use Rattle.stress_run.specs.Operations.{IsRun};
 ghost use Rattle.stress_run.specs.Workers.{IsReadyIn, WorksIn};
-ghost use Rattle.stress_run.specs.declared.faults.RunFault.TheVariants.{Limit};
+ghost use Rattle.stress_run.specs.declared.faults.RunFault.TheVariants.{Limit, Memory};
+ghost use Rattle.tickets.specs.Views.{numbers_below};
 
 use crate::closing::close_all;
 use crate::crew::work_all;
@@ -94,10 +96,12 @@ impl Recorded {
 /// Where threads can't be started, the workers run one after another, under the same promise. Then nothing is drained
 /// while they run, and one with more events than its ring has room for stalls.
 ///
-/// A fault gives no history. `Limit` is answered before any thread is started. `Memory` is answered where a growth was
-/// refused; where that was one of the collector's, the workers go on without it until they end or stall. `Stalled` is
-/// answered where a push found no room in all its tries, between which the thread yields. The rings are closed whatever
-/// fault stands, except where want of memory took the workers themselves.
+/// A fault gives no history, and names a thread of the plan. `Limit` is answered before any thread is started. `Memory` is
+/// answered where a growth was refused; where that was one of the collector's, the workers go on without it until they end
+/// or stall. `Stalled` is answered where a push found no room in all its tries, between which the thread yields: never of a
+/// row whose events all have room in its ring. `CloseLost` is answered where a worker's ring gave no token after its row,
+/// and `Uncertified` never. The rings are closed whatever fault stands, except where want of memory took the workers
+/// themselves.
 ///
 /// It waits for its workers, and so for the queue. It takes memory for the rings and for all events.
 pub fn run<R: Threads + Sync>(
@@ -109,8 +113,10 @@ pub fn run<R: Threads + Sync>(
     tries: u32,
 ) -> Result<Recorded, RunFault>
     ensures recorded { IfOk result (λ r. IsRun (may queue.now) plan.now r.lists r.total) }
-    ensures replays { IfOk result (λ r. AreRecorded r.lists) }
+    ensures lists { IfOk result (λ r. AreRecorded r.lists) }
+    ensures replays { IfOk result (λ r. Replays ring r.lists) }
     ensures limit { (result ≡ Err Limit) ↔ ¬ IsWithinLimits ring tries }
+    ensures fault { IfErr result (IsFaultOfRun (may queue.now) plan.now (record { ring = ring; tries = tries })) }
 {
     let Some(sizes) = Sizes::new(ring, tries) else {
         return Err(RunFault::Limit);
@@ -126,9 +132,11 @@ fn run_within<R: Threads + Sync>(
     plan: &Plan,
     sizes: Sizes,
 ) -> Result<Recorded, RunFault>
+    requires { IsWithinLimits sizes.ring sizes.tries }
     ensures recorded { IfOk result (λ r. IsRun (may queue.now) plan.now r.lists r.total) }
-    ensures replays { IfOk result (λ r. AreRecorded r.lists) }
-    ensures limit { IfErr result (λ fault. fault ≢ Limit) }
+    ensures lists { IfOk result (λ r. AreRecorded r.lists) }
+    ensures replays { IfOk result (λ r. Replays sizes.ring r.lists) }
+    ensures fault { IfErr result (IsFaultOfRun (may queue.now) plan.now sizes) }
 {
     let rows = plan.rows();
     let (tickets, pass) = Tickets::new(alloc, 2 * plan.operations())?;
@@ -138,9 +146,10 @@ fn run_within<R: Threads + Sync>(
         ends,
     } = make_crew(alloc, &tickets, pass, rows, sizes)?;
     let collector = Collector::with_room(alloc, ends, most_events(rows))?;
-    let (workers, collector, standing) = work_and_collect(
+    let (workers, collector) = work_and_collect(
         rt, queue, &tickets, rows, workers, collector, sizes,
     )?;
+    let standing = standing_fault(&collector);
     let (tokens, pass) = close_all(alloc, &tickets, rest, workers, standing)?;
     let lists = seal(collector, tokens)?;
     let total = tickets.close(pass);
@@ -153,8 +162,7 @@ fn most_events(rows: &[Row]) -> usize {
     longest.unwrap_or(0).saturating_mul(2)
 }
 
-// The workers after their rows, the collector of their rings, which it drained beside them, and the fault of a round that
-// was refused.
+// The workers after their rows, and the collector of their rings, which it drained beside them.
 fn work_and_collect<R: Threads + Sync>(
     rt: &R,
     queue: &dyn TestQueue,
@@ -163,11 +171,10 @@ fn work_and_collect<R: Threads + Sync>(
     workers: Vec<Worker>,
     collector: Collector,
     sizes: Sizes,
-) -> Result<(Vec<Worker>, Collector, Option<RunFault>), AllocError>
+) -> Result<(Vec<Worker>, Collector), AllocError>
     requires { All (IsReadyIn tickets.now.key rows.now) workers.items }
     ensures worked { IfOk result (λ r. AllZip (WorksIn (may queue.now) rows.now) workers.items r.0.items) }
-    ensures rings { IfOk result (λ r. rings_of r.1 ≡ rings_of collector) }
-    ensures limit { IfOk result (λ r. r.2 ≢ Some Limit) }
+    ensures rings { IfOk result (λ r. rings_of r.1.rings ≡ rings_of collector.rings) }
 {
     let over = AtomicBool::new(false);
     let flag = &over;
@@ -179,24 +186,18 @@ fn work_and_collect<R: Threads + Sync>(
         flag.store(true, Ordering::SeqCst);
         after
     };
-    let collecting = move || -> (Collector, Option<RunFault>)
-        ensures rings { rings_of result.0 ≡ rings_of collector }
-        ensures limit { result.1 ≢ Some Limit }
+    let collecting = move || -> Collector
+        ensures { rings_of result.rings ≡ rings_of collector.rings }
     { collect_until(flag, collector, sizes) };
     // The second closure runs in this thread, and first where no other can be made: the flag is then set before the
     // collector looks at it.
-    let ((collector, standing), after) = thread::join(rt, collecting, working);
-    Ok((after?, collector, standing))
+    let (collector, after) = thread::join(rt, collecting, working);
+    Ok((after?, collector))
 }
 
 // Drains round after round until the flag is set, or up to a round that is refused.
-fn collect_until(
-    over: &AtomicBool,
-    collector: Collector,
-    sizes: Sizes,
-) -> (Collector, Option<RunFault>)
-    ensures rings { rings_of result.0 ≡ rings_of collector }
-    ensures limit { result.1 ≢ Some Limit }
+fn collect_until(over: &AtomicBool, collector: Collector, sizes: Sizes) -> Collector
+    ensures { rings_of result.rings ≡ rings_of collector.rings }
 {
     let mut collector = collector;
     let mut pause = 0;
@@ -204,19 +205,31 @@ fn collect_until(
         if over.load(Ordering::SeqCst) {
             break;
         }
-        match collector.drain_round(sizes.ring) {
+        match collector.drain_round(sizes.ring()) {
             Ok(drained) => pause = next_pause(pause, drained, sizes),
-            Err(_) => return (collector, Some(RunFault::Memory)),
+            Err(_) => break,
         }
         rest(over, pause);
     }
-    (collector, None)
+    collector
+}
+
+// The fault that stands where a round was refused its room.
+fn standing_fault(collector: &Collector) -> Option<RunFault>
+    ensures granted { result ≡ None → collector.now.refused ≡ false }
+    ensures memory { IfSome result (λ fault. fault ≡ Memory) }
+{
+    if collector.was_refused() {
+        Some(RunFault::Memory)
+    } else {
+        None
+    }
 }
 
 // How often the collector yields after a round: not at all where it found much, so that a ring may soon be full, and else
 // twice as often as before.
 fn next_pause(pause: u32, drained: u64, sizes: Sizes) -> u32 {
-    let much = (sizes.ring as u64 / 4).max(1);
+    let much = (sizes.ring() as u64 / 4).max(1);
     if drained >= much {
         0
     } else {
@@ -234,11 +247,13 @@ fn rest(over: &AtomicBool, pause: u32) {
     }
 }
 
-// The whole list of each thread.
+// The whole list of each thread, of a collector that was refused no round.
 fn seal(collector: Collector, tokens: Vec<CloseToken>) -> Result<Lists, RunFault>
-    requires { rings_of_tokens tokens.items ≡ rings_of collector }
+    requires rings { rings_of_tokens tokens.items ≡ rings_of collector.rings }
+    requires order { threads_of_tokens tokens.items ≡ numbers_below (length tokens.items) }
+    requires granted { collector.refused ≡ false }
     ensures sealed { IfOk result (λ lists. lists ≡ map (λ token. token.sent) tokens.items) }
-    ensures limit { IfErr result (λ fault. fault ≢ Limit) }
+    ensures memory { IfErr result (λ fault. fault ≡ Memory) }
 {
     match collector.seal(tokens) {
         Ok(lists) => Ok(lists),

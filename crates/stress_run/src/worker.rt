@@ -1,5 +1,5 @@
 // One worker: it draws tickets, asks the queue, and pushes what it did into its ring.
-ghost use Rattle.std.specs.Prelude.{◌≡◌, ◌∷◌, ◌++◌, [], ◌≤◌, ◌<◌, ◌^◌, IfOk, OnOk, OnErr, true, false};
+ghost use Rattle.std.specs.Prelude.{◌≡◌, ◌∷◌, ◌++◌, [], ◌≤◌, ◌<◌, ◌^◌, IfOk, OnOk, OnErr, length, true, false};
 ghost use Rattle.event_records.specs.declared.kind.Kind.TheVariants.{Enq, Deq};
 ghost use Rattle.stress_run.specs.Crew.{token_of};
 ghost use Rattle.stress_run.specs.Faults.{AreTries};
@@ -15,8 +15,8 @@ use tickets::{Pass, Tickets};
 
 /// What one thread records by: its pass, its namer, and the end of its ring that pushes.
 ///
-/// Contracts see the pass, the thread, how many operations were asked, the ring, all events that were pushed, and whether
-/// the worker is stopped.
+/// Contracts see the pass, the thread, how many operations were asked, the ring with its capacity, the tries of a push, all
+/// events that were pushed, and whether the worker is stopped.
 #[derive(Drop)]
 pub struct Worker {
     pass: Pass,
@@ -27,14 +27,15 @@ pub struct Worker {
 }
 
 impl Model for Worker {
-    ghost use Rattle.std.specs.Prelude.{◌≡◌};
+    ghost use Rattle.std.specs.Prelude.{◌≡◌, ◌≤◌, length, true};
+    ghost use Rattle.stress_run.specs.Faults.{AreTries};
     ghost use Rattle.stress_run.specs.Workers.{WorkerView};
 
     ghost Value = { WorkerView };
 
-    ghost view = { λ w. record { pass = w.pass; thread = w.ring.thread; asked = w.namer.asked; ring = w.ring.ring; sent = w.ring.sent; stopped = w.stopped } };
+    ghost view = { λ w. record { pass = w.pass; thread = w.ring.thread; asked = w.namer.asked; ring = w.ring.ring; capacity = w.ring.capacity; tries = w.tries; sent = w.ring.sent; stopped = w.stopped } };
 
-    ghost invariant = { λ w. w.namer.thread ≡ w.ring.thread };
+    ghost invariant = { λ w. (w.namer.thread ≡ w.ring.thread) × AreTries w.tries × (w.stopped ≡ true → w.ring.capacity ≤ length w.ring.sent) };
 }
 
 /// Why a worker made no operation.
@@ -47,9 +48,11 @@ pub enum WorkerFault {
 
 // Pushes an event, with as many tries as the number says. Between tries the thread yields.
 fn push_with_tries(ring: &mut PushEnd, noted: Noted, tries: u32) -> Result<(), WorkerFault>
-    requires { noted.thread ≡ ring.old.thread }
+    requires thread { noted.thread ≡ ring.old.thread }
+    requires tries { AreTries tries }
     ensures pushed { OnOk result (ring.new ≡ record ring.old { sent = ring.old.sent ++ noted ∷ []; room = ring.new.room }) }
     ensures full { OnErr result (ring.new ≡ ring.old) }
+    ensures filled { OnErr result (ring.old.capacity ≤ length ring.old.sent) }
 {
     let mut held = noted;
     for _ in 0..tries {
@@ -67,7 +70,7 @@ impl Worker {
     pub fn new(pass: Pass, namer: Namer, ring: PushEnd, tries: u32) -> Worker
         requires thread { namer.thread ≡ ring.thread }
         requires tries { AreTries tries }
-        ensures { result ≡ record { pass = pass; thread = ring.thread; asked = namer.asked; ring = ring.ring; sent = ring.sent; stopped = false } }
+        ensures { result ≡ record { pass = pass; thread = ring.thread; asked = namer.asked; ring = ring.ring; capacity = ring.capacity; tries = tries; sent = ring.sent; stopped = false } }
     {
         Worker {
             pass,
@@ -101,7 +104,7 @@ impl Worker {
 
     /// Closes the worker's ring, and gives its pass back. A stopped worker's too.
     ///
-    /// `CloseLost` comes only where the ring's drain end had left before; the pass is then gone. It takes no memory.
+    /// `CloseLost` comes where the ring gave no token; the pass is then gone. It takes no memory.
     pub fn close(self) -> Result<(CloseToken, Pass), CloseLost>
         ensures token { IfOk result (λ r. r.0 ≡ token_of self) }
         ensures pass { IfOk result (λ r. r.1 ≡ self.pass) }
@@ -121,7 +124,7 @@ impl Worker {
     fn record(&mut self, noted: Noted) -> Result<(), WorkerFault>
         requires { noted.thread ≡ self.old.thread }
         ensures sent { OnOk result (self.new ≡ record self.old { sent = self.old.sent ++ noted ∷ [] }) }
-        ensures stopped { OnErr result (self.new ≡ record self.old { stopped = true }) }
+        ensures stopped { OnErr result ((self.new ≡ record self.old { stopped = true }) × (self.old.capacity ≤ length self.old.sent)) }
     {
         let pushed = push_with_tries(&mut self.ring, noted, self.tries);
         if pushed.is_err() {
@@ -167,8 +170,9 @@ impl Worker {
 
 /// One operation on the queue, and its two events in the worker's ring.
 ///
-/// The call ticket is drawn before the question is made, and the return ticket when the answer is there. The pass is of
-/// these `Tickets` and has two tickets left, and the namer has asked fewer than 2^32 operations.
+/// The call ticket is drawn before the question is made, and the return ticket when the answer is there. The call is pushed
+/// before the queue is asked, so a queue isn't asked whose call found no room; no contract says so. The pass is of these
+/// `Tickets` and has two tickets left, and the namer has asked fewer than 2^32 operations.
 ///
 /// `Stalled` comes where a push found no room in all tries of the worker, between which the thread yields, and is then the
 /// answer of each later call, which draws nothing. It waits for nobody but where the queue does, and takes no memory.
@@ -183,6 +187,7 @@ pub fn one_call(
     requires room { worker.old.asked < 2 ^ 32 }
     ensures works { OnOk result (Works (may queue.now) (kind ∷ []) worker.old worker.new) }
     ensures stalls { OnErr result (Stalls kind worker.old worker.new) }
+    ensures running { OnOk result (worker.old.stopped ≡ false) }
 {
     if worker.stopped {
         return Err(WorkerFault::Stalled);

@@ -12,7 +12,6 @@ loop-worker-init c =
       tt,
       subst (All (λ (v : WorkerView). v.pass.key ≡ c.args.tickets.now.key)) same c.requires.keys,
       c.requires.rest,
-      (λ h. h),
       ([], same, subst (λ tokens. IsClosing c.args.rest [] c.args.standing tokens c.args.rest c.args.standing) (sym c.new.ensures.items) (closing_none c.args.rest c.args.standing)),
     )
 
@@ -23,17 +22,16 @@ loop-worker-preserved c =
     let w = c.in-Some.worker in
     let e = c.close_one-closing.ensures in
     let keys = subst (All (λ (v : WorkerView). v.pass.key ≡ c.args.tickets.now.key)) next i.2 in
-    let done = i.5.0 in (
+    let done = i.4.0 in (
       tt,
       tt,
       All-tail (λ (v : WorkerView). v.pass.key ≡ c.args.tickets.now.key) w (into_iter_items c.next.new.self) keys,
       e.key ∙ i.3,
-      (λ h. e.limit (i.4 h)),
       (
         done ++ w ∷ [],
-        i.5.1 ∙ ap (λ l. done ++ l) next ∙ sym (append_assoc done (w ∷ []) (into_iter_items c.next.new.self)),
+        i.4.1 ∙ ap (λ l. done ++ l) next ∙ sym (append_assoc done (w ∷ []) (into_iter_items c.next.new.self)),
         closing_more c.args.rest done w c.args.standing c.loop-worker.closing.tokens.items c.loop-worker.closing.pass c.loop-worker.closing.fault
-            c.close_one-closing.result.tokens.items c.close_one-closing.result.pass c.close_one-closing.result.fault i.5.2
+            c.close_one-closing.result.tokens.items c.close_one-closing.result.pass c.close_one-closing.result.fault i.4.2
             e.key e.standing e.stall e.stands e.running e.token e.left e.drawn,
       ),
     )

@@ -1,7 +1,6 @@
-use Rattle.std.proofs.Common.{◌≡◌, ◌≢◌, Some, ◌++◌, List, All}
+use Rattle.std.proofs.Common.{◌≡◌, ◌++◌, List, All}
 use Rattle.std.specs.Vec.Iter.{into_iter_items}
 use Rattle.stress_run.specs.Workers.{WorkerView}
-use Rattle.stress_run.specs.declared.faults.RunFault.TheVariants.{Limit}
 use Rattle.stress_run.proofs.Closed.{IsClosing}
 use Rattle.stress_run.proofs.closing.close_all.Given as goal
 
@@ -11,5 +10,4 @@ invariant-loop-worker l =
     × (goal.iterator-loop-worker).is_finite l.worker-iterator
     × All (λ w. w.pass.key ≡ l.tickets.key) (into_iter_items l.worker-iterator)
     × (l.closing.pass.key ≡ l.tickets.key)
-    × (l.fn.standing ≢ Some Limit → l.closing.fault ≢ Some Limit)
     × ((done : List WorkerView) × (l.fn.workers.items ≡ done ++ into_iter_items l.worker-iterator) × IsClosing l.fn.rest done l.fn.standing l.closing.tokens.items l.closing.pass l.closing.fault)

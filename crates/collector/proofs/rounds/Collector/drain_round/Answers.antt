@@ -4,4 +4,4 @@ use Rattle.collector.proofs.Rings.{rings_kept}
 use Rattle.collector.proofs.rounds.Collector.drain_round.Goals as goal
 
 pub returns-clause-rings : goal.returns-clause-rings
-returns-clause-rings c = rings_kept c.args.max _ _ c.drain_each.ensures.drains ∙ ap rings_of c.self.view_is
+returns-clause-rings c = rings_kept c.args.max _ _ c.drain_each-drained.ensures.drains ∙ ap (λ v. rings_of v.rings) c.self.view_is

@@ -1,9 +1,9 @@
-use Rattle.std.proofs.Common.{◌≡◌, ◌+◌, ◌++◌, ◌∷◌, [], ap, sym, ◌∙◌, subst, append_assoc, refl}
+use Rattle.std.proofs.Common.{◌≡◌, ◌+◌, ◌++◌, ◌∷◌, [], ap, sym, ◌∙◌, subst, append_assoc, refl, length}
 use Rattle.std.specs.Prelude.{IsTrue}
 use Rattle.std.proofs.lemmas.Result.{IfOk-weaker, IfErr-weaker}
 use Rattle.event_records.specs.Question.{call_event, return_event}
 use Rattle.event_records.specs.Turns.{answers}
-use Rattle.stress_run.proofs.Once.{works_one, stalls_after, draws_from, of_kind}
+use Rattle.stress_run.proofs.Once.{works_one, stalls_after, filled_still, draws_from, of_kind}
 use Rattle.stress_run.specs.Operations.{Operation}
 use Rattle.stress_run.proofs.worker.Worker.enqueue_once.Goals as goal
 
@@ -23,7 +23,7 @@ returns-clause-works g c =
     let answers_call = subst (λ t. IsTrue (answers (call_event t).what returned.what)) c.enqueue-answered.ensures.0 c.stamp-returned.ensures.kind in
     IfOk-weaker c.record-2.result _ _ (λ x E2.
     works_one _ _ c.args.self.now c.record-2.new.self o c.draw-drawn.new.self (
-      ap (λ r. r.thread) asks.question ∙ c.self.invariant ∙ ap (λ v. v.thread) V1,
+      ap (λ r. r.thread) asks.question ∙ c.self.invariant.0 ∙ ap (λ v. v.thread) V1,
       ap (λ r. r.key) asks.question ∙ c.draw-drawn.ensures.key ∙ sym c.requires.key,
       ap (λ r. r.number) asks.question ∙ ap (λ v. v.asked) V1,
       ap (λ r. r.kind) asks.question,
@@ -38,6 +38,8 @@ returns-clause-works g c =
           ∙ ap (λ e. c.args.self.now.sent ++ e ∷ returned ∷ []) asks.noted
           ∙ ap (λ e. c.args.self.now.sent ++ call_event q ∷ e ∷ []) said,
       ap (λ v. v.stopped) E2 ∙ ap (λ v. v.stopped) V2 ∙ ap (λ v. v.stopped) E1 ∙ ap (λ v. v.stopped) V1,
+      ap (λ v. v.capacity) E2 ∙ ap (λ v. v.capacity) V2 ∙ ap (λ v. v.capacity) E1 ∙ ap (λ v. v.capacity) V1,
+      ap (λ v. v.tries) E2 ∙ ap (λ v. v.tries) V2 ∙ ap (λ v. v.tries) E1 ∙ ap (λ v. v.tries) V1,
     )
     first
     (draws_from _ _ _ _ _ _ c.stamp-returned.ensures.drawn (ap (λ v. v.pass) V2 ∙ ap (λ v. v.pass) E1) refl (sym (ap (λ v. v.pass) E2)))) c.record-2.ensures.sent
@@ -50,9 +52,10 @@ returns-clause-stalls g c =
     let q = c.ask_enq-ask.result.0 in
     let asks = c.ask_enq-ask.ensures in
     let first = draws_from _ _ _ _ _ _ c.draw-drawn.ensures.drawn (ap (λ v. v.pass) V1) (sym (ap (λ r. r.call) asks.question)) refl in
-    IfErr-weaker c.record-2.result _ _ (λ x E2.
+    IfErr-weaker c.record-2.result _ _ (λ x F2.
+    let E2 = F2.0 in
     stalls_after _ c.args.self.now c.record-2.new.self q c.stamp-returned.result.ticket c.draw-drawn.new.self (
-      ap (λ r. r.thread) asks.question ∙ c.self.invariant ∙ ap (λ v. v.thread) V1,
+      ap (λ r. r.thread) asks.question ∙ c.self.invariant.0 ∙ ap (λ v. v.thread) V1,
       ap (λ r. r.number) asks.question ∙ ap (λ v. v.asked) V1,
       ap (λ r. r.kind) asks.question,
     ) (
@@ -61,7 +64,10 @@ returns-clause-stalls g c =
       ap (λ v. v.sent) E2 ∙ ap (λ v. v.sent) V2 ∙ ap (λ v. v.sent) E1 ∙ ap (λ v. v.sent ++ c.ask_enq-ask.result.1 ∷ []) V1 ∙ ap (λ e. c.args.self.now.sent ++ e ∷ []) asks.noted,
       ap (λ v. v.stopped) E2,
       ap (λ v. v.asked) E2 ∙ ap (λ v. v.asked) V2 ∙ ap (λ v. v.asked) E1 ∙ ap (λ n. n.asked) asks.counted ∙ ap (λ v. v.asked + 1) V1,
+      ap (λ v. v.capacity) E2 ∙ ap (λ v. v.capacity) V2 ∙ ap (λ v. v.capacity) E1 ∙ ap (λ v. v.capacity) V1,
+      ap (λ v. v.tries) E2 ∙ ap (λ v. v.tries) V2 ∙ ap (λ v. v.tries) E1 ∙ ap (λ v. v.tries) V1,
     )
+    (filled_still _ _ _ _ (ap (λ v. v.capacity) E2) (ap (λ v. length v.sent) E2) F2.1)
     c.requires.running
     first
     (draws_from _ _ _ _ _ _ c.stamp-returned.ensures.drawn (ap (λ v. v.pass) V2 ∙ ap (λ v. v.pass) E1) refl (sym (ap (λ v. v.pass) E2)))) c.record-2.ensures.stopped

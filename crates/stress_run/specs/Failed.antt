@@ -1,0 +1,37 @@
+-- Which faults a run may answer.
+use Rattle.std.specs.Prelude.{ℕ, ◌<◌, ◌*◌, List, [], length, All, Contains, slice_index_or}
+use Rattle.std.specs.List.{AllZip}
+use Rattle.atomic_table.specs.Seated.{TableId}
+use Rattle.event_records.specs.Question.{Question}
+use Rattle.event_records.specs.declared.kind.Kind.{Kind}
+use Rattle.event_records.specs.declared.kind.Answer.{Answer}
+use Rattle.stress_run.specs.Crew.{SizesView, IsCrew, IsFaultOfWorker, IsNotAfterStall}
+use Rattle.stress_run.specs.Faults.{IsWithinLimits}
+use Rattle.stress_run.specs.Workers.{WorkerView, WorksIn}
+use Rattle.stress_run.specs.declared.faults.RunFault.{RunFault}
+use Rattle.stress_run.specs.declared.faults.RunFault.TheVariants.{Limit, Memory, Stalled, CloseLost, Uncertified}
+
+-- new workers for these rows, each of which worked in its row; the fault is one of theirs, and no stall of theirs comes before it
+pub record IsFaultAfter (may : Question → Answer → Type 0) (rows : List (List Kind)) (sizes : SizesView) (fault : RunFault) : Type 0 where
+  pub key : TableId
+  pub workers : List WorkerView
+  pub crew : IsCrew key sizes rows workers
+  pub after : List WorkerView
+  pub worked : AllZip (WorksIn may rows) workers after
+  pub faulty : WorkerView
+  pub among : Contains after faulty
+  pub is : IsFaultOfWorker fault faulty
+  pub first : All (IsNotAfterStall fault) after
+
+-- the row has more events than a ring of this size has room for
+abbrev pub Overflows : List (List Kind) → SizesView → ℕ → Type 0
+Overflows rows sizes thread = sizes.ring < 2 * length (slice_index_or rows thread [])
+
+-- the fault that a run may answer: `Limit` where its sizes are out of range, `Memory`, or a fault of a worker of the plan after its row; a
+-- stall is of a row that has more events than its ring has room for
+abbrev pub IsFaultOfRun : (Question → Answer → Type 0) → List (List Kind) → SizesView → RunFault → Type 0
+IsFaultOfRun may rows sizes Limit = ¬ IsWithinLimits sizes.ring sizes.tries
+IsFaultOfRun may rows sizes Memory = IsWithinLimits sizes.ring sizes.tries
+IsFaultOfRun may rows sizes (Stalled t) = (t < length rows) × Overflows rows sizes t × IsFaultAfter may rows sizes (Stalled t)
+IsFaultOfRun may rows sizes (CloseLost t) = (t < length rows) × IsFaultAfter may rows sizes (CloseLost t)
+IsFaultOfRun may rows sizes (Uncertified t) = ⊥
