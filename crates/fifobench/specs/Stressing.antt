@@ -8,13 +8,15 @@ use Rattle.event_records.specs.Question.{Question}
 use Rattle.history_merge.specs.Complete.{IsCompleteHistory}
 use Rattle.history_merge.specs.Merge.{IsMerged}
 use Rattle.history_merge.specs.Operations.{operations_of}
-use Rattle.recorder_core.specs.Replay.{AreRecorded}
+use Rattle.recorder_core.specs.Replay.{AreRecorded, Replays}
 use Rattle.workloads.specs.Seeds.{IsSeeded}
 use Rattle.stress_run.specs.declared.faults.RunFault.{RunFault}
 use Rattle.stress_run.specs.declared.faults.RunFault.TheVariants.{Limit}
 use Rattle.stress_run.specs.Operations.{IsRun}
+use Rattle.stress_run.specs.Failed.{IsFaultOfRun}
 use Rattle.verdicts.specs.declared.verifying.Claimed.{Claimed}
 use Rattle.command_words.specs.Options.{Settings}
+use Rattle.fifobench.specs.declared.stress.TheConstants.{TRIES}
 use Rattle.fifobench.specs.Answers.{Answer, shown, refused_queue, refused_limit, memory_fault, run_fault}
 use Rattle.fifobench.specs.Judging.{IsVerdictClaim}
 
@@ -33,7 +35,8 @@ pub record IsRecordedRun (may : Question → Told → Type 0) (settings : Settin
   pub lists : List (List Event)
   pub total : ℕ
   pub run : IsRun may plan lists total
-  pub replays : AreRecorded lists
+  pub recorded : AreRecorded lists
+  pub replays : Replays settings.ring lists
   pub events : List Event
   pub merged : IsMerged lists events
   pub complete : IsCompleteHistory events
@@ -41,15 +44,18 @@ pub record IsRecordedRun (may : Question → Told → Type 0) (settings : Settin
   pub right : IsVerdictClaim (operations_of events) claimed
   pub is : answer ≡ shown events claimed
 
--- a run gave no history, though its ring and its tries were in range
-pub record IsFailedRun (answer : Answer) : Type 0 where
+-- a run of the seed's plan on a queue that may answer so gave no history: the fault is one of that run's, with rings and tries of these sizes
+pub record IsFailedRun (may : Question → Told → Type 0) (settings : Settings) (answer : Answer) : Type 0 where
+  pub plan : List (List Kind)
+  pub seeded : IsSeeded settings.seed settings.threads settings.operations settings.percent plan
   pub fault : RunFault
+  pub of_run : IsFaultOfRun may plan (record { ring = settings.ring; tries = TRIES }) fault
   pub within : fault ≢ Limit
   pub is : answer ≡ run_fault fault
 
--- the run and its verdict, or the fault of a run, or want of memory
+-- the run and its verdict, or the fault of the run, or want of memory
 abbrev pub RunsOrFails : (Question → Told → Type 0) → Settings → Answer → Type 0
-RunsOrFails may settings answer = IsRecordedRun may settings answer ⊎ (IsFailedRun answer ⊎ (answer ≡ memory_fault))
+RunsOrFails may settings answer = IsRecordedRun may settings answer ⊎ (IsFailedRun may settings answer ⊎ (answer ≡ memory_fault))
 
 -- what is answered of a queue that may answer so: too many operations are refused, and no others
 abbrev pub StressesQueue : (Question → Told → Type 0) → Settings → Answer → Type 0

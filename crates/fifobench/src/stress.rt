@@ -16,7 +16,7 @@ use verdicts::decide;
 use workloads::Plan;
 
 /// How often a push into a full ring is tried again before its worker gives up.
-const TRIES: u32 = 1_000_000;
+pub const TRIES: u32 = 1_000_000;
 
 /// A queue under the name by which `stress` finds it.
 ///
