@@ -9,10 +9,10 @@ use Rattle.command_words.specs.Options.{HasSettings, IsWithinRanges, Settings, s
 use Rattle.command_words.specs.declared.tasks.Task.{Task}
 use Rattle.command_words.specs.declared.tasks.Task.TheVariants as task
 
--- the program: it wants one of these subcommands
+-- the program: it has a version, and wants one of these subcommands
 abbrev pub the_program : App
 the_program = record {
-  top = record (new_shape (codes "fifobench")) { is_leaf = false; subcommand_required = true };
+  top = record (new_shape (codes "fifobench")) { is_leaf = false; subcommand_required = true; has_version = true };
   subs = new_shape (codes "check") ∷ new_shape (codes "shrink") ∷ new_shape (codes "verify")
       ∷ new_shape (codes "sim") ∷ the_stress ∷ [];
 }

@@ -18,6 +18,7 @@ pub(crate) fn the_command<'a>(alloc: Global) -> Result<Command<'a>, AllocError>
     let stress = stress_command(alloc)?;
     Command::new(alloc, "fifobench")
         .about(help::ABOUT)
+        .version(help::VERSION)
         .subcommand_required(true)
         .subcommand(plain_command(alloc, "check", help::CHECK_ABOUT, help::CHECK_HELP))?
         .subcommand(plain_command(alloc, "shrink", help::SHRINK_ABOUT, help::SHRINK_HELP))?

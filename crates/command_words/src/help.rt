@@ -1,21 +1,34 @@
 //! The texts of the help.
 
+/// The version of the program. docs/ and CHANGELOG.md name the same one.
+pub(crate) const VERSION: &str = "0.1.0";
+
 pub(crate) const ABOUT: &str = "Records and judges histories of a concurrent FIFO queue";
 
 pub(crate) const CHECK_ABOUT: &str =
     "Reads a history from standard input and prints whether it is linearizable";
 
 pub(crate) const CHECK_HELP: &str = "\
-Input: the text of a history (docs/FORMATS.md): the line `fifo-history 1`, one line for each call
-and each return by rising ticket, and the line `end` with their number.
+Input: the text of a history (docs/FORMATS.md). It begins with the line `fifo-history 1` and ends with
+the line `end N`, where N is the number of events. Between them stands a line for each event, by
+rising ticket; threads are 0 to 63:
+  TICKET THREAD call-enq VALUE   the thread calls to enqueue the value
+  TICKET THREAD ret-enq          that call is answered: the value is in the queue
+  TICKET THREAD ret-not          or: it is not
+  TICKET THREAD call-deq         the thread calls to dequeue
+  TICKET THREAD ret-deq VALUE    that call is answered with the value
+  TICKET THREAD ret-empty        or: the queue is empty
 
 Output: `YES` and all operations in a legal order of the queue, or `NO`, the kind of violation and
 the operations that show it: VFresh, a value that was not there; VRepeat, a value dequeued twice;
 VOrd, two values dequeued against the order of their enqueues; VWit, an empty answer although the
-queue was never empty meanwhile.
+queue was never empty meanwhile. A line has the tickets of an operation's call and return, its
+thread, and what it did.
 
 Status: 0 yes, 1 no, 2 the input is refused (a line `REFUSED ..` says why), 3 a read, a write or
-memory failed (a line `FAULT ..`).
+memory failed (a line `FAULT ..`). Lines count from 1 and events from 0: event i stands in line i + 2.
+A text that goes on behind its line `end N` is `REFUSED Trailing`: of what `stress` writes, take the
+history alone by `sed '/^end /q'`.
 
 Example:
   $ printf 'fifo-history 1\\n0 0 call-deq\\n1 0 ret-deq 7\\nend 2\\n' | fifobench check
@@ -27,29 +40,36 @@ pub(crate) const SHRINK_ABOUT: &str =
     "Reads a history from standard input and prints what shows its violation, and no more";
 
 pub(crate) const SHRINK_HELP: &str = "\
-Input: the text of a history, as for `check`.
+Input: the text of a history, as for `check`, from the line `fifo-history 1` to the line `end N`.
 
 Output: where the history is not linearizable, the text of the shrunk history and then its verdict;
 else the verdict alone, as `check` prints it.
 
 Status: 0 yes, 1 no, 2 the input is refused (a line `REFUSED ..` says why), 3 a read, a write or
-memory failed (a line `FAULT ..`).
+memory failed (a line `FAULT ..`). A text that goes on behind its line `end N` is `REFUSED Trailing`:
+of what `stress` writes, take the history alone by `sed '/^end /q'`.
 
 Example:
-  $ fifobench shrink < recorded.txt
+  $ printf 'fifo-history 1\\n0 0 call-enq 5\\n1 0 ret-enq\\n2 0 call-deq\\n3 0 ret-deq 7\\nend 4\\n' | fifobench shrink
+  fifo-history 1
+  2 0 call-deq
+  3 0 ret-deq 7
+  end 2
+  NO VFresh
+  2 3 0 deq 7
 ";
 
 pub(crate) const VERIFY_ABOUT: &str =
     "Reads a history and a verdict from standard input and prints whether the verdict is evidence";
 
 pub(crate) const VERIFY_HELP: &str = "\
-Input: the text of a history, directly followed by the text of a verdict, as `check` and `stress`
-print them.
+Input: the text of a history, from the line `fifo-history 1` to the line `end N`, directly followed by
+the text of a verdict, from the line `YES` or `NO ..` on, as `stress` and `shrink` print them.
 
 Output: `VALID` where the verdict's operations are evidence for it in that history, else `INVALID`.
 
 Status: 0 valid, 1 invalid, 2 the input is refused (a line `REFUSED ..` says why), 3 a read, a write
-or memory failed (a line `FAULT ..`).
+or memory failed (a line `FAULT ..`). Lines count from 1 through both texts.
 
 Example:
   $ printf 'fifo-history 1\\n0 0 call-deq\\n1 0 ret-deq 7\\nend 2\\nNO VFresh\\n0 1 0 deq 7\\n' | fifobench verify
@@ -60,15 +80,23 @@ pub(crate) const SIM_ABOUT: &str =
     "Reads a schedule from standard input, steps the recorder through it, and judges what it recorded";
 
 pub(crate) const SIM_HELP: &str = "\
-Input: the text of a schedule: the line `fifo-schedule 1`, the line `threads T ring R` with 1 to 64
-threads and rings of 2 to 65536 events, one line for each step, and the line `end` with their number.
+Input: the text of a schedule. It begins with the line `fifo-schedule 1` and the line
+`threads T ring R`, with 1 to 64 threads and rings of 2 to 65536 events, and ends with the line
+`end N`, where N is the number of steps. Between them stands a line for each step of a thread T:
+  ask-enq T, ask-deq T   it draws the ticket of a call
+  push T                 its held event goes into its ring
+  effect T               its operation takes effect on a queue that keeps the order
+  say T taken            or it is told that answer: taken, not, got VALUE or empty
+  ret T                  it draws the ticket of the return
+  drain T K              up to K events of its ring are collected
+  close T                it is closed
 
 Output: a line `REJECTED`, with the number of the step from 1 and the reason, for each step that the
 recorder refuses; then `OPEN` where some thread is not closed or some ring not empty, else the text
 of the recorded history and its verdict.
 
 Status: 0 yes or open, 1 no, 2 the input is refused (a line `REFUSED ..` says why), 3 a read, a write
-or memory failed (a line `FAULT ..`).
+or memory failed (a line `FAULT ..`). Lines count from 1: step i stands in line i + 2.
 
 Example:
   $ printf 'fifo-schedule 1\\nthreads 1 ring 2\\nask-enq 0\\nend 1\\n' | fifobench sim
@@ -81,8 +109,8 @@ pub(crate) const STRESS_ABOUT: &str =
 pub(crate) const STRESS_HELP: &str = "\
 Input: none.
 
-Output: the text of the recorded history and its verdict. Runs with the same options differ, since
-the workers run at the same time.
+Output: the text of the recorded history and its verdict, which `verify` reads. Runs of several
+workers differ, also with the same options, since the workers run at the same time.
 
 Queues: locked, two-lock, array and seg are made to keep the order; lifo, doubling, inventing, shy
 and losing break it now and then, on purpose.
@@ -91,7 +119,13 @@ Status: 0 yes, 1 no, 2 there is no such queue, or threads times operations is ab
 `REFUSED ..` says which), 3 the run, a write or memory failed (a line `FAULT ..`).
 
 Example:
-  $ fifobench stress --queue lifo --threads 4 --ops 500 --seed 7
+  $ fifobench stress --queue locked --threads 1 --ops 1 --percent 100
+  fifo-history 1
+  0 0 call-enq 0
+  1 0 ret-enq
+  end 2
+  YES
+  0 1 0 enq 0
 ";
 
 pub(crate) const QUEUE_HELP: &str = "Name of the queue";

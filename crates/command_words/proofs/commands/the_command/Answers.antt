@@ -1,15 +1,20 @@
-use Rattle.std.proofs.Common.{◌≡◌, ◌∙◌, ap, ap₂, rules, codes, true}
+use Rattle.std.proofs.Common.{◌≡◌, ◌∙◌, ap, ap₂, true}
 use Rattle.std.proofs.lemmas.Result.{IfOk-weaker}
-use Rattle.clap.specs.Simple.{App, app_of, new_app, with_subcommand}
+use Rattle.clap.specs.Simple.{App, app_of, app_of_fields, with_subcommand}
 use Rattle.command_words.proofs.commands.the_command.Goals as goal
 
--- the command that wants a subcommand
-abbrev start : App
-start = record (new_app (codes "fifobench")) { top = record (new_app (codes "fifobench")).top { subcommand_required = true } }
+abbrev versioned : App → App
+versioned a = record a { top = record a.top { has_version = true } }
+
+abbrev wanting : App → App
+wanting a = record a { top = record a.top { subcommand_required = true } }
 
 pub returns : goal.returns
 returns c =
-    let named : app_of c.subcommand_required.result ≡ start = search rules in
+    let about : app_of c.about.result ≡ app_of c.new.result = ap app_of_fields c.about.ensures in
+    let version : app_of c.version.result ≡ versioned (app_of c.about.result) = ap app_of_fields c.version.ensures in
+    let required : app_of c.subcommand_required.result ≡ wanting (app_of c.version.result) = ap app_of_fields c.subcommand_required.ensures in
+    let named = required ∙ ap wanting (version ∙ ap versioned (about ∙ c.new.ensures.app)) in
     let check = c.in_ok-subcommand.ensures.shape c.plain_command.ensures.local ∙ ap₂ with_subcommand named (ap (λ (a : App). a.top) c.plain_command.ensures.app) in
     let shrink = c.in_ok-subcommand-2.ensures.shape c.plain_command-2.ensures.local ∙ ap₂ with_subcommand check (ap (λ (a : App). a.top) c.plain_command-2.ensures.app) in
     let verify = c.in_ok-subcommand-3.ensures.shape c.plain_command-3.ensures.local ∙ ap₂ with_subcommand shrink (ap (λ (a : App). a.top) c.plain_command-3.ensures.app) in
