@@ -274,41 +274,63 @@ impl History {
     }
 }
 
-/// The number at the front, with what follows it. None where none is there, or one of more than 19 digits.
-#[inline(always)]
-fn short_number(line: &[u8]) -> Option<(u64, &[u8])> {
-    let mut value = 0u64;
-    let mut length = 0;
-    while let Some(digit) = line.get(length).map(|byte| byte.wrapping_sub(b'0')).filter(|&digit| digit < 10) {
-        value = value.wrapping_mul(10).wrapping_add(u64::from(digit));
-        length += 1;
-    }
-    let is_plain = length > 0 && length < 20 && (line[0] != b'0' || length == 1);
-    is_plain.then(|| (value, &line[length..]))
+/// As many bytes as a well-formed event line has at most, and some more: a quick look goes no further.
+const AHEAD: usize = 96;
+
+fn eight_bytes(text: &[u8; AHEAD], at: usize) -> u64 {
+    u64::from_le_bytes(text[at..at + 8].try_into().expect("eight bytes"))
 }
 
-/// A well-formed event line in short; None says nothing of the line.
+/// The number at a place, and the place after it, eight digits at a time. None where none is there, or one that is rare: with a
+/// leading zero, or of 20 digits and more.
 #[inline(always)]
-fn quick_event(line: &[u8]) -> Option<(u64, u8, What, u64)> {
-    let (ticket, rest) = short_number(line)?;
-    let (thread, rest) = short_number(rest.strip_prefix(b" ")?)?;
-    if ticket > MAX_TICKET || thread > 63 {
+fn quick_number(text: &[u8; AHEAD], at: usize) -> Option<(u64, usize)> {
+    const POWERS: [u64; 9] = [1, 10, 100, 1_000, 10_000, 100_000, 1_000_000, 10_000_000, 100_000_000];
+    let (mut value, mut length) = (0u64, 0);
+    loop {
+        let word = eight_bytes(text, at + length) ^ 0x3030_3030_3030_3030;
+        let others = (word.wrapping_add(0x7676_7676_7676_7676) | word) & 0x8080_8080_8080_8080;
+        let digits = (others.trailing_zeros() / 8) as usize;
+        if digits > 0 {
+            // Digits are moved to the end of the word, and added up in pairs, in fours, and all.
+            let word = word << (64 - 8 * digits);
+            let pairs = word.wrapping_mul(10).wrapping_add(word >> 8) & 0x00ff_00ff_00ff_00ff;
+            let fours = pairs.wrapping_mul(100).wrapping_add(pairs >> 16) & 0x0000_ffff_0000_ffff;
+            let all = fours.wrapping_mul(10_000).wrapping_add(fours >> 32) & 0xffff_ffff;
+            value = value.wrapping_mul(POWERS[digits]).wrapping_add(all);
+        }
+        length += digits;
+        if digits < 8 || length > 19 {
+            break;
+        }
+    }
+    let is_plain = (1..20).contains(&length) && (text[at] != b'0' || length == 1);
+    is_plain.then_some((value, at + length))
+}
+
+/// A well-formed event line at the front, and its length with the line feed; None says nothing of the line.
+#[inline(always)]
+fn quick_event(text: &[u8; AHEAD]) -> Option<(u64, u8, What, u64, usize)> {
+    let (ticket, at) = quick_number(text, 0)?;
+    if ticket > MAX_TICKET || text[at] != b' ' {
         return None;
     }
-    let (what, rest) = match rest {
-        b" ret-enq" => (What::RetEnq, None),
-        b" call-deq" => (What::CallDeq, None),
-        b" ret-empty" => (What::RetEmpty, None),
-        b" ret-not" => (What::RetNot, None),
-        [b' ', b'c', b'a', b'l', b'l', b'-', b'e', b'n', b'q', b' ', rest @ ..] => (What::CallEnq, Some(rest)),
-        [b' ', b'r', b'e', b't', b'-', b'd', b'e', b'q', b' ', rest @ ..] => (What::RetDeq, Some(rest)),
+    let (thread, at) = quick_number(text, at + 1)?;
+    if thread > 63 || text[at] != b' ' {
+        return None;
+    }
+    let at = at + 1;
+    let (what, at) = match &eight_bytes(text, at).to_le_bytes() {
+        b"ret-enq\n" => return Some((ticket, thread as u8, What::RetEnq, 0, at + 8)),
+        b"ret-not\n" => return Some((ticket, thread as u8, What::RetNot, 0, at + 8)),
+        b"call-deq" if text[at + 8] == b'\n' => return Some((ticket, thread as u8, What::CallDeq, 0, at + 9)),
+        b"ret-empt" if text[at + 8..at + 10] == *b"y\n" => return Some((ticket, thread as u8, What::RetEmpty, 0, at + 10)),
+        b"call-enq" if text[at + 8] == b' ' => (What::CallEnq, at + 9),
+        b"ret-deq " => (What::RetDeq, at + 8),
         _ => return None,
     };
-    let value = match rest {
-        None => 0,
-        Some(rest) => short_number(rest).filter(|(_, end)| end.is_empty())?.0,
-    };
-    Some((ticket, thread as u8, what, value))
+    let (value, at) = quick_number(text, at)?;
+    (text[at] == b'\n').then_some((ticket, thread as u8, what, value, at + 1))
 }
 
 fn number(field: &[u8], most: u64, line: u32) -> Result<u64, Fault> {
@@ -355,7 +377,6 @@ impl<R: Read> Lines<R> {
     }
 
     /// The place after the next line feed, once it is there.
-    #[inline(always)]
     fn next(&mut self, too_long: Fault) -> Result<&[u8], Fault> {
         loop {
             let seen = &self.buffer[self.from..self.to.min(self.from + MAX_LINE + 1)];
@@ -377,6 +398,12 @@ impl<R: Read> Lines<R> {
         }
     }
 
+    /// What comes next, where there is enough for a quick look.
+    #[inline(always)]
+    fn ahead(&self) -> Option<&[u8; AHEAD]> {
+        self.buffer[self.from..self.to].first_chunk()
+    }
+
     fn end(&mut self) -> Result<(), Fault> {
         if self.from < self.to {
             return Err(Fault::Trailing);
@@ -395,29 +422,30 @@ fn read(source: impl Read) -> Result<History, Fault> {
     if lines.next(Fault::Header)? != b"fifo-history 1" {
         return Err(Fault::Header);
     }
-    for count in 0.. {
+    let mut count = 0;
+    loop {
+        while let Some(text) = lines.ahead().filter(|_| count < MAX_EVENTS) {
+            let Some((ticket, thread, what, value, length)) = quick_event(text) else { break };
+            history.add(ticket, thread, what, value);
+            lines.from += length;
+            count += 1;
+        }
         let line = count + 2;
         let text = lines.next(Fault::Line(line))?;
-        let found = if count < MAX_EVENTS { quick_event(text) } else { None };
-        let (ticket, thread, what, value) = match found {
-            Some(found) => found,
-            None => {
-                if let Some(told) = text.strip_prefix(b"end ") {
-                    return match number(told, u64::from(count), line) {
-                        Ok(told) if told == u64::from(count) => lines.end().and_then(|()| history.finish()),
-                        Err(Fault::Number(line)) => Err(Fault::Number(line)),
-                        _ => Err(Fault::Count),
-                    };
-                }
-                if count == MAX_EVENTS {
-                    return Err(Fault::Limit(line));
-                }
-                event(text, line)?
-            }
-        };
+        if let Some(told) = text.strip_prefix(b"end ") {
+            return match number(told, count.into(), line) {
+                Ok(told) if told == u64::from(count) => lines.end().and_then(|()| history.finish()),
+                Err(Fault::Number(line)) => Err(Fault::Number(line)),
+                _ => Err(Fault::Count),
+            };
+        }
+        if count == MAX_EVENTS {
+            return Err(Fault::Limit(line));
+        }
+        let (ticket, thread, what, value) = event(text, line)?;
         history.add(ticket, thread, what, value);
+        count += 1;
     }
-    unreachable!()
 }
 
 /// The verdict's first line, and the places of the operations that it lists.
