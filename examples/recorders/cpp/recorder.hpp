@@ -134,7 +134,8 @@ private:
 };
 
 // Runs `work(thread)` in each of so many threads, which begin together, and gives what they recorded. Memory is taken ahead
-// for so many operations of each thread; more are recorded too, and take memory as they come.
+// for so many operations of each thread; more are recorded too, and take memory as they come. An exception that leaves `work`,
+// or a thread that can't be started, ends the program.
 template <class Work>
 History record(unsigned threads, std::size_t operations, Work work) {
     if (threads == 0 || threads > max_threads) {
