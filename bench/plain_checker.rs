@@ -627,51 +627,65 @@ impl History {
     }
 
     fn write(&self, (answer, places): &Verdict, mut to: impl Write) -> io::Result<()> {
-        let mut text = Vec::with_capacity(BUFFER);
-        text.extend_from_slice(answer.as_bytes());
-        text.push(b'\n');
+        let mut text = vec![0; BUFFER];
+        let mut at = put(&mut text, 0, answer.as_bytes());
+        at = put(&mut text, at, b"\n");
+        let middles = middles();
         for &place in places {
-            if text.len() > BUFFER - 2 * MAX_LINE {
-                to.write_all(&text)?;
-                text.clear();
+            if at > BUFFER - 2 * MAX_LINE {
+                to.write_all(&text[..at])?;
+                at = 0;
             }
             let operation = self.operation(place);
-            for number in [self.tickets.at(operation.call), self.tickets.at(operation.ret), operation.thread.into()] {
-                put_number(&mut text, number);
-                text.push(b' ');
-            }
-            let word: &[u8] = match operation.kind {
-                Kind::Enq => b"enq ",
-                Kind::Deq => b"deq ",
-                Kind::Not => b"not ",
-                Kind::Empty => b"empty",
-            };
-            text.extend_from_slice(word);
+            at = put_number(&mut text, at, self.tickets.at(operation.call));
+            text[at] = b' ';
+            at = put_number(&mut text, at + 1, self.tickets.at(operation.ret));
+            at = put(&mut text, at, &middles[operation.kind as usize * 64 + operation.thread as usize]);
             if operation.kind != Kind::Empty {
-                put_number(&mut text, operation.value);
+                at = put_number(&mut text, at, operation.value);
             }
-            text.push(b'\n');
+            text[at] = b'\n';
+            at += 1;
         }
-        to.write_all(&text)
+        to.write_all(&text[..at])
     }
 }
 
-/// Two digits at once.
-fn put_number(text: &mut Vec<u8>, mut value: u64) {
-    let mut digits = [0; 20];
-    let mut at = digits.len();
-    while value >= 10 {
-        let two = (value % 100) as u8;
-        value /= 100;
-        at -= 2;
-        digits[at] = b'0' + two / 10;
-        digits[at + 1] = b'0' + two % 10;
+/// What stands between an operation's tickets and its value, by kind and thread.
+fn middles() -> Vec<Vec<u8>> {
+    let words = ["enq ", "deq ", "empty", "not "];
+    words.iter().flat_map(|word| (0..64).map(move |thread| format!(" {thread} {word}").into_bytes())).collect()
+}
+
+/// Puts bytes at a place, and gives the place after them.
+#[inline(always)]
+fn put(text: &mut [u8], at: usize, bytes: &[u8]) -> usize {
+    text[at..at + bytes.len()].copy_from_slice(bytes);
+    at + bytes.len()
+}
+
+/// The digits of a number below 10^8, one to a byte, the first in the lowest.
+#[inline(always)]
+fn eight_digits(value: u32) -> u64 {
+    let fours = u64::from(value / 10_000) | u64::from(value % 10_000) << 32;
+    let hundreds = (fours * 10_486 >> 20) & 0x0000_007f_0000_007f;
+    let pairs = hundreds | (fours - hundreds * 100) << 16;
+    let tens = (pairs * 103 >> 10) & 0x000f_000f_000f_000f;
+    tens | (pairs - tens * 10) << 8
+}
+
+/// The number without leading zeros, eight digits at a time.
+fn put_number(text: &mut [u8], at: usize, value: u64) -> usize {
+    const EIGHT: u64 = 100_000_000;
+    if value >= EIGHT {
+        let at = put_number(text, at, value / EIGHT);
+        let digits = eight_digits((value % EIGHT) as u32) | 0x3030_3030_3030_3030;
+        return put(text, at, &digits.to_le_bytes());
     }
-    if value > 0 || at == digits.len() {
-        at -= 1;
-        digits[at] = b'0' + value as u8;
-    }
-    text.extend_from_slice(&digits[at..]);
+    let digits = eight_digits(value as u32);
+    let zeros = (digits | 1 << 56).trailing_zeros() / 8;
+    let shown = (digits | 0x3030_3030_3030_3030) >> (8 * zeros);
+    put(text, at, &shown.to_le_bytes()) - zeros as usize
 }
 
 fn main() {
