@@ -4,7 +4,7 @@ _fifobench() {
     local word=$2 before=$3 command=${COMP_WORDS[1]}
     COMPREPLY=()
     if [ "$COMP_CWORD" -eq 1 ]; then
-        mapfile -t COMPREPLY < <(compgen -W 'check shrink verify sim stress help -h --help' -- "$word")
+        mapfile -t COMPREPLY < <(compgen -W 'check shrink verify sim stress help -h --help -V --version' -- "$word")
         return
     fi
     case $command in

@@ -2,6 +2,7 @@
 
 complete -c fifobench -f
 complete -c fifobench -s h -l help -d 'Print help'
+complete -c fifobench -n __fish_use_subcommand -s V -l version -d 'Print version'
 complete -c fifobench -n __fish_use_subcommand -a check -d 'Read a history and write its verdict'
 complete -c fifobench -n __fish_use_subcommand -a shrink -d 'Read a history and write what shows its violation'
 complete -c fifobench -n __fish_use_subcommand -a verify -d 'Read a history and a verdict, and tell whether it is evidence'
