@@ -27,6 +27,8 @@ mod step_line;
 #[cfg(test)]
 mod tests;
 #[cfg(test)]
+mod tests_changed;
+#[cfg(test)]
 mod tests_schedules;
 #[cfg(test)]
 mod tests_sinks;

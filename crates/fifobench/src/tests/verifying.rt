@@ -169,3 +169,25 @@ fn verdicts_are_valid(rt: HostRuntime) -> Result<(), Fail> {
     }
     Ok(())
 }
+
+/// What `verify` answers of the first bytes of a history and the yes on it, where not all are there.
+fn answer_to_front(front: &str) -> &'static str {
+    match front.strip_prefix(ONE) {
+        Some("YES\n") => "INVALID\n",
+        _ => "REFUSED Cut\n",
+    }
+}
+
+#[test]
+fn fronts_of_a_claim_are_cut_but_one(rt: HostRuntime) -> Result<(), Fail> {
+    let claim = format!(in rt.alloc(); "{ONE}YES\n0 1 0 enq 7\n")?;
+    for length in 0..claim.len() {
+        let Some(front) = claim.get(..length) else {
+            continue;
+        };
+        let text = answer_to_front(front);
+        let status = if text == "INVALID\n" { 1 } else { 2 };
+        assert_answer(&rt, "verify", front, text, status)?;
+    }
+    Ok(())
+}
