@@ -8,6 +8,7 @@ ghost use Rattle.value_match.specs.Violations.{IsClear};
 use crate::accepted::Pair;
 use crate::fresh::find_fresh;
 use crate::matching::{Matched, Matching};
+use crate::maybe_place::MaybePlace;
 use crate::repeat::find_repeat;
 use crate::sources::sources_of;
 use crate::takers::takers_of;
@@ -57,7 +58,7 @@ pub fn match_operations(alloc: Global, operations: &[Operation]) -> Result<Match
 fn matching_of<'a>(
     alloc: Global,
     operations: &'a [Operation],
-    dequeues: &[Option<usize>],
+    dequeues: &[MaybePlace],
 ) -> Result<Matching<'a>, AllocError>
     requires few { length operations.now ≤ MAX_EVENTS }
     requires clear { IsClear operations.now }
@@ -79,16 +80,12 @@ fn matching_of<'a>(
 }
 
 /// The places of an accepted enqueue and of the dequeue of its value, if there is one.
-fn pair_of(place: usize, dequeue: Option<usize>) -> Pair
-    requires place { place < 2 ^ 32 }
-    requires dequeue { IfSome dequeue (λ p. p < 2 ^ 32) }
+fn pair_of(place: usize, dequeue: MaybePlace) -> Pair
+    requires { place < 2 ^ 32 }
     ensures { (result.enqueue ≡ place) × (result.dequeue ≡ dequeue) }
 {
     Pair {
         enqueue: place as u32,
-        dequeue: match dequeue {
-            Some(dequeue) => Some(dequeue as u32),
-            None => None,
-        },
+        dequeue,
     }
 }
