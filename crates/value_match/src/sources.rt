@@ -21,24 +21,28 @@ struct NearSources {
 
 /// For each dequeue the place of the call that enqueued its value, accepted or refused, if there is one.
 ///
-/// Time O(n) for n operations where the values leave nearly in the order of their calls, or have a recorder's names. Else
+/// Time O(n) for n operations where the values have a recorder's names, or leave nearly in the order of their calls. Else
 /// the calls of the other values are sorted by value, and each of their dequeues costs a look-up, O(n log n).
 pub fn sources_of(alloc: Global, operations: &[Operation]) -> Result<Vec<MaybePlace>, AllocError>
     requires { length operations.now ≤ MAX_EVENTS }
     ensures { IfOk result (λ sources. HoldsSources operations.now sources.items) }
 {
-    let near = near_sources(alloc, operations)?;
+    let names = Names::new(alloc, operations)?;
+    let near = near_sources(alloc, operations, &names)?;
     let mut sources = near.sources;
     if !near.all_found {
-        let names = Names::new(alloc, operations)?;
         let others = others_of(alloc, operations, &names)?;
         find_others(operations, &names, &others, sources.as_mut_slice());
     }
     Ok(sources)
 }
 
-/// The sources that are found near that of the dequeue before.
-fn near_sources(alloc: Global, operations: &[Operation]) -> Result<NearSources, AllocError>
+/// The sources that the names of the values tell, or that are found near that of the dequeue before.
+fn near_sources(
+    alloc: Global,
+    operations: &[Operation],
+    names: &Names,
+) -> Result<NearSources, AllocError>
     requires { length operations.now ≤ MAX_EVENTS }
     ensures near { IfOk result (λ near. HoldsNear operations.now near.sources.items) }
     ensures all { IfOk result (λ near. IsTrue near.all_found → HoldsSources operations.now near.sources.items) }
@@ -51,7 +55,7 @@ fn near_sources(alloc: Global, operations: &[Operation]) -> Result<NearSources, 
             sources.push(MaybePlace::none())?;
             continue;
         };
-        let Some(place) = near_place(operations, value, next) else {
+        let Some(place) = guessed_place(operations, names, value, next) else {
             all_found = false;
             sources.push(MaybePlace::none())?;
             continue;
@@ -62,8 +66,18 @@ fn near_sources(alloc: Global, operations: &[Operation]) -> Result<NearSources, 
     Ok(NearSources { sources, all_found })
 }
 
-/// The place of the call for this value, where it is near this place.
+/// The place of the call for this value, where its name tells it or it is near this place.
 #[inline(always)]
+fn guessed_place(operations: &[Operation], names: &Names, value: u64, from: usize) -> Option<usize>
+    ensures { IfSome result (λ place. IsCallPlace operations.now value (Some place)) }
+{
+    match named_place(operations, names, value) {
+        Some(place) => Some(place),
+        None => near_place(operations, value, from),
+    }
+}
+
+/// The place of the call for this value, where it is near this place.
 fn near_place(operations: &[Operation], value: u64, from: usize) -> Option<usize>
     ensures { IfSome result (λ place. IsCallPlace operations.now value (Some place)) }
 {

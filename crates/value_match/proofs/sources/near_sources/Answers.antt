@@ -1,10 +1,13 @@
-use Rattle.std.proofs.Common.{subst, sym, Some}
+use Rattle.std.proofs.Common.{arith, subst, sym, Some}
 use Rattle.std.proofs.lemmas.Option.{slice_get-get_or}
 use Rattle.history_merge.specs.declared.operation.OpKind.TheVariants.{Enq}
 use Rattle.value_match.specs.Others.{IsNearSource}
 use Rattle.value_match.specs.Sources.{IsSourceOf}
-use Rattle.value_match.proofs.CallPlaces.{near_push, sources_push, sources_all}
+use Rattle.value_match.proofs.CallPlaces.{call_within, near_push, sources_push, sources_all}
 use Rattle.value_match.proofs.sources.near_sources.Goals as goal
+
+pub some-requires : goal.some-requires
+some-requires c = omega (arith, call_within c.args.operations.now c.in-Deq.value c.in-Some.place c.in-Some.ensures, c.requires)
 
 pub loop-operation-preserved : goal.loop-operation-preserved
 loop-operation-preserved c =
