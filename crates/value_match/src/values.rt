@@ -22,10 +22,10 @@ use std::alloc::{AllocError, Global};
 /// where a value was dequeued twice: the value whose second dequeue returns first, with its first two dequeues by
 /// return. Else `Clear`. The error is want of memory alone.
 ///
-/// Time O(n) for n operations of values with a recorder's names; the calls of other values stand in a tree, O(n log n). Where
-/// a value is dequeued twice, O(n log n) for a sort by return. The answer borrows the
-/// operations and takes three half words for each accepted value; beside it the work takes some five words for each
-/// operation.
+/// Time O(n) for n operations of values that have a recorder's names, or leave nearly in the order of their calls; else the
+/// calls of the others are sorted by value, O(n log n). Where a value is dequeued twice, O(n log n) for a sort by return.
+/// The answer borrows the operations and takes a word for each accepted value; beside it the work takes some two words for
+/// each operation, and two more for each call or dequeue that is sorted.
 pub fn match_values(alloc: Global, history: &History) -> Result<Matched<'_>, AllocError>
     ensures { IfOk result (λ matched. IsMatchedOf (operations_of history.now) matched) }
 {
