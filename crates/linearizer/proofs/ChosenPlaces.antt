@@ -4,7 +4,7 @@ use Rattle.std.specs.Prelude.{All, AllPairs, IsPermutation, filter}
 use Rattle.std.specs.List.{AllZip}
 use Rattle.std.proofs.lemmas.List.{get_or-map, length-map}
 use Rattle.std.proofs.lemmas.List.Elements.{All-cons, All-head, All-nil, All-tail}
-use Rattle.std.proofs.lemmas.List.Sorted.{All-permutation, IsPermutation-map, IsPermutation-trans}
+use Rattle.std.proofs.lemmas.List.Sorted.{All-permutation, IsPermutation-append_left, IsPermutation-map, IsPermutation-trans}
 use Rattle.std.proofs.lemmas.Option.{get_or_from_slice_get}
 use Rattle.history_merge.specs.declared.operation.Operation.{Operation}
 use Rattle.history_merge.specs.declared.operation.OpKind.TheVariants.{Empty}
@@ -80,12 +80,12 @@ pub chosen_and_legal : (operations : List Operation) (values empties all : List 
     → Adds operations (filter is_empty_answer operations) values empties → Adds operations (filter is_refused operations) empties all → AreByPosition all places → AreChosenAndLegal operations places
 chosen_and_legal operations values empties all places clear none held with_empties with_refused sorted =
     let lives = held.lives in
-    let listed = (enqueues_of lives ++ dequeues_of lives) ++ filter is_empty_answer operations ++ filter is_refused operations in
+    let listed = held.listed ++ filter is_empty_answer operations ++ filter is_refused operations in
     let zip : AllZip (IsPlaced operations lives) listed all = zipped in
     let same = listed_are operations lives listed all zip in
     let moved : IsPermutation operations (map (operation_of operations) sorted.sorted) =
     IsPermutation-trans operations (map (operation_of operations) all) (map (operation_of operations) sorted.sorted)
-    (subst (IsPermutation operations) same (each_once operations clear lives held.in_order (operations_rise operations clear.complete)))
+    (subst (IsPermutation operations) same listed_once)
     (IsPermutation-map (operation_of operations) all sorted.sorted sorted.holds_each_once) in
     let well = All-permutation (λ p. IsPlaced operations lives (operation_of operations p) p) all sorted.sorted sorted.holds_each_once (all_well_placed operations lives listed all zip) in
     let chosen = sorted_is_chosen operations (map (operation_of operations) sorted.sorted) lives (map (λ p. position_of p.position) sorted.sorted) clear held.in_order moved
@@ -96,9 +96,19 @@ chosen_and_legal operations values empties all places clear none held with_empti
       chosen_order_is_legal operations (map (operation_of operations) sorted.sorted) clear none chosen,
     )
   where
-    zipped : AllZip (IsPlaced operations held.lives) ((enqueues_of held.lives ++ dequeues_of held.lives) ++ filter is_empty_answer operations ++ filter is_refused operations) all
+    values_listed : List Operation
+    values_listed = enqueues_of held.lives ++ dequeues_of held.lives
+
+    listed_once : IsPermutation operations (held.listed ++ filter is_empty_answer operations ++ filter is_refused operations)
+    listed_once =
+        IsPermutation-trans operations (values_listed ++ filter is_empty_answer operations ++ filter is_refused operations) (held.listed ++ filter is_empty_answer operations ++ filter is_refused operations)
+        (each_once operations clear held.lives held.in_order (operations_rise operations clear.complete))
+        (IsPermutation-append_left (filter is_refused operations) (values_listed ++ filter is_empty_answer operations) (held.listed ++ filter is_empty_answer operations)
+        (IsPermutation-append_left (filter is_empty_answer operations) values_listed held.listed held.each_once))
+
+    zipped : AllZip (IsPlaced operations held.lives) (held.listed ++ filter is_empty_answer operations ++ filter is_refused operations) all
     zipped =
-        subst (AllZip (IsPlaced operations held.lives) ((enqueues_of held.lives ++ dequeues_of held.lives) ++ filter is_empty_answer operations ++ filter is_refused operations)) (sym (with_refused.after ∙ ap (λ xs. xs ++ with_refused.added) with_empties.after))
-        (zip_joined (IsPlaced operations held.lives) ((enqueues_of held.lives ++ dequeues_of held.lives) ++ filter is_empty_answer operations) (filter is_refused operations) (values ++ with_empties.added) with_refused.added
-        (zip_joined (IsPlaced operations held.lives) ((enqueues_of held.lives ++ dequeues_of held.lives)) (filter is_empty_answer operations) values with_empties.added held.each_placed (with_empties.each_placed held.lives))
+        subst (AllZip (IsPlaced operations held.lives) (held.listed ++ filter is_empty_answer operations ++ filter is_refused operations)) (sym (with_refused.after ∙ ap (λ xs. xs ++ with_refused.added) with_empties.after))
+        (zip_joined (IsPlaced operations held.lives) (held.listed ++ filter is_empty_answer operations) (filter is_refused operations) (values ++ with_empties.added) with_refused.added
+        (zip_joined (IsPlaced operations held.lives) held.listed (filter is_empty_answer operations) values with_empties.added held.each_placed (with_empties.each_placed held.lives))
         (with_refused.each_placed held.lives))

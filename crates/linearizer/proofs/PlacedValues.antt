@@ -1,9 +1,10 @@
 -- The enqueues and dequeues of the values are listed, each at its position.
 use Rattle.std.proofs.Common.{◌≡◌, ℕ, ◌+◌, ◌<◌, ◌≤◌, max, List, [], ◌∷◌, ◌++◌, length, get_or, map, take, Option, Some, None, refl, sym, ◌∙◌, ap, subst, arith}
-use Rattle.std.specs.Prelude.{MatchOption, fold, if◌then◌else◌, nat_lt, option_to_list, slice_get}
+use Rattle.std.specs.Prelude.{IsPermutation, MatchOption, fold, if◌then◌else◌, nat_lt, option_to_list, slice_get}
 use Rattle.std.specs.List.{AllZip, cons_option}
 use Rattle.std.proofs.lemmas.List.{append-nil, append_assoc, get_or_default, map-append, take_all, take_more}
 use Rattle.std.proofs.lemmas.List.Elements.{filter_map-append}
+use Rattle.std.proofs.lemmas.List.Sorted.{IsPermutation-append_left, IsPermutation-cons, IsPermutation-middle, IsPermutation-refl, IsPermutation-sym, IsPermutation-to_front, IsPermutation-trans}
 use Rattle.std.proofs.lemmas.Option.{get_or_from_slice_get, slice_get_within}
 use Rattle.history_merge.specs.declared.operation.Operation.{Operation}
 use Rattle.history_merge.specs.declared.operation.OpKind.{OpKind}
@@ -16,13 +17,20 @@ use Rattle.value_match.specs.Lives.{HoldsLives, IsLife, IsMaybeAt, leaves_from}
 use Rattle.linearizer.specs.declared.position.Placed.{Placed}
 use Rattle.linearizer.specs.Values.{IsValueOrder, dequeue_gap, enqueue_gap, greatest_leaves_from}
 use Rattle.linearizer.specs.Order.{IsPositionFor, dequeue_position, earlier_dequeues, enqueues, other_dequeues}
-use Rattle.linearizer.specs.Placement.{AreEnqueueGaps, HasPlaces, IsOrderOfPlaces, IsPlaced, dequeues_of, enqueues_of, lives_at, position_of}
+use Rattle.linearizer.specs.Placement.{AreEnqueueGaps, HasPlaces, HoldsUpTo, HoldsValues, IsOrderOfPlaces, IsPlaced, dequeues_of, enqueues_of, lives_at, position_of}
 use Rattle.linearizer.proofs.OrderedPlaces.{IsValueAt, lives_long, value_at}
 use Rattle.linearizer.proofs.Opposites.{is_life}
 
 fold_max-append : (a : ℕ) (xs ys : List ℕ) → fold max a (xs ++ ys) ≡ fold max (fold max a xs) ys
 fold_max-append a [] ys = refl
 fold_max-append a (x ∷ xs) ys = fold_max-append (max a x) xs ys
+
+-- one more in the midst of a list
+one_more_among : {X : Type 0} (xs ys zs : List X) (x : X) → IsPermutation (xs ++ ys) zs → IsPermutation ((xs ++ x ∷ []) ++ ys) (zs ++ x ∷ [])
+one_more_among xs ys zs x moved =
+    subst (λ l. IsPermutation l (zs ++ x ∷ [])) (sym (append_assoc xs (x ∷ []) ys))
+    (IsPermutation-trans (xs ++ x ∷ ys) (x ∷ (xs ++ ys)) (zs ++ x ∷ []) (IsPermutation-middle xs x ys)
+    (IsPermutation-trans (x ∷ (xs ++ ys)) (x ∷ zs) (zs ++ x ∷ []) (IsPermutation-cons x (xs ++ ys) zs moved) (IsPermutation-sym (zs ++ x ∷ []) (x ∷ zs) (IsPermutation-to_front zs x))))
 
 -- two zipped lists joined
 pub zip_joined : {A B : Type 0} (R : A → B → Type 0) (xs xs' : List A) (ys ys' : List B) → AllZip R xs ys → AllZip R xs' ys' → AllZip R (xs ++ xs') (ys ++ ys')
@@ -109,40 +117,57 @@ turn_is operations values places gaps i place m gap d holds order are_gaps at re
     same : m ≡ here.value
     same = reads ∙ get_or_from_slice_get values place here.value m here.is_at
 
+pub nothing_placed : (operations : List Operation) (lives : List Life) → HoldsUpTo operations lives 0 0 0 []
+nothing_placed operations lives = record { left_is = refl; listed = []; each_once = IsPermutation-refl []; each_placed = tt }
+
+-- all are placed
+pub all_placed : (operations : List Operation) (places : List ℕ) (i j left : ℕ) (placed : List Placed) → IsOrderOfPlaces operations places → length places ≤ i → length places ≤ j
+    → HoldsUpTo operations (lives_at operations places) i j left placed → HoldsValues operations placed
+all_placed operations places i j left placed order all_in all_out so_far = record {
+  lives = lives;
+  in_order = order.in_order;
+  listed = so_far.listed;
+  each_once = subst (λ ls. IsPermutation (enqueues_of ls ++ dequeues_of lives) so_far.listed) (take_all i lives (omega (arith, long)))
+      (subst (λ ls. IsPermutation (enqueues_of (take i lives) ++ dequeues_of ls) so_far.listed) (take_all j lives (omega (arith, long))) so_far.each_once);
+  each_placed = so_far.each_placed;
+}
+  where
+    lives : List Life
+    lives = lives_at operations places
+
+    long : length lives ≡ length places
+    long = lives_long operations places order
+
+-- the next enqueue is placed
 module _ (operations : List Operation) (lives : List Life) (i : ℕ) (m : MatchedValue) (gap : ℕ) (turn : IsTurn operations lives i m gap) where
-  -- the enqueue is placed
-  pub enqueue_more : (placed : List Placed) (first : Placed) → AllZip (IsPlaced operations lives) (enqueues_of (take i lives)) placed → first.operation ≡ m.enqueue → position_of first.position ≡ record { gap = gap; class = enqueues; rank = i }
-      → AllZip (IsPlaced operations lives) (enqueues_of (take (i + 1) lives)) (placed ++ first ∷ [])
-  enqueue_more placed first zip names stands =
-      subst (λ os. AllZip (IsPlaced operations lives) os (placed ++ first ∷ [])) (sym (enqueues_more operations lives turn.order i m.life turn.at))
-      (zip_joined (IsPlaced operations lives) (enqueues_of (take i lives)) (m.life.enqueue ∷ []) placed (first ∷ []) zip
-      (enqueue_placed operations lives turn.order i m.life turn.at gap first turn.gap_is (subst (λ p. IsAt operations p m.life.enqueue) (sym names) turn.places.0) stands, tt))
-
--- the enqueues are listed, and then the dequeues of the first n values, each at its position
-pub record ArePlacedSoFar (operations : List Operation) (lives : List Life) (n left : ℕ) (placed : List Placed) : Type 0 where
-  pub left_is : left ≡ greatest_leaves_from (take n lives)
-  pub each_placed : AllZip (IsPlaced operations lives) (enqueues_of lives ++ dequeues_of (take n lives)) placed
-
-pub none_dequeued : (operations : List Operation) (lives : List Life) (placed : List Placed) → AllZip (IsPlaced operations lives) (enqueues_of lives) placed → ArePlacedSoFar operations lives 0 0 placed
-none_dequeued operations lives placed zip = record { left_is = refl; each_placed = subst (λ os. AllZip (IsPlaced operations lives) os placed) (sym (append-nil (enqueues_of lives))) zip }
-
-pub all_dequeued : (operations : List Operation) (lives : List Life) (n left : ℕ) (placed : List Placed) → ArePlacedSoFar operations lives n left placed → length lives ≤ n → AllZip (IsPlaced operations lives) (enqueues_of lives ++ dequeues_of lives) placed
-all_dequeued operations lives n left placed so_far all = subst (λ ls. AllZip (IsPlaced operations lives) (enqueues_of lives ++ dequeues_of ls) placed) (take_all n lives all) so_far.each_placed
-
-module _ (operations : List Operation) (lives : List Life) (i : ℕ) (m : MatchedValue) (gap left left' : ℕ) (turn : IsTurn operations lives i m gap) (left_is : left' ≡ max (leaves_from m.life) left) (placed : List Placed) (so_far : ArePlacedSoFar operations lives i left placed) where
-  left_more : left' ≡ greatest_leaves_from (take (i + 1) lives)
-  left_more = let more = greatest_more operations lives turn.order i m.life turn.at in omega (arith, left_is, so_far.left_is)
-
-  with_rest : (rest : List Placed) → AllZip (IsPlaced operations lives) (option_to_list m.life.dequeue) rest → ArePlacedSoFar operations lives (i + 1) left' (placed ++ rest)
-  with_rest rest zip = record {
-    left_is = left_more;
-    each_placed =
-        subst (λ os. AllZip (IsPlaced operations lives) os (placed ++ rest)) (append_assoc (enqueues_of lives) (dequeues_of (take i lives)) (option_to_list m.life.dequeue) ∙ ap (λ os. enqueues_of lives ++ os) (sym (dequeues_more operations lives turn.order i m.life turn.at)))
-        (zip_joined (IsPlaced operations lives) (enqueues_of lives ++ dequeues_of (take i lives)) (option_to_list m.life.dequeue) placed rest so_far.each_placed zip);
+  pub enqueue_more : (j left : ℕ) (placed : List Placed) (first : Placed) → HoldsUpTo operations lives i j left placed → first.operation ≡ m.enqueue → position_of first.position ≡ record { gap = gap; class = enqueues; rank = i }
+      → HoldsUpTo operations lives (i + 1) j left (placed ++ first ∷ [])
+  enqueue_more j left placed first so_far names stands = record {
+    left_is = so_far.left_is;
+    listed = so_far.listed ++ m.life.enqueue ∷ [];
+    each_once = subst (λ os. IsPermutation (os ++ dequeues_of (take j lives)) (so_far.listed ++ m.life.enqueue ∷ [])) (sym (enqueues_more operations lives turn.order i m.life turn.at))
+        (one_more_among (enqueues_of (take i lives)) (dequeues_of (take j lives)) so_far.listed m.life.enqueue so_far.each_once);
+    each_placed = zip_joined (IsPlaced operations lives) so_far.listed (m.life.enqueue ∷ []) placed (first ∷ []) so_far.each_placed
+        (enqueue_placed operations lives turn.order i m.life turn.at gap first turn.gap_is (subst (λ p. IsAt operations p m.life.enqueue) (sym names) turn.places.0) stands, tt);
   }
 
-  pub turn_alone : m.dequeue ≡ None → ArePlacedSoFar operations lives (i + 1) left' placed
-  turn_alone none = subst (ArePlacedSoFar operations lives (i + 1) left') (append-nil placed) (with_rest [] (nothing m.dequeue m.life.dequeue none turn.places.1))
+-- the turn of the next dequeue
+module _ (operations : List Operation) (lives : List Life) (j : ℕ) (m : MatchedValue) (gap left left' : ℕ) (turn : IsTurn operations lives j m gap) (left_is : left' ≡ max (leaves_from m.life) left) (i : ℕ) (placed : List Placed) (so_far : HoldsUpTo operations lives i j left placed) where
+  left_more : left' ≡ greatest_leaves_from (take (j + 1) lives)
+  left_more = let more = greatest_more operations lives turn.order j m.life turn.at in omega (arith, more, left_is, so_far.left_is)
+
+  with_rest : (rest : List Placed) → AllZip (IsPlaced operations lives) (option_to_list m.life.dequeue) rest → HoldsUpTo operations lives i (j + 1) left' (placed ++ rest)
+  with_rest rest zip = record {
+    left_is = left_more;
+    listed = so_far.listed ++ option_to_list m.life.dequeue;
+    each_once = subst (λ os. IsPermutation os (so_far.listed ++ option_to_list m.life.dequeue))
+        (append_assoc (enqueues_of (take i lives)) (dequeues_of (take j lives)) (option_to_list m.life.dequeue) ∙ ap (λ os. enqueues_of (take i lives) ++ os) (sym (dequeues_more operations lives turn.order j m.life turn.at)))
+        (IsPermutation-append_left (option_to_list m.life.dequeue) (enqueues_of (take i lives) ++ dequeues_of (take j lives)) so_far.listed so_far.each_once);
+    each_placed = zip_joined (IsPlaced operations lives) so_far.listed (option_to_list m.life.dequeue) placed rest so_far.each_placed zip;
+  }
+
+  pub turn_alone : m.dequeue ≡ None → HoldsUpTo operations lives i (j + 1) left' placed
+  turn_alone none = subst (HoldsUpTo operations lives i (j + 1) left') (append-nil placed) (with_rest [] (nothing m.dequeue m.life.dequeue none turn.places.1))
     where
       nothing : (place : Option ℕ) (dequeue : Option Operation) → place ≡ None → IsMaybeAt operations place dequeue → AllZip (IsPlaced operations lives) (option_to_list dequeue) []
       nothing None None same places = tt
@@ -150,13 +175,13 @@ module _ (operations : List Operation) (lives : List Life) (i : ℕ) (m : Matche
       nothing (Some p) dequeue same places = cc
 
   pub turn_with_dequeue : (p later : ℕ) (second : Placed) → m.dequeue ≡ Some p → later ≡ max left' gap → second.operation ≡ p
-      → position_of second.position ≡ record { gap = later; class = (if nat_lt gap later then earlier_dequeues else other_dequeues); rank = i } → ArePlacedSoFar operations lives (i + 1) left' (placed ++ second ∷ [])
+      → position_of second.position ≡ record { gap = later; class = (if nat_lt gap later then earlier_dequeues else other_dequeues); rank = j } → HoldsUpTo operations lives i (j + 1) left' (placed ++ second ∷ [])
   turn_with_dequeue p later second same later_is names stands = with_rest (second ∷ []) (one m.dequeue m.life.dequeue same turn.places.1 refl)
     where
       one : (place : Option ℕ) (dequeue : Option Operation) → place ≡ Some p → IsMaybeAt operations place dequeue → m.life.dequeue ≡ dequeue → AllZip (IsPlaced operations lives) (option_to_list dequeue) (second ∷ [])
       one None dequeue same places is = cc
       one (Some q) None same places is = absurd places
-      one (Some q) (Some d) same places is = (dequeue_placed operations lives turn.order i m.life turn.at gap left' later d second turn.gap_is left_more later_is is at_second stands, tt)
+      one (Some q) (Some d) same places is = (dequeue_placed operations lives turn.order j m.life turn.at gap left' later d second turn.gap_is left_more later_is is at_second stands, tt)
         where
           at_second : IsAt operations second.operation d
           at_second = let here : q ≡ second.operation = cc in subst (λ r. IsAt operations r d) here places

@@ -1,16 +1,13 @@
 -- The tickets of the lives of a clear history.
-use Rattle.std.proofs.Common.{◌≡◌, ℕ, zero, suc, ◌<◌, ◌≤◌, ◌⊎◌, Bool, true, false, cond, List, [], ◌∷◌, Option, Some, None, refl, sym, ◌∙◌, ap, subst, inl, inr, arith}
-use Rattle.std.specs.Prelude.{Contains, find, filter_map, MatchOption}
-use Rattle.std.specs.List.{cons_option}
-use Rattle.std.proofs.lemmas.Bool.{eqb-true, eq-eqb}
+use Rattle.std.proofs.Common.{◌≡◌, ℕ, ◌<◌, ◌≤◌, ◌⊎◌, List, Option, Some, None, refl, inl, inr, arith}
+use Rattle.std.specs.Prelude.{MatchOption}
 use Rattle.history_merge.specs.declared.operation.Operation.{Operation}
-use Rattle.history_merge.specs.declared.operation.OpKind.{OpKind}
-use Rattle.history_merge.specs.declared.operation.OpKind.TheVariants.{Enq, Deq, Empty, Not}
+use Rattle.history_merge.specs.declared.operation.OpKind.TheVariants.{Enq, Deq}
 use Rattle.history_merge.specs.Operations.{Did, NoneDid}
-use Rattle.history_merge.proofs.Distinct.{contains_cons, not_in_none, contains_at, found_first, return_differs_from_call, same_return, same_enqueue, return_in_range, call_before_return}
+use Rattle.history_merge.proofs.Distinct.{return_differs_from_call, return_in_range, call_before_return}
 use Rattle.value_match.specs.declared.life.Life.{Life}
 use Rattle.value_match.specs.declared.life.TheConstants.{NEVER}
-use Rattle.value_match.specs.Lives.{IsLife, life_from, is_dequeue_of, dequeues_kind, call_or_never, return_or_never, enqueue_call, dequeue_return, lives_of, leaves_from, enqueue_return, dequeue_call, entered_by}
+use Rattle.value_match.specs.Lives.{IsLife, call_or_never, return_or_never, enqueue_call, dequeue_return, leaves_from, enqueue_return, dequeue_call, entered_by}
 use Rattle.value_match.specs.Violations.{IsClear}
 
 -- a number that is neither below another nor equal to it is above

@@ -1,5 +1,5 @@
 -- What the steps on the way to the chosen order give.
-use Rattle.std.specs.Prelude.{◌≡◌, ℕ, ◌<◌, ◌++◌, List, All, AllPairs, IsPermutation, length, map, filter_map, slice_get, slice_index}
+use Rattle.std.specs.Prelude.{◌≡◌, ℕ, ◌<◌, ◌++◌, List, All, AllPairs, IsPermutation, length, map, filter_map, slice_get, slice_index, take}
 use Rattle.std.specs.List.{AllZip}
 use Rattle.history_merge.specs.declared.operation.Operation.{Operation}
 use Rattle.history_merge.specs.Operations.{IsAt}
@@ -10,7 +10,7 @@ use Rattle.linearizer.specs.declared.position.Class.{Class}
 use Rattle.linearizer.specs.declared.position.Class.TheVariants.{EarlierDequeue, Idle, Enqueue, OtherDequeue}
 use Rattle.linearizer.specs.declared.position.Position.{Position as Stored}
 use Rattle.linearizer.specs.declared.position.Placed.{Placed}
-use Rattle.linearizer.specs.Values.{IsValueOrder, enqueue_gap}
+use Rattle.linearizer.specs.Values.{IsValueOrder, enqueue_gap, greatest_leaves_from}
 use Rattle.linearizer.specs.Order.{Position, StandsBefore, IsPositionOf, earlier_dequeues, idle_answers, enqueues, other_dequeues}
 
 -- the values without their places
@@ -62,11 +62,21 @@ enqueues_of lives = map (λ life. life.enqueue) lives
 abbrev pub dequeues_of : List Life → List Operation
 dequeues_of lives = filter_map (λ life. life.dequeue) lives
 
--- the operations of the accepted values, each at its position in the order of the values
+-- the enqueues of the first i values and the dequeues of the first j, each once and at its position, and the time from
+-- which these j can have left
+pub record HoldsUpTo (operations : List Operation) (lives : List Life) (i j left : ℕ) (placed : List Placed) : Type 0 where
+  pub left_is : left ≡ greatest_leaves_from (take j lives)
+  pub listed : List Operation
+  pub each_once : IsPermutation (enqueues_of (take i lives) ++ dequeues_of (take j lives)) listed
+  pub each_placed : AllZip (IsPlaced operations lives) listed placed
+
+-- the operations of the accepted values, each once and at its position in the order of the values
 pub record HoldsValues (operations : List Operation) (placed : List Placed) : Type 0 where
   pub lives : List Life
   pub in_order : IsValueOrder operations lives
-  pub each_placed : AllZip (IsPlaced operations lives) (enqueues_of lives ++ dequeues_of lives) placed
+  pub listed : List Operation
+  pub each_once : IsPermutation (enqueues_of lives ++ dequeues_of lives) listed
+  pub each_placed : AllZip (IsPlaced operations lives) listed placed
 
 -- the listed operations are added, each at its position, whatever the order of the values
 pub record Adds (operations listed : List Operation) (old new : List Placed) : Type 0 where

@@ -26,10 +26,10 @@ fn put_in_order(alloc: Global, values: &Values) -> Result<Vec<usize>, AllocError
     ensures holds_each_once { IfOk result (λ places. IsPermutation values.now (elements_at values.now places.items)) }
     ensures each_is_choice { IfOk result (λ places. EachIsChoice (lives_in (elements_at values.now places.items))) }
 {
+    let mut ordered = Vec::with_capacity(alloc, values.len())?;
+    let mut taken = vec![in alloc; false; values.len()]?;
     let entries = by_entry(alloc, values)?;
     let dequeues = by_dequeue(alloc, values)?;
-    let mut taken = vec![in alloc; false; values.len()]?;
-    let mut ordered = Vec::with_capacity(alloc, values.len())?;
     let mut first_in = 0;
     let mut first_out = 0;
     while ordered.len() < values.len() {

@@ -1,4 +1,7 @@
-ghost use Rattle.value_match.specs.Longest.{FindsLongest};
+ghost use Rattle.std.specs.Prelude.{List};
+ghost use Rattle.value_match.specs.declared.life.MatchedValue.{MatchedValue};
+ghost use Rattle.value_match.specs.Lives.{enqueue_call};
+ghost use Rattle.value_match.specs.Longest.{EntersBefore, FindsLongest};
 ghost use Rattle.order_violation.specs.Overtaking.{Overtakes, IsSoonerOf, FindsFirst};
 
 use value_match::{Life, LongestTable, MatchedValue};
@@ -15,12 +18,18 @@ fn sooner_of(first: MatchedValue, second: MatchedValue) -> MatchedValue
 }
 
 /// Of the values that b overtakes, the one that stays longest.
-///
-/// It is the longest of the values that entered before b, or b overtakes none.
 pub fn longest_overtaken(table: &LongestTable, b: &Life) -> Option<MatchedValue>
     ensures { FindsLongest (Overtakes b.now) table.now result }
 {
-    let a = table.longest_before(b.enqueue_call())?;
+    let longest = table.longest_before(b.enqueue_call());
+    if_overtaken(b, longest)
+}
+
+/// The longest of the values that entered before b, if b overtakes it; else b overtakes none.
+fn if_overtaken(b: &Life, longest: Option<MatchedValue>) -> Option<MatchedValue>
+    ensures { (values : List MatchedValue) → FindsLongest (EntersBefore (enqueue_call b.now)) values longest → FindsLongest (Overtakes b.now) values result }
+{
+    let a = longest?;
     let left = b.dequeue_return();
     if left < a.life.dequeue_call() {
         Some(a)
@@ -30,14 +39,18 @@ pub fn longest_overtaken(table: &LongestTable, b: &Life) -> Option<MatchedValue>
 }
 
 /// Of the values that overtake another, the one that is dequeued first.
+///
+/// The values come by the calls of their enqueues, so each look-up goes on where the one before ended.
 pub fn first_overtaking(table: &LongestTable) -> Option<MatchedValue>
     ensures { FindsFirst table.now table.now result }
 {
     let values = table.values();
     let mut first: Option<MatchedValue> = None;
+    let mut start = 0;
     for place in 0..values.len() {
         let b = values.get(place);
-        if longest_overtaken(table, &b.life).is_some() {
+        let longest = table.longest_before_from(&mut start, b.life.enqueue_call());
+        if if_overtaken(&b.life, longest).is_some() {
             first = Some(first.map_or(b, |so_far| sooner_of(so_far, b)));
         }
     }

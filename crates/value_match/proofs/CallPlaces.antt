@@ -1,15 +1,25 @@
 -- Places of calls and of sources, met by walks over the operations.
-use Rattle.std.proofs.Common.{◌≡◌, ℕ, ◌+◌, ◌<◌, ◌≤◌, cond, List, [], ◌∷◌, ◌++◌, length, get_or, Option, Some, None, sym, ◌∙◌, ap, subst, inl, inr, arith, nat_eq, length-append}
+use Rattle.std.proofs.Common.{◌≡◌, ℕ, ◌+◌, ◌<◌, ◌≤◌, ◌⊎◌, true, false, List, [], ◌∷◌, ◌++◌, length, get_or, Option, Some, None, refl, sym, ◌∙◌, set, subst, inl, inr, arith, get_or-set_other, get_or-set_same, length-set, length-append}
+use Rattle.std.specs.Prelude.{All, Contains, IsPermutation, MatchOption, is_some}
+use Rattle.std.specs.List.Sorted.{IsNonDecreasingBy, IsPartitionPoint}
+use lib.Dec.{ltb}
+use Rattle.std.proofs.lemmas.Bool.{false≢true, ltb-true, ltb-false}
 use Rattle.std.proofs.Math.Seq.{get_or-append_seam}
-use Rattle.std.proofs.lemmas.Bool.Decides.{eqb_tells}
+use Rattle.std.proofs.lemmas.List.Elements.{All-nil, All-push, All-pop, All-contains}
+use Rattle.std.proofs.lemmas.List.Sorted.{All-permutation, IsPermutation-sym}
 use Rattle.std.proofs.lemmas.List.{get_or_append_left}
 use Rattle.std.proofs.lemmas.Option.{slice_get_within}
 use Rattle.history_merge.specs.declared.operation.Operation.{Operation}
 use Rattle.history_merge.specs.Operations.{IsAt, enqueued_value}
+use Rattle.history_merge.specs.declared.operation.OpKind.{OpKind}
+use Rattle.history_merge.specs.declared.operation.OpKind.TheVariants.{Enq, Deq, Empty, Not}
 use Rattle.history_merge.proofs.Distinct.{place_of}
 use Rattle.history_merge.proofs.DistinctValues.{each_more}
 use Rattle.value_match.specs.declared.names.Names.{Names}
+use Rattle.value_match.specs.declared.others.Call.{Call}
+use Rattle.value_match.specs.Named as named
 use Rattle.value_match.specs.Named.{IsNamed}
+use Rattle.value_match.specs.Others.{IsCall, NoneOf, HoldsOthers, IsNearSource, HoldsNear}
 use Rattle.value_match.specs.Sources.{IsCallPlace, IsSourceOf, HoldsSources}
 
 -- the place of the call for a value among the first n operations
@@ -28,31 +38,52 @@ pub met_other : (operations : List Operation) (i : ℕ) (o : Operation) (v : ℕ
 met_other operations i o v None here other m = each_more (λ k x. ¬ (enqueued_value x.kind ≡ Some v)) operations i o here other m
 met_other operations i o v (Some place) here other m = m
 
-pub met_call : (operations : List Operation) (i : ℕ) (o : Operation) (w v : ℕ) (found after : Option ℕ) → IsAt operations i o → enqueued_value o.kind ≡ Some w
-    → after ≡ cond (nat_eq w v) (Some i) found → MetCall operations i v found → MetCall operations (i + 1) v after
-met_call operations i o w v found after here calls is met = elim (eqb_tells w v) [
-  | inl h ↦
-      let now : after ≡ Some i = is ∙ ap (λ b. cond b (Some i) found) h.0 in
-      subst (MetCall operations (i + 1) v) (sym now) (o, here, calls ∙ ap (λ u. Some u) h.1)
-  | inr h ↦
-      let kept : after ≡ found = is ∙ ap (λ b. cond b (Some i) found) h.0 in
-      subst (MetCall operations (i + 1) v) (sym kept) (met_other operations i o v found here (λ same. h.1 (let e = sym calls ∙ same in cc)) met)
-]
-
 pub met_all : (operations : List Operation) (n v : ℕ) (found : Option ℕ) → length operations ≤ n → MetCall operations n v found → IsCallPlace operations v found
 met_all operations n v None all met =
     λ o among calls. let at = place_of operations o among in met at.0 o (let within = slice_get_within operations at.0 o at.1 in omega arith) at.1 calls
 met_all operations n v (Some place) all met = met
 
--- of the values that aren't where their names tell, the places of the calls among the first n operations
-abbrev pub MetOthers : List Operation → Names → ℕ → (ℕ → Option ℕ) → Type 0
-MetOthers operations names n found = (v : ℕ) → ¬ (IsNamed operations names v) → MetCall operations n v (found v)
+-- of the values that aren't where their names tell, the calls among the first n operations
+pub record MetOthers (operations : List Operation) (names : Names) (n : ℕ) (calls : List Call) : Type 0 where
+  pub are_calls : All (IsCall operations) calls
+  pub has_all : (v : ℕ) → ¬ (IsNamed operations names v) → NoneOf calls v → MetCall operations n v None
 
--- a call of a value that is where its name tells
-pub met_named : (operations : List Operation) (names : Names) (i : ℕ) (o : Operation) (w : ℕ) (found : ℕ → Option ℕ) → IsAt operations i o → enqueued_value o.kind ≡ Some w
-    → IsNamed operations names w → MetOthers operations names i found → MetOthers operations names (i + 1) found
-met_named operations names i o w found here calls named met v unnamed =
-    met_other operations i o v (found v) here (λ same. unnamed (subst (IsNamed operations names) (let e = sym calls ∙ same in cc) named)) (met v unnamed)
+pub others_none : (operations : List Operation) (names : Names) → MetOthers operations names 0 []
+others_none operations names = record { are_calls = All-nil (IsCall operations); has_all = λ v unnamed none k o below at. absurd (omega (arith, below)) }
+
+pub named_if_found : (operations : List Operation) (names : Names) (v : ℕ) (found : Option ℕ) → is_some found ≡ true
+    → MatchOption found (¬ (IsNamed operations names v)) (λ place. (place ≡ named.place_of names v) × IsNamed operations names v) → IsNamed operations names v
+named_if_found operations names v None some found = absurd (false≢true some)
+named_if_found operations names v (Some place) some found = found.1
+
+-- an operation that called to enqueue nothing, a call of a value that is where its name tells, and any other call
+module _ (operations : List Operation) (names : Names) (i : ℕ) (o : Operation) (calls : List Call) (here : IsAt operations i o) (met : MetOthers operations names i calls) where
+  pub others_no_call : enqueued_value o.kind ≡ None → MetOthers operations names (i + 1) calls
+  others_no_call none = record { are_calls = met.are_calls; has_all = λ v unnamed none_of. met_no_call operations i o v None here none (met.has_all v unnamed none_of) }
+
+  pub others_named : (w : ℕ) → enqueued_value o.kind ≡ Some w → IsNamed operations names w → MetOthers operations names (i + 1) calls
+  others_named w called named = record {
+    are_calls = met.are_calls;
+    has_all = λ v unnamed none_of. met_other operations i o v None here
+        (λ same. unnamed (subst (IsNamed operations names) (let e = sym called ∙ same in cc) named)) (met.has_all v unnamed none_of);
+  }
+
+  pub others_more : (w : ℕ) → enqueued_value o.kind ≡ Some w → MetOthers operations names (i + 1) (calls ++ record { value = w; place = i } ∷ [])
+  others_more w called = record {
+    are_calls = All-push (IsCall operations) calls (record { value = w; place = i }) met.are_calls (o, here, called);
+    has_all = λ v unnamed none_of.
+        let parts = All-pop (λ (call : Call). ¬ (call.value ≡ v)) (calls ++ record { value = w; place = i } ∷ []) calls (Some (record { value = w; place = i })) refl none_of in
+        met_other operations i o v None here (λ same. parts.1 (let e = sym called ∙ same in cc)) (met.has_all v unnamed parts.0);
+  }
+
+pub others_sorted : (operations : List Operation) (names : Names) (n : ℕ) (calls sorted : List Call) → length operations ≤ n → MetOthers operations names n calls → IsPermutation calls sorted
+    → IsNonDecreasingBy (λ call. call.value) sorted → HoldsOthers operations names sorted
+others_sorted operations names n calls sorted all met moved rises = record {
+  are_calls = All-permutation (IsCall operations) calls sorted moved met.are_calls;
+  has_all = λ v unnamed none_of. met_all operations n v None all
+      (met.has_all v unnamed (All-permutation (λ (call : Call). ¬ (call.value ≡ v)) sorted calls (IsPermutation-sym calls sorted moved) none_of));
+  rises = rises;
+}
 
 -- the sources of the first operations
 pub record HasSources (operations : List Operation) (n : ℕ) (sources : List (Option ℕ)) : Type 0 where
@@ -77,3 +108,100 @@ sources_all operations n sources all within known = record {
   one_each = omega (arith, known.one_each);
   each = λ i o at. known.each i o (let below = slice_get_within operations i o at in omega arith) at;
 }
+
+-- the call is among the operations
+pub call_within : (operations : List Operation) (v place : ℕ) → IsCallPlace operations v (Some place) → place < length operations
+call_within operations v place (o, here, called) = slice_get_within operations place o here
+
+-- where the calls from place i on have this value or a greater one, and those before a smaller one, and that at i isn't of this value, none is
+pub none_among : (calls : List Call) (v i : ℕ) → IsNonDecreasingBy (λ call. call.value) calls
+    → IsPartitionPoint (λ (call : Call). ltb call.value v ≡ true) (λ (call : Call). ltb call.value v ≡ false) calls i → ((d : Call) → i < length calls → ¬ ((get_or calls i d).value ≡ v)) → NoneOf calls v
+none_among calls v i rises point differs k d below same =
+    let cases : (k < i) ⊎ (i ≤ k) = grind arith in
+    elim cases [
+      | inl before ↦ let less = ltb-true (get_or calls k d).value v (point.0 k d (omega arith) before) in absurd (omega (arith, less, same))
+      | inr after ↦
+          let inside : i < length calls = omega (arith, after, below) in
+          let at_least = ltb-false (get_or calls i d).value v (point.1 i d (omega arith) inside) in
+          let le = rises i k d after below in
+          let differ = differs d inside in
+          absurd (differ (omega (arith, le, at_least, same)))
+    ]
+
+-- ---- sources that are near
+
+-- the sources of the first operations, some of them not found yet
+pub record HasNear (operations : List Operation) (n : ℕ) (sources : List (Option ℕ)) : Type 0 where
+  pub one_each : length sources ≡ n
+  pub each : (i : ℕ) (o : Operation) → i < n → IsAt operations i o → IsNearSource operations o.kind (get_or sources i None)
+
+pub near_push : (operations : List Operation) (n : ℕ) (o : Operation) (sources : List (Option ℕ)) (source : Option ℕ) → IsAt operations n o → IsNearSource operations o.kind source
+    → HasNear operations n sources → HasNear operations (n + 1) (sources ++ source ∷ [])
+near_push operations n o sources source here is known = record {
+  one_each = simp length-append (omega (arith, known.one_each));
+  each = each_more (λ i x. IsNearSource operations x.kind (get_or (sources ++ source ∷ []) i None)) operations n o here last before;
+}
+  where
+    last : IsNearSource operations o.kind (get_or (sources ++ source ∷ []) n None)
+    last = subst (λ i. IsNearSource operations o.kind (get_or (sources ++ source ∷ []) i None)) known.one_each (subst (IsNearSource operations o.kind) (sym (get_or-append_seam sources source [] None)) is)
+
+    before : (i : ℕ) (x : Operation) → i < n → IsAt operations i x → IsNearSource operations x.kind (get_or (sources ++ source ∷ []) i None)
+    before i x below at = subst (IsNearSource operations x.kind) (sym (get_or_append_left sources (source ∷ []) None i (omega (arith, known.one_each)))) (known.each i x below at)
+
+pub near_all : (operations : List Operation) (n : ℕ) (sources : List (Option ℕ)) → length operations ≤ n → n ≤ length operations → HasNear operations n sources → HoldsNear operations sources
+near_all operations n sources all within known = record {
+  one_each = omega (arith, known.one_each);
+  each = λ i o at. known.each i o (let below = slice_get_within operations i o at in omega arith) at;
+}
+
+-- the sources of the first n operations are found, and some of the others
+pub record HasFound (operations : List Operation) (n : ℕ) (sources : List (Option ℕ)) : Type 0 where
+  pub one_each : length sources ≡ length operations
+  pub found : (i : ℕ) (o : Operation) → i < n → IsAt operations i o → IsSourceOf operations o.kind (get_or sources i None)
+  pub near : (i : ℕ) (o : Operation) → n ≤ i → IsAt operations i o → IsNearSource operations o.kind (get_or sources i None)
+
+pub none_found : (operations : List Operation) (sources : List (Option ℕ)) → HoldsNear operations sources → HasFound operations 0 sources
+none_found operations sources near = record {
+  one_each = near.one_each;
+  found = λ i o below at. absurd (omega (arith, below));
+  near = λ i o after at. near.each i o at;
+}
+
+-- a source that was near
+near_source : (operations : List Operation) (kind : OpKind) (source : Option ℕ) → IsNearSource operations kind source → ¬ (source ≡ None) → IsSourceOf operations kind source
+near_source operations (Deq v) None near some = absurd (some refl)
+near_source operations (Deq v) (Some p) near some = near
+near_source operations (Enq v) source near some = near
+near_source operations (Not v) source near some = near
+near_source operations Empty source near some = near
+
+pub found_near : (operations : List Operation) (n : ℕ) (o : Operation) (sources : List (Option ℕ)) → IsAt operations n o → ¬ (get_or sources n None ≡ None) → HasFound operations n sources → HasFound operations (n + 1) sources
+found_near operations n o sources here some known = record {
+  one_each = known.one_each;
+  found = each_more (λ i x. IsSourceOf operations x.kind (get_or sources i None)) operations n o here
+      (near_source operations o.kind (get_or sources n None) (known.near n o (omega arith) here) some) known.found;
+  near = λ i x after at. known.near i x (omega (arith, after)) at;
+}
+
+pub found_more : (operations : List Operation) (n : ℕ) (o : Operation) (sources : List (Option ℕ)) (source : Option ℕ) → IsAt operations n o → IsSourceOf operations o.kind source → HasFound operations n sources
+    → HasFound operations (n + 1) (set sources n source)
+found_more operations n o sources source here is known = record {
+  one_each = length-set sources n source ∙ known.one_each;
+  found = each_more (λ i x. IsSourceOf operations x.kind (get_or (set sources n source) i None)) operations n o here
+      (subst (IsSourceOf operations o.kind) (sym (get_or-set_same sources n source None within)) is)
+      (λ i x below at. subst (IsSourceOf operations x.kind) (sym (get_or-set_other sources n i source None (omega (arith, below)))) (known.found i x below at));
+  near = λ i x after at. subst (IsNearSource operations x.kind) (sym (get_or-set_other sources n i source None (omega (arith, after)))) (known.near i x (omega (arith, after)) at);
+}
+  where
+    within : n < length sources
+    within = let inside = slice_get_within operations n o here in omega (arith, known.one_each)
+
+pub found_all : (operations : List Operation) (n : ℕ) (sources : List (Option ℕ)) → length operations ≤ n → HasFound operations n sources → HoldsSources operations sources
+found_all operations n sources all known = record {
+  one_each = known.one_each;
+  each = λ i o at. known.found i o (let below = slice_get_within operations i o at in omega (arith, below)) at;
+}
+
+-- a call among the others
+pub other_call : (operations : List Operation) (names : Names) (calls : List Call) (v place : ℕ) → HoldsOthers operations names calls → Contains calls (record { value = v; place = place }) → IsCallPlace operations v (Some place)
+other_call operations names calls v place others among = All-contains (IsCall operations) calls (record { value = v; place = place }) others.are_calls among

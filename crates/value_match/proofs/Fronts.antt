@@ -3,7 +3,7 @@ use Rattle.std.proofs.Common.{◌≡◌, ℕ, ◌+◌, ◌<◌, ◌≤◌, ◌�
 use Rattle.std.specs.Prelude.{All, Contains, MatchOption, IfSome}
 use Rattle.std.specs.List.Sorted.{IsNonDecreasingBy, IsPermutation, IsPartitionPoint}
 use Rattle.std.proofs.Math.ListN.{set}
-use Rattle.std.proofs.lemmas.Bool.{ltb-true, ltb-false}
+use Rattle.std.proofs.lemmas.Bool.{ltb-true, ltb-false, lt-ltb, le-ltb}
 use Rattle.std.proofs.lemmas.List.{get_or-map, get_or-take, get_or-set_other, get_or-set_same, get_or_default, length-map, length-set, length-take-le, map-append, take_all, take_more}
 use Rattle.std.proofs.lemmas.List.Elements.{All-nil, All-push, All-get_or, All-from_get_or}
 use Rattle.std.proofs.lemmas.List.Sorted.{All-permutation, Contains-permutation, IsPermutation-map, IsPermutation-sym}
@@ -209,3 +209,12 @@ module _ (values : List MatchedValue) (fronts : List Front) (limit i : ℕ) (tab
                 (All-get_or (λ other. Any other.life → StaysAtLeast value.life other.life) (take i order) j d seen is_longest.longest tt)
             | inr after ↦ absurd (enters_not d d j after (omega (arith, counted d)) passes)
           ]
+
+-- where the front before place i returned before the limit, and the one at i, if there is one, did not, the first i did and no other
+pub point_between : (fronts : List Front) (limit i : ℕ) → IsNonDecreasingBy (λ f. f.enqueue_return) fronts → i < length fronts → ((f : Front) → (get_or fronts i f).enqueue_return < limit)
+    → ((f : Front) → i + 1 < length fronts → limit ≤ (get_or fronts (i + 1) f).enqueue_return)
+    → IsPartitionPoint (λ (f : Front). ltb f.enqueue_return limit ≡ true) (λ (f : Front). ltb f.enqueue_return limit ≡ false) fronts (i + 1)
+point_between fronts limit i rises within here next = (
+  λ k f below before. let le = rises k i f (omega arith) within in let less = here f in lt-ltb (get_or fronts k f).enqueue_return limit (omega arith),
+  λ k f after inside. let le = rises (i + 1) k f after inside in let more = next f (omega arith) in le-ltb (get_or fronts k f).enqueue_return limit (omega arith),
+)

@@ -84,14 +84,14 @@ takes_from_enqueue operations sources i p o enq v complete holds here is there a
 -- ---- the walk
 
 -- the entry of the walk names an operation
-pub entry_at : (operations : List Operation) (order : List (ℕ × ℕ)) (n : ℕ) → IsByReturn operations order → n < length order
+pub entry_at : (operations : List Operation) (sources : List (Option ℕ)) (order : List (ℕ × ℕ)) (n : ℕ) → IsByReturn operations sources order → n < length order
     → (o : Operation) × IsAt operations (get_or order n (0, 0)).1 o × ((get_or order n (0, 0)).0 ≡ o.ret)
-entry_at operations order n by below = All-get_or (λ e. (o : Operation) × IsAt operations e.1 o × (e.0 ≡ o.ret)) order n (0, 0) below by.names
+entry_at operations sources order n by below = All-get_or (λ e. (o : Operation) × IsAt operations e.1 o × (e.0 ≡ o.ret)) order n (0, 0) below by.names
 
 -- an operation that returned before the walk's entry was seen
-seen_before : (operations : List Operation) (order : List (ℕ × ℕ)) (n i : ℕ) (o : Operation) → IsByReturn operations order → IsAt operations i o → n < length order → o.ret < (get_or order n (0, 0)).0 → IsSeen order n i
-seen_before operations order n i o by here below sooner =
-    let among = by.has_each i o here in
+seen_before : (operations : List Operation) (sources : List (Option ℕ)) (order : List (ℕ × ℕ)) (n i p : ℕ) (o : Operation) → IsByReturn operations sources order → IsAt operations i o → TakesFrom sources i p → n < length order → o.ret < (get_or order n (0, 0)).0 → IsSeen order n i
+seen_before operations sources order n i p o by here from below sooner =
+    let among = by.has_each i p o here from in
     let is : get_or order among.0 (0, 0) ≡ (o.ret, i) = sym (get_or_read order among.0 (o.ret, i) among.1 (sym among.2) (0, 0)) in
     elim (cases_lt among.0 n) [
       | inl earlier ↦ (among.0, earlier, ap (λ (e : ℕ × ℕ). e.1) is)
@@ -103,12 +103,12 @@ seen_before operations order n i o by here below sooner =
 
 -- two dequeues from one enqueue, the second of them at the walk's entry, are chosen
 pub repeat_chosen : (operations : List Operation) (sources takers : List (Option ℕ)) (order : List (ℕ × ℕ)) (n p first : ℕ) → AreComplete operations → HoldsSources operations sources → NoFreshViolation operations
-    → IsByReturn operations order → n < length order → TakesFrom sources (get_or order n (0, 0)).1 p → get_or takers p None ≡ Some first → HasTaken (IsSeen order n) sources takers
+    → IsByReturn operations sources order → n < length order → TakesFrom sources (get_or order n (0, 0)).1 p → get_or takers p None ≡ Some first → HasTaken (IsSeen order n) sources takers
     → NamesChosenRepeat operations (Repeat p first (get_or order n (0, 0)).1)
 repeat_chosen operations sources takers order n p first complete holds no_fresh by below from held known = (second.call, one.0, two.0, (second.at_source, one.1, two.1), (no_fresh, chosen))
   where
     two : (o : Operation) × IsAt operations (get_or order n (0, 0)).1 o × ((get_or order n (0, 0)).0 ≡ o.ret)
-    two = entry_at operations order n by below
+    two = entry_at operations sources order n by below
 
     second : IsTakenFrom operations two.0 p
     second = taken_from operations sources (get_or order n (0, 0)).1 p two.0 holds no_fresh two.1 from
@@ -118,7 +118,7 @@ repeat_chosen operations sources takers order n p first complete holds no_fresh 
 
     one : (o : Operation) × IsAt operations first o × ((get_or order seen.0.0 (0, 0)).0 ≡ o.ret)
     one =
-        let e = entry_at operations order seen.0.0 by (omega (arith, seen.0.1)) in
+        let e = entry_at operations sources order seen.0.0 by (omega (arith, seen.0.1)) in
         (e.0, subst (λ i. IsAt operations i e.0) seen.0.2 e.1, e.2)
 
     earlier : IsTakenFrom operations one.0 p
@@ -160,8 +160,8 @@ repeat_chosen operations sources takers order n p first complete holds no_fresh 
               let j = place_of operations second' r.dequeues_again.0 in
               let from_i = takes_from_enqueue operations sources i.0 p'.0 first' enq' r.value complete holds i.1 r.dequeues.1 p'.1 r.enqueues.1 in
               let from_j = takes_from_enqueue operations sources j.0 p'.0 second' enq' r.value complete holds j.1 r.dequeues_again.1 p'.1 r.enqueues.1 in
-              let seen_i = seen_before operations order n i.0 first' by i.1 below (omega (arith, r.in_order, two.2)) in
-              let seen_j = seen_before operations order n j.0 second' by j.1 below (omega (arith, two.2)) in
+              let seen_i = seen_before operations sources order n i.0 p'.0 first' by i.1 from_i below (omega (arith, r.in_order, two.2)) in
+              let seen_j = seen_before operations sources order n j.0 p'.0 second' by j.1 from_j below (omega (arith, two.2)) in
               let taker_i = known.takes i.0 p'.0 seen_i from_i in
               let taker_j = known.takes j.0 p'.0 seen_j from_j in
               let same : i.0 ≡ j.0 = let both : ◌≡◌ {A = Option ℕ} (Some i.0) (Some j.0) = sym taker_i ∙ taker_j in cc in
@@ -171,7 +171,7 @@ repeat_chosen operations sources takers order n p first complete holds no_fresh 
         ]
 
 -- a walk over all operations that meets no value twice leaves none taken twice
-pub none_twice : (operations : List Operation) (sources takers : List (Option ℕ)) (order : List (ℕ × ℕ)) (n : ℕ) → HoldsSources operations sources → IsByReturn operations order → length order ≤ n
+pub none_twice : (operations : List Operation) (sources takers : List (Option ℕ)) (order : List (ℕ × ℕ)) (n : ℕ) → HoldsSources operations sources → IsByReturn operations sources order → length order ≤ n
     → HasTaken (IsSeen order n) sources takers → ¬ (IsTakenTwice sources)
 none_twice operations sources takers order n holds by all known (i, j, p, below, from_i, from_j) =
     let taker_i = known.takes i p (seen i from_i) from_i in
@@ -184,22 +184,22 @@ none_twice operations sources takers order n holds by all known (i, j, p, below,
         let inside : k < length operations = let within = slice_get_within sources k (Some p) from in omega (arith, holds.one_each) in
         let d : Operation = record { call = 0; ret = 0; thread = 0; kind = Empty } in
         let o = get_or operations k d in
-        let among = by.has_each k o (slice_get-get_or operations k d inside) in
+        let among = by.has_each k p o (slice_get-get_or operations k d inside) from in
         let is : get_or order among.0 (0, 0) ≡ (o.ret, k) = sym (get_or_read order among.0 (o.ret, k) among.1 (sym among.2) (0, 0)) in
         (among.0, omega (arith, among.1), ap (λ (e : ℕ × ℕ). e.1) is)
 
 -- the places that the walk reads are in range
-pub entry_in_range : (operations : List Operation) (sources : List (Option ℕ)) (order : List (ℕ × ℕ)) (n : ℕ) → HoldsSources operations sources → IsByReturn operations order → n < length order
+pub entry_in_range : (operations : List Operation) (sources : List (Option ℕ)) (order : List (ℕ × ℕ)) (n : ℕ) → HoldsSources operations sources → IsByReturn operations sources order → n < length order
     → (get_or order n (0, 0)).1 < length sources
 entry_in_range operations sources order n holds by below =
-    let e = entry_at operations order n by below in
+    let e = entry_at operations sources order n by below in
     let inside = slice_get_within operations (get_or order n (0, 0)).1 e.0 e.1 in
     omega (arith, holds.one_each)
 
-pub source_inside : (operations : List Operation) (sources takers : List (Option ℕ)) (order : List (ℕ × ℕ)) (n p : ℕ) → HoldsSources operations sources → NoFreshViolation operations → IsByReturn operations order → n < length order
+pub source_inside : (operations : List Operation) (sources takers : List (Option ℕ)) (order : List (ℕ × ℕ)) (n p : ℕ) → HoldsSources operations sources → NoFreshViolation operations → IsByReturn operations sources order → n < length order
     → TakesFrom sources (get_or order n (0, 0)).1 p → HasTaken (IsSeen order n) sources takers → p < length takers
 source_inside operations sources takers order n p holds no_fresh by below from known =
-    let e = entry_at operations order n by below in
+    let e = entry_at operations sources order n by below in
     let taken = taken_from operations sources (get_or order n (0, 0)).1 p e.0 holds no_fresh e.1 from in
     let inside = slice_get_within operations p taken.call taken.at_source in
     omega (arith, holds.one_each, known.one_each)

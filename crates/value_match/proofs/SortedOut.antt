@@ -15,7 +15,7 @@ use Rattle.value_match.specs.Lives.{IsMaybeAt, HoldsLives, HoldsPlaces, life_fro
 use Rattle.value_match.specs.Accepted.{HasPlaces, value_at, operation_at, maybe_operation_at}
 use Rattle.value_match.specs.declared.accepted.Pair.{Pair}
 use Rattle.value_match.specs.Violations.{IsClear}
-use Rattle.value_match.specs.Sources.{HoldsDequeues, IsDequeuePlace}
+use Rattle.value_match.specs.Sources.{IsDequeuePlace}
 use Rattle.value_match.proofs.MatchedDequeues.{found_at_place}
 
 -- what the first n operations did
@@ -102,10 +102,6 @@ module _ (operations : List Operation) (i : ℕ) (o : Operation) (values : List 
 
 -- ---- pairs
 
-pub IfSome-more : {X : Type 0} (P Q : X → Type 0) (o : Option X) → IfSome o P → ((x : X) → P x → Q x) → IfSome o Q
-IfSome-more P Q None p more = tt
-IfSome-more P Q (Some x) p more = more x p
-
 read_back : (operations : List Operation) (place : ℕ) (o : Operation) → IsAt operations place o → operation_at operations place ≡ o
 read_back operations place o at = get_or_from_slice_get operations place o _ at
 
@@ -143,10 +139,3 @@ pub refused_sorted : (operations : List Operation) (n : ℕ) (values : List Matc
 refused_sorted operations n values empties refused all known = known.refused_enqueues ∙ ap (λ os. map Some (filter is_refused os)) (take_all n operations all)
 
 -- the dequeue's place is in range
-pub dequeue_in_range : (operations : List Operation) (dequeues : List (Option ℕ)) (i : ℕ) (o : Operation) (v : ℕ) → HoldsDequeues operations dequeues → IsAt operations i o → o.kind ≡ Enq v
-    → IfSome (get_or dequeues i None) (λ p. p < length operations)
-dequeue_in_range operations dequeues i o v holds here is = inside (get_or dequeues i None) (holds.each i o v here is)
-  where
-    inside : (place : Option ℕ) → IsDequeuePlace operations v place → IfSome place (λ p. p < length operations)
-    inside None none = tt
-    inside (Some p) at = slice_get_within operations p at.0 at.1

@@ -30,6 +30,10 @@ nothing_taken seen sources takers none is one_each = record {
   takes = λ i p there from. absurd (none i there);
 }
 
+pub nothing_there : (place : Option ℕ) → is_some place ≡ false → place ≡ None
+nothing_there None none = refl
+nothing_there (Some p) none = absurd (false≢true (sym none))
+
 -- an operation without a source
 pub taken_skip : (seen after : ℕ → Type 0) (sources takers : List (Option ℕ)) (i : ℕ) → SeesOneMore seen after i → slice_get sources i ≡ Some None → HasTaken seen sources takers → HasTaken after sources takers
 taken_skip seen after sources takers i more none known = record {

@@ -5,5 +5,7 @@ pub mod Accepted
 pub mod Outcome
 pub mod Sources
 pub mod Named
+pub mod MaybePlaces
+pub mod Others
 pub mod Longest
 pub mod Fronts

@@ -3,7 +3,7 @@ use Rattle.std.specs.Prelude.{◌≡◌, ◌≢◌, ℕ, ◌<◌, All, AllPairs,
 use Rattle.std.specs.List.Sorted.{IsNonDecreasingBy}
 use Rattle.history_merge.specs.declared.operation.Operation.{Operation}
 use Rattle.history_merge.specs.declared.operation.OpKind.{OpKind}
-use Rattle.history_merge.specs.declared.operation.OpKind.TheVariants.{Enq, Deq, Empty, Not}
+use Rattle.history_merge.specs.declared.operation.OpKind.TheVariants.{Enq, Deq}
 use Rattle.history_merge.specs.Operations.{IsAt, NoneDid, enqueued_value}
 use Rattle.value_match.specs.Lives.{IsMaybeAt}
 use Rattle.value_match.specs.Violations.{IsFreshViolation}
@@ -41,10 +41,10 @@ pub record HoldsTakers (sources takers : List (Option ℕ)) : Type 0 where
   pub taken : (p i : ℕ) → slice_index_or takers p None ≡ Some i → TakesFrom sources i p
   pub takes : (i p : ℕ) → TakesFrom sources i p → slice_index_or takers p None ≡ Some i
 
--- each operation once, as its return ticket and its place, by rising return
-pub record IsByReturn (operations : List Operation) (order : List (ℕ × ℕ)) : Type 0 where
+-- each operation with a source once, as its return ticket and its place, by rising return
+pub record IsByReturn (operations : List Operation) (sources : List (Option ℕ)) (order : List (ℕ × ℕ)) : Type 0 where
   pub names : All (λ e. (o : Operation) × IsAt operations e.1 o × (e.0 ≡ o.ret)) order
-  pub has_each : (i : ℕ) (o : Operation) → IsAt operations i o → Contains order (o.ret, i)
+  pub has_each : (i p : ℕ) (o : Operation) → IsAt operations i o → TakesFrom sources i p → Contains order (o.ret, i)
   pub has_once : AllPairs (λ x y. x.1 ≢ y.1) order
   pub rises : IsNonDecreasingBy (λ e. e.0) order
 

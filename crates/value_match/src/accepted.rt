@@ -2,6 +2,7 @@ ghost use Rattle.std.specs.Prelude.{◌≡◌, ◌<◌, All, IfSome, length, map
 ghost use Rattle.value_match.specs.Accepted.{HasPlaces, maybe_operation_at, value_at};
 
 use crate::life::{Life, MatchedValue};
+use crate::maybe_place::MaybePlace;
 use history_merge::{OpId, Operation};
 use std::marker::Model;
 
@@ -9,12 +10,12 @@ use std::marker::Model;
 #[derive(Clone, Copy, Debug)]
 pub(crate) struct Pair {
     pub(crate) enqueue: u32,
-    pub(crate) dequeue: Option<u32>,
+    pub(crate) dequeue: MaybePlace,
 }
 
 /// Accepted values, seen as the list of them.
 ///
-/// It borrows the operations, and three half words for each value.
+/// It borrows the operations, and a word for each value.
 #[derive(Debug, Drop)]
 pub struct Values<'a> {
     operations: &'a [Operation],
@@ -81,22 +82,22 @@ fn value_of(operations: &[Operation], pair: Pair) -> MatchedValue
 }
 
 #[inline(always)]
-fn maybe_operation(operations: &[Operation], place: Option<u32>) -> Option<Operation>
+fn maybe_operation(operations: &[Operation], place: MaybePlace) -> Option<Operation>
     requires { IfSome place (λ p. p < length operations.now) }
     ensures { result ≡ maybe_operation_at operations.now place }
 {
-    match place {
-        Some(place) => Some(operations[place as usize]),
+    match place.get() {
+        Some(place) => Some(operations[place]),
         None => None,
     }
 }
 
 #[inline(always)]
-fn maybe_id(place: Option<u32>) -> Option<OpId>
+fn maybe_id(place: MaybePlace) -> Option<OpId>
     ensures { result ≡ place }
 {
-    match place {
-        Some(place) => Some(OpId::new(place as usize)),
+    match place.get() {
+        Some(place) => Some(OpId::new(place)),
         None => None,
     }
 }

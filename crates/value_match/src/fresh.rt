@@ -7,11 +7,12 @@ ghost use Rattle.value_match.specs.Outcome.{NamesChosenFresh};
 ghost use Rattle.value_match.specs.Sources.{HoldsSources, IsFreshFrom};
 ghost use Rattle.value_match.specs.Violations.{NoFreshViolation};
 
+use crate::maybe_place::MaybePlace;
 use crate::violation::Violation;
 use history_merge::{OpId, OpKind, Operation};
 
 /// The dequeue of least return ticket among those of a value that was not there, if there is one.
-pub fn find_fresh(operations: &[Operation], sources: &[Option<usize>]) -> Option<Violation>
+pub fn find_fresh(operations: &[Operation], sources: &[MaybePlace]) -> Option<Violation>
     requires complete { AreComplete operations.now }
     requires sources { HoldsSources operations.now sources.now }
     ensures { MatchOption result (NoFreshViolation operations.now) (NamesChosenFresh operations.now) }
@@ -28,11 +29,11 @@ pub fn find_fresh(operations: &[Operation], sources: &[Option<usize>]) -> Option
 }
 
 /// The dequeue at this place with the call for its value, if there is one.
-fn fresh_at(sources: &[Option<usize>], deq: usize) -> Violation
+fn fresh_at(sources: &[MaybePlace], deq: usize) -> Violation
     requires { deq < length sources.now }
     ensures { result ≡ Violation.Fresh deq (slice_index_or sources.now deq None) }
 {
-    let enq = sources[deq];
+    let enq = sources[deq].get();
     Violation::Fresh {
         deq: OpId::new(deq),
         enq: enq.map(OpId::new),
@@ -40,7 +41,7 @@ fn fresh_at(sources: &[Option<usize>], deq: usize) -> Violation
 }
 
 /// Whether the operation at this place is a dequeue of a value that was not there.
-fn is_fresh(operations: &[Operation], sources: &[Option<usize>], place: usize) -> bool
+fn is_fresh(operations: &[Operation], sources: &[MaybePlace], place: usize) -> bool
     requires place { place < length operations.now }
     requires sources { HoldsSources operations.now sources.now }
     ensures { (o : Operation) → IsAt operations.now place o → IsTrue result ↔ IsFreshFrom operations.now (slice_index_or sources.now place None) o }
@@ -49,7 +50,7 @@ fn is_fresh(operations: &[Operation], sources: &[Option<usize>], place: usize) -
     let OpKind::Deq(_) = operation.kind else {
         return false;
     };
-    let Some(source) = sources[place] else {
+    let Some(source) = sources[place].get() else {
         return true;
     };
     comes_too_soon(operations, operation, source)

@@ -11,7 +11,7 @@ use std::marker::Model;
 /// The operations of a complete history in which no dequeue is of a value that was not there, and no value is
 /// dequeued twice; seen as the list of these operations.
 ///
-/// It borrows the operations, by call ticket, and holds three half words for each accepted value.
+/// It borrows the operations, by call ticket, and holds a word for each accepted value.
 #[derive(Debug, Drop)]
 pub struct Matching<'a> {
     operations: &'a [Operation],

@@ -1,11 +1,13 @@
-ghost use Rattle.std.specs.Prelude.{◌≡◌, ◌<◌, IfOk, None, length, slice_index_or};
+ghost use Rattle.std.specs.Prelude.{◌≡◌, ◌<◌, ◌≤◌, IfOk, None, length, slice_index_or};
 ghost use Rattle.history_merge.specs.Complete.{AreComplete};
 ghost use Rattle.value_match.specs.Outcome.{NamesChosenRepeat};
 ghost use Rattle.value_match.specs.Sources.{HoldsSources, IsByReturn, IsTakenTwice};
 ghost use Rattle.value_match.specs.Violations.{NoFreshViolation};
 
+use crate::maybe_place::MaybePlace;
 use crate::settling::settle;
 use crate::violation::Violation;
+use event_records::MAX_EVENTS;
 use history_merge::{OpId, Operation};
 use std::alloc::{AllocError, Global};
 
@@ -13,16 +15,17 @@ use std::alloc::{AllocError, Global};
 pub fn find_repeat(
     alloc: Global,
     operations: &[Operation],
-    sources: &[Option<usize>],
+    sources: &[MaybePlace],
 ) -> Result<Violation, AllocError>
     requires complete { AreComplete operations.now }
+    requires few { length operations.now ≤ MAX_EVENTS }
     requires sources { HoldsSources operations.now sources.now }
     requires no_fresh { NoFreshViolation operations.now }
     requires twice { IsTakenTwice sources.now }
     ensures { IfOk result (NamesChosenRepeat operations.now) }
 {
-    let order = by_return(alloc, operations)?;
-    let mut takers = vec![in alloc; None; operations.len()]?;
+    let order = by_return(alloc, operations, sources)?;
+    let mut takers = vec![in alloc; MaybePlace::none(); operations.len()]?;
     for entry in &order {
         let place = entry.1;
         let Some(source) = place_at(sources, place) else {
@@ -35,25 +38,33 @@ pub fn find_repeat(
                 second: OpId::new(place),
             });
         }
-        takers[source] = Some(place);
+        takers[source] = MaybePlace::some(place);
     }
     unreachable!("some value is dequeued twice")
 }
 
 /// The place that stands at a place.
-fn place_at(places: &[Option<usize>], place: usize) -> Option<usize>
+fn place_at(places: &[MaybePlace], place: usize) -> Option<usize>
     requires { place < length places.now }
     ensures { result ≡ slice_index_or places.now place None }
 {
-    places[place]
+    places[place].get()
 }
 
-/// The return tickets and places of the operations, by return ticket.
-fn by_return(alloc: Global, operations: &[Operation]) -> Result<Vec<(u64, usize)>, AllocError>
-    ensures { IfOk result (λ order. IsByReturn operations.now order.items) }
+/// The return tickets and places of the operations with a source, by return ticket.
+fn by_return(
+    alloc: Global,
+    operations: &[Operation],
+    sources: &[MaybePlace],
+) -> Result<Vec<(u64, usize)>, AllocError>
+    requires { length sources.now ≡ length operations.now }
+    ensures { IfOk result (λ order. IsByReturn operations.now sources.now order.items) }
 {
-    let mut order = Vec::with_capacity(alloc, operations.len())?;
+    let mut order = Vec::with_capacity(alloc, operations.len() / 2)?;
     for (place, operation) in operations.iter().enumerate() {
+        if sources[place].get().is_none() {
+            continue;
+        }
         order.push((operation.ret, place))?;
     }
     settle(&mut order, &|entry: &(u64, usize)| entry.0);

@@ -1,84 +1,127 @@
-ghost use Rattle.std.specs.Prelude.{◌≡◌, ◌≤◌, ℕ, List, IfOk, MatchOption, length};
-ghost use Rattle.std.specs.Ordering.{nat_cmp};
-ghost use Rattle.std.specs.BTreeMap.{get};
-ghost use Rattle.value_match.specs.Named.{IsNamed, place_of};
+ghost use Rattle.std.specs.Prelude.{◌≤◌, IfOk, IfSome, IsTrue, Some, length};
+ghost use Rattle.value_match.specs.Others.{HoldsNear, HoldsOthers};
 ghost use Rattle.value_match.specs.Sources.{HoldsSources, IsCallPlace, IsSourceOf};
 
+use crate::maybe_place::MaybePlace;
 use crate::names::Names;
+use crate::others::{Call, is_called_at, named_place, others_of, place_among};
 use event_records::MAX_EVENTS;
 use history_merge::{OpKind, Operation};
 use std::alloc::{AllocError, Global};
-use std::collections::BTreeMap;
+
+/// How far from the call for the value dequeued last the call for the next is looked for.
+const REACH: usize = 64;
+
+/// Sources, of which some may not be found yet.
+#[derive(Drop)]
+struct NearSources {
+    sources: Vec<MaybePlace>,
+    all_found: bool,
+}
 
 /// For each dequeue the place of the call that enqueued its value, accepted or refused, if there is one.
 ///
-/// Time O(n) for n operations of values with a recorder's names; each of the others costs a look-up in a tree, O(log n).
-pub fn sources_of(alloc: Global, operations: &[Operation]) -> Result<Vec<Option<usize>>, AllocError>
+/// Time O(n) for n operations where the values have a recorder's names, or leave nearly in the order of their calls. Else
+/// the calls of the other values are sorted by value, and each of their dequeues costs a look-up, O(n log n).
+pub fn sources_of(alloc: Global, operations: &[Operation]) -> Result<Vec<MaybePlace>, AllocError>
     requires { length operations.now ≤ MAX_EVENTS }
     ensures { IfOk result (λ sources. HoldsSources operations.now sources.items) }
 {
     let names = Names::new(alloc, operations)?;
-    let others = others_of(alloc, operations, &names)?;
-    let mut sources = Vec::with_capacity(alloc, operations.len())?;
-    for operation in operations {
-        sources.push(source_of(operations, &names, &others, operation.kind))?;
+    let near = near_sources(alloc, operations, &names)?;
+    let mut sources = near.sources;
+    if !near.all_found {
+        let others = others_of(alloc, operations, &names)?;
+        find_others(operations, &names, &others, sources.as_mut_slice());
     }
     Ok(sources)
 }
 
-/// The place of the call for the value that a dequeue gave, by the names and the places of the other calls.
-#[inline(always)]
-fn source_of(
-    operations: &[Operation],
-    names: &Names,
-    others: &BTreeMap<u64, usize>,
-    kind: OpKind,
-) -> Option<usize>
-    requires { (v : ℕ) → ¬ (IsNamed operations.now names.now v) → IsCallPlace operations.now v (get nat_cmp others.now v) }
-    ensures { IsSourceOf operations.now kind result }
-{
-    match kind {
-        OpKind::Deq(value) => match named_place(operations, names, value) {
-            Some(place) => Some(place),
-            None => others.get(&value).copied(),
-        },
-        OpKind::Enq(_) | OpKind::Not(_) | OpKind::Empty => None,
-    }
-}
-
-/// The place that the value's name tells, where the value was called there.
-#[inline(always)]
-fn named_place(operations: &[Operation], names: &Names, value: u64) -> Option<usize>
-    ensures { MatchOption result (¬ (IsNamed operations.now names.now value)) (λ place. (place ≡ place_of names.now value) × IsNamed operations.now names.now value) }
-{
-    let place = names.place_of(value);
-    if place >= operations.len() {
-        return None;
-    }
-    if operations[place].kind.enqueued_value() == Some(value) {
-        Some(place)
-    } else {
-        None
-    }
-}
-
-/// The places of the calls to enqueue that aren't where their values' names tell, by these values.
-fn others_of(
+/// The sources that the names of the values tell, or that are found near that of the dequeue before.
+fn near_sources(
     alloc: Global,
     operations: &[Operation],
     names: &Names,
-) -> Result<BTreeMap<u64, usize>, AllocError>
-    ensures { IfOk result (λ others. (v : ℕ) → ¬ (IsNamed operations.now names.now v) → IsCallPlace operations.now v (get nat_cmp others v)) }
+) -> Result<NearSources, AllocError>
+    requires { length operations.now ≤ MAX_EVENTS }
+    ensures near { IfOk result (λ near. HoldsNear operations.now near.sources.items) }
+    ensures all { IfOk result (λ near. IsTrue near.all_found → HoldsSources operations.now near.sources.items) }
 {
-    let mut others = BTreeMap::new(alloc);
-    for (place, operation) in operations.iter().enumerate() {
-        let Some(value) = operation.kind.enqueued_value() else {
+    let mut sources = Vec::with_capacity(alloc, operations.len())?;
+    let mut all_found = true;
+    let mut next = 0;
+    for operation in operations {
+        let OpKind::Deq(value) = operation.kind else {
+            sources.push(MaybePlace::none())?;
             continue;
         };
-        if let Some(_named) = named_place(operations, names, value) {
+        let Some(place) = guessed_place(operations, names, value, next) else {
+            all_found = false;
+            sources.push(MaybePlace::none())?;
             continue;
-        }
-        others.insert(value, place)?;
+        };
+        next = place + 1;
+        sources.push(MaybePlace::some(place))?;
     }
-    Ok(others)
+    Ok(NearSources { sources, all_found })
+}
+
+/// The place of the call for this value, where its name tells it or it is near this place.
+#[inline(always)]
+fn guessed_place(operations: &[Operation], names: &Names, value: u64, from: usize) -> Option<usize>
+    ensures { IfSome result (λ place. IsCallPlace operations.now value (Some place)) }
+{
+    match named_place(operations, names, value) {
+        Some(place) => Some(place),
+        None => near_place(operations, value, from),
+    }
+}
+
+/// The place of the call for this value, where it is near this place.
+fn near_place(operations: &[Operation], value: u64, from: usize) -> Option<usize>
+    ensures { IfSome result (λ place. IsCallPlace operations.now value (Some place)) }
+{
+    for distance in 0..REACH {
+        let after = from.saturating_add(distance);
+        if is_called_at(operations, value, after) {
+            return Some(after);
+        }
+        let before = from.saturating_sub(distance + 1);
+        if is_called_at(operations, value, before) {
+            return Some(before);
+        }
+    }
+    None
+}
+
+/// Finds the sources that weren't near, by the names of the values and the calls of the others.
+fn find_others(operations: &[Operation], names: &Names, others: &[Call], sources: &mut [MaybePlace])
+    requires few { length operations.now ≤ MAX_EVENTS }
+    requires others { HoldsOthers operations.now names.now others.now }
+    requires near { HoldsNear operations.now sources.old }
+    ensures { HoldsSources operations.now sources.new }
+{
+    for (place, operation) in operations.iter().enumerate() {
+        if sources[place].get().is_none() {
+            sources[place] = source_of(operations, names, others, operation.kind);
+        }
+    }
+}
+
+/// The place of the call for the value that a dequeue gave, by the value's name or among the calls of the others.
+fn source_of(operations: &[Operation], names: &Names, others: &[Call], kind: OpKind) -> MaybePlace
+    requires few { length operations.now ≤ MAX_EVENTS }
+    requires others { HoldsOthers operations.now names.now others.now }
+    ensures { IsSourceOf operations.now kind result }
+{
+    let OpKind::Deq(value) = kind else {
+        return MaybePlace::none();
+    };
+    if let Some(place) = named_place(operations, names, value) {
+        return MaybePlace::some(place);
+    }
+    match place_among(others, value) {
+        Some(place) => MaybePlace::some(place),
+        None => MaybePlace::none(),
+    }
 }

@@ -72,6 +72,26 @@ impl<'a> LongestTable<'a> {
         let last = before.checked_sub(1)?;
         Some(self.values.get(self.fronts[last].place))
     }
+
+    /// The same. The look-up begins at `start`, any place, and leaves there where it ended: for limits that rise, each
+    /// beginning where the one before ended, all together take O(n).
+    pub fn longest_before_from(&self, start: &mut usize, limit: u64) -> Option<MatchedValue>
+        ensures { FindsLongest (EntersBefore limit) self.now result }
+    {
+        let fronts = self.fronts.as_slice();
+        let mut before = (*start).min(fronts.len());
+        while before < fronts.len() && fronts[before].enqueue_return < limit {
+            before += 1;
+        }
+        *start = before;
+        let last = before.checked_sub(1);
+        match last {
+            Some(last) if fronts[last].enqueue_return < limit => {
+                Some(self.values.get(fronts[last].place))
+            }
+            _ => self.longest_before(limit),
+        }
+    }
 }
 
 /// The enqueue returns and places of the values, by enqueue return.

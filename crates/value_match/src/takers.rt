@@ -1,25 +1,28 @@
-ghost use Rattle.std.specs.Prelude.{ℕ, ◌<◌, IfOk, MatchOption, length};
+ghost use Rattle.std.specs.Prelude.{ℕ, ◌<◌, ◌≤◌, IfOk, MatchOption, length};
 ghost use Rattle.value_match.specs.Sources.{HoldsTakers, IsTakenTwice, TakesFrom};
 
+use crate::maybe_place::MaybePlace;
+use event_records::MAX_EVENTS;
 use std::alloc::{AllocError, Global};
 
 /// At each place that is a source the place of the operation that takes from it, unless two take from one.
 pub fn takers_of(
     alloc: Global,
-    sources: &[Option<usize>],
-) -> Result<Option<Vec<Option<usize>>>, AllocError>
-    requires { (i p : ℕ) → TakesFrom sources.now i p → p < length sources.now }
+    sources: &[MaybePlace],
+) -> Result<Option<Vec<MaybePlace>>, AllocError>
+    requires few { length sources.now ≤ MAX_EVENTS }
+    requires within { (i p : ℕ) → TakesFrom sources.now i p → p < length sources.now }
     ensures { IfOk result (λ takers. MatchOption takers (IsTakenTwice sources.now) (λ takers. HoldsTakers sources.now takers.items)) }
 {
-    let mut takers = vec![in alloc; None; sources.len()]?;
+    let mut takers = vec![in alloc; MaybePlace::none(); sources.len()]?;
     for (place, source) in sources.iter().enumerate() {
-        let Some(source) = *source else {
+        let Some(source) = source.get() else {
             continue;
         };
-        if takers[source].is_some() {
+        if takers[source].get().is_some() {
             return Ok(None);
         }
-        takers[source] = Some(place);
+        takers[source] = MaybePlace::some(place);
     }
     Ok(Some(takers))
 }

@@ -8,6 +8,7 @@ ghost use Rattle.value_match.specs.Violations.{IsClear};
 use crate::accepted::Pair;
 use crate::fresh::find_fresh;
 use crate::matching::{Matched, Matching};
+use crate::maybe_place::MaybePlace;
 use crate::repeat::find_repeat;
 use crate::sources::sources_of;
 use crate::takers::takers_of;
@@ -21,10 +22,10 @@ use std::alloc::{AllocError, Global};
 /// where a value was dequeued twice: the value whose second dequeue returns first, with its first two dequeues by
 /// return. Else `Clear`. The error is want of memory alone.
 ///
-/// Time O(n) for n operations of values with a recorder's names; the calls of other values stand in a tree, O(n log n). Where
-/// a value is dequeued twice, O(n log n) for a sort by return. The answer borrows the
-/// operations and takes three half words for each accepted value; beside it the work takes some five words for each
-/// operation.
+/// Time O(n) for n operations of values that have a recorder's names, or leave nearly in the order of their calls; else the
+/// calls of the others are sorted by value, O(n log n). Where a value is dequeued twice, O(n log n) for a sort by return.
+/// The answer borrows the operations and takes a word for each accepted value; beside it the work takes some two words for
+/// each operation, and two more for each call or dequeue that is sorted.
 pub fn match_values(alloc: Global, history: &History) -> Result<Matched<'_>, AllocError>
     ensures { IfOk result (λ matched. IsMatchedOf (operations_of history.now) matched) }
 {
@@ -57,7 +58,7 @@ pub fn match_operations(alloc: Global, operations: &[Operation]) -> Result<Match
 fn matching_of<'a>(
     alloc: Global,
     operations: &'a [Operation],
-    dequeues: &[Option<usize>],
+    dequeues: &[MaybePlace],
 ) -> Result<Matching<'a>, AllocError>
     requires few { length operations.now ≤ MAX_EVENTS }
     requires clear { IsClear operations.now }
@@ -79,16 +80,12 @@ fn matching_of<'a>(
 }
 
 /// The places of an accepted enqueue and of the dequeue of its value, if there is one.
-fn pair_of(place: usize, dequeue: Option<usize>) -> Pair
-    requires place { place < 2 ^ 32 }
-    requires dequeue { IfSome dequeue (λ p. p < 2 ^ 32) }
+fn pair_of(place: usize, dequeue: MaybePlace) -> Pair
+    requires { place < 2 ^ 32 }
     ensures { (result.enqueue ≡ place) × (result.dequeue ≡ dequeue) }
 {
     Pair {
         enqueue: place as u32,
-        dequeue: match dequeue {
-            Some(dequeue) => Some(dequeue as u32),
-            None => None,
-        },
+        dequeue,
     }
 }

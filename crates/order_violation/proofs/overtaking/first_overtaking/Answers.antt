@@ -1,5 +1,5 @@
 use Rattle.std.proofs.Common.{rules, arith, subst, sym, ◌∙◌}
-use Rattle.value_match.specs.Longest.{FindsLongest}
+use Rattle.value_match.specs.Longest.{EntersBefore, FindsLongest}
 use Rattle.order_violation.specs.Overtaking.{Overtakes, FindsFirst}
 use Rattle.order_violation.proofs.Scans.{first_stays, first_changes, overtaken_one, overtaken_none}
 use Rattle.order_violation.proofs.overtaking.first_overtaking.Goals as goal
@@ -10,8 +10,9 @@ loop-place-preserved c =
     let values = c.values-values.result.now in
     let b = c.get-b.result in
     let first = c.loop-place.first in
-    let longest = c.longest_overtaken.result in
-    let finds = subst (λ vs. FindsLongest (Overtakes b.life) vs longest) (sym c.values-values.ensures) c.longest_overtaken.ensures in
+    let longest = c.if_overtaken.result in
+    let entered = subst (λ limit. FindsLongest (EntersBefore limit) c.args.table.now c.longest_before_from-longest.result) c.enqueue_call.ensures c.longest_before_from-longest.ensures in
+    let finds = subst (λ vs. FindsLongest (Overtakes b.life) vs longest) (sym c.values-values.ensures) (c.if_overtaken.ensures c.args.table.now entered) in
     elim c.if-is_some.branch [
       | then-is_some w ↦
           let one = overtaken_one values b.life longest finds (sym c.is_some.ensures ∙ w.if-is_some.true) in

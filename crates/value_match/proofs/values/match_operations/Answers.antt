@@ -4,8 +4,8 @@ use Rattle.value_match.specs.Sources.{HoldsSources, HoldsTakers, IsTakenTwice}
 use Rattle.value_match.proofs.MatchedDequeues.{clear_from_takers, dequeues_by_enqueues, sources_in_range}
 use Rattle.value_match.proofs.values.match_operations.Goals as goal
 
-pub takers_of-requires : goal.takers_of-requires
-takers_of-requires c =
+pub takers_of-requires-clause-within : goal.takers_of-requires-clause-within
+takers_of-requires-clause-within c =
     let holds = subst (HoldsSources c.args.operations.now) (sym c.as_slice-2.ensures.value) c.in_ok-sources.ensures in
     sources_in_range _ _ c.in_default.ensures holds
 

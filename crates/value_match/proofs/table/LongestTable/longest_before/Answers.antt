@@ -1,4 +1,4 @@
-use Rattle.std.proofs.Common.{◌<◌, rules, subst, sym, arith, length, get_or}
+use Rattle.std.proofs.Common.{◌<◌, rules, subst, sym, arith, length}
 use lib.Dec.{ltb}
 use Rattle.std.proofs.lemmas.List.Sorted.{IsPartitionPoint-from_clause, IsPartitionedBy-ltb}
 use Rattle.value_match.specs.declared.table.Front.{Front}
