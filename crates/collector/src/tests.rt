@@ -3,7 +3,7 @@ ghost use Rattle.collector.specs.Ends.{rings_of};
 
 use crate::{CollectError, Collector};
 use event_records::{Event, Lists, Namer, Noted, ThreadNo, What};
-use event_rings::{CloseToken, DrainEnd, ring};
+use event_rings::{CloseToken, DrainEnd, MAX_CAPACITY, PushEnd, ring};
 use std::alloc::{AllocError, Global};
 use std::test::Fail;
 use tickets::Tickets;
@@ -107,4 +107,45 @@ fn no_event_is_lost(rt: HostRuntime) -> Result<(), Fail> {
     assert_eq!(rt; lists.len(), 1);
     assert_eq!(rt; lists[0].as_slice(), [call(0), call(1), call(2)].as_slice());
     Ok(())
+}
+
+// Pushes the first call of thread 0 so often.
+fn push_calls(alloc: Global, push: &mut PushEnd, thread: ThreadNo, count: usize) -> Result<(), Fail>
+    requires { push.old.thread ≡ thread }
+    ensures same { push.new.thread ≡ push.old.thread }
+    ensures ring { push.new.ring ≡ push.old.ring }
+{
+    for _ in 0..count {
+        let (first, _, _) = three_calls(alloc, thread)?;
+        push.push(first).ok().ok_or("full")?;
+    }
+    Ok(())
+}
+
+#[test]
+fn the_greatest_rings_are_drained_and_sealed(rt: HostRuntime) -> Result<(), Fail> {
+    let alloc = rt.alloc();
+    let thread = ThreadNo::new(0).ok_or("thread")?;
+    let (mut push, drain) = ring(alloc, thread, MAX_CAPACITY)?;
+    let mut collector = Collector::with_room(alloc, vec![in alloc; drain]?, 200_000)?;
+    push_calls(alloc, &mut push, thread, MAX_CAPACITY)?;
+    assert_eq!(rt; drain_full(&mut collector)?, 65_536);
+    push_calls(alloc, &mut push, thread, MAX_CAPACITY)?;
+    assert_eq!(rt; drain_full(&mut collector)?, 65_536);
+    push_calls(alloc, &mut push, thread, MAX_CAPACITY)?;
+    let token = push.close().ok().ok_or("closed")?;
+    let lists = seal_one(alloc, collector, token)?;
+    let longest = lists.iter().map(|list| list.len()).max();
+    assert_eq!(rt; longest, Some(196_608));
+    Ok(())
+}
+
+// A round of all that the rings may hold.
+fn drain_full(collector: &mut Collector) -> Result<u64, AllocError>
+    ensures { rings_of collector.new.rings ≡ rings_of collector.old.rings }
+{
+    match collector.drain_round(MAX_CAPACITY) {
+        Ok(drained) => Ok(drained),
+        Err(refused) => Err(refused),
+    }
 }

@@ -1,6 +1,6 @@
 ghost use Rattle.std.specs.Prelude.{◌≡◌, IfOk};
 
-use crate::{FinishFault, ring};
+use crate::{FinishFault, MAX_CAPACITY, PushEnd, ring};
 use event_records::{Event, Namer, Noted, ThreadNo, What};
 use std::alloc::{AllocError, Global};
 use std::test::Fail;
@@ -82,5 +82,31 @@ fn tokens_certify_their_own_thread(rt: HostRuntime) -> Result<(), Fail> {
     assert!(rt; finish_with(rt.alloc(), zero, zero)?);
     assert!(rt; finish_with(rt.alloc(), zero, one)?);
     assert!(rt; finish_with(rt.alloc(), one, zero)?);
+    Ok(())
+}
+
+// Pushes the first call of a thread so often.
+fn push_calls(alloc: Global, push: &mut PushEnd, thread: ThreadNo, count: usize) -> Result<(), Fail>
+    requires { push.old.thread ≡ thread }
+    ensures same { push.new.thread ≡ push.old.thread }
+    ensures ring { push.new.ring ≡ push.old.ring }
+{
+    for _ in 0..count {
+        let (first, _, _) = three_calls(alloc, thread)?;
+        push.push(first).ok().ok_or("full")?;
+    }
+    Ok(())
+}
+
+#[test]
+fn the_greatest_ring_is_filled_drained_and_sealed(rt: HostRuntime) -> Result<(), Fail> {
+    let alloc = rt.alloc();
+    let thread = ThreadNo::new(63).ok_or("thread")?;
+    let (mut push, mut drain) = ring(alloc, thread, MAX_CAPACITY)?;
+    push_calls(alloc, &mut push, thread, MAX_CAPACITY)?;
+    assert_eq!(rt; drain.drain(MAX_CAPACITY)?.len(), MAX_CAPACITY);
+    push_calls(alloc, &mut push, thread, MAX_CAPACITY)?;
+    let token = push.close().ok().ok_or("closed")?;
+    assert_eq!(rt; drain.finish(token)?.into_events().len(), MAX_CAPACITY);
     Ok(())
 }

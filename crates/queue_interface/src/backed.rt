@@ -1,24 +1,37 @@
 // Queues without a lock, of the crate crossbeam_queue.
-ghost use Rattle.std.specs.Prelude.{◌<◌};
+ghost use Rattle.std.specs.Prelude.{◌≡◌, ◌<◌, IfOk};
 
 use crate::TestQueue;
-use crate::answers::{dequeued, enqueued};
+use crate::answers::{dequeued, pushed};
 use crossbeam_queue::{ArrayQueue, SegQueue};
 use event_records::{AnsweredDeq, AnsweredEnq, AskDeq, AskEnq};
 use std::alloc::{AllocError, Global};
+use std::marker::Model;
 use std::sync::Wait;
 
 /// A bounded queue: an `ArrayQueue`. Full, it answers `not_taken`.
+///
+/// Contracts see for how many values it has room.
 #[derive(Drop)]
 pub struct ArrayBack<R: Wait + Drop> {
     rt: R,
     queue: ArrayQueue<u64>,
 }
 
+impl<R: Wait + Drop> Model for ArrayBack<R> {
+    ghost use Rattle.std.specs.Prelude.{ℕ};
+    ghost use Rattle.crossbeam_queue.specs.Passes.{queue_capacity};
+
+    ghost Value = { ℕ };
+
+    ghost view = { λ a. queue_capacity a.queue };
+}
+
 impl<R: Wait + Drop> ArrayBack<R> {
     /// An empty queue with room for `capacity` values, for which it takes memory at once.
     pub fn new(alloc: Global, rt: R, capacity: usize) -> Result<ArrayBack<R>, AllocError>
         requires { 0 < capacity }
+        ensures { IfOk result (λ queue. queue ≡ capacity) }
     {
         let queue = ArrayQueue::new(alloc, capacity)?;
         Ok(ArrayBack { rt, queue })
@@ -31,8 +44,8 @@ impl<R: Wait + Drop + Send + Sync> TestQueue for ArrayBack<R> {
     ghost may = { λ _. AnswersInKind };
 
     fn enqueue(&self, ask: AskEnq) -> AnsweredEnq {
-        let taken = self.queue.push(&self.rt, ask.value()).is_ok();
-        enqueued(ask, taken)
+        let push = self.queue.push(&self.rt, ask.value());
+        pushed(ask, push)
     }
 
     fn dequeue(&self, ask: AskDeq) -> AnsweredDeq {
@@ -62,8 +75,8 @@ impl<R: Wait + Drop + Send + Sync> TestQueue for SegBack<R> {
     ghost may = { λ _. AnswersInKind };
 
     fn enqueue(&self, ask: AskEnq) -> AnsweredEnq {
-        let taken = self.queue.push(&self.rt, ask.value()).is_ok();
-        enqueued(ask, taken)
+        let push = self.queue.push(&self.rt, ask.value());
+        pushed(ask, push)
     }
 
     fn dequeue(&self, ask: AskDeq) -> AnsweredDeq {

@@ -4,6 +4,7 @@ ghost use Rattle.std.specs.Prelude.{◌≡◌, ◌+◌, ◌%◌, ◌^◌, ◌↔
 use crate::locked::{Fifo, Locked, ValueList};
 use std::alloc::Global;
 use std::collections::VecDeque;
+use std::marker::Model;
 
 // Counts from 1, and tells which counts are fourth ones.
 #[derive(Drop)]
@@ -28,24 +29,42 @@ impl Fourths {
     }
 }
 
-/// Values of which the last is given out first.
+/// Values of which the last is given out first. Contracts see them as a list.
 #[derive(Drop)]
 pub struct Stack {
     values: VecDeque<u64>,
 }
 
+impl Model for Stack {
+    ghost use Rattle.std.specs.Prelude.{List, ℕ};
+
+    ghost Value = { List ℕ };
+
+    ghost view = { λ s. s.values.items };
+}
+
 impl ValueList for Stack {
-    fn empty(alloc: Global) -> Stack {
+    ghost use Rattle.std.specs.Prelude.{◌≡◌, ◌++◌, ◌∷◌, [], if◌then◌else◌, IfNone};
+    ghost use Rattle.std.specs.Option.{option_to_list};
+
+    fn empty(alloc: Global) -> Stack
+        ensures { result ≡ [] }
+    {
         Stack {
             values: VecDeque::new(alloc),
         }
     }
 
-    fn put(&mut self, value: u64) -> bool {
+    fn put(&mut self, value: u64) -> bool
+        ensures { self.new ≡ (if result then self.old ++ value ∷ [] else self.old) }
+    {
         self.values.push_back(value).is_ok()
     }
 
-    fn take(&mut self) -> Option<u64> {
+    fn take(&mut self) -> Option<u64>
+        ensures last { self.old ≡ self.new ++ option_to_list result }
+        ensures none { IfNone result (self.old ≡ []) }
+    {
         self.values.pop_back()
     }
 }

@@ -6,6 +6,7 @@ use crate::answers::{dequeued, enqueued};
 use event_records::{AnsweredDeq, AnsweredEnq, AskDeq, AskEnq};
 use std::alloc::Global;
 use std::collections::VecDeque;
+use std::marker::Model;
 use std::sync::{Mutex, Wait};
 
 /// Values that are put in and taken out, by one thread at a time.
@@ -53,31 +54,53 @@ impl<L: ValueList, R: Wait + Drop + Send + Sync> TestQueue for Locked<L, R> {
     }
 }
 
-/// Values in the order in which they were put in.
+/// Values in the order in which they were put in. Contracts see them as a list.
 #[derive(Drop)]
 pub struct Fifo {
     values: VecDeque<u64>,
 }
 
+impl Model for Fifo {
+    ghost use Rattle.std.specs.Prelude.{List, ℕ};
+
+    ghost Value = { List ℕ };
+
+    ghost view = { λ f. f.values.items };
+}
+
 impl Fifo {
+    ghost use Rattle.std.specs.Prelude.{◌≡◌, slice_get};
+
     // The value that the next `take` gives.
-    pub(crate) fn first(&self) -> Option<u64> {
+    pub(crate) fn first(&self) -> Option<u64>
+        ensures { result ≡ slice_get self.now 0 }
+    {
         self.values.front().copied()
     }
 }
 
 impl ValueList for Fifo {
-    fn empty(alloc: Global) -> Fifo {
+    ghost use Rattle.std.specs.Prelude.{◌≡◌, ◌++◌, ◌∷◌, [], if◌then◌else◌, IfNone};
+    ghost use Rattle.std.specs.Option.{option_to_list};
+
+    fn empty(alloc: Global) -> Fifo
+        ensures { result ≡ [] }
+    {
         Fifo {
             values: VecDeque::new(alloc),
         }
     }
 
-    fn put(&mut self, value: u64) -> bool {
+    fn put(&mut self, value: u64) -> bool
+        ensures { self.new ≡ (if result then self.old ++ value ∷ [] else self.old) }
+    {
         self.values.push_back(value).is_ok()
     }
 
-    fn take(&mut self) -> Option<u64> {
+    fn take(&mut self) -> Option<u64>
+        ensures first { self.old ≡ option_to_list result ++ self.new }
+        ensures none { IfNone result (self.old ≡ []) }
+    {
         self.values.pop_front()
     }
 }

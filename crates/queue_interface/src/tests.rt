@@ -1,3 +1,5 @@
+mod filled;
+
 use crate::locked::{Fifo, ValueList};
 use crate::{
     ArrayBack, Doubling, DoublingList, GateQueue, Inventing, InventingList, Lifo, LockedQueue,

@@ -4,12 +4,12 @@ use Rattle.std.specs.Prelude.{Contains, IsPermutation, slice_get, flat_map}
 use Rattle.std.specs.List.{range_with_len}
 use Rattle.std.proofs.lemmas.Bool.{eqb-true, eq-eqb}
 use Rattle.std.proofs.lemmas.List.Elements.{All-contains, Contains-get_or}
-use Rattle.std.proofs.lemmas.List.Sorted.{IsNonDecreasingBy-from_sort, IsPermutation-sym, Contains-permutation}
+use Rattle.std.proofs.lemmas.List.Sorted.{length_permutation, IsNonDecreasingBy-from_sort, IsPermutation-sym, Contains-permutation}
 use Rattle.std.proofs.lemmas.Option.{slice_get_within, slice_get_read, same_Some}
 use Rattle.event_records.specs.declared.event.Event.{Event}
 use Rattle.event_records.specs.declared.event.What.{What}
 use Rattle.event_records.specs.declared.event.What.TheVariants.{CallEnq, RetEnq, RetNot, CallDeq, RetDeq, RetEmpty}
-use Rattle.event_records.specs.declared.limits.TheConstants.{MAX_OPERATIONS}
+use Rattle.event_records.specs.declared.limits.TheConstants.{MAX_EVENTS, MAX_OPERATIONS}
 use Rattle.event_records.specs.Projection.{projection}
 use Rattle.event_records.specs.Question.{value_name}
 use Rattle.event_records.specs.Turns.{TakesTurns, TicketsRise, is_call, answers}
@@ -151,6 +151,9 @@ module _ (lists : List (List Event)) (merged : List Event) (fit : AreFit lists) 
     threads_take_turns = λ t. takes_turns t (slice_get lists t) refl;
     values_are_distinct = pairs_filter_map Below (λ v w. v ≢ w) (λ e. called_value e.what) merged distinct rises;
   }
+
+pub merged_is_few : (lists : List (List Event)) (merged : List Event) → AreFit lists → IsMerged lists merged → length merged ≤ MAX_EVENTS
+merged_is_few lists merged fit is = omega (arith, fit.not_too_long, length_permutation _ _ is.holds_each_once)
 
 pub recorded_is_fit : (lists : List (List Event)) → AreRecorded lists → AreFit lists
 recorded_is_fit lists r = record { not_too_many = r.not_too_many; each = r.each; tickets = r.tickets; not_too_long = r.not_too_long }

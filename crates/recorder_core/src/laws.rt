@@ -1,6 +1,7 @@
 //! What holds of every schedule, whatever steps are tried in whatever order. These functions do nothing; the law is what
 //! each of them ensures, and its words stand in `specs/Laws.antt` and `specs/Replay.antt`.
-ghost use Rattle.std.specs.Prelude.{◌≡◌, ℕ, ◌<◌, ◌≤◌, ◌++◌, ◌∷◌, List, Contains, Err, None, Some, [], ◌↔◌};
+ghost use Rattle.std.specs.Prelude.{◌≡◌, ℕ, ◌<◌, ◌≤◌, ◌++◌, ◌∷◌, List, length, Contains, Err, None, Some, [], ◌↔◌};
+ghost use Rattle.event_records.specs.declared.limits.TheConstants.{MAX_EVENTS};
 ghost use Rattle.event_records.specs.declared.event.Event.{Event};
 ghost use Rattle.history_merge.specs.declared.operation.Operation.{Operation};
 ghost use Rattle.history_merge.specs.Legal.{IsLegalOrder};
@@ -60,17 +61,22 @@ pub fn recorded_lists_replay()
         → AreRecorded lists → MIN_RING ≤ ring → ring ≤ MAX_RING → Replays ring lists }
 {}
 
-/// Recorded lists merge to a complete history.
+/// Recorded lists merge to a complete history, of no more events than a history may have.
 pub fn recorded_lists_are_complete()
-    ensures { (lists : List (List Event)) (merged : List Event)
+    ensures complete { (lists : List (List Event)) (merged : List Event)
         → AreRecorded lists → IsMerged lists merged → IsCompleteHistory merged }
+    ensures few { (lists : List (List Event)) (merged : List Event)
+        → AreRecorded lists → IsMerged lists merged → length merged ≤ MAX_EVENTS }
 {}
 
-/// And so do the lists that a done schedule collects.
+/// And so do the lists that a done schedule collects. It has no more events than a history may have.
 pub fn done_schedules_are_complete()
-    ensures { (setting : Setting) (schedule : List Attempt) (merged : List Event)
+    ensures complete { (setting : Setting) (schedule : List Attempt) (merged : List Event)
         → setting.threads ≤ MAX_THREADS → IsDone setting schedule → IsMerged (collected_lists setting schedule) merged
         → IsCompleteHistory merged }
+    ensures few { (setting : Setting) (schedule : List Attempt) (merged : List Event)
+        → setting.threads ≤ MAX_THREADS → IsDone setting schedule → IsMerged (collected_lists setting schedule) merged
+        → length merged ≤ MAX_EVENTS }
 {}
 
 /// The order of the effects of an honest schedule that is done is a legal order of the collected history, which is therefore

@@ -1,3 +1,4 @@
+mod askings;
 mod faults;
 mod runs;
 mod start;

@@ -142,11 +142,10 @@ impl Worker {
         ensures works { OnOk result (Works (may queue.now) (Enq ∷ []) self.old self.new) }
         ensures stalls { OnErr result (Stalls Enq self.old self.new) }
     {
-        let drawn = self.pass.draw(tickets);
-        let (ask, noted) = self.namer.ask_enq(drawn);
+        let (ask, noted) = self.namer.ask_enq(self.pass.draw(tickets));
         self.record(noted)?;
-        let answered = queue.enqueue(ask);
-        let returned = answered.stamp(&mut self.pass, tickets);
+        let taken = queue.enqueue(ask);
+        let returned = taken.stamp(&mut self.pass, tickets);
         self.record(returned)
     }
 
@@ -159,11 +158,10 @@ impl Worker {
         ensures works { OnOk result (Works (may queue.now) (Deq ∷ []) self.old self.new) }
         ensures stalls { OnErr result (Stalls Deq self.old self.new) }
     {
-        let drawn = self.pass.draw(tickets);
-        let (ask, noted) = self.namer.ask_deq(drawn);
+        let (ask, noted) = self.namer.ask_deq(self.pass.draw(tickets));
         self.record(noted)?;
-        let answered = queue.dequeue(ask);
-        let returned = answered.stamp(&mut self.pass, tickets);
+        let got = queue.dequeue(ask);
+        let returned = got.stamp(&mut self.pass, tickets);
         self.record(returned)
     }
 }

@@ -68,3 +68,11 @@ fn a_pass_is_split_and_joined_many_times(rt: HostRuntime) -> Result<(), Fail> {
     assert!(rt; tickets.close(pass) == 1001);
     Ok(())
 }
+
+#[test]
+fn the_greatest_budget_is_given(rt: HostRuntime) -> Result<(), Fail> {
+    let (tickets, pass) = Tickets::new(rt.alloc(), 1_000_000_000_000)?;
+    assert!(rt; pass.left() == 1_000_000_000_000);
+    assert!(rt; tickets.close(pass) == 0);
+    Ok(())
+}

@@ -10,7 +10,7 @@ use std::test::Fail;
 use tickets::Tickets;
 
 // A worker with ten tickets, a ring of two and three tries, and the other end of the ring, which nobody drains.
-fn lone_worker(alloc: Global) -> Result<(Tickets, Worker, DrainEnd), Fail>
+pub(crate) fn lone_worker(alloc: Global) -> Result<(Tickets, Worker, DrainEnd), Fail>
     ensures key { IfOk result (λ made. made.1.pass.key ≡ made.0.key) }
     ensures left { IfOk result (λ made. made.1.pass.left ≡ 10) }
     ensures asked { IfOk result (λ made. made.1.asked ≡ 0) }
@@ -23,7 +23,7 @@ fn lone_worker(alloc: Global) -> Result<(Tickets, Worker, DrainEnd), Fail>
 }
 
 // One operation, which draws two tickets at most whatever it answers.
-fn operate(
+pub(crate) fn operate(
     queue: &dyn TestQueue,
     tickets: &Tickets,
     worker: &mut Worker,

@@ -1,5 +1,8 @@
-use Rattle.recorder_core.proofs.Fitting.{merged_is_complete, recorded_is_fit}
+use Rattle.recorder_core.proofs.Fitting.{merged_is_complete, merged_is_few, recorded_is_fit}
 use Rattle.recorder_core.proofs.laws.recorded_lists_are_complete.Goals as goal
 
-pub returns : goal.returns
-returns c = λ lists merged recorded is. merged_is_complete lists merged (recorded_is_fit lists recorded) is
+pub returns-clause-complete : goal.returns-clause-complete
+returns-clause-complete c = λ lists merged recorded is. merged_is_complete lists merged (recorded_is_fit lists recorded) is
+
+pub returns-clause-few : goal.returns-clause-few
+returns-clause-few c = λ lists merged recorded is. merged_is_few lists merged (recorded_is_fit lists recorded) is

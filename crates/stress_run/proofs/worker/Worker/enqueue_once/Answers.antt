@@ -14,22 +14,22 @@ returns-clause-works g c =
     let V2 = c.self-2.view_is in
     let q = c.ask_enq-ask.result.0 in
     let asks = c.ask_enq-ask.ensures in
-    let answered = c.enqueue-answered.result in
+    let answered = c.enqueue-taken.result in
     let returned = c.stamp-returned.result in
     let o : Operation = record { question = q; answer = answered.answer; ret = returned.ticket } in
-    let first = draws_from _ _ _ _ _ _ c.draw-drawn.ensures.drawn (ap (λ v. v.pass) V1) (sym (ap (λ r. r.call) asks.question)) refl in
+    let first = draws_from _ _ _ _ _ _ c.draw.ensures.drawn (ap (λ v. v.pass) V1) (sym (ap (λ r. r.call) asks.question)) refl in
     let said : returned ≡ return_event (record { question = q; answer = answered.answer }) returned.ticket =
-    c.stamp-returned.ensures.noted ∙ ap (λ t. return_event (record { question = t; answer = answered.answer }) returned.ticket) c.enqueue-answered.ensures.0 in
-    let answers_call = subst (λ t. IsTrue (answers (call_event t).what returned.what)) c.enqueue-answered.ensures.0 c.stamp-returned.ensures.kind in
+    c.stamp-returned.ensures.noted ∙ ap (λ t. return_event (record { question = t; answer = answered.answer }) returned.ticket) c.enqueue-taken.ensures.0 in
+    let answers_call = subst (λ t. IsTrue (answers (call_event t).what returned.what)) c.enqueue-taken.ensures.0 c.stamp-returned.ensures.kind in
     IfOk-weaker c.record-2.result _ _ (λ x E2.
-    works_one _ _ c.args.self.now c.record-2.new.self o c.draw-drawn.new.self (
+    works_one _ _ c.args.self.now c.record-2.new.self o c.draw.new.self (
       ap (λ r. r.thread) asks.question ∙ c.self.invariant.0 ∙ ap (λ v. v.thread) V1,
-      ap (λ r. r.key) asks.question ∙ c.draw-drawn.ensures.key ∙ sym c.requires.key,
+      ap (λ r. r.key) asks.question ∙ c.draw.ensures.key ∙ sym c.requires.key,
       ap (λ r. r.number) asks.question ∙ ap (λ v. v.asked) V1,
       ap (λ r. r.kind) asks.question,
     )
     (of_kind q answered.answer (subst (λ e. IsTrue (answers (call_event q).what e.what)) said answers_call))
-    c.enqueue-answered.ensures.1 (
+    c.enqueue-taken.ensures.1 (
       ap (λ v. v.thread) E2 ∙ ap (λ v. v.thread) V2 ∙ ap (λ v. v.thread) E1 ∙ ap (λ v. v.thread) V1,
       ap (λ v. v.ring) E2 ∙ ap (λ v. v.ring) V2 ∙ ap (λ v. v.ring) E1 ∙ ap (λ v. v.ring) V1,
       ap (λ v. v.asked) E2 ∙ ap (λ v. v.asked) V2 ∙ ap (λ v. v.asked) E1 ∙ ap (λ n. n.asked) asks.counted ∙ ap (λ v. v.asked + 1) V1,
@@ -51,10 +51,10 @@ returns-clause-stalls g c =
     let V2 = c.self-2.view_is in
     let q = c.ask_enq-ask.result.0 in
     let asks = c.ask_enq-ask.ensures in
-    let first = draws_from _ _ _ _ _ _ c.draw-drawn.ensures.drawn (ap (λ v. v.pass) V1) (sym (ap (λ r. r.call) asks.question)) refl in
+    let first = draws_from _ _ _ _ _ _ c.draw.ensures.drawn (ap (λ v. v.pass) V1) (sym (ap (λ r. r.call) asks.question)) refl in
     IfErr-weaker c.record-2.result _ _ (λ x F2.
     let E2 = F2.0 in
-    stalls_after _ c.args.self.now c.record-2.new.self q c.stamp-returned.result.ticket c.draw-drawn.new.self (
+    stalls_after _ c.args.self.now c.record-2.new.self q c.stamp-returned.result.ticket c.draw.new.self (
       ap (λ r. r.thread) asks.question ∙ c.self.invariant.0 ∙ ap (λ v. v.thread) V1,
       ap (λ r. r.number) asks.question ∙ ap (λ v. v.asked) V1,
       ap (λ r. r.kind) asks.question,
