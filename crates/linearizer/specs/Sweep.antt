@@ -16,10 +16,11 @@ pub record AreByTime (number : Life → ℕ) (values : List MatchedValue) (entri
   pub are_timed : All (IsTimeOf number values) entries
   pub has_each : (place : ℕ) → place < length values → (timed : Timed) × Contains entries timed × (timed.place ≡ place)
 
--- the value is taken already, the value is left
+-- the value is taken already
 abbrev pub IsTaken : List Bool → Timed → Type 0
 IsTaken taken timed = slice_get taken timed.place ≡ Some true
 
+-- the value is left
 abbrev pub IsLeft : List Bool → Timed → Type 0
 IsLeft taken timed = slice_get taken timed.place ≡ Some false
 

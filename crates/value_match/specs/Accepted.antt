@@ -11,6 +11,7 @@ use Rattle.value_match.specs.Lives.{IsMaybeAt}
 abbrev pub operation_at : List Operation → ℕ → Operation
 operation_at operations place = slice_index_or operations place (record { call = 0; ret = 0; thread = 0; kind = Enq 0 })
 
+-- the operation at the place, if there is a place
 abbrev pub maybe_operation_at : List Operation → Option ℕ → Option Operation
 maybe_operation_at operations None = None
 maybe_operation_at operations (Some place) = Some (operation_at operations place)

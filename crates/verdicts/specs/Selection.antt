@@ -50,5 +50,6 @@ abbrev pub IsShortestCover : List Operation → Breach → Type 0
 IsShortestCover operations (witness empty cover) = (other : List Life) → IsWitnessViolation operations empty other → length cover ≤ length other
 IsShortestCover operations _ = ⊤
 
+-- the same of the violation that the places name
 abbrev pub HasShortestCover : List Operation → Violation → Type 0
 HasShortestCover operations violation = (breach : Breach) → Names operations violation breach → IsShortestCover operations breach
