@@ -45,7 +45,7 @@ selection_is_one operations xs ys violation complete_x complete_y keeps_x keeps_
         let same = names_one operations violation breach' breach names' names in
         let violated = chosen_is_breach zs breach complete (chosen breach names) in
         let kept : (l : Operation) → Contains (lines_of breach) l → selects values' calls' l ≡ true = λ l at.
-            (passed_filter (selects values' calls') operations l (subst (λ os. Contains os l) is' (lines' l (subst (λ b. Contains (lines_of b) l) (sym same) at)))).1 in
+        (passed_filter (selects values' calls') operations l (subst (λ os. Contains os l) is' (lines' l (subst (λ b. Contains (lines_of b) l) (sym same) at)))).1 in
         let passes = all_pass zs values' calls' breach complete minimal violated kept o among in
         let whole = passed_filter (selects closed.0 closed.1) operations o (subst (λ os. Contains os o) closed.2 among) in
         subst (λ os. Contains os o) (sym is') (passes_filter (selects values' calls') operations o passes whole.0)
