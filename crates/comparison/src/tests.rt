@@ -4,7 +4,7 @@ use event_records::MAX_THREAD_OPERATIONS;
 use std::alloc::Global;
 use std::process::Abort;
 use std::test::Fail;
-use verdicts::decide;
+use verdicts::{claim, decide, verify};
 
 /// The histories of each rate of lies.
 const SEEDS: u64 = 100;
@@ -69,5 +69,14 @@ fn a_large_history_is_legal(rt: HostRuntime) -> Result<(), Fail> {
     let history = honest_history(rt.alloc(), MAX_THREAD_OPERATIONS)?;
     assert_eq!(rt; history.operations().len(), 400_000);
     assert_eq!(rt; kind_of(&decide(rt.alloc(), &history)?), Kind::Legal);
+    Ok(())
+}
+
+#[test]
+fn the_claim_of_a_large_verdict_is_true(rt: HostRuntime) -> Result<(), Fail> {
+    let history = honest_history(rt.alloc(), MAX_THREAD_OPERATIONS)?;
+    let verdict = decide(rt.alloc(), &history)?;
+    let claimed = claim(rt.alloc(), &history, &verdict)?;
+    assert!(rt; verify(rt.alloc(), &history, &claimed)?);
     Ok(())
 }

@@ -107,3 +107,24 @@ fn rows_within_the_limits_are_a_plan(rt: HostRuntime) -> Result<(), Fail> {
     assert_eq!(rt; written(rt.alloc(), &plan)?.as_str(), "D\n");
     Ok(())
 }
+
+// The text of a plan of so many workers, each of which makes so many enqueues.
+fn enqueues(alloc: Global, workers: usize, operations: usize) -> Result<String, AllocError> {
+    let mut line = String::new(alloc);
+    for _ in 0..operations {
+        line.push('E')?;
+    }
+    line.push('\n')?;
+    let mut text = String::new(alloc);
+    for _ in 0..workers {
+        text.push_str(&line)?;
+    }
+    Ok(text)
+}
+
+#[test]
+fn the_longest_text_is_read(rt: HostRuntime) -> Result<(), Fail> {
+    let text = enqueues(rt.alloc(), 10, 100_000)?;
+    assert_eq!(rt; Plan::from_text(rt.alloc(), &text)?.operations(), 1_000_000);
+    Ok(())
+}
