@@ -158,11 +158,11 @@ fn take_round(machine: &mut Machine, round: u64, threads: u8)
     end_all(machine, threads);
 }
 
-/// An honest history of so many rounds.
-pub fn honest_history(alloc: Global, rounds: u64) -> Result<History, Fail> {
+/// An honest history of so many rounds, the first of which has this number.
+pub fn honest_history(alloc: Global, first: u64, rounds: u64) -> Result<History, Fail> {
     let mut machine = Machine::new(alloc, usize::from(MANY_THREADS), 4)?;
     for round in 0..rounds {
-        take_round(&mut machine, round, MANY_THREADS);
+        take_round(&mut machine, first.wrapping_add(round), MANY_THREADS);
     }
     collected_history(alloc, &machine, MANY_THREADS)
 }

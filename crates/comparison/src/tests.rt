@@ -1,9 +1,11 @@
 use crate::comparing::{Kind, compare, kind_of};
 use crate::histories::{Lies, MOST_OPERATIONS, honest_history, seeded_history};
+use empty_witness::{GapAnswer, gap_for};
 use event_records::MAX_THREAD_OPERATIONS;
 use std::alloc::Global;
 use std::process::Abort;
 use std::test::Fail;
+use value_match::{Matched, match_values};
 use verdicts::{claim, decide, verify};
 
 /// The histories of each rate of lies.
@@ -66,7 +68,7 @@ fn sweeps_answer_as_plain_scans(rt: HostRuntime) -> Result<(), Fail> {
 
 #[test]
 fn a_large_history_is_legal(rt: HostRuntime) -> Result<(), Fail> {
-    let history = honest_history(rt.alloc(), MAX_THREAD_OPERATIONS)?;
+    let history = honest_history(rt.alloc(), 0, MAX_THREAD_OPERATIONS)?;
     assert_eq!(rt; history.operations().len(), 400_000);
     assert_eq!(rt; kind_of(&decide(rt.alloc(), &history)?), Kind::Legal);
     Ok(())
@@ -74,9 +76,23 @@ fn a_large_history_is_legal(rt: HostRuntime) -> Result<(), Fail> {
 
 #[test]
 fn the_claim_of_a_large_verdict_is_true(rt: HostRuntime) -> Result<(), Fail> {
-    let history = honest_history(rt.alloc(), MAX_THREAD_OPERATIONS)?;
+    let history = honest_history(rt.alloc(), 0, MAX_THREAD_OPERATIONS)?;
     let verdict = decide(rt.alloc(), &history)?;
     let claimed = claim(rt.alloc(), &history, &verdict)?;
     assert!(rt; verify(rt.alloc(), &history, &claimed)?);
     Ok(())
+}
+
+#[test]
+fn a_gap_of_a_large_history_is_found(rt: HostRuntime) -> Result<(), Fail> {
+    let history = honest_history(rt.alloc(), 2, MAX_THREAD_OPERATIONS)?;
+    let Matched::Clear(matching) = match_values(rt.alloc(), &history)? else {
+        return Err(Fail::from("a value that was not there, or came twice"));
+    };
+    for empty in matching.empties() {
+        let answer = gap_for(rt.alloc(), &matching, *empty)?;
+        assert!(rt; matches!(answer, GapAnswer::Free(_)));
+        return Ok(());
+    }
+    Err(Fail::from("no empty answer"))
 }
