@@ -44,7 +44,7 @@ pub record IsRecordedRun (may : Question → Told → Type 0) (settings : Settin
   pub right : IsVerdictClaim (operations_of events) claimed
   pub is : answer ≡ shown events claimed
 
--- a run of the seed's plan on a queue that may answer so gave no history: the fault is one of that run's, with rings and tries of these sizes
+-- no history: a fault that a run of the seed's plan may have, on a queue that may answer so, with rings and tries of these sizes
 pub record IsFailedRun (may : Question → Told → Type 0) (settings : Settings) (answer : Answer) : Type 0 where
   pub plan : List (List Kind)
   pub seeded : IsSeeded settings.seed settings.threads settings.operations settings.percent plan
@@ -53,7 +53,7 @@ pub record IsFailedRun (may : Question → Told → Type 0) (settings : Settings
   pub within : fault ≢ Limit
   pub is : answer ≡ run_fault fault
 
--- the run and its verdict, or the fault of the run, or want of memory
+-- a run and its verdict, or a fault that a run may have, or want of memory
 abbrev pub RunsOrFails : (Question → Told → Type 0) → Settings → Answer → Type 0
 RunsOrFails may settings answer = IsRecordedRun may settings answer ⊎ (IsFailedRun may settings answer ⊎ (answer ≡ memory_fault))
 
