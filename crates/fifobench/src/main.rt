@@ -1,32 +1,12 @@
 //! The program: one subcommand over standard input and output, or a run of one of the built-in queues.
 #![tactic(auto)]
 
-mod check;
-mod command;
-mod evidence;
-mod faults;
-mod input;
-mod laws;
-mod outcome;
-mod print;
-mod shelf;
-mod show;
-mod shrink;
-mod sim;
-mod stress;
 #[cfg(test)]
 mod tests;
-mod verify;
-mod words;
 
-use command::run_command;
+use commands::{Shelved, StartFault, built_ins, print_start_fault, run_over, words_of};
 use history_text::{Buffered, Watched};
-use shelf::built_ins;
-use std::io::{Read, Write};
 use std::process::ExitCode;
-use std::thread::Threads;
-use stress::Shelved;
-use words::{StartFault, print_start_fault, words_of};
 
 fn main(rt: HostRuntime) -> ExitCode {
     let words = match words_of(&rt) {
@@ -48,23 +28,6 @@ fn main(rt: HostRuntime) -> ExitCode {
     }
     let status = run_over(&rt, &words, rt.reader(), std::io::writer(&rt), &shelf);
     ExitCode::from(status)
-}
-
-/// Runs the command over a reader and a writer of std.
-fn run_over<'a, R, I, O>(
-    rt: &R,
-    words: &'a [String],
-    input: I,
-    output: O,
-    shelf: &[Shelved<'a>],
-) -> u8
-where
-    R: AllocGlobal + Threads + Sync,
-    I: Read + Drop,
-    O: Write + Drop,
-{
-    let mut writer = Buffered::new(Watched::new(output));
-    run_command(rt, words, Watched::new(input), &mut writer, shelf)
 }
 
 /// Says why the command can't begin.

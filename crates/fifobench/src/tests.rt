@@ -10,8 +10,7 @@ mod verifying;
 mod words;
 mod writing;
 
-use crate::command::run_command;
-use crate::stress::Shelved;
+use commands::{Shelved, run_command};
 use history_text::{MemorySource, TextSink, TextSource, Watched};
 use std::alloc::AllocError;
 use std::process::Abort;

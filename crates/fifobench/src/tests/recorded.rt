@@ -1,5 +1,5 @@
 use super::run;
-use crate::shelf::built_ins;
+use commands::built_ins;
 use history_text::{MemorySource, Watched, write_history};
 use queue_interface::{LockedQueue, TestQueue};
 use std::alloc::{AllocError, Global};

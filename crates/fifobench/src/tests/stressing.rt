@@ -1,5 +1,5 @@
 use super::run;
-use crate::stress::Shelved;
+use commands::Shelved;
 use history_text::MemorySource;
 use queue_interface::{
     ArrayBack, Entry, Inventing, Lifo, LockedQueue, ScriptQueue, SegBack, TwoLockQueue,

@@ -1,6 +1,6 @@
 ghost use Rattle.std.specs.Prelude.{◌≤◌, IfOk, length};
 
-use crate::words::{StartFault, print_start_fault, words_of};
+use commands::{StartFault, print_start_fault, words_of};
 use history_text::Watched;
 use std::env::{Env, FillError};
 use std::test::Fail;

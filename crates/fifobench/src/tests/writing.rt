@@ -1,7 +1,7 @@
 ghost use Rattle.std.specs.Prelude.{None};
 
 use super::run_on;
-use crate::run_over;
+use commands::run_over;
 use history_text::{MemorySource, ReadFailed, TextSource, Watched};
 use std::io;
 use std::io::{ErrorKind, Write};

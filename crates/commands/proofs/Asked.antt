@@ -1,0 +1,11 @@
+-- What a writer was asked, by whether it refused.
+use Rattle.std.proofs.Common.{◌≡◌, Bool, true, false, sym, subst}
+use Rattle.history_text.specs.Writing.{Asked, IsRefused, IsFlushed}
+use Rattle.commands.specs.Running.{WritesAndFlushes}
+
+module _ {S : Type 0} (goes : S → Asked → S → Type 0) (refused : Bool) (old new : S) where
+  pub asked_to_the_refusal : refused ≡ true → IsRefused goes old new → WritesAndFlushes goes refused old new
+  asked_to_the_refusal is h = subst (λ (b : Bool). WritesAndFlushes goes b old new) (sym is) h
+
+  pub asked_to_the_flush : refused ≡ false → IsFlushed goes old new → WritesAndFlushes goes refused old new
+  asked_to_the_flush is h = subst (λ (b : Bool). WritesAndFlushes goes b old new) (sym is) h

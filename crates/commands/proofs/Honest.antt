@@ -1,0 +1,35 @@
+-- An honest schedule that is done is answered by a yes.
+use Rattle.std.proofs.Common.{◌≡◌, ◌≤◌, List, inl, inr, ap, ◌∙◌}
+use Rattle.event_records.specs.declared.event.Event.{Event}
+use Rattle.history_merge.specs.declared.operation.Operation.{Operation}
+use Rattle.history_merge.specs.Legal.{IsLinearizable}
+use Rattle.history_merge.specs.Operations.{operations_of}
+use Rattle.recorder_core.specs.declared.limits.TheConstants.{MAX_THREADS}
+use Rattle.recorder_core.specs.Setting.{Setting}
+use Rattle.recorder_core.specs.Schedule.{Attempt, accepted}
+use Rattle.recorder_core.specs.Laws.{IsDone}
+use Rattle.recorder_core.specs.Replay.{IsHonest, effects_order}
+use Rattle.recorder_core.proofs.Legal.{effects_order_is_legal}
+use Rattle.simulation.specs.Simulations.{rejections}
+use Rattle.verdicts.specs.declared.verifying.Claimed.{Claimed}
+use Rattle.verdicts.specs.declared.verifying.Claimed.TheVariants as claim
+use Rattle.verdicts.specs.declared.verdict.Verdict.{Verdict}
+use Rattle.verdicts.specs.declared.verdict.Verdict.TheVariants.{Yes, No}
+use Rattle.verdicts.specs.Verdicts.{IsExact}
+use Rattle.history_text.specs.Verdicts.{claim_of, operations_at}
+use Rattle.commands.specs.Answers.{Answer, played}
+use Rattle.commands.specs.Judging.{SimulatesIn}
+
+-- an exact verdict on operations that have a legal order claims a yes
+claims_yes : (operations : List Operation) (verdict : Verdict) (claimed : Claimed) → IsLinearizable operations → IsExact operations verdict → claimed ≡ claim_of operations verdict → (order : List Operation) × (claimed ≡ claim.Yes order)
+claims_yes operations (Yes places) claimed legal exact is = (operations_at operations places, is)
+claims_yes operations (No violation) claimed legal exact is = absurd (exact legal)
+
+-- what is answered of an honest schedule that is done
+pub honest_gets_a_yes : (setting : Setting) (schedule : List Attempt) (answer : Answer) → setting.threads ≤ MAX_THREADS → IsHonest setting schedule → IsDone setting schedule → SimulatesIn setting schedule answer
+    → (events : List Event) × (order : List Operation) × (answer ≡ played (rejections setting schedule) events (claim.Yes order))
+honest_gets_a_yes setting schedule answer few honest done (inl undone) = absurd (undone.undone done)
+honest_gets_a_yes setting schedule answer few honest done (inr ended) =
+    let legal : IsLinearizable (operations_of ended.events) = (effects_order setting (accepted setting schedule), effects_order_is_legal setting schedule ended.events few honest done ended.merged) in
+    let yes = claims_yes (operations_of ended.events) ended.right.verdict ended.claimed legal ended.right.exact ended.right.claim in
+    (ended.events, yes.0, ended.is ∙ ap (λ (claimed : Claimed). played (rejections setting schedule) ended.events claimed) yes.1)

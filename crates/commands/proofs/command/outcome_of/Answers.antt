@@ -1,0 +1,10 @@
+use Rattle.std.proofs.Common.{◌≡◌}
+use Rattle.command_words.specs.Commands.{stress}
+use Rattle.command_words.specs.Options.{settings_of}
+use Rattle.commands.proofs.Runs.{same_settings}
+use Rattle.commands.proofs.command.outcome_of.Goals as goal
+
+pub returns-in-Stress-clause-stresses : goal.returns-in-Stress-clause-stresses
+returns-in-Stress-clause-stresses g c = λ settings is.
+    let named : stress (settings_of c.in-Stress.options) ≡ stress settings = rw c.in-Stress.is at is in
+    rw (← same_settings (settings_of c.in-Stress.options) settings named) c.stress.ensures.found

@@ -1,0 +1,14 @@
+use Rattle.std.proofs.Common.{arith}
+use Rattle.commands.proofs.InputFaults.{history_fault, verdict_fault}
+use Rattle.commands.proofs.input.claim_of.Goals as goal
+
+pub returns-in-Err-clause-fault : goal.returns-in-Err-clause-fault
+returns-in-Err-clause-fault g c =
+    let fault = rw c.new-texts.ensures at c.in-Err.ensures.fault in
+    history_fault (g.S.TextSource.ahead c.args.reader) c.in-Err.fault fault
+
+pub returns-in-Err-read_verdict-clause-fault : goal.returns-in-Err-read_verdict-clause-fault
+returns-in-Err-read_verdict-clause-fault g c =
+    let events = rw c.new-texts.ensures at c.in-Ok.ensures.events in
+    let lines = rw c.new-texts.ensures at c.in-Ok.ensures.lines in
+    verdict_fault (g.S.TextSource.ahead c.args.reader) _ c.in-Ok.events.items _ c.in-Err-read_verdict.fault events.0 events.1 (omega (arith, lines)) c.in-Err-read_verdict.ensures.fault

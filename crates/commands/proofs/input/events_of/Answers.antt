@@ -1,0 +1,13 @@
+use Rattle.history_text.specs.Histories.{history_text, HasHistoryText, IsHistoryTextFault, NoRoomFor}
+use Rattle.commands.proofs.InputFaults.{text_fault, end_fault}
+use Rattle.commands.proofs.input.events_of.Goals as goal
+
+pub returns-in-Err-clause-fault : goal.returns-in-Err-clause-fault
+returns-in-Err-clause-fault g c =
+    let fault = rw c.new-texts.ensures at c.in-Err.ensures.fault in
+    text_fault HasHistoryText history_text (IsHistoryTextFault 0) NoRoomFor (g.S.TextSource.ahead c.args.reader) c.in-Err.fault fault
+
+pub returns-in-Err-at_end-clause-fault : goal.returns-in-Err-at_end-clause-fault
+returns-in-Err-at_end-clause-fault g c =
+    let events = rw c.new-texts.ensures at c.in-Ok.ensures.events in
+    end_fault HasHistoryText history_text (IsHistoryTextFault 0) NoRoomFor (g.S.TextSource.ahead c.args.reader) _ c.in-Ok.events.items c.in-Err-at_end.fault events.0 events.1 c.in-Err-at_end.ensures.fault

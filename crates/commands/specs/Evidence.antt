@@ -1,0 +1,32 @@
+-- What one command writes, and what another answers of it: every answer is evidence.
+use Rattle.std.specs.Prelude.{◌≡◌, ℕ, List, ◌++◌, ◌⊎◌, true}
+use Rattle.event_records.specs.declared.event.Event.{Event}
+use Rattle.verdicts.specs.declared.verifying.Claimed.{Claimed}
+use Rattle.history_text.specs.Input.{Ahead, EndOfInput}
+use Rattle.command_words.specs.Commands.{check, shrink, verify}
+use Rattle.history_text.specs.Histories.{history_text}
+use Rattle.commands.specs.Answers.{Answer, judged, shown, verified, memory_fault, answer_text}
+use Rattle.commands.specs.Running.{AnswersOf}
+
+-- an input of these bytes and nothing more
+abbrev pub input_of : List ℕ → Ahead
+input_of bytes = record { bytes = bytes; ending = EndOfInput }
+
+-- the verdict is evidence, or memory ran out
+abbrev pub IsValidOrNoMemory : Answer → Type 0
+IsValidOrNoMemory answer = (answer ≡ verified true) ⊎ (answer ≡ memory_fault)
+
+-- where `check` answers an input with a verdict, `verify` answers that input, with the verdict's text behind it, with `VALID`
+abbrev pub CheckedIsValid : Type 0
+CheckedIsValid = (bytes : List ℕ) (claimed : Claimed) (answer : Answer) → AnswersOf check (input_of bytes) (judged claimed)
+    → AnswersOf verify (input_of (bytes ++ answer_text (judged claimed))) answer → IsValidOrNoMemory answer
+
+-- where `shrink` answers an input with a history and its verdict, `verify` answers these two texts with `VALID`
+abbrev pub ShrunkIsValid : Type 0
+ShrunkIsValid = (bytes : List ℕ) (small : List Event) (claimed : Claimed) (answer : Answer) → AnswersOf shrink (input_of bytes) (shown small claimed)
+    → AnswersOf verify (input_of (answer_text (shown small claimed))) answer → IsValidOrNoMemory answer
+
+-- and `check` answers the text of that history with that same verdict, or memory runs out
+abbrev pub ShrunkIsChecked : Type 0
+ShrunkIsChecked = (bytes : List ℕ) (small : List Event) (claimed : Claimed) (answer : Answer) → AnswersOf shrink (input_of bytes) (shown small claimed)
+    → AnswersOf check (input_of (history_text small)) answer → (answer ≡ judged claimed) ⊎ (answer ≡ memory_fault)

@@ -1,0 +1,72 @@
+-- What a run of the program leaves behind.
+use Rattle.std.specs.Prelude.{◌≡◌, ◌≢◌, ℕ, Bool, true, false, List, Option, ◌⊎◌, codes}
+use Rattle.std.specs.Io.KnownBytes.{Appends}
+use Rattle.history_text.specs.Input.{Ahead}
+use Rattle.history_text.specs.Lines.{line}
+use Rattle.history_text.specs.Writing.{AppendsFront, Asked, IsRefused, IsFlushed}
+use Rattle.clap.specs.Kinds.{Kinds, IsAmong}
+use Rattle.clap.specs.declared.error.kind.ErrorKind.{ErrorKind}
+use Rattle.clap.specs.declared.error.kind.ErrorKind.TheVariants as kind
+use Rattle.command_words.specs.Commands.{Request, check, shrink, verify, sim, stress}
+use Rattle.commands.specs.Answers.{Answer, memory_fault, answer_text, answer_status}
+use Rattle.commands.specs.Inputs.{IsHistoryOf, IsFaultOfHistoryInput, IsScheduleOf, IsFaultOfScheduleInput, IsClaimOf, IsFaultOfClaimInput}
+use Rattle.commands.specs.Judging.{AnswersFor, Judges, Shrinks, Verifies, Simulates}
+
+-- where the writer refused nothing the text is written whole, with this status; else a front of it is, and the status is 3
+abbrev pub Prints : Option (List ℕ) → Option (List ℕ) → Bool → ℕ → List ℕ → ℕ → Type 0
+Prints old new false result text status = Appends old new text × (result ≡ status)
+Prints old new true result text status = AppendsFront old new text × (result ≡ 3)
+
+-- where nothing was refused the writer took bytes and then was flushed, once; else the refusal was the last that it was asked
+abbrev pub WritesAndFlushes : {S : Type 0} → (S → Asked → S → Type 0) → Bool → S → S → Type 0
+WritesAndFlushes goes false old new = IsFlushed goes old new
+WritesAndFlushes goes true old new = IsRefused goes old new
+
+-- the answer's text is printed, with its status
+abbrev pub PrintsAnswer : Option (List ℕ) → Option (List ℕ) → Bool → ℕ → Answer → Type 0
+PrintsAnswer old new refused result answer = Prints old new refused result (answer_text answer) (answer_status answer)
+
+-- what a command answers of an input; `stress` reads none
+abbrev pub AnswersOf : Request → Ahead → Answer → Type 0
+AnswersOf check input answer = AnswersFor IsHistoryOf IsFaultOfHistoryInput Judges input answer
+AnswersOf shrink input answer = AnswersFor IsHistoryOf IsFaultOfHistoryInput Shrinks input answer
+AnswersOf verify input answer = AnswersFor IsClaimOf IsFaultOfClaimInput Verifies input answer
+AnswersOf sim input answer = AnswersFor IsScheduleOf IsFaultOfScheduleInput Simulates input answer
+AnswersOf (stress settings) input answer = Unit {0}
+
+-- an answer of this kind was printed
+pub record PrintsOneOf (IsAnswer : Answer → Type 0) (old new : Option (List ℕ)) (refused : Bool) (result : ℕ) : Type 0 where
+  pub answer : Answer
+  pub right : IsAnswer answer
+  pub printed : PrintsAnswer old new refused result answer
+
+-- a help or a version, or a mistake in the words
+abbrev pub usage_status : ErrorKind → ℕ
+usage_status kind.DisplayHelp = 0
+usage_status kind.DisplayVersion = 0
+usage_status _ = 2
+
+-- what is said of words that aren't UTF-8
+abbrev pub no_text : List ℕ
+no_text = line (codes "error: a word is not valid UTF-8")
+
+-- a text about the use of the program, of one of these kinds
+pub record PrintsUsage (kinds : Kinds) (old new : Option (List ℕ)) (refused : Bool) (result : ℕ) : Type 0 where
+  pub reason : ErrorKind
+  pub among : IsAmong reason kinds
+  pub text : List ℕ
+  pub printed : Prints old new refused result text (usage_status reason)
+
+-- words that are no command have a text about the use of the program, or memory ran out
+abbrev pub ExplainsUse : Kinds → Option (List ℕ) → Option (List ℕ) → Bool → ℕ → Type 0
+ExplainsUse kinds old new refused result = PrintsUsage kinds old new refused result ⊎ PrintsAnswer old new refused result memory_fault
+
+-- some text, with the status of this kind of error
+pub record PrintsText (reason : ErrorKind) (old new : Option (List ℕ)) (refused : Bool) (result : ℕ) : Type 0 where
+  pub usual : reason ≢ kind.OutOfMemory
+  pub text : List ℕ
+  pub printed : Prints old new refused result text (usage_status reason)
+
+-- an error of this kind prints its text, or memory ran out
+abbrev pub Explains : ErrorKind → Option (List ℕ) → Option (List ℕ) → Bool → ℕ → Type 0
+Explains reason old new refused result = PrintsText reason old new refused result ⊎ PrintsAnswer old new refused result memory_fault

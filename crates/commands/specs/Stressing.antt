@@ -1,0 +1,70 @@
+-- What `stress` answers: it reads nothing, and runs the first queue of a name.
+use Rattle.std.specs.Prelude.{◌≡◌, ◌≢◌, ℕ, ◌*◌, ◌<◌, ◌≤◌, List, ◌∷◌, ◌++◌, All, ◌⊎◌}
+use Rattle.event_records.specs.declared.event.Event.{Event}
+use Rattle.event_records.specs.declared.kind.Kind.{Kind}
+use Rattle.event_records.specs.declared.kind.Answer.{Answer as Told}
+use Rattle.event_records.specs.declared.limits.TheConstants.{MAX_OPERATIONS}
+use Rattle.event_records.specs.Question.{Question}
+use Rattle.history_merge.specs.Complete.{IsCompleteHistory}
+use Rattle.history_merge.specs.Merge.{IsMerged}
+use Rattle.history_merge.specs.Operations.{operations_of}
+use Rattle.recorder_core.specs.Replay.{AreRecorded, Replays}
+use Rattle.workloads.specs.Seeds.{IsSeeded}
+use Rattle.stress_run.specs.declared.faults.RunFault.{RunFault}
+use Rattle.stress_run.specs.declared.faults.RunFault.TheVariants.{Limit}
+use Rattle.stress_run.specs.Operations.{IsRun}
+use Rattle.stress_run.specs.Failed.{IsFaultOfRun}
+use Rattle.verdicts.specs.declared.verifying.Claimed.{Claimed}
+use Rattle.command_words.specs.Options.{Settings}
+use Rattle.commands.specs.declared.stress.TheConstants.{TRIES}
+use Rattle.commands.specs.Answers.{Answer, shown, refused_queue, refused_limit, memory_fault, run_fault}
+use Rattle.commands.specs.Judging.{IsVerdictClaim}
+
+-- x is the first element of the list that this name fits
+pub record IsFirstNamed {X : Type 0} (name_of : X → List ℕ) (name : List ℕ) (xs : List X) (x : X) : Type 0 where
+  pub before : List X
+  pub after : List X
+  pub parts : xs ≡ before ++ x ∷ after
+  pub named : name_of x ≡ name
+  pub others : All (λ y. name_of y ≢ name) before
+
+-- a run of the seed's plan on a queue that may answer so: its lists by ticket, with their verdict
+pub record IsRecordedRun (may : Question → Told → Type 0) (settings : Settings) (answer : Answer) : Type 0 where
+  pub plan : List (List Kind)
+  pub seeded : IsSeeded settings.seed settings.threads settings.operations settings.percent plan
+  pub lists : List (List Event)
+  pub total : ℕ
+  pub run : IsRun may plan lists total
+  pub recorded : AreRecorded lists
+  pub replays : Replays settings.ring lists
+  pub events : List Event
+  pub merged : IsMerged lists events
+  pub complete : IsCompleteHistory events
+  pub claimed : Claimed
+  pub right : IsVerdictClaim (operations_of events) claimed
+  pub is : answer ≡ shown events claimed
+
+-- no history: a fault that a run of the seed's plan may have, on a queue that may answer so, with rings and tries of these sizes
+pub record IsFailedRun (may : Question → Told → Type 0) (settings : Settings) (answer : Answer) : Type 0 where
+  pub plan : List (List Kind)
+  pub seeded : IsSeeded settings.seed settings.threads settings.operations settings.percent plan
+  pub fault : RunFault
+  pub of_run : IsFaultOfRun may plan (record { ring = settings.ring; tries = TRIES }) fault
+  pub within : fault ≢ Limit
+  pub is : answer ≡ run_fault fault
+
+-- a run and its verdict, or a fault that a run may have, or want of memory
+abbrev pub RunsOrFails : (Question → Told → Type 0) → Settings → Answer → Type 0
+RunsOrFails may settings answer = IsRecordedRun may settings answer ⊎ (IsFailedRun may settings answer ⊎ (answer ≡ memory_fault))
+
+-- what is answered of a queue that may answer so: too many operations are refused, and no others
+abbrev pub StressesQueue : (Question → Told → Type 0) → Settings → Answer → Type 0
+StressesQueue may settings answer =
+    ((MAX_OPERATIONS < settings.threads * settings.operations) × (answer ≡ refused_limit))
+    ⊎ ((settings.threads * settings.operations ≤ MAX_OPERATIONS) × RunsOrFails may settings answer)
+
+-- `stress` on a shelf of queues with names: the first of the name is run, and a name that none has is refused
+abbrev pub Stresses : {X : Type 0} → (X → List ℕ) → (X → Question → Told → Type 0) → List X → Settings → Answer → Type 0
+Stresses {X} name_of may_of shelf settings answer =
+    (All (λ x. name_of x ≢ settings.queue) shelf × (answer ≡ refused_queue))
+    ⊎ ((x : X) × IsFirstNamed name_of settings.queue shelf x × StressesQueue (may_of x) settings answer)

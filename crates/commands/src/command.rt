@@ -1,0 +1,132 @@
+//! A run of the program.
+ghost use Rattle.std.specs.Prelude.{◌≡◌, ◌≢◌, IfSome, Some, [], false, map};
+ghost use Rattle.command_words.specs.Commands.{Request, stress, request_in, request_of, faults_in, IsInRange};
+ghost use Rattle.command_words.specs.Options.{Settings};
+ghost use Rattle.commands.specs.Judging.{AnswersOrNoMemory};
+ghost use Rattle.commands.specs.Outcomes.{answer_of, NamesPlaces};
+ghost use Rattle.commands.specs.Running.{AnswersOf, PrintsOneOf, ExplainsUse, Explains, WritesAndFlushes, usage_status};
+ghost use Rattle.commands.specs.Stressing.{Stresses};
+ghost use Rattle.clap.specs.Values.{kind_of};
+
+use crate::check::check;
+use crate::outcome::Outcome;
+use crate::print::{print_outcome, print_text};
+use crate::shrink::shrink;
+use crate::sim::sim;
+use crate::stress::{Shelved, stress};
+use crate::verify::verify;
+use clap::Error;
+use clap::error::ErrorKind;
+use command_words::{Task, task_in};
+use history_text::{Buffered, TextSink, TextSource, Watched};
+use std::alloc::Global;
+use std::convert::AsStr;
+use std::io::{Read, Write};
+use std::thread::Threads;
+
+/// Runs the command that the words name and answers the status.
+///
+/// The first word is the program's name. `stress` runs a queue of the shelf, the first of its name, and reads nothing; the
+/// other commands read their input whole. Everything is computed before the first byte is written, and the writer is flushed
+/// once, at the end. Only `stress` waits: for its workers, and so for the queue.
+pub fn run_command<'a, R, T, S, W>(
+    rt: &R,
+    words: &'a [T],
+    reader: S,
+    writer: &mut W,
+    shelf: &[Shelved<'a>],
+) -> u8
+where
+    R: AllocGlobal + Threads + Sync,
+    T: AsStr,
+    S: TextSource + Drop,
+    W: TextSink,
+    requires fresh { W.has_refused writer.old ≡ false }
+
+    // Words that are a command which reads: what it answers of the input is printed, or want of memory for the words.
+    ensures reads { (request : Request) → faults_in (map T.text words.entry.now) ≡ [] → request_in (map T.text words.entry.now) ≡ Some request
+        → IfSome (S.ahead reader) (λ input. PrintsOneOf (AnswersOrNoMemory (AnswersOf request) input) (W.contents writer.old) (W.contents writer.new) (W.has_refused writer.new) result) }
+
+    // Words that are `stress`: what a run on the shelf gives is printed.
+    ensures stresses { (settings : Settings) → faults_in (map T.text words.entry.now) ≡ [] → request_in (map T.text words.entry.now) ≡ Some (stress settings)
+        → PrintsOneOf (AnswersOrNoMemory (Stresses (λ s. s.name.now) (λ s. may s.queue) shelf.now) settings) (W.contents writer.old) (W.contents writer.new) (W.has_refused writer.new) result }
+
+    // Other words are answered by a text about the use of the program.
+    ensures usage { (faults_in (map T.text words.entry.now) ≢ []) → ExplainsUse (faults_in (map T.text words.entry.now)) (W.contents writer.old) (W.contents writer.new) (W.has_refused writer.new) result }
+
+    // Whatever the words: the writer is written to and then flushed, once; or it refuses, and is asked for nothing more.
+    ensures asked { WritesAndFlushes W.goes (W.has_refused writer.new) writer.old writer.new }
+
+    // So where it refused nothing, it holds nothing back.
+    ensures passed_on { W.has_refused writer.new ≡ false → W.holds_back writer.new ≡ false }
+{
+    match task_in(rt.alloc(), words) {
+        Ok(task) => {
+            let outcome = outcome_of(rt, task, reader, shelf);
+            print_outcome(writer, &outcome)
+        }
+        Err(error) => explain(rt.alloc(), &error, writer),
+    }
+}
+
+/// Runs the command over a reader and a writer of std, as [`run_command`] does, and answers the status.
+pub fn run_over<'a, R, I, O>(
+    rt: &R,
+    words: &'a [String],
+    input: I,
+    output: O,
+    shelf: &[Shelved<'a>],
+) -> u8
+where
+    R: AllocGlobal + Threads + Sync,
+    I: Read + Drop,
+    O: Write + Drop,
+{
+    let mut writer = Buffered::new(Watched::new(output));
+    run_command(rt, words, Watched::new(input), &mut writer, shelf)
+}
+
+/// What a command finds, in the input or on the shelf.
+fn outcome_of<'a, R, S>(rt: &R, task: Task<'a>, reader: S, shelf: &[Shelved<'a>]) -> Outcome
+where
+    R: AllocGlobal + Threads + Sync,
+    S: TextSource + Drop,
+    requires { IsInRange (request_of task) }
+    ensures reads { IfSome (S.ahead reader) (λ input. AnswersOf (request_of task.entry) input (answer_of result)) }
+    ensures stresses { (settings : Settings) → request_of task.entry ≡ stress settings → Stresses (λ s. s.name.now) (λ s. may s.queue) shelf.now settings (answer_of result) }
+    ensures places { NamesPlaces result }
+{
+    match task {
+        Task::Check => return check(rt.alloc(), reader),
+        Task::Shrink => return shrink(rt.alloc(), reader),
+        Task::Verify => return verify(rt.alloc(), reader),
+        Task::Sim => return sim(rt.alloc(), reader),
+        Task::Stress(options) => return stress(rt, rt.alloc(), shelf, &options),
+    }
+}
+
+fn usage_status(kind: ErrorKind) -> u8
+    ensures { result ≡ usage_status kind }
+{
+    match kind {
+        ErrorKind::DisplayHelp => 0,
+        ErrorKind::DisplayVersion => 0,
+        _ => 2,
+    }
+}
+
+/// Writes what clap says of the words.
+fn explain<W: TextSink>(alloc: Global, error: &Error, writer: &mut W) -> u8
+    requires fresh { W.has_refused writer.old ≡ false }
+    ensures printed { Explains (kind_of error.now) (W.contents writer.old) (W.contents writer.new) (W.has_refused writer.new) result }
+    ensures asked { WritesAndFlushes W.goes (W.has_refused writer.new) writer.old writer.new }
+    ensures passed_on { W.has_refused writer.new ≡ false → W.holds_back writer.new ≡ false }
+{
+    if error.kind() == ErrorKind::OutOfMemory {
+        return print_outcome(writer, &Outcome::MemoryFault);
+    }
+    match format!(in alloc; "{error}") {
+        Ok(text) => print_text(writer, text.as_bytes(), usage_status(error.kind())),
+        Err(_) => print_outcome(writer, &Outcome::MemoryFault),
+    }
+}

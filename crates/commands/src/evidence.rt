@@ -1,0 +1,16 @@
+//! Laws of what one command writes and another answers of it. These functions do nothing; the law is what each of them
+//! ensures.
+ghost use Rattle.commands.specs.Evidence.{CheckedIsValid, ShrunkIsValid, ShrunkIsChecked};
+
+/// Every verdict that `check` writes is evidence: `verify` answers the input, with the verdict behind it, with `VALID`, or
+/// memory runs out.
+pub fn a_checked_verdict_is_valid()
+    ensures { CheckedIsValid }
+{}
+
+/// What `shrink` writes of a no is the text of a history and of its verdict: `verify` answers it with `VALID`, and `check`
+/// answers the history with that same verdict, or memory runs out.
+pub fn what_is_shrunk_is_valid()
+    ensures valid { ShrunkIsValid }
+    ensures checked { ShrunkIsChecked }
+{}

@@ -1,0 +1,31 @@
+//! What holds of the program's answers. These functions do nothing; the law is what each of them ensures.
+ghost use Rattle.std.specs.Prelude.{◌≡◌, ◌≤◌, ◌⊎◌, List};
+ghost use Rattle.history_merge.specs.declared.operation.Operation.{Operation};
+ghost use Rattle.event_records.specs.declared.event.Event.{Event};
+ghost use Rattle.recorder_core.specs.declared.limits.TheConstants.{MAX_THREADS};
+ghost use Rattle.recorder_core.specs.Setting.{Setting};
+ghost use Rattle.recorder_core.specs.Schedule.{Attempt};
+ghost use Rattle.recorder_core.specs.Laws.{IsDone};
+ghost use Rattle.recorder_core.specs.Replay.{IsHonest};
+ghost use Rattle.simulation.specs.Simulations.{rejections};
+ghost use Rattle.verdicts.specs.declared.verifying.Claimed.TheVariants.{Yes};
+ghost use Rattle.commands.specs.Answers.{Answer, played};
+ghost use Rattle.commands.specs.Judging.{SimulatesIn};
+ghost use Rattle.commands.specs.OneAnswer.{HasOneAnswer};
+ghost use Rattle.command_words.specs.Commands.{check, shrink, verify, sim};
+
+/// No false alarm: what is answered of an honest schedule that is done is a yes.
+pub fn honest_schedules_get_a_yes()
+    ensures { (setting : Setting) (schedule : List Attempt) (answer : Answer)
+        → setting.threads ≤ MAX_THREADS → IsHonest setting schedule → IsDone setting schedule → SimulatesIn setting schedule answer
+        → (events : List Event) × (order : List Operation) × (answer ≡ played (rejections setting schedule) events (Yes order)) }
+{}
+
+/// An input has one answer: two answers that the contract allows of a command that reads, on one input, are the same, or one of
+/// them is want of memory.
+pub fn one_answer()
+    ensures check { HasOneAnswer check }
+    ensures shrink { HasOneAnswer shrink }
+    ensures verify { HasOneAnswer verify }
+    ensures sim { HasOneAnswer sim }
+{}

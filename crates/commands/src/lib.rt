@@ -1,0 +1,25 @@
+//! What the commands answer, over any reader, writer and shelf of queues: the program without its `main`.
+#![tactic(auto)]
+
+mod check;
+mod command;
+mod evidence;
+mod faults;
+mod input;
+mod laws;
+mod outcome;
+mod print;
+mod shelf;
+mod show;
+mod shrink;
+mod sim;
+mod stress;
+mod verify;
+mod words;
+
+pub use command::{run_command, run_over};
+pub use evidence::{a_checked_verdict_is_valid, what_is_shrunk_is_valid};
+pub use laws::{honest_schedules_get_a_yes, one_answer};
+pub use shelf::{BuiltIn, built_ins};
+pub use stress::{Shelved, TRIES};
+pub use words::{StartFault, print_start_fault, words_of};

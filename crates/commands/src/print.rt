@@ -1,0 +1,137 @@
+//! What is written, and the status that goes with it.
+ghost use Rattle.std.specs.Prelude.{◌≡◌, ◌++◌, ◌||◌, List, OnOk, OnErr, is_err, false, decimal};
+ghost use Rattle.std.specs.Io.KnownBytes.{Appends};
+ghost use Rattle.history_merge.specs.declared.operation.Operation.{Operation};
+ghost use Rattle.history_text.specs.Lines.{line};
+ghost use Rattle.history_text.specs.Verdicts.{claim_of};
+ghost use Rattle.history_text.specs.Writing.{AppendsFront, IsWritten, IsRefused};
+ghost use Rattle.commands.specs.Answers.{answer_text, answer_status, claim_status};
+ghost use Rattle.commands.specs.Outcomes.{answer_of, NamesPlaces};
+ghost use Rattle.commands.specs.Running.{Prints, PrintsAnswer, WritesAndFlushes};
+
+use crate::faults::{write_history_refusal, write_run_fault, write_text_refusal};
+use crate::outcome::Outcome;
+use crate::show::{write_left_open, write_played, write_shown};
+use history_text::{TextSink, WriteFault, write_piece, write_verdict_on};
+use verdicts::Verdict;
+
+/// A line of words and a number.
+pub fn write_numbered<W: TextSink>(
+    writer: &mut W,
+    words: &[u8],
+    number: u64,
+) -> Result<(), WriteFault>
+    ensures ok { OnOk result (Appends (W.contents writer.old) (W.contents writer.new) (line (words.now ++ decimal number))) }
+    ensures err { OnErr result (AppendsFront (W.contents writer.old) (W.contents writer.new) (line (words.now ++ decimal number))) }
+    ensures refused { W.has_refused writer.new ≡ (W.has_refused writer.old || is_err result) }
+    ensures written { OnOk result (IsWritten W.goes writer.old writer.new) }
+    ensures stopped { OnErr result (IsRefused W.goes writer.old writer.new) }
+{
+    write_piece(writer, words)?;
+    write_number(writer, number)?;
+    write_piece(writer, b"\n")
+}
+
+/// A number.
+pub fn write_number<W: TextSink>(writer: &mut W, number: u64) -> Result<(), WriteFault>
+    ensures ok { OnOk result (Appends (W.contents writer.old) (W.contents writer.new) (decimal number)) }
+    ensures err { OnErr result (AppendsFront (W.contents writer.old) (W.contents writer.new) (decimal number)) }
+    ensures refused { W.has_refused writer.new ≡ (W.has_refused writer.old || is_err result) }
+    ensures written { OnOk result (IsWritten W.goes writer.old writer.new) }
+    ensures stopped { OnErr result (IsRefused W.goes writer.old writer.new) }
+{
+    let mut buffer = itoa::Buffer::new();
+    write_piece(writer, buffer.format(number).as_bytes())
+}
+
+/// Writes what a command found.
+fn write_outcome<W: TextSink>(writer: &mut W, outcome: &Outcome) -> Result<(), WriteFault>
+    requires { NamesPlaces outcome.now }
+    ensures ok { OnOk result (Appends (W.contents writer.old) (W.contents writer.new) (answer_text (answer_of outcome.now))) }
+    ensures err { OnErr result (AppendsFront (W.contents writer.old) (W.contents writer.new) (answer_text (answer_of outcome.now))) }
+    ensures refused { W.has_refused writer.new ≡ (W.has_refused writer.old || is_err result) }
+    ensures written { OnOk result (IsWritten W.goes writer.old writer.new) }
+    ensures stopped { OnErr result (IsRefused W.goes writer.old writer.new) }
+{
+    match outcome {
+        Outcome::Judged(operations, verdict) => {
+            return write_verdict_on(operations, verdict, writer);
+        }
+        Outcome::Shown(history, verdict) => return write_shown(writer, history, verdict),
+        Outcome::LeftOpen(rejections) => return write_left_open(writer, rejections),
+        Outcome::Played(rejections, history, verdict) => {
+            return write_played(writer, rejections, history, verdict);
+        }
+        Outcome::Verified(true) => return write_piece(writer, b"VALID\n"),
+        Outcome::Verified(false) => return write_piece(writer, b"INVALID\n"),
+        Outcome::TextRefused(fault) => return write_text_refusal(writer, *fault),
+        Outcome::HistoryRefused(fault) => return write_history_refusal(writer, *fault),
+        Outcome::QueueRefused => return write_piece(writer, b"REFUSED Queue\n"),
+        Outcome::LimitRefused => return write_piece(writer, b"REFUSED Limit\n"),
+        Outcome::ReadFault => return write_piece(writer, b"FAULT Read\n"),
+        Outcome::MemoryFault => return write_piece(writer, b"FAULT Memory\n"),
+        Outcome::RunFailed(fault) => return write_run_fault(writer, *fault),
+    }
+}
+
+fn status_of_verdict(verdict: &Verdict) -> u8
+    ensures { (operations : List Operation) → result ≡ claim_status (claim_of operations verdict.now) }
+{
+    match verdict {
+        Verdict::Yes(_) => return 0,
+        Verdict::No(_) => return 1,
+    }
+}
+
+fn status_of(outcome: &Outcome) -> u8
+    ensures { result ≡ answer_status (answer_of outcome.now) }
+{
+    match outcome {
+        Outcome::Judged(_, verdict) => return status_of_verdict(verdict),
+        Outcome::Shown(_, verdict) => return status_of_verdict(verdict),
+        Outcome::LeftOpen(_) => return 0,
+        Outcome::Played(_, _, verdict) => return status_of_verdict(verdict),
+        Outcome::Verified(true) => return 0,
+        Outcome::Verified(false) => return 1,
+        Outcome::TextRefused(_) => return 2,
+        Outcome::HistoryRefused(_) => return 2,
+        Outcome::QueueRefused => return 2,
+        Outcome::LimitRefused => return 2,
+        Outcome::ReadFault => return 3,
+        Outcome::MemoryFault => return 3,
+        Outcome::RunFailed(_) => return 3,
+    }
+}
+
+/// Writes what a command found and flushes the writer; answers the status.
+pub fn print_outcome<W: TextSink>(writer: &mut W, outcome: &Outcome) -> u8
+    requires fresh { W.has_refused writer.old ≡ false }
+    requires places { NamesPlaces outcome.now }
+    ensures printed { PrintsAnswer (W.contents writer.old) (W.contents writer.new) (W.has_refused writer.new) result (answer_of outcome.now) }
+    ensures asked { WritesAndFlushes W.goes (W.has_refused writer.new) writer.old writer.new }
+    ensures passed_on { W.has_refused writer.new ≡ false → W.holds_back writer.new ≡ false }
+{
+    if write_outcome(writer, outcome).is_err() {
+        return 3;
+    }
+    if writer.flush().is_err() {
+        return 3;
+    }
+    status_of(outcome)
+}
+
+/// Writes a text and flushes the writer; answers the status.
+pub fn print_text<W: TextSink>(writer: &mut W, text: &[u8], status: u8) -> u8
+    requires fresh { W.has_refused writer.old ≡ false }
+    ensures printed { Prints (W.contents writer.old) (W.contents writer.new) (W.has_refused writer.new) result text.now status }
+    ensures asked { WritesAndFlushes W.goes (W.has_refused writer.new) writer.old writer.new }
+    ensures passed_on { W.has_refused writer.new ≡ false → W.holds_back writer.new ≡ false }
+{
+    if write_piece(writer, text).is_err() {
+        return 3;
+    }
+    if writer.flush().is_err() {
+        return 3;
+    }
+    status
+}

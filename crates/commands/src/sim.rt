@@ -1,0 +1,55 @@
+//! `sim`: a schedule of the recorder's steps, and the verdict on what it collects.
+ghost use Rattle.std.specs.Prelude.{IfSome};
+ghost use Rattle.history_text.specs.Schedules.{IsSetting};
+ghost use Rattle.commands.specs.Inputs.{IsScheduleOf, IsFaultOfScheduleInput};
+ghost use Rattle.commands.specs.Judging.{Simulates, AnswersFor, AnswersOrNoMemory};
+ghost use Rattle.commands.specs.Outcomes.{answer_of, NamesPlaces};
+
+use crate::input::schedule_of;
+use crate::outcome::Outcome;
+use history_merge::merged_history;
+use history_text::{Schedule, TextSource};
+use simulation::{Ending, Simulation, simulate};
+use std::alloc::Global;
+use verdicts::decide;
+
+/// What `sim` finds in what the reader gives.
+pub fn sim<S: TextSource>(alloc: Global, reader: S) -> Outcome
+where
+    S: Drop,
+    ensures found { IfSome (S.ahead reader) (λ input. AnswersFor IsScheduleOf IsFaultOfScheduleInput Simulates input (answer_of result)) }
+    ensures places { NamesPlaces result }
+{
+    match schedule_of(alloc, reader) {
+        Ok(schedule) => play(alloc, &schedule),
+        Err(fault) => Outcome::of_text_fault(fault),
+    }
+}
+
+/// What the steps of a schedule do.
+fn play(alloc: Global, schedule: &Schedule) -> Outcome
+    requires { IsSetting schedule.now.threads schedule.now.ring }
+    ensures found { AnswersOrNoMemory Simulates schedule.now (answer_of result) }
+    ensures places { NamesPlaces result }
+{
+    let Ok(played) = simulate(
+        alloc,
+        schedule.threads,
+        schedule.ring,
+        schedule.steps.as_slice(),
+    ) else {
+        return Outcome::MemoryFault;
+    };
+    let Simulation { rejections, ending } = played;
+    let lists = match ending {
+        Ending::Open => return Outcome::LeftOpen(rejections),
+        Ending::Done(lists) => lists,
+    };
+    let Ok(history) = merged_history(alloc, &lists) else {
+        return Outcome::MemoryFault;
+    };
+    match decide(alloc, &history) {
+        Ok(verdict) => Outcome::Played(rejections, history, verdict),
+        Err(_) => Outcome::MemoryFault,
+    }
+}

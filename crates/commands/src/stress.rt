@@ -1,0 +1,109 @@
+//! `stress`: a recorded run of a queue, and its verdict.
+ghost use Rattle.std.specs.Prelude.{◌≡◌, ◌≢◌, ◌≤◌, ◌*◌, IfSome, IfNone, All};
+ghost use Rattle.event_records.specs.declared.limits.TheConstants.{MAX_OPERATIONS};
+ghost use Rattle.command_words.specs.Options.{settings_of, IsWithinRanges};
+ghost use Rattle.commands.specs.Outcomes.{answer_of, NamesPlaces};
+ghost use Rattle.commands.specs.Stressing.{IsFirstNamed, RunsOrFails, Stresses, StressesQueue};
+
+use crate::outcome::Outcome;
+use command_words::StressOptions;
+use event_records::MAX_OPERATIONS;
+use queue_interface::TestQueue;
+use std::alloc::Global;
+use std::thread::Threads;
+use stress_run::run;
+use verdicts::decide;
+use workloads::Plan;
+
+/// How often a push into a full ring is tried again before its worker gives up.
+pub const TRIES: u32 = 1_000_000;
+
+/// A queue under the name by which `stress` finds it.
+///
+/// A run takes the queue as empty: a value that an earlier run left in it is dequeued as one that nobody enqueued.
+#[derive(Drop)]
+pub struct Shelved<'a> {
+    pub name: &'a str,
+    pub queue: Box<dyn TestQueue>,
+}
+
+/// What `stress` finds: a run of the first queue of the name, if one has it, and the verdict on what was recorded.
+pub fn stress<'a, R: Threads + Sync>(
+    rt: &R,
+    alloc: Global,
+    shelf: &[Shelved<'a>],
+    options: &StressOptions<'a>,
+) -> Outcome
+    requires { IsWithinRanges (settings_of options.now) }
+    ensures found { Stresses (λ s. s.name.now) (λ s. may s.queue) shelf.now (settings_of options.now) (answer_of result) }
+    ensures places { NamesPlaces result }
+{
+    match find(shelf, options.queue) {
+        None => Outcome::QueueRefused,
+        Some(shelved) => stress_shelved(rt, alloc, shelved, options),
+    }
+}
+
+/// The first queue of this name.
+fn find<'b, 'a>(shelf: &'b [Shelved<'a>], name: &str) -> Option<&'b Shelved<'a>>
+    ensures found { IfSome result (λ shelved. IsFirstNamed (λ s. s.name.now) name.now shelf.now shelved.now) }
+    ensures nowhere { IfNone result (All (λ s. s.name.now ≢ name.now) shelf.now) }
+{
+    for shelved in shelf {
+        if shelved.name == name {
+            return Some(shelved);
+        }
+    }
+    None
+}
+
+/// What a run of this queue gives.
+fn stress_shelved<'a, R: Threads + Sync>(
+    rt: &R,
+    alloc: Global,
+    shelved: &Shelved<'a>,
+    options: &StressOptions<'a>,
+) -> Outcome
+    requires { IsWithinRanges (settings_of options.now) }
+    ensures found { StressesQueue (may shelved.now.queue) (settings_of options.now) (answer_of result) }
+    ensures places { NamesPlaces result }
+{
+    if options.threads as u64 * options.operations as u64 > MAX_OPERATIONS {
+        return Outcome::LimitRefused;
+    }
+    run_plan(rt, alloc, &*shelved.queue, options)
+}
+
+/// A run of the seed's plan on this queue, and the verdict on what it recorded.
+fn run_plan<'a, R: Threads + Sync>(
+    rt: &R,
+    alloc: Global,
+    queue: &dyn TestQueue,
+    options: &StressOptions<'a>,
+) -> Outcome
+    requires ranges { IsWithinRanges (settings_of options.now) }
+    requires few { options.now.threads * options.now.operations ≤ MAX_OPERATIONS }
+    ensures found { RunsOrFails (may queue.now) (settings_of options.now) (answer_of result) }
+    ensures places { NamesPlaces result }
+{
+    let Ok(plan) = Plan::from_seed(
+        alloc,
+        options.seed,
+        options.threads,
+        options.operations,
+        options.percent,
+    ) else {
+        return Outcome::MemoryFault;
+    };
+    let recorded = match run(rt, alloc, queue, &plan, options.ring, TRIES) {
+        Ok(recorded) => recorded,
+        Err(fault) => return Outcome::RunFailed(fault),
+    };
+    let Ok(history) = recorded.history(alloc) else {
+        return Outcome::MemoryFault;
+    };
+    match decide(alloc, &history) {
+        Ok(verdict) => Outcome::Shown(history, verdict),
+        Err(_) => Outcome::MemoryFault,
+    }
+}

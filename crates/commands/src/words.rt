@@ -1,0 +1,48 @@
+//! The words of the command line, and what is said where a command can't begin.
+ghost use Rattle.std.specs.Prelude.{◌≡◌, false};
+ghost use Rattle.commands.specs.Answers.{memory_fault};
+ghost use Rattle.commands.specs.Running.{Prints, PrintsAnswer, WritesAndFlushes, no_text};
+ghost use Rattle.commands.specs.declared.words.StartFault.TheVariants.{NoText, Memory};
+
+use crate::outcome::Outcome;
+use crate::print::{print_outcome, print_text};
+use history_text::TextSink;
+use std::env;
+use std::env::Env;
+use std::io::ErrorKind;
+
+/// Why a command can't begin.
+#[derive(Clone, Copy, Debug, PartialEq, Eq)]
+pub enum StartFault {
+    /// Some word isn't UTF-8.
+    NoText,
+    /// Memory ran out for the words or for the shelf.
+    Memory,
+}
+
+/// The words of the command line, the program's name first.
+pub fn words_of<R: Env + AllocGlobal>(rt: &R) -> Result<Vec<String>, StartFault> {
+    let words = match env::args(rt) {
+        Ok(words) => words,
+        Err(error) if error.kind() == ErrorKind::OutOfMemory => return Err(StartFault::Memory),
+        Err(_) => return Err(StartFault::NoText),
+    };
+    match words.collect(rt.alloc()) {
+        Ok(words) => Ok(words),
+        Err(_) => Err(StartFault::Memory),
+    }
+}
+
+/// Writes why a command can't begin, flushes the writer and answers the status.
+pub fn print_start_fault<W: TextSink>(writer: &mut W, fault: StartFault) -> u8
+    requires fresh { W.has_refused writer.old ≡ false }
+    ensures no_text { fault ≡ NoText → Prints (W.contents writer.old) (W.contents writer.new) (W.has_refused writer.new) result no_text 2 }
+    ensures memory { fault ≡ Memory → PrintsAnswer (W.contents writer.old) (W.contents writer.new) (W.has_refused writer.new) result memory_fault }
+    ensures asked { WritesAndFlushes W.goes (W.has_refused writer.new) writer.old writer.new }
+    ensures passed_on { W.has_refused writer.new ≡ false → W.holds_back writer.new ≡ false }
+{
+    match fault {
+        StartFault::NoText => print_text(writer, b"error: a word is not valid UTF-8\n", 2),
+        StartFault::Memory => print_outcome(writer, &Outcome::MemoryFault),
+    }
+}

@@ -1,5 +1,0 @@
-use Rattle.fifobench.proofs.Validity.{checked_is_valid}
-use Rattle.fifobench.proofs.evidence.a_checked_verdict_is_valid.Goals as goal
-
-pub returns : goal.returns
-returns c = checked_is_valid

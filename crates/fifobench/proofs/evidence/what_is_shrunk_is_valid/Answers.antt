@@ -1,5 +1,0 @@
-use Rattle.fifobench.proofs.ShrunkTexts.{shrunk_is_valid, shrunk_is_checked}
-use Rattle.fifobench.proofs.evidence.what_is_shrunk_is_valid.Goals as goal
-
-pub returns : goal.returns
-returns c = record { valid = shrunk_is_valid; checked = shrunk_is_checked }

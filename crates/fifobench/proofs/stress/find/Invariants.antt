@@ -1,5 +1,0 @@
-use Rattle.std.proofs.Common.{◌≢◌, All, take}
-use Rattle.fifobench.proofs.stress.find.Given as goal
-
-abbrev pub invariant-loop-shelved : goal.invariant-loop-shelved
-invariant-loop-shelved g l = All (λ s. s.name.now ≢ l.name) (take l.shelved-index l.shelf)
