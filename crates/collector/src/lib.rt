@@ -5,7 +5,5 @@
 
 mod drained;
 mod rounds;
-#[cfg(test)]
-mod tests;
 
 pub use rounds::{CollectError, Collector};

@@ -6,10 +6,6 @@ mod help;
 mod laws;
 mod options;
 mod tasks;
-#[cfg(test)]
-mod tests;
-#[cfg(test)]
-mod tests_help;
 
 pub use laws::words_without_a_fault_are_a_command;
 pub use options::StressOptions;

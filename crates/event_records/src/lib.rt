@@ -9,8 +9,6 @@ mod limits;
 mod lists;
 mod noted;
 mod questions;
-#[cfg(test)]
-mod tests;
 mod thread_no;
 mod turns;
 

@@ -8,8 +8,6 @@ ghost use Rattle.std.specs.Prelude.{◌≡◌, ◌≤◌, [], IfOk};
 
 mod drain_end;
 mod push_end;
-#[cfg(test)]
-mod tests;
 
 pub use drain_end::{DrainEnd, FinishFault, Sealed};
 use event_records::ThreadNo;

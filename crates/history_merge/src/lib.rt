@@ -20,6 +20,3 @@ pub use fault::HistoryFault;
 pub use merging::merge;
 pub use operation::{OpId, OpKind, Operation};
 pub use recorded::{complete_history, merged_history};
-
-#[cfg(test)]
-mod tests;

@@ -24,16 +24,6 @@ mod schedule;
 mod sink;
 mod source;
 mod step_line;
-#[cfg(test)]
-mod tests;
-#[cfg(test)]
-mod tests_changed;
-#[cfg(test)]
-mod tests_schedules;
-#[cfg(test)]
-mod tests_sinks;
-#[cfg(test)]
-mod tests_verdicts;
 mod verdict_writer;
 
 pub use buffered::Buffered;

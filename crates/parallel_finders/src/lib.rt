@@ -5,13 +5,11 @@
 mod order;
 mod overtaking;
 mod sorting;
-#[cfg(test)]
-mod tests;
 mod windows;
 mod witness;
 
-pub use order::find_order_par;
-pub use witness::find_witness_par;
+pub use order::{find_order_par, order_in_pieces};
+pub use witness::{find_witness_par, witness_in_pieces};
 
 /// Into how many pieces a search may be cut.
 pub const MAX_PIECES: usize = 64;

@@ -11,8 +11,6 @@ mod faulty;
 mod gate;
 mod locked;
 mod script;
-#[cfg(test)]
-mod tests;
 mod two_lock;
 
 ghost use Rattle.std.specs.Prelude.{◌≡◌};

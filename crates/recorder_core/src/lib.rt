@@ -10,8 +10,6 @@ mod limits;
 mod machine;
 mod pending;
 mod step;
-#[cfg(test)]
-mod tests;
 mod thread;
 
 pub use laws::{

@@ -2,7 +2,5 @@
 #![tactic(auto)]
 
 mod playing;
-#[cfg(test)]
-mod tests;
 
 pub use playing::{Ending, Rejection, Rejections, Simulation, simulate};

@@ -12,12 +12,11 @@ mod faults;
 mod making;
 mod runs;
 mod start;
-#[cfg(test)]
-mod tests;
 mod worker;
 
 pub use faults::{RunFault, least_fault};
 pub use runs::{Recorded, run};
+pub use start::Start;
 pub use worker::{Worker, WorkerFault, one_call};
 
 /// The most tries of a push.

@@ -15,8 +15,6 @@ mod drawn;
 mod laws;
 mod pass;
 mod source;
-#[cfg(test)]
-mod tests;
 
 pub use drawn::Drawn;
 pub use laws::each_ticket_is_drawn_once;

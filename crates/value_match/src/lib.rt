@@ -23,6 +23,3 @@ pub use settling::settle;
 pub use table::{Front, LongestTable, fronts_of};
 pub use values::{match_operations, match_values};
 pub use violation::{Cover, CoverStep, Violation};
-
-#[cfg(test)]
-mod tests;

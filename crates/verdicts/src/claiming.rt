@@ -43,6 +43,3 @@ fn kind_of(violation: &Violation) -> ViolationKind
         Violation::Witness { .. } => ViolationKind::VWit,
     }
 }
-
-#[cfg(test)]
-mod tests;

@@ -10,10 +10,6 @@ mod lookup;
 mod selection;
 mod shown;
 mod shrinking;
-#[cfg(test)]
-mod small_histories;
-#[cfg(test)]
-mod tests;
 mod verdict;
 mod verifying;
 

@@ -56,6 +56,3 @@ fn selected_events(
     let tickets = selection.tickets(alloc, operations)?;
     events_at(alloc, history.events(), &tickets)
 }
-
-#[cfg(test)]
-mod tests;

@@ -83,6 +83,3 @@ pub fn verify(alloc: Global, history: &History, claimed: &Claimed) -> Result<boo
         Claimed::No(kind, lines) => Ok(shows_violation(operations, *kind, lines.as_slice())),
     }
 }
-
-#[cfg(test)]
-mod tests;

@@ -3,8 +3,6 @@
 
 mod plans;
 mod seeds;
-#[cfg(test)]
-mod tests;
 mod texts;
 
 pub use event_records::Kind;

@@ -1,2 +1,0 @@
-mod questions;
-mod turns;

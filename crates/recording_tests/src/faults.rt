@@ -1,0 +1,39 @@
+use std::test::Fail;
+use stress_run::{RunFault, least_fault};
+
+#[test]
+fn the_least_fault_is_answered(rt: HostRuntime) -> Result<(), Fail> {
+    let cases: [(&[RunFault], Option<RunFault>); 4] = [
+        (
+            &[RunFault::CloseLost(0), RunFault::Stalled(1)],
+            Some(RunFault::Stalled(1)),
+        ),
+        (
+            &[RunFault::Uncertified(0), RunFault::Memory],
+            Some(RunFault::Memory),
+        ),
+        (
+            &[RunFault::Stalled(3), RunFault::Stalled(1)],
+            Some(RunFault::Stalled(1)),
+        ),
+        (&[], None),
+    ];
+    for (faults, least) in cases {
+        assert_eq!(rt; least_fault(faults), least);
+    }
+    Ok(())
+}
+
+#[test]
+fn a_fault_tells_its_thread(rt: HostRuntime) -> Result<(), Fail> {
+    let alloc = rt.alloc();
+    assert_eq!(rt;
+        format!(in alloc; "{}", RunFault::Memory)?.as_str(),
+        "Memory"
+    );
+    assert_eq!(rt;
+        format!(in alloc; "{}", RunFault::Stalled(3))?.as_str(),
+        "Stalled 3"
+    );
+    Ok(())
+}

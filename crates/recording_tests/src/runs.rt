@@ -1,0 +1,151 @@
+use event_records::{Event, Lists, What, alternates};
+use history_merge::merge;
+use queue_interface::{Entry, GateQueue, ScriptQueue};
+use std::alloc::{AllocError, Global};
+use std::test::Fail;
+use std::thread::Threads;
+use stress_run::{Recorded, RunFault, run};
+use workloads::Plan;
+
+// What the events of a list are.
+fn whats(alloc: Global, list: &[Event]) -> Result<Vec<What>, AllocError> {
+    list.iter().map(|event| event.what).collect(alloc)
+}
+
+// The tickets of all lists, by rising number.
+fn all_tickets(alloc: Global, lists: &Lists) -> Result<Vec<u64>, AllocError> {
+    let merged = merge(alloc, lists)?;
+    merged.iter().map(|event| event.ticket).collect(alloc)
+}
+
+// Two workers over rings of two: the first takes the value that it put, the second is refused its last value.
+fn run_scripted<R: Threads + Sync>(rt: &R, alloc: Global) -> Result<Recorded, Fail> {
+    let plan = Plan::from_text(alloc, "EDD\nDEE\n")?;
+    let first = vec![in alloc; Entry::Taken, Entry::Got(0), Entry::Empty]?;
+    let second = vec![in alloc; Entry::Empty, Entry::Taken, Entry::NotTaken]?;
+    let queue = ScriptQueue::new(vec![in alloc; first, second]?);
+    Ok(run(rt, alloc, &queue, &plan, 2, 1_000_000)?)
+}
+
+#[test]
+fn each_list_is_its_workers(rt: HostRuntime) -> Result<(), Fail> {
+    let alloc = rt.alloc();
+    let recorded = run_scripted(&rt, alloc)?;
+    let lists = recorded.lists().as_slice();
+    assert_eq!(rt; lists.len(), 2);
+    let first = [
+        What::CallEnq(0),
+        What::RetEnq,
+        What::CallDeq,
+        What::RetDeq(0),
+        What::CallDeq,
+        What::RetEmpty,
+    ];
+    assert_eq!(rt; whats(alloc, &lists[0])?.as_slice(), first.as_slice());
+    let second = [
+        What::CallDeq,
+        What::RetEmpty,
+        What::CallEnq(4_294_967_297),
+        What::RetEnq,
+        What::CallEnq(4_294_967_298),
+        What::RetNot,
+    ];
+    assert_eq!(rt; whats(alloc, &lists[1])?.as_slice(), second.as_slice());
+    Ok(())
+}
+
+#[test]
+fn each_ticket_is_recorded_once(rt: HostRuntime) -> Result<(), Fail> {
+    let alloc = rt.alloc();
+    let recorded = run_scripted(&rt, alloc)?;
+    assert_eq!(rt; recorded.total(), 12);
+    let lists = recorded.into_lists();
+    let tickets = all_tickets(alloc, &lists)?;
+    assert_eq!(rt;
+        tickets.as_slice(),
+        [0, 1, 2, 3, 4, 5, 6, 7, 8, 9, 10, 11].as_slice()
+    );
+    for list in lists.as_slice() {
+        assert!(rt; alternates(list));
+    }
+    Ok(())
+}
+
+// Whether each list is two dequeues that found nothing.
+fn are_two_empty_dequeues(alloc: Global, lists: &Lists) -> Result<bool, AllocError> {
+    let want = [What::CallDeq, What::RetEmpty, What::CallDeq, What::RetEmpty];
+    for list in lists.as_slice() {
+        if whats(alloc, list)?.as_slice() != want.as_slice() {
+            return Ok(false);
+        }
+    }
+    Ok(true)
+}
+
+// Runs two dequeues of each worker through a gate, and tells how many calls saw those of all workers arrive.
+fn run_through_gate<R: Threads + Sync>(
+    rt: &R,
+    alloc: Global,
+    gate: &GateQueue,
+    plan: &str,
+) -> Result<u64, Fail> {
+    let plan = Plan::from_text(alloc, plan)?;
+    let recorded = run(rt, alloc, gate, &plan, 4, 1_000_000)?;
+    if !are_two_empty_dequeues(alloc, recorded.lists())? {
+        return Err("another list".into());
+    }
+    Ok(gate.passed())
+}
+
+#[test]
+fn workers_are_inside_the_queue_at_once(rt: HostRuntime) -> Result<(), Fail> {
+    let alloc = rt.alloc();
+    let two = GateQueue::new(2, 10_000_000);
+    assert_eq!(rt; run_through_gate(&rt, alloc, &two, "DD\nDD\n")?, 4);
+    let four = GateQueue::new(4, 10_000_000);
+    assert_eq!(rt; run_through_gate(&rt, alloc, &four, "DD\nDD\nDD\nDD\n")?, 8);
+    Ok(())
+}
+
+// A script in which each worker's first value is taken and its dequeue then finds nothing.
+fn sixteen_rows(alloc: Global) -> Result<ScriptQueue, AllocError> {
+    let mut rows = Vec::new(alloc);
+    for _ in 0..16 {
+        rows.push(vec![in alloc; Entry::Taken, Entry::Empty]?)?;
+    }
+    Ok(ScriptQueue::new(rows))
+}
+
+#[test]
+fn sixteen_workers_are_recorded(rt: HostRuntime) -> Result<(), Fail> {
+    let alloc = rt.alloc();
+    let plan = Plan::from_text(
+        alloc,
+        "ED\nED\nED\nED\nED\nED\nED\nED\nED\nED\nED\nED\nED\nED\nED\nED\n",
+    )?;
+    let queue = sixteen_rows(alloc)?;
+    let recorded = run(&rt, alloc, &queue, &plan, 4, 1_000_000)?;
+    assert_eq!(rt; recorded.total(), 64);
+    let history = recorded.history(alloc)?;
+    assert_eq!(rt; history.operations().len(), 32);
+    let tickets: Vec<u64> = history
+        .events()
+        .iter()
+        .map(|event| event.ticket)
+        .collect(alloc)?;
+    let numbers: Vec<u64> = (0..64).collect(alloc)?;
+    assert_eq!(rt; tickets.as_slice(), numbers.as_slice());
+    Ok(())
+}
+
+#[test]
+fn sizes_out_of_range_are_refused(rt: HostRuntime) -> Result<(), Fail> {
+    let alloc = rt.alloc();
+    let plan = Plan::from_text(alloc, "D\n")?;
+    let queue = ScriptQueue::new(Vec::new(alloc));
+    for (ring, tries) in [(1, 1), (65_537, 1), (2, 0), (2, 10_000_001)] {
+        let refused = run(&rt, alloc, &queue, &plan, ring, tries);
+        assert_eq!(rt; refused.err(), Some(RunFault::Limit));
+    }
+    Ok(())
+}

@@ -1,0 +1,65 @@
+ghost use Rattle.std.specs.Prelude.{◌≡◌, ◌+◌, ◌≤◌, ◌<◌, ◌^◌, IfOk};
+
+use event_records::{Kind, Namer, ThreadNo};
+use event_rings::{DrainEnd, ring};
+use queue_interface::{ScriptQueue, TestQueue};
+use std::alloc::Global;
+use std::process::Abort;
+use std::test::Fail;
+use stress_run::{Worker, WorkerFault, one_call};
+use tickets::Tickets;
+
+// A worker with ten tickets, a ring of two and three tries, and the other end of the ring, which nobody drains.
+pub(crate) fn lone_worker(alloc: Global) -> Result<(Tickets, Worker, DrainEnd), Fail>
+    ensures key { IfOk result (λ made. made.1.pass.key ≡ made.0.key) }
+    ensures left { IfOk result (λ made. made.1.pass.left ≡ 10) }
+    ensures asked { IfOk result (λ made. made.1.asked ≡ 0) }
+{
+    let (tickets, pass) = Tickets::new(alloc, 10)?;
+    let thread = ThreadNo::new(0).ok_or("thread")?;
+    let (push, drain) = ring(alloc, thread, 2)?;
+    let worker = Worker::new(pass, Namer::new(thread), push, 3);
+    Ok((tickets, worker, drain))
+}
+
+// One operation, which draws two tickets at most whatever it answers.
+pub(crate) fn operate(
+    queue: &dyn TestQueue,
+    tickets: &Tickets,
+    worker: &mut Worker,
+    kind: Kind,
+) -> Result<(), WorkerFault>
+    requires key { worker.old.pass.key ≡ tickets.now.key }
+    requires left { 2 ≤ worker.old.pass.left }
+    requires room { worker.old.asked < 2 ^ 32 }
+    ensures key { worker.new.pass.key ≡ worker.old.pass.key }
+    ensures left { worker.old.pass.left ≤ worker.new.pass.left + 2 }
+    ensures asked { worker.new.asked ≤ worker.old.asked + 1 }
+{
+    match one_call(queue, tickets, worker, kind) {
+        Ok(()) => Ok(()),
+        Err(fault) => Err(fault),
+    }
+}
+
+// How many tickets a worker has drawn that nobody drains, when it is closed after the call that stalls or after one more.
+fn tickets_drawn(rt: &impl Abort, alloc: Global, one_more: bool) -> Result<u64, Fail> {
+    let (tickets, mut worker, _drain) = lone_worker(alloc)?;
+    let queue = ScriptQueue::new(Vec::new(alloc));
+    assert_eq!(rt; operate(&queue, &tickets, &mut worker, Kind::Enq), Ok(()));
+    let stalled = Err(WorkerFault::Stalled);
+    assert_eq!(rt; operate(&queue, &tickets, &mut worker, Kind::Deq), stalled);
+    if one_more {
+        assert_eq!(rt; operate(&queue, &tickets, &mut worker, Kind::Deq), stalled);
+    }
+    assert!(rt; worker.is_stopped());
+    let (_token, pass) = worker.close().ok().ok_or("closed")?;
+    Ok(pass.share() - pass.left())
+}
+
+#[test]
+fn a_worker_stalls_where_nobody_drains(rt: HostRuntime) -> Result<(), Fail> {
+    assert_eq!(rt; tickets_drawn(&rt, rt.alloc(), false)?, 3);
+    assert_eq!(rt; tickets_drawn(&rt, rt.alloc(), true)?, 3);
+    Ok(())
+}

@@ -1,5 +1,0 @@
-mod askings;
-mod faults;
-mod runs;
-mod start;
-mod workers;

@@ -1,0 +1,117 @@
+use clap::Error;
+use clap::error::ErrorKind;
+use command_words::{StressOptions, Task, task_in};
+use std::alloc::AllocError;
+use std::test::Fail;
+
+// Whether the words name the task. Want of memory is an error of its own, as below.
+fn has_task<R: AllocGlobal>(rt: &R, words: &[&str], task: Task<'_>) -> Result<bool, Error> {
+    Ok(task_in(rt.alloc(), words)? == task)
+}
+
+fn has_fault<R: AllocGlobal>(rt: &R, words: &[&str], kind: ErrorKind) -> Result<bool, AllocError> {
+    match task_in(rt.alloc(), words) {
+        Ok(_) => Ok(false),
+        Err(error) if error.kind() == ErrorKind::OutOfMemory => Err(AllocError),
+        Err(error) => Ok(error.kind() == kind),
+    }
+}
+
+#[test]
+fn subcommands_name_tasks(rt: HostRuntime) -> Result<(), Fail> {
+    let tasks = [
+        ("check", Task::Check),
+        ("shrink", Task::Shrink),
+        ("verify", Task::Verify),
+        ("sim", Task::Sim),
+    ];
+    for (name, task) in tasks {
+        assert!(rt; has_task(&rt, &["fifobench", name], task)?, "{name}");
+    }
+    Ok(())
+}
+
+#[test]
+fn options_have_defaults(rt: HostRuntime) -> Result<(), Fail> {
+    let options = StressOptions {
+        queue: "locked",
+        threads: 2,
+        operations: 1000,
+        seed: 1,
+        percent: 50,
+        ring: 1024,
+    };
+    let words = ["fifobench", "stress", "--queue", "locked"];
+    assert!(rt; has_task(&rt, &words, Task::Stress(options))?);
+    Ok(())
+}
+
+#[test]
+fn options_are_read(rt: HostRuntime) -> Result<(), Fail> {
+    let options = StressOptions {
+        queue: "two-lock",
+        threads: 16,
+        operations: 100_000,
+        seed: 4_294_967_295,
+        percent: 0,
+        ring: 65_536,
+    };
+    let words = [
+        "fifobench",
+        "stress",
+        "--ring=65536",
+        "--percent",
+        "0",
+        "--seed",
+        "4294967295",
+        "--ops",
+        "100000",
+        "--threads",
+        "16",
+        "--queue=two-lock",
+    ];
+    assert!(rt; has_task(&rt, &words, Task::Stress(options))?);
+    Ok(())
+}
+
+#[test]
+fn numbers_out_of_range_are_faults(rt: HostRuntime) -> Result<(), Fail> {
+    let faults = [
+        ("--threads", "17"),
+        ("--threads", "0"),
+        ("--ops", "100001"),
+        ("--seed", "4294967296"),
+        ("--percent", "101"),
+        ("--ring", "1"),
+        ("--ring", "65537"),
+        ("--ops", "many"),
+    ];
+    for (option, number) in faults {
+        let words = ["fifobench", "stress", "--queue", "seg", option, number];
+        let refused = has_fault(&rt, &words, ErrorKind::ValueValidation)?;
+        assert!(rt; refused, "{option} {number}");
+    }
+    Ok(())
+}
+
+#[test]
+fn mistaken_words_are_faults(rt: HostRuntime) -> Result<(), Fail> {
+    let unnamed = ["fifobench", "stress", "--threads", "3"];
+    assert!(rt; has_fault(&rt, &unnamed, ErrorKind::MissingRequiredArgument)?);
+    assert!(rt; has_fault(&rt, &["fifobench"], ErrorKind::MissingSubcommand)?);
+    assert!(rt; has_fault(&rt, &["fifobench", "judge"], ErrorKind::InvalidSubcommand)?);
+    Ok(())
+}
+
+#[test]
+fn words_that_ask_for_help_get_it(rt: HostRuntime) -> Result<(), Fail> {
+    assert!(rt; has_fault(&rt, &["fifobench", "help"], ErrorKind::DisplayHelp)?);
+    assert!(rt;
+        has_fault(
+            &rt,
+            &["fifobench", "stress", "--help"],
+            ErrorKind::DisplayHelp
+        )?
+    );
+    Ok(())
+}
