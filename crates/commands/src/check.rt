@@ -12,23 +12,28 @@ use event_records::MAX_EVENTS;
 use history_merge::HistoryBuilder;
 use history_text::TextSource;
 use std::alloc::Global;
-use verdicts::decide_operations;
+use std::thread::Threads;
+use verdicts::decide_operations_par;
+
+/// Into how many pieces `check` and `stress` cut the searches for violations.
+pub const PIECES: usize = 4;
 
 /// What `check` finds in what the reader gives.
-pub fn check<S: TextSource>(alloc: Global, reader: S) -> Outcome
+pub fn check<R, S>(rt: &R, alloc: Global, reader: S) -> Outcome
 where
-    S: Drop,
+    R: Threads + Sync,
+    S: TextSource + Drop,
     ensures found { IfSome (S.ahead reader) (λ input. AnswersFor IsHistoryOf IsFaultOfHistoryInput Judges input (answer_of result)) }
     ensures places { NamesPlaces result }
 {
     match gathered_of(alloc, reader) {
-        Ok(builder) => judge(alloc, builder),
+        Ok(builder) => judge(rt, alloc, builder),
         Err(fault) => Outcome::of_text_fault(fault),
     }
 }
 
 /// What `check` finds in the events of a text.
-fn judge(alloc: Global, builder: HistoryBuilder) -> Outcome
+fn judge<R: Threads + Sync>(rt: &R, alloc: Global, builder: HistoryBuilder) -> Outcome
     requires { (events : List Event) × HasGathered events builder × (length events ≤ MAX_EVENTS) }
     ensures found { (events : List Event) → HasGathered events builder → AnswersOrNoMemory Judges events (answer_of result) }
     ensures places { NamesPlaces result }
@@ -37,7 +42,7 @@ fn judge(alloc: Global, builder: HistoryBuilder) -> Outcome
         Ok(operations) => operations,
         Err(fault) => return Outcome::of_history_fault(fault),
     };
-    match decide_operations(alloc, &operations) {
+    match decide_operations_par(rt, alloc, &operations, PIECES) {
         Ok(verdict) => Outcome::Judged(operations, verdict),
         Err(_) => Outcome::MemoryFault,
     }

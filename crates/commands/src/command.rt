@@ -28,7 +28,8 @@ use std::thread::Threads;
 ///
 /// The first word is the program's name. `stress` runs a queue of the shelf, the first of its name, and reads nothing; the
 /// other commands read their input whole. Everything is computed before the first byte is written, and the writer is flushed
-/// once, at the end. Only `stress` waits: for its workers, and so for the queue.
+/// once, at the end. Two commands wait: `check` for the threads of its searches, `stress` for these and for its workers, and so
+/// for the queue.
 pub fn run_command<'a, R, T, S, W>(
     rt: &R,
     words: &'a [T],
@@ -97,7 +98,7 @@ where
     ensures places { NamesPlaces result }
 {
     match task {
-        Task::Check => return check(rt.alloc(), reader),
+        Task::Check => return check(rt, rt.alloc(), reader),
         Task::Shrink => return shrink(rt.alloc(), reader),
         Task::Verify => return verify(rt.alloc(), reader),
         Task::Sim => return sim(rt.alloc(), reader),

@@ -5,6 +5,7 @@ ghost use Rattle.command_words.specs.Options.{settings_of, IsWithinRanges};
 ghost use Rattle.commands.specs.Outcomes.{answer_of, NamesPlaces};
 ghost use Rattle.commands.specs.Stressing.{IsFirstNamed, RunsOrFails, Stresses, StressesQueue};
 
+use crate::check::PIECES;
 use crate::outcome::Outcome;
 use command_words::StressOptions;
 use event_records::MAX_OPERATIONS;
@@ -12,7 +13,7 @@ use queue_interface::TestQueue;
 use std::alloc::Global;
 use std::thread::Threads;
 use stress_run::run;
-use verdicts::decide;
+use verdicts::decide_par;
 use workloads::Plan;
 
 /// How often a push into a full ring is tried again before its worker gives up.
@@ -102,7 +103,7 @@ fn run_plan<'a, R: Threads + Sync>(
     let Ok(history) = recorded.history(alloc) else {
         return Outcome::MemoryFault;
     };
-    match decide(alloc, &history) {
+    match decide_par(rt, alloc, &history, PIECES) {
         Ok(verdict) => Outcome::Shown(history, verdict),
         Err(_) => Outcome::MemoryFault,
     }

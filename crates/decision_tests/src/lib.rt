@@ -1,4 +1,4 @@
-//! Tests of the crates that form histories, match their values, decide, claim, verify and shrink. The crate has tests alone: a
+//! Tests of the crates that form histories, match their values, search, decide, claim, verify and shrink. The crate has tests alone: a
 //! crate's own tests would prove it a second time.
 #![tactic(auto)]
 
@@ -10,6 +10,8 @@ mod deciding;
 mod histories;
 #[cfg(test)]
 mod matching;
+#[cfg(test)]
+mod pieces;
 #[cfg(test)]
 mod shrinking;
 #[cfg(test)]

@@ -1,10 +1,10 @@
 -- The empty answers by their places, and one more of them in a scan.
-use Rattle.std.proofs.Common.{◌≡◌, ℕ, zero, suc, ◌+◌, ◌<◌, ◌≤◌, true, false, List, [], ◌∷◌, ◌++◌, length, get_or, take, map, Option, Some, None, refl, sym, ◌∙◌, ap, subst, inl, inr, arith, rules}
-use Rattle.std.specs.Prelude.{All, Contains, filter, slice_get, MatchOption, IsSome, is_none}
+use Rattle.std.proofs.Common.{◌≡◌, ℕ, zero, suc, ◌+◌, ◌<◌, ◌≤◌, true, false, List, [], ◌∷◌, ◌++◌, length, get_or, take, drop, map, Option, Some, None, refl, sym, subst, inl, inr, arith}
+use Rattle.std.specs.Prelude.{All, Contains, filter, slice_get, MatchOption, is_none}
 use Rattle.history_merge.proofs.Distinct.{one_at}
 use Rattle.std.specs.List.{AllZip}
-use Rattle.std.proofs.lemmas.List.{length-map, take_all}
-use Rattle.std.proofs.lemmas.List.Elements.{All-push, All-weaker, All-contains, Contains-get_or}
+use Rattle.std.proofs.lemmas.List.{append_assoc, get_or_default, take-append-drop}
+use Rattle.std.proofs.lemmas.List.Elements.{All-nil, All-push, All-append, All-weaker, All-contains, All-get_or, All-from_get_or, Contains-get_or}
 use Rattle.history_merge.specs.declared.operation.Operation.{Operation}
 use Rattle.history_merge.specs.declared.operation.OpKind.{OpKind}
 use Rattle.history_merge.specs.declared.operation.OpKind.TheVariants.{Enq, Deq, Empty, Not}
@@ -12,10 +12,11 @@ use Rattle.history_merge.specs.Operations.{Did, IsAt}
 use Rattle.history_merge.specs.Legal.{ArePlacesOf}
 use Rattle.value_match.specs.declared.life.Life.{Life}
 use Rattle.value_match.specs.Choice.{IsChosenCover, IsChosenWitness}
-use Rattle.value_match.specs.Lives.{IsCovered, IsLeastFreeGap, HoldsPlaces, is_empty_kind, is_empty_answer}
-use Rattle.value_match.proofs.Lists.{one_more, one_more_zipped, passes_filter, passed_filter}
+use Rattle.value_match.specs.Lives.{IsCovered, IsLeastFreeGap, AreLeastFreeGaps, HoldsPlaces, is_empty_kind, is_empty_answer}
+use Rattle.value_match.proofs.Lists.{one_deeper, one_more, one_more_zipped, passes_filter, passed_filter}
 use Rattle.empty_witness.specs.declared.search.EmptyAnswer.{EmptyAnswer}
-use Rattle.empty_witness.specs.Covered.{IsSoonerOf, IsFirstCovered, NoneIsCovered, FindsFirstCovered}
+use Rattle.empty_witness.specs.Answers.{IsEmptyAnswerAt, AreGapsAt}
+use Rattle.empty_witness.specs.Covered.{IsSoonerOf, IsFirstCovered}
 
 -- the operation that a place of a list of places names
 pub listed_at : (operations : List Operation) (places : List ℕ) (listed : List Operation) (i p : ℕ) → ArePlacesOf operations places listed → i < length places → p ≡ get_or places i p
@@ -40,26 +41,29 @@ is_empty_did operations o among = let passed = passed_filter is_empty_answer ope
 pub empty_is_listed : (operations : List Operation) (o : Operation) → Did operations o Empty → Contains (filter is_empty_answer operations) o
 empty_is_listed operations o did = passes_filter is_empty_answer operations o (rw did.1 refl) did.0
 
--- an answer at a place of the list of empty answers is the one listed there
-pub is_listed : (operations : List Operation) (places : List ℕ) (i p : ℕ) (o : Operation) → HoldsPlaces operations is_empty_answer places → i < length places → p ≡ get_or places i p → IsAt operations p o
-    → (i < length (filter is_empty_answer operations)) × (o ≡ get_or (filter is_empty_answer operations) i o)
-is_listed operations places i p o named within is at =
-    let found = listed_at operations places (filter is_empty_answer operations) i p named within is in
-    let one = one_at operations p found.0 o found.1 at in
-    (found.2, subst (λ x. x ≡ get_or (filter is_empty_answer operations) i x) one found.3)
+-- at each of the places stands an empty answer
+pub places_are_empty : (operations : List Operation) (places : List ℕ) → HoldsPlaces operations is_empty_answer places → All (IsEmptyAnswerAt operations) places
+places_are_empty operations places named = All-from_get_or (IsEmptyAnswerAt operations) places 0 at
+  where
+    at : (i : ℕ) → i < length places → IsEmptyAnswerAt operations (get_or places i 0)
+    at i within =
+        let found = listed_at operations places (filter is_empty_answer operations) i (get_or places i 0) named within (get_or_default places i 0 (get_or places i 0) within) in
+        let among = subst (Contains (filter is_empty_answer operations)) (sym found.3) (Contains-get_or (filter is_empty_answer operations) i found.0 found.2) in
+        (found.0, found.1, (is_empty_did operations found.0 among).1)
 
-pub answer_is_empty : (operations : List Operation) (places : List ℕ) (i p : ℕ) → HoldsPlaces operations is_empty_answer places → i < length places → p ≡ get_or places i p → (o : Operation) × IsAt operations p o × (o.kind ≡ Empty)
-answer_is_empty operations places i p named within is =
-    let found = listed_at operations places (filter is_empty_answer operations) i p named within is in
-    let among = subst (Contains (filter is_empty_answer operations)) (sym found.3) (Contains-get_or (filter is_empty_answer operations) i found.0 found.2) in
-    (found.0, found.1, (is_empty_did operations found.0 among).1)
+pub answer_is_empty : (operations : List Operation) (places : List ℕ) (i place : ℕ) → All (IsEmptyAnswerAt operations) places → i < length places → place ≡ get_or places i place → IsEmptyAnswerAt operations place
+answer_is_empty operations places i place empty within is = subst (IsEmptyAnswerAt operations) (sym is) (All-get_or (IsEmptyAnswerAt operations) places i place within empty)
 
--- past the places all answers have been seen
-pub all_listed : (operations : List Operation) (places : List ℕ) (i : ℕ) → HoldsPlaces operations is_empty_answer places → length places ≤ i → take i (filter is_empty_answer operations) ≡ filter is_empty_answer operations
-all_listed operations places i named past =
-    let long : length places ≡ length (filter is_empty_answer operations) =
-    sym (length-map places (slice_get operations)) ∙ ap length named ∙ length-map (filter is_empty_answer operations) (λ o. Some o) in
-    take_all i (filter is_empty_answer operations) (omega arith)
+-- what is listed has a place
+place_listed : (operations : List Operation) (places : List ℕ) (listed : List Operation) (i : ℕ) (o : Operation) → ArePlacesOf operations places listed → i < length listed → get_or listed i o ≡ o
+    → (p : ℕ) × Contains places p × IsAt operations p o
+place_listed operations places [] i o named within is = absurd (omega arith)
+place_listed operations [] (x ∷ listed) i o named within is = cc
+place_listed operations (p ∷ places) (x ∷ listed) zero o named within is = let at : slice_get operations p ≡ Some x = cc in (p, (zero, omega arith, refl), subst (IsAt operations p) is at)
+place_listed operations (p ∷ places) (x ∷ listed) (suc i) o named within is =
+    let rest : map (slice_get operations) places ≡ map (λ o. Some o) listed = cc in
+    let more = place_listed operations places listed i o rest (omega arith) is in
+    (more.0, one_deeper p places more.0 more.1, more.2)
 
 -- a window with a free gap is not covered
 pub free_is_not_covered : (operations : List Operation) (o : Operation) (c : ℕ) → IsLeastFreeGap operations o c → ¬ (IsCovered operations o)
@@ -70,87 +74,131 @@ pub covered_if_none : (operations : List Operation) (o : Operation) (found : Opt
 covered_if_none operations o None covered none = covered
 covered_if_none operations o (Some c) is none = cc
 
-pub not_covered_if_some : (operations : List Operation) (o : Operation) (found : Option ℕ) → MatchOption found (IsCovered operations o) (λ c. IsLeastFreeGap operations o c) → is_none found ≡ false → ¬ (IsCovered operations o)
-not_covered_if_some operations o None covered some = cc
-not_covered_if_some operations o (Some c) is some = free_is_not_covered operations o c is
-
-pub gap_if_not_covered : (operations : List Operation) (o : Operation) (found : Option ℕ) → MatchOption found (IsCovered operations o) (λ c. IsLeastFreeGap operations o c) → ¬ (IsCovered operations o) → IsSome found
-gap_if_not_covered operations o None covered not = absurd (not covered)
-gap_if_not_covered operations o (Some c) is not = search rules
+pub gap_if_some : (operations : List Operation) (o : Operation) (found : Option ℕ) → MatchOption found (IsCovered operations o) (λ c. IsLeastFreeGap operations o c) → is_none found ≡ false → (c : ℕ) × IsLeastFreeGap operations o c
+gap_if_some operations o None covered some = cc
+gap_if_some operations o (Some c) is some = (c, is)
 
 module _ (operations : List Operation) where
   -- an answer whose window is covered returned no earlier than this one
-  abbrev ReturnsLater : EmptyAnswer → Operation → Type 0
-  ReturnsLater answer o = IsCovered operations o → answer.operation.ret ≤ o.ret
+  abbrev ReturnsLater : EmptyAnswer → ℕ → Type 0
+  ReturnsLater answer place = (o : Operation) → IsAt operations place o → IsCovered operations o → answer.operation.ret ≤ o.ret
 
-  free_by : (seen : List Operation) (o : Operation) (found : Option EmptyAnswer) → FindsFirstCovered operations seen found → ¬ (IsCovered operations o) → FindsFirstCovered operations (seen ++ o ∷ []) found
-  free_by seen o None none not = All-push (λ o. ¬ (IsCovered operations o)) seen o none not
-  free_by seen o (Some first) is not = record {
-    at = is.at;
-    is_empty = is.is_empty;
-    is_covered = is.is_covered;
-    first = All-push (ReturnsLater first) seen o is.first (λ covered. absurd (not covered));
-  }
+  abbrev IsFree : ℕ → Type 0
+  IsFree place = (o : Operation) → IsAt operations place o → ¬ (IsCovered operations o)
+
+  abbrev HasGap : ℕ → ℕ → Type 0
+  HasGap place c = (o : Operation) × IsAt operations place o × IsLeastFreeGap operations o c
 
   -- an answer whose window is covered
-  record IsCoveredAnswer (answer : EmptyAnswer) : Type 0 where
-    at : IsAt operations answer.place answer.operation
-    is_empty : Did operations answer.operation Empty
-    is_covered : IsCovered operations answer.operation
+  pub record IsCoveredAnswer (answer : EmptyAnswer) : Type 0 where
+    pub at : IsAt operations answer.place answer.operation
+    pub is_empty : Did operations answer.operation Empty
+    pub is_covered : IsCovered operations answer.operation
 
-  first_of : (answers : List Operation) (answer : EmptyAnswer) → IsCoveredAnswer answer → All (ReturnsLater answer) answers → IsFirstCovered operations answers answer
-  first_of answers answer is first = record { at = is.at; is_empty = is.is_empty; is_covered = is.is_covered; first = first }
+  first_of : (places : List ℕ) (answer : EmptyAnswer) → IsCoveredAnswer answer → All (ReturnsLater answer) places → IsFirstCovered operations places answer
+  first_of places answer is first = record { at = is.at; is_empty = is.is_empty; is_covered = is.is_covered; first = first }
 
-  covered_by : (seen : List Operation) (x r : EmptyAnswer) (found : Option EmptyAnswer) → FindsFirstCovered operations seen found → IsCoveredAnswer x → MatchOption found (r ≡ x) (λ first. IsSoonerOf first x r)
-      → IsFirstCovered operations (seen ++ x.operation ∷ []) r
-  covered_by seen x r None none is same = subst (IsFirstCovered operations (seen ++ x.operation ∷ [])) (sym same)
-      (first_of (seen ++ x.operation ∷ []) x is
-      (All-push (ReturnsLater x) seen x.operation (All-weaker (λ o. ¬ (IsCovered operations o)) (ReturnsLater x) (λ o not covered. absurd (not covered)) seen none) (λ _. omega arith)))
-  covered_by seen x r (Some first) so_far is sooner =
-      first_of (seen ++ x.operation ∷ []) r
-      (elim sooner.is_one [
-        | inl same ↦ subst IsCoveredAnswer (sym same) (record { at = so_far.at; is_empty = so_far.is_empty; is_covered = so_far.is_covered })
-        | inr same ↦ subst IsCoveredAnswer (sym same) is
-      ])
-      (All-push (ReturnsLater r) seen x.operation (All-weaker (ReturnsLater first) (ReturnsLater r) (λ o later covered. earlier o (later covered)) seen so_far.first) (λ _. sooner.before_second))
+  covered_of : (places : List ℕ) (answer : EmptyAnswer) → IsFirstCovered operations places answer → IsCoveredAnswer answer
+  covered_of places answer is = record { at = is.at; is_empty = is.is_empty; is_covered = is.is_covered }
+
+  -- where each has a gap none is covered
+  gap_is_free : (place c : ℕ) → HasGap place c → IsFree place
+  gap_is_free place c has o at = free_is_not_covered operations o c (subst (λ x. IsLeastFreeGap operations x c) (one_at operations place has.0 o has.1 at) has.2)
+
+  gaps_are_free : (places gaps : List ℕ) → AreGapsAt operations places gaps → All IsFree places
+  gaps_are_free [] gaps zip = All-nil IsFree
+  gaps_are_free (place ∷ places) [] zip = absurd zip
+  gaps_are_free (place ∷ places) (c ∷ gaps) zip = All-append IsFree (place ∷ []) places (All-push IsFree [] place (All-nil IsFree) (gap_is_free place c zip.0)) (gaps_are_free places gaps zip.1)
+
+  later_than_free : (answer : EmptyAnswer) (places : List ℕ) → All IsFree places → All (ReturnsLater answer) places
+  later_than_free answer places free = All-weaker IsFree (ReturnsLater answer) (λ place not o at covered. absurd (not o at covered)) places free
+
+  later_than_later : (a r : EmptyAnswer) (places : List ℕ) → r.operation.ret ≤ a.operation.ret → All (ReturnsLater a) places → All (ReturnsLater r) places
+  later_than_later a r places le later = All-weaker (ReturnsLater a) (ReturnsLater r) (λ place before o at covered. further place o (before o at covered)) places later
     where
-      earlier : (o : Operation) → first.operation.ret ≤ o.ret → r.operation.ret ≤ o.ret
-      earlier o le = omega (arith, sooner.before_first)
+      further : (place : ℕ) (o : Operation) → a.operation.ret ≤ o.ret → r.operation.ret ≤ o.ret
+      further place o far = omega (arith, le, far)
 
-  -- the window of the next answer is not covered
-  pub first_stays : (answers : List Operation) (i : ℕ) (o : Operation) (found : Option EmptyAnswer) → i < length answers → o ≡ get_or answers i o → FindsFirstCovered operations (take i answers) found
-      → ¬ (IsCovered operations o) → FindsFirstCovered operations (take (i + 1) answers) found
-  first_stays answers i o found within is so_far not =
-      subst (λ seen. FindsFirstCovered operations seen found) (sym (one_more answers i o within is)) (free_by (take i answers) o found so_far not)
+  -- of the first of some places and the first of others, the sooner is the first of both
+  pub sooner_is_first : (low high : List ℕ) (a b r : EmptyAnswer) → IsFirstCovered operations low a → IsFirstCovered operations high b → IsSoonerOf a b r → IsFirstCovered operations (low ++ high) r
+  sooner_is_first low high a b r is_a is_b sooner =
+      first_of (low ++ high) r
+      (elim sooner.is_one [ inl same ↦ subst IsCoveredAnswer (sym same) (covered_of low a is_a) | inr same ↦ subst IsCoveredAnswer (sym same) (covered_of high b is_b) ])
+      (All-append (ReturnsLater r) low high (later_than_later a r low sooner.before_first is_a.first) (later_than_later b r high sooner.before_second is_b.first))
 
-  -- the window of the next answer is covered
-  pub first_changes : (answers : List Operation) (i : ℕ) (x r : EmptyAnswer) (found : Option EmptyAnswer) → i < length answers → x.operation ≡ get_or answers i x.operation → FindsFirstCovered operations (take i answers) found
-      → IsAt operations x.place x.operation → Did operations x.operation Empty → IsCovered operations x.operation → MatchOption found (r ≡ x) (λ first. IsSoonerOf first x r) → FindsFirstCovered operations (take (i + 1) answers) (Some r)
-  first_changes answers i x r found within is so_far at did covered sooner =
-      subst (λ seen. IsFirstCovered operations seen r) (sym (one_more answers i x.operation within is))
-      (covered_by (take i answers) x r found so_far (record { at = at; is_empty = did; is_covered = covered }) sooner)
+  -- where each of the others has a gap, the first is the first of all
+  pub low_is_first : (low high gaps : List ℕ) (a : EmptyAnswer) → IsFirstCovered operations low a → AreGapsAt operations high gaps → IsFirstCovered operations (low ++ high) a
+  low_is_first low high gaps a is zip = first_of (low ++ high) a (covered_of low a is) (All-append (ReturnsLater a) low high is.first (later_than_free a high (gaps_are_free high gaps zip)))
 
-  -- one more gap beside one more answer
-  pub one_more_gap : (answers : List Operation) (gaps : List ℕ) (i c : ℕ) (o : Operation) → i < length answers → o ≡ get_or answers i o → AllZip (λ o c. IsLeastFreeGap operations o c) (take i answers) gaps → IsLeastFreeGap operations o c
-      → AllZip (λ o c. IsLeastFreeGap operations o c) (take (i + 1) answers) (gaps ++ c ∷ [])
-  one_more_gap answers gaps i c o within is zip free =
-      subst (λ seen. AllZip (λ o c. IsLeastFreeGap operations o c) seen (gaps ++ c ∷ [])) (sym (one_more answers i o within is)) (one_more_zipped (λ o c. IsLeastFreeGap operations o c) (take i answers) gaps o c zip free)
+  pub high_is_first : (low high gaps : List ℕ) (b : EmptyAnswer) → AreGapsAt operations low gaps → IsFirstCovered operations high b → IsFirstCovered operations (low ++ high) b
+  high_is_first low high gaps b zip is = first_of (low ++ high) b (covered_of high b is) (All-append (ReturnsLater b) low high (later_than_free b low (gaps_are_free low gaps zip)) is.first)
 
--- the first of all empty answers whose window is covered is the chosen one
-pub first_is_chosen : (operations : List Operation) (first : EmptyAnswer) (cover : List Life) → IsFirstCovered operations (filter is_empty_answer operations) first → IsChosenCover operations first.operation cover
-    → IsChosenWitness operations first.operation cover
-first_is_chosen operations first cover is chosen = record {
-  answers_empty = is.is_empty;
-  is_covered = is.is_covered;
-  first = λ o did covered. All-contains (λ o. IsCovered operations o → first.operation.ret ≤ o.ret) (filter is_empty_answer operations) o is.first (empty_is_listed operations o did) covered;
-  cover_is_chosen = chosen;
-}
+  -- it is the first of its own place
+  pub first_of_one : (x : EmptyAnswer) → IsCoveredAnswer x → IsFirstCovered operations (x.place ∷ []) x
+  first_of_one x is = first_of (x.place ∷ []) x is (All-push (ReturnsLater x) [] x.place (All-nil (ReturnsLater x)) (λ o at covered. later o (one_at operations x.place x.operation o is.at at)))
+    where
+      later : (o : Operation) → x.operation ≡ o → x.operation.ret ≤ o.ret
+      later o same = rw same (omega arith)
 
--- where none of the listed answers has a covered window, this one has not
-pub none_covered_at : (operations : List Operation) (i : ℕ) (o : Operation) → NoneIsCovered operations (filter is_empty_answer operations) → i < length (filter is_empty_answer operations) → o ≡ get_or (filter is_empty_answer operations) i o
-    → ¬ (IsCovered operations o)
-none_covered_at operations i o none within is = subst (λ x. ¬ (IsCovered operations x)) (sym is) (none i o within)
+  -- past the gaps of the first places comes an answer whose window is covered, and then what is found of the others
+  pub from_the_first : (places gaps others : List ℕ) (i : ℕ) (x r : EmptyAnswer) → i < length places → x.place ≡ get_or places i x.place → AreGapsAt operations (take i places) gaps → IsCoveredAnswer x → others ≡ drop (i + 1) places
+      → ((seen : List ℕ) → IsFirstCovered operations seen x → IsFirstCovered operations (seen ++ others) r) → IsFirstCovered operations places r
+  from_the_first places gaps others i x r within is zip covered rest goes_on =
+      let here = high_is_first (take i places) (x.place ∷ []) gaps x zip (first_of_one x covered) in
+      let seen = subst (λ ps. IsFirstCovered operations ps x) (sym (one_more places i x.place within is)) here in
+      subst (λ ps. IsFirstCovered operations ps r) (take-append-drop (i + 1) places) (subst (λ ps. IsFirstCovered operations (take (i + 1) places ++ ps) r) rest (goes_on (take (i + 1) places) seen))
 
-pub gap_found : (operations : List Operation) (o : Operation) (found : Option ℕ) (c : ℕ) → MatchOption found (IsCovered operations o) (λ c. IsLeastFreeGap operations o c) → found ≡ Some c → IsLeastFreeGap operations o c
-gap_found operations o None c covered same = cc
-gap_found operations o (Some b) c is same = let one : b ≡ c = cc in subst (IsLeastFreeGap operations o) one is
+  one_further : (seen others : List ℕ) (i place : ℕ) (r : EmptyAnswer) → i < length others → place ≡ get_or others i place → IsFirstCovered operations ((seen ++ take i others) ++ place ∷ []) r → IsFirstCovered operations (seen ++ take (i + 1) others) r
+  one_further seen others i place r within is first =
+      subst (λ ps. IsFirstCovered operations (seen ++ ps) r) (sym (one_more others i place within is)) (subst (λ ps. IsFirstCovered operations ps r) (append_assoc seen (take i others) (place ∷ [])) first)
+
+  -- the window of one more of the others is covered
+  pub one_more_covered : (seen others : List ℕ) (i : ℕ) (first x r : EmptyAnswer) → i < length others → x.place ≡ get_or others i x.place → IsFirstCovered operations (seen ++ take i others) first → IsCoveredAnswer x → IsSoonerOf first x r
+      → IsFirstCovered operations (seen ++ take (i + 1) others) r
+  one_more_covered seen others i first x r within is so_far covered sooner =
+      one_further seen others i x.place r within is (sooner_is_first (seen ++ take i others) (x.place ∷ []) first x r so_far (first_of_one x covered) sooner)
+
+  -- the window of one more has a gap
+  pub one_more_free : (seen others : List ℕ) (i place c : ℕ) (o : Operation) (first : EmptyAnswer) → i < length others → place ≡ get_or others i place → IsFirstCovered operations (seen ++ take i others) first → IsAt operations place o
+      → IsLeastFreeGap operations o c → IsFirstCovered operations (seen ++ take (i + 1) others) first
+  one_more_free seen others i place c o first within is so_far at free = one_further seen others i place first within is (low_is_first (seen ++ take i others) (place ∷ []) (c ∷ []) first so_far ((o, at, free), tt))
+
+  pub one_more_gap : (places gaps : List ℕ) (i place c : ℕ) (o : Operation) → i < length places → place ≡ get_or places i place → AreGapsAt operations (take i places) gaps → IsAt operations place o → IsLeastFreeGap operations o c
+      → AreGapsAt operations (take (i + 1) places) (gaps ++ c ∷ [])
+  one_more_gap places gaps i place c o within is zip at free =
+      subst (λ seen. AreGapsAt operations seen (gaps ++ c ∷ [])) (sym (one_more places i place within is)) (one_more_zipped HasGap (take i places) gaps place c zip (o, at, free))
+
+  -- the gaps of two lists of places
+  pub gaps_together : (low high gaps more : List ℕ) → AreGapsAt operations low gaps → AreGapsAt operations high more → AreGapsAt operations (low ++ high) (gaps ++ more)
+  gaps_together [] high [] more zip zip' = zip'
+  gaps_together [] high (c ∷ gaps) more zip zip' = absurd zip
+  gaps_together (place ∷ low) high [] more zip zip' = absurd zip
+  gaps_together (place ∷ low) high (c ∷ gaps) more zip zip' = (zip.0, gaps_together low high gaps more zip.1 zip')
+
+  -- the gaps at the places of all empty answers are theirs
+  pub gaps_are_all : (places gaps : List ℕ) → HoldsPlaces operations is_empty_answer places → AreGapsAt operations places gaps → AreLeastFreeGaps operations gaps
+  gaps_are_all places gaps named zip = gaps_listed places (filter is_empty_answer operations) gaps named zip
+    where
+      gaps_listed : (places : List ℕ) (listed : List Operation) (gaps : List ℕ) → ArePlacesOf operations places listed → AreGapsAt operations places gaps → AllZip (λ o c. IsLeastFreeGap operations o c) listed gaps
+      gaps_listed [] [] [] named zip = tt
+      gaps_listed [] [] (c ∷ gaps) named zip = absurd zip
+      gaps_listed [] (o ∷ listed) gaps named zip = cc
+      gaps_listed (p ∷ places) [] gaps named zip = cc
+      gaps_listed (p ∷ places) (o ∷ listed) [] named zip = absurd zip
+      gaps_listed (p ∷ places) (o ∷ listed) (c ∷ gaps) named zip =
+          let at : IsAt operations p o = cc in
+          let rest : map (slice_get operations) places ≡ map (λ o. Some o) listed = cc in
+          (subst (λ x. IsLeastFreeGap operations x c) (one_at operations p zip.0.0 o zip.0.1 at) zip.0.2, gaps_listed places listed gaps rest zip.1)
+
+  -- the first of all empty answers whose window is covered is the chosen one
+  pub first_is_chosen : (places : List ℕ) (first : EmptyAnswer) (cover : List Life) → HoldsPlaces operations is_empty_answer places → IsFirstCovered operations places first → IsChosenCover operations first.operation cover
+      → IsChosenWitness operations first.operation cover
+  first_is_chosen places first cover named is chosen = record {
+    answers_empty = is.is_empty;
+    is_covered = is.is_covered;
+    first = λ o did covered.
+        let among = empty_is_listed operations o did in
+        let listed = place_listed operations places (filter is_empty_answer operations) among.0 o named among.1 among.2 in
+        All-contains (ReturnsLater first) places listed.0 is.first listed.1 o listed.2 covered;
+    cover_is_chosen = chosen;
+  }

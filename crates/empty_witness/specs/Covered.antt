@@ -1,15 +1,18 @@
 -- Empty answers whose windows are covered.
-use Rattle.std.specs.Prelude.{◌≡◌, ◌≤◌, ◌⊎◌, List, All, Option, MatchOption}
+use Rattle.std.specs.Prelude.{◌≡◌, ℕ, ◌≤◌, ◌⊎◌, List, All}
 use Rattle.history_merge.specs.declared.operation.Operation.{Operation}
 use Rattle.history_merge.specs.declared.operation.OpKind.TheVariants.{Empty}
 use Rattle.history_merge.specs.Operations.{Did, IsAt}
 use Rattle.value_match.specs.declared.life.Life.{Life}
 use Rattle.value_match.specs.declared.violation.CoverStep.{CoverStep}
-use Rattle.value_match.specs.Lives.{IsCovered}
+use Rattle.value_match.specs.Lives.{HoldsPlaces, IsCovered, is_empty_answer}
 use Rattle.value_match.specs.Violations.{IsWitnessViolation}
 use Rattle.value_match.specs.Choice.{IsChosenCover}
 use Rattle.value_match.specs.Outcome.{NamesCover}
 use Rattle.empty_witness.specs.declared.search.EmptyAnswer.{EmptyAnswer}
+use Rattle.empty_witness.specs.declared.search.Windows.{Windows}
+use Rattle.empty_witness.specs.declared.search.Windows.TheVariants.{Free, Covered}
+use Rattle.empty_witness.specs.Answers.{AreGapsAt}
 
 -- the steps name the chosen cover of the operation's window, which is a violation
 abbrev pub NamesChosenCover : List Operation → Operation → List CoverStep → Type 0
@@ -21,17 +24,18 @@ pub record IsSoonerOf (first second sooner : EmptyAnswer) : Type 0 where
   pub before_first : sooner.operation.ret ≤ first.operation.ret
   pub before_second : sooner.operation.ret ≤ second.operation.ret
 
--- the window of none of these operations is covered
-abbrev pub NoneIsCovered : List Operation → List Operation → Type 0
-NoneIsCovered operations answers = All (λ o. ¬ (IsCovered operations o)) answers
-
--- an empty answer whose window is covered, and that returned no later than any of these whose windows are
-pub record IsFirstCovered (operations answers : List Operation) (answer : EmptyAnswer) : Type 0 where
+-- an empty answer whose window is covered, and that returned no later than any at these places whose windows are
+pub record IsFirstCovered (operations : List Operation) (places : List ℕ) (answer : EmptyAnswer) : Type 0 where
   pub at : IsAt operations answer.place answer.operation
   pub is_empty : Did operations answer.operation Empty
   pub is_covered : IsCovered operations answer.operation
-  pub first : All (λ o. IsCovered operations o → answer.operation.ret ≤ o.ret) answers
+  pub first : All (λ place. (o : Operation) → IsAt operations place o → IsCovered operations o → answer.operation.ret ≤ o.ret) places
 
--- the first of these whose window is covered, or none where the window of none is
-abbrev pub FindsFirstCovered : List Operation → List Operation → Option EmptyAnswer → Type 0
-FindsFirstCovered operations answers found = MatchOption found (NoneIsCovered operations answers) (λ first. IsFirstCovered operations answers first)
+-- the least free gap of each operation at these places, or the first of those whose windows are covered
+abbrev pub AreWindowsAt : List Operation → List ℕ → Windows → Type 0
+AreWindowsAt operations places (Free gaps) = AreGapsAt operations places gaps.items
+AreWindowsAt operations places (Covered first) = IsFirstCovered operations places first
+
+-- the same of all empty answers
+abbrev pub AreAllWindows : List Operation → Windows → Type 0
+AreAllWindows operations windows = (places : List ℕ) × HoldsPlaces operations is_empty_answer places × AreWindowsAt operations places windows

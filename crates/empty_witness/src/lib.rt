@@ -8,4 +8,7 @@ mod search;
 mod spans;
 
 pub use answer::{GapAnswer, Gaps, WitnessAnswer};
-pub use search::{find_witness, gap_for};
+pub use search::{
+    EmptyAnswer, Windows, find_witness, gap_for, sooner_of, windows_at, witness_of,
+};
+pub use spans::{Span, join_spans, spans_of, stays_of};

@@ -1,9 +1,8 @@
-ghost use Rattle.std.specs.Prelude.{IfOk, filter};
+ghost use Rattle.std.specs.Prelude.{◌≡◌, ◌++◌, ℕ, List, All, IfOk};
 ghost use Rattle.history_merge.specs.declared.operation.OpKind.TheVariants.{Empty};
 ghost use Rattle.history_merge.specs.Operations.{Did, IsAt};
-ghost use Rattle.value_match.specs.Lives.{AreLeastFreeGaps, is_empty_answer};
 ghost use Rattle.empty_witness.specs.Answers.{IsEmptyAnswerAt, IsGapAnswer, IsWitnessAnswer};
-ghost use Rattle.empty_witness.specs.Covered.{IsSoonerOf, NoneIsCovered, FindsFirstCovered};
+ghost use Rattle.empty_witness.specs.Covered.{AreAllWindows, AreWindowsAt, IsFirstCovered, IsSoonerOf};
 ghost use Rattle.empty_witness.specs.Spans.{AreSpansOf};
 
 use crate::answer::{GapAnswer, Gaps, WitnessAnswer};
@@ -15,10 +14,19 @@ use std::alloc::{AllocError, Global};
 use value_match::Matching;
 
 /// An empty answer, with its place.
-#[derive(Clone, Copy)]
-struct EmptyAnswer {
-    place: OpId,
-    operation: Operation,
+#[derive(Clone, Copy, Debug)]
+pub struct EmptyAnswer {
+    pub place: OpId,
+    pub operation: Operation,
+}
+
+/// What is found of the windows of some empty answers.
+#[derive(Debug, Drop)]
+pub enum Windows {
+    /// None is covered: the least free gap of each, in their order.
+    Free(Vec<u64>),
+    /// Of the answers whose windows are covered, the one that returned first.
+    Covered(EmptyAnswer),
 }
 
 /// The least free gap in the window of an empty answer, or the chosen cover of the window.
@@ -32,9 +40,9 @@ pub fn gap_for(alloc: Global, matching: &Matching, empty: OpId) -> Result<GapAns
 {
     let answer = answer_at(matching, empty);
     let spans = spans_of(alloc, matching)?;
-    match least_free_gap(spans.as_slice(), &answer) {
+    match least_free_gap(spans.as_slice(), &answer.operation) {
         Some(gap) => Ok(GapAnswer::Free(gap)),
-        None => Ok(GapAnswer::Covered(cover_of(alloc, matching, &answer)?)),
+        None => Ok(GapAnswer::Covered(cover_of(alloc, matching, &answer.operation)?)),
     }
 }
 
@@ -47,27 +55,45 @@ pub fn find_witness(alloc: Global, matching: &Matching) -> Result<WitnessAnswer,
     ensures { IfOk result (λ answer. IsWitnessAnswer matching.now answer) }
 {
     let spans = spans_of(alloc, matching)?;
-    let Some(first) = first_covered(matching, spans.as_slice()) else {
-        let gaps = least_free_gaps(alloc, matching, spans.as_slice())?;
-        return Ok(WitnessAnswer::Gaps(gaps));
-    };
-    Ok(WitnessAnswer::Covered {
-        empty: first.place,
-        cover: cover_of(alloc, matching, &first.operation)?,
-    })
+    let windows = windows_at(alloc, matching, spans.as_slice(), matching.empties())?;
+    witness_of(alloc, matching, windows)
+}
+
+/// The answer of `find_witness`, by what is found of the windows of all empty answers.
+///
+/// Time O(n log n) for n values where a window is covered, for its cover. The error is want of memory alone.
+pub fn witness_of(
+    alloc: Global,
+    matching: &Matching,
+    windows: Windows,
+) -> Result<WitnessAnswer, AllocError>
+    requires { AreAllWindows matching.now windows }
+    ensures { IfOk result (λ answer. IsWitnessAnswer matching.now answer) }
+{
+    match windows {
+        Windows::Free(gaps) => Ok(WitnessAnswer::Gaps(Gaps::from_vec(gaps))),
+        Windows::Covered(first) => Ok(WitnessAnswer::Covered {
+            empty: first.place,
+            cover: cover_of(alloc, matching, &first.operation)?,
+        }),
+    }
 }
 
 /// The empty answer at this place.
-fn answer_at(matching: &Matching, empty: OpId) -> Operation
+fn answer_at(matching: &Matching, empty: OpId) -> EmptyAnswer
     requires { IsEmptyAnswerAt matching.now empty }
-    ensures at { IsAt matching.now empty result }
-    ensures is_empty { Did matching.now result Empty }
+    ensures place { result.place ≡ empty }
+    ensures at { IsAt matching.now empty result.operation }
+    ensures is_empty { Did matching.now result.operation Empty }
 {
-    matching.operations()[empty.place()]
+    EmptyAnswer {
+        place: empty,
+        operation: matching.operations()[empty.place()],
+    }
 }
 
 /// The one of two empty answers that returned first.
-fn sooner_of(first: EmptyAnswer, second: EmptyAnswer) -> EmptyAnswer
+pub fn sooner_of(first: EmptyAnswer, second: EmptyAnswer) -> EmptyAnswer
     ensures { IsSoonerOf first second result }
 {
     if first.operation.ret <= second.operation.ret {
@@ -77,34 +103,51 @@ fn sooner_of(first: EmptyAnswer, second: EmptyAnswer) -> EmptyAnswer
     }
 }
 
-/// Of the empty answers whose windows are covered, the one that returned first.
-fn first_covered(matching: &Matching, spans: &[Span]) -> Option<EmptyAnswer>
-    requires { AreSpansOf matching.now spans.now }
-    ensures { FindsFirstCovered matching.now (filter is_empty_answer matching.now) result }
+/// What is found of the windows of the empty answers at these places, by the spans of the history: each window is one
+/// look-up.
+///
+/// Time O(m log n) for m places and n spans. The error is want of memory alone.
+pub fn windows_at(
+    alloc: Global,
+    matching: &Matching,
+    spans: &[Span],
+    empties: &[OpId],
+) -> Result<Windows, AllocError>
+    requires empties { All (IsEmptyAnswerAt matching.now) empties.now }
+    requires spans { AreSpansOf matching.now spans.now }
+    ensures { IfOk result (λ windows. AreWindowsAt matching.now empties.now windows) }
 {
-    let mut first: Option<EmptyAnswer> = None;
-    for empty in matching.empties() {
-        let answer = EmptyAnswer {
-            place: *empty,
-            operation: answer_at(matching, *empty),
-        };
+    let mut gaps = Vec::with_capacity(alloc, empties.len())?;
+    for (index, empty) in empties.iter().enumerate() {
+        let answer = answer_at(matching, *empty);
+        match least_free_gap(spans, &answer.operation) {
+            Some(gap) => gaps.push(gap)?,
+            None => {
+                let (_, others) = empties.split_at(index + 1);
+                return Ok(Windows::Covered(first_covered(matching, spans, answer, others)));
+            }
+        }
+    }
+    Ok(Windows::Free(gaps))
+}
+
+/// Of an empty answer whose window is covered and those of others whose windows are, the one that returned first.
+fn first_covered(
+    matching: &Matching,
+    spans: &[Span],
+    covered: EmptyAnswer,
+    others: &[OpId],
+) -> EmptyAnswer
+    requires others { All (IsEmptyAnswerAt matching.now) others.now }
+    requires spans { AreSpansOf matching.now spans.now }
+    ensures { (seen : List ℕ) → IsFirstCovered matching.now seen covered → IsFirstCovered matching.now (seen ++ others.now) result }
+{
+    let mut first = covered;
+    for empty in others {
+        let answer = answer_at(matching, *empty);
         if least_free_gap(spans, &answer.operation).is_none() {
-            first = Some(first.map_or(answer, |so_far| sooner_of(so_far, answer)));
+            first = sooner_of(first, answer);
         }
     }
     first
-}
-
-/// The least free gap of each empty answer, where no window is covered.
-fn least_free_gaps(alloc: Global, matching: &Matching, spans: &[Span]) -> Result<Gaps, AllocError>
-    requires none { NoneIsCovered matching.now (filter is_empty_answer matching.now) }
-    requires spans { AreSpansOf matching.now spans.now }
-    ensures { IfOk result (λ gaps. AreLeastFreeGaps matching.now gaps) }
-{
-    let mut gaps = Vec::new(alloc);
-    for empty in matching.empties() {
-        let answer = answer_at(matching, *empty);
-        gaps.push(least_free_gap(spans, &answer).unwrap())?;
-    }
-    Ok(Gaps::from_vec(gaps))
 }

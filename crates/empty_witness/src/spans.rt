@@ -6,7 +6,7 @@ use std::alloc::{AllocError, Global};
 use value_match::{Life, Matching, Values, settle};
 
 /// The gaps from the start to before the end.
-#[derive(Clone, Copy)]
+#[derive(Clone, Copy, Debug)]
 pub struct Span {
     pub start: u64,
     pub end: u64,
@@ -21,11 +21,13 @@ pub fn spans_of(alloc: Global, matching: &Matching) -> Result<Vec<Span>, AllocEr
     let mut stays = stays_of(alloc, &matching.values())?;
     settle(&mut stays, &|stay: &Span| stay.start);
     stays.sort_unstable_by_key(|stay| stay.start);
-    joined(alloc, stays.as_slice())
+    join_spans(alloc, stays.as_slice())
 }
 
 /// For each value that surely is in the queue at some gap, the span of these gaps.
-fn stays_of(alloc: Global, values: &Values) -> Result<Vec<Span>, AllocError>
+///
+/// Time O(n) for n values. The error is want of memory alone.
+pub fn stays_of(alloc: Global, values: &Values) -> Result<Vec<Span>, AllocError>
     ensures { IfOk result (λ stays. stays.items ≡ filter holds_some (map (λ value. stay_of value.life) values.now)) }
 {
     let mut stays = Vec::with_capacity(alloc, values.len())?;
@@ -49,7 +51,9 @@ fn stay_of(life: &Life) -> Span
 }
 
 /// The spans of the gaps in these spans, which come by rising start; those that touch or overlap are joined.
-fn joined(alloc: Global, stays: &[Span]) -> Result<Vec<Span>, AllocError>
+///
+/// Time O(n) for n spans. The error is want of memory alone.
+pub fn join_spans(alloc: Global, stays: &[Span]) -> Result<Vec<Span>, AllocError>
     requires hold_some { All (λ stay. stay.start < stay.end) stays.now }
     requires rise { IsNonDecreasingBy (λ stay. stay.start) stays.now }
     ensures { IfOk result (λ spans. AreJoined stays.now spans.items) }

@@ -1,7 +1,7 @@
--- One more value in the scan for the first that overtakes another.
+-- The first that overtakes another, of two lists of candidates and of one more in a scan.
 use Rattle.std.proofs.Common.{◌≡◌, ℕ, ◌+◌, ◌<◌, ◌≤◌, List, [], ◌∷◌, ◌++◌, length, get_or, take, Option, None, Some, true, false, sym, subst, inl, inr, arith}
-use Rattle.std.specs.Prelude.{Contains, MatchOption, is_some}
-use Rattle.std.proofs.lemmas.List.Elements.{All-push, All-weaker, All-contains, Contains-push, Contains-append_left}
+use Rattle.std.specs.Prelude.{All, Contains, MatchOption, is_some}
+use Rattle.std.proofs.lemmas.List.Elements.{All-nil, All-push, All-append, All-weaker, All-contains, Contains-push, Contains-append_left, Contains-append_right}
 use Rattle.value_match.specs.declared.life.Life.{Life}
 use Rattle.value_match.specs.declared.life.MatchedValue.{MatchedValue}
 use Rattle.value_match.specs.Lives.{enqueue_call, dequeue_call, dequeue_return}
@@ -17,58 +17,90 @@ ComesNoLater values b other = (a : MatchedValue) → Contains values a → Overt
 overtakes_nobody : (values : List MatchedValue) (b other : MatchedValue) → NonePasses (Overtakes other.life) values → ComesNoLater values b other
 overtakes_nobody values b other none a among overtakes = absurd (All-contains (λ a. ¬ (Overtakes other.life a.life)) values a none among overtakes)
 
-first_passed : (values seen : List MatchedValue) (x : MatchedValue) (first : Option MatchedValue) → FindsFirst values seen first → NonePasses (Overtakes x.life) values → FindsFirst values (seen ++ x ∷ []) first
-first_passed values seen x None none not = All-push (λ b. NonePasses (Overtakes b.life) values) seen x none not
-first_passed values seen x (Some b) is not = record {
-  among = Contains-append_left seen (x ∷ []) b is.among;
+overtake_nobody : (values candidates : List MatchedValue) (b : MatchedValue) → All (λ other. NonePasses (Overtakes other.life) values) candidates → All (ComesNoLater values b) candidates
+overtake_nobody values candidates b none = All-weaker (λ other. NonePasses (Overtakes other.life) values) (ComesNoLater values b) (λ other not. overtakes_nobody values b other not) candidates none
+
+no_later_than : (values candidates : List MatchedValue) (x y : MatchedValue) → dequeue_return y.life ≤ dequeue_return x.life → All (ComesNoLater values x) candidates → All (ComesNoLater values y) candidates
+no_later_than values candidates x y le later = All-weaker (ComesNoLater values x) (ComesNoLater values y) (λ other before c among over. further other (before c among over)) candidates later
+  where
+    further : (other : MatchedValue) → dequeue_return x.life ≤ dequeue_return other.life → dequeue_return y.life ≤ dequeue_return other.life
+    further other far = omega (arith, le, far)
+
+-- of the first of some candidates and the first of others, the sooner is the first of both
+pub sooner_is_first : (values low high : List MatchedValue) (a b r : MatchedValue) → IsFirstOvertaking values low a → IsFirstOvertaking values high b → IsSoonerOf a b r → IsFirstOvertaking values (low ++ high) r
+sooner_is_first values low high a b r is_a is_b sooner = elim sooner.is_one [
+  | inl same ↦ record {
+    among = subst (Contains (low ++ high)) (sym same) (Contains-append_left low high a is_a.among);
+    overtaken = is_a.overtaken;
+    overtaken_among = is_a.overtaken_among;
+    overtakes = subst (λ (y : MatchedValue). Overtakes y.life is_a.overtaken.life) (sym same) is_a.overtakes;
+    first = first;
+  }
+  | inr same ↦ record {
+    among = subst (Contains (low ++ high)) (sym same) (Contains-append_right low high b is_b.among);
+    overtaken = is_b.overtaken;
+    overtaken_among = is_b.overtaken_among;
+    overtakes = subst (λ (y : MatchedValue). Overtakes y.life is_b.overtaken.life) (sym same) is_b.overtakes;
+    first = first;
+  }
+]
+  where
+    first : All (ComesNoLater values r) (low ++ high)
+    first = All-append (ComesNoLater values r) low high (no_later_than values low a r sooner.before_first is_a.first) (no_later_than values high b r sooner.before_second is_b.first)
+
+-- where none of the others overtakes a value, the first is the first of all
+pub low_is_first : (values low high : List MatchedValue) (a : MatchedValue) → IsFirstOvertaking values low a → All (λ b. NonePasses (Overtakes b.life) values) high → IsFirstOvertaking values (low ++ high) a
+low_is_first values low high a is none = record {
+  among = Contains-append_left low high a is.among;
   overtaken = is.overtaken;
   overtaken_among = is.overtaken_among;
   overtakes = is.overtakes;
-  first = All-push (ComesNoLater values b) seen x is.first (overtakes_nobody values b x not);
+  first = All-append (ComesNoLater values a) low high is.first (overtake_nobody values high a none);
 }
 
-first_taken : (values seen : List MatchedValue) (x a r : MatchedValue) (first : Option MatchedValue) → FindsFirst values seen first → Contains values a → Overtakes x.life a.life → MatchOption first (r ≡ x) (λ b. IsSoonerOf b x r)
-    → IsFirstOvertaking values (seen ++ x ∷ []) r
-first_taken values seen x a r None none among overtakes same = subst (IsFirstOvertaking values (seen ++ x ∷ [])) (sym same) (record {
-  among = Contains-push seen x;
+pub high_is_first : (values low high : List MatchedValue) (found : Option MatchedValue) → All (λ b. NonePasses (Overtakes b.life) values) low → FindsFirst values high found → FindsFirst values (low ++ high) found
+high_is_first values low high None none not = All-append (λ b. NonePasses (Overtakes b.life) values) low high none not
+high_is_first values low high (Some b) none is = record {
+  among = Contains-append_right low high b is.among;
+  overtaken = is.overtaken;
+  overtaken_among = is.overtaken_among;
+  overtakes = is.overtakes;
+  first = All-append (ComesNoLater values b) low high (overtake_nobody values low b none) is.first;
+}
+
+-- it is the first of itself
+first_of_one : (values : List MatchedValue) (x a : MatchedValue) → Contains values a → Overtakes x.life a.life → IsFirstOvertaking values (x ∷ []) x
+first_of_one values x a among overtakes = record {
+  among = Contains-push [] x;
   overtaken = a;
   overtaken_among = among;
   overtakes = overtakes;
-  first = All-push (ComesNoLater values x) seen x
-      (All-weaker (λ b. NonePasses (Overtakes b.life) values) (ComesNoLater values x) (λ other not. overtakes_nobody values x other not) seen none) (λ _ _ _. omega arith);
-})
-first_taken values seen x a r (Some b) is among overtakes sooner = elim sooner.is_one [
-  | inl same ↦ subst (IsFirstOvertaking values (seen ++ x ∷ [])) (sym same) (record {
-    among = Contains-append_left seen (x ∷ []) b is.among;
-    overtaken = is.overtaken;
-    overtaken_among = is.overtaken_among;
-    overtakes = is.overtakes;
-    first = All-push (ComesNoLater values b) seen x is.first (λ _ _ _. subst (λ y. dequeue_return y.life ≤ dequeue_return x.life) same sooner.before_second);
-  })
-  | inr same ↦ subst (IsFirstOvertaking values (seen ++ x ∷ [])) (sym same) (record {
-    among = Contains-push seen x;
-    overtaken = a;
-    overtaken_among = among;
-    overtakes = overtakes;
-    first = All-push (ComesNoLater values x) seen x
-        (All-weaker (ComesNoLater values b) (ComesNoLater values x) (λ other later c in_c over. earlier other same (later c in_c over)) seen is.first) (λ _ _ _. omega arith);
-  })
-]
+  first = All-push (ComesNoLater values x) [] x (All-nil (ComesNoLater values x)) (λ _ _ _. omega arith);
+}
+
+-- the next candidate overtakes none
+pub first_stays : (values candidates : List MatchedValue) (i : ℕ) (x : MatchedValue) (first : Option MatchedValue) → i < length candidates → x ≡ get_or candidates i x → FindsFirst values (take i candidates) first
+    → NonePasses (Overtakes x.life) values → FindsFirst values (take (i + 1) candidates) first
+first_stays values candidates i x first within is so_far not = subst (λ seen. FindsFirst values seen first) (sym (one_more candidates i x within is)) (go first so_far)
   where
-    earlier : (other : MatchedValue) → r ≡ x → dequeue_return b.life ≤ dequeue_return other.life → dequeue_return x.life ≤ dequeue_return other.life
-    earlier other same le = omega (arith, subst (λ y. dequeue_return y.life ≤ dequeue_return b.life) same sooner.before_first)
+    nobody : All (λ b. NonePasses (Overtakes b.life) values) (x ∷ [])
+    nobody = All-push (λ b. NonePasses (Overtakes b.life) values) [] x (All-nil (λ b. NonePasses (Overtakes b.life) values)) not
 
--- the next value overtakes none
-pub first_stays : (values : List MatchedValue) (i : ℕ) (x : MatchedValue) (first : Option MatchedValue) → i < length values → x ≡ get_or values i x → FindsFirst values (take i values) first
-    → NonePasses (Overtakes x.life) values → FindsFirst values (take (i + 1) values) first
-first_stays values i x first within is so_far not =
-    subst (λ seen. FindsFirst values seen first) (sym (one_more values i x within is)) (first_passed values (take i values) x first so_far not)
+    go : (first : Option MatchedValue) → FindsFirst values (take i candidates) first → FindsFirst values (take i candidates ++ x ∷ []) first
+    go None none = All-append (λ b. NonePasses (Overtakes b.life) values) (take i candidates) (x ∷ []) none nobody
+    go (Some a) is_a = low_is_first values (take i candidates) (x ∷ []) a is_a nobody
 
--- the next value overtakes another
-pub first_changes : (values : List MatchedValue) (i : ℕ) (x a r : MatchedValue) (first : Option MatchedValue) → i < length values → x ≡ get_or values i x → FindsFirst values (take i values) first
-    → Contains values a → Overtakes x.life a.life → MatchOption first (r ≡ x) (λ b. IsSoonerOf b x r) → FindsFirst values (take (i + 1) values) (Some r)
-first_changes values i x a r first within is so_far among overtakes sooner =
-    subst (λ seen. IsFirstOvertaking values seen r) (sym (one_more values i x within is)) (first_taken values (take i values) x a r first so_far among overtakes sooner)
+-- the next candidate overtakes another
+pub first_changes : (values candidates : List MatchedValue) (i : ℕ) (x a r : MatchedValue) (first : Option MatchedValue) → i < length candidates → x ≡ get_or candidates i x → FindsFirst values (take i candidates) first
+    → Contains values a → Overtakes x.life a.life → MatchOption first (r ≡ x) (λ b. IsSoonerOf b x r) → FindsFirst values (take (i + 1) candidates) (Some r)
+first_changes values candidates i x a r first within is so_far among overtakes sooner = subst (λ seen. IsFirstOvertaking values seen r) (sym (one_more candidates i x within is)) (go first so_far sooner)
+  where
+    alone : IsFirstOvertaking values (x ∷ []) x
+    alone = first_of_one values x a among overtakes
+
+    go : (first : Option MatchedValue) → FindsFirst values (take i candidates) first → MatchOption first (r ≡ x) (λ b. IsSoonerOf b x r) → IsFirstOvertaking values (take i candidates ++ x ∷ []) r
+    go None none same = subst (IsFirstOvertaking values (take i candidates ++ x ∷ [])) (sym same) (high_is_first values (take i candidates) (x ∷ []) (Some x) none alone)
+    go (Some b) is_b sooner = sooner_is_first values (take i candidates) (x ∷ []) b x r is_b alone sooner
 
 -- the values that b overtakes are among those that entered before it, so the longest of these is the longest of those,
 -- unless b overtakes none

@@ -5,5 +5,6 @@ mod overtaking;
 mod pair;
 mod search;
 
+pub use overtaking::{first_overtaking, sooner_of};
 pub use pair::OrderPair;
-pub use search::find_order;
+pub use search::{chosen_pair, find_order};

@@ -4,10 +4,10 @@ ghost use Rattle.value_match.specs.Lives.{enqueue_call};
 ghost use Rattle.value_match.specs.Longest.{EntersBefore, FindsLongest};
 ghost use Rattle.order_violation.specs.Overtaking.{Overtakes, IsSoonerOf, FindsFirst};
 
-use value_match::{Life, LongestTable, MatchedValue};
+use value_match::{Life, LongestTable, MatchedValue, Values};
 
 /// The one of two values that is dequeued first.
-fn sooner_of(first: MatchedValue, second: MatchedValue) -> MatchedValue
+pub fn sooner_of(first: MatchedValue, second: MatchedValue) -> MatchedValue
     ensures { IsSoonerOf first second result }
 {
     if first.life.dequeue_return() <= second.life.dequeue_return() {
@@ -38,17 +38,17 @@ fn if_overtaken(b: &Life, longest: Option<MatchedValue>) -> Option<MatchedValue>
     }
 }
 
-/// Of the values that overtake another, the one that is dequeued first.
+/// Of the candidates that overtake a value of the table, the one that is dequeued first.
 ///
-/// The values come by the calls of their enqueues, so each look-up goes on where the one before ended.
-pub fn first_overtaking(table: &LongestTable) -> Option<MatchedValue>
-    ensures { FindsFirst table.now table.now result }
+/// Time O(m log n) for m candidates and n values. Where the candidates come by the calls of their enqueues each look-up goes
+/// on where the one before ended, and all take little more than a pass.
+pub fn first_overtaking(table: &LongestTable, candidates: &Values) -> Option<MatchedValue>
+    ensures { FindsFirst table.now candidates.now result }
 {
-    let values = table.values();
     let mut first: Option<MatchedValue> = None;
     let mut start = 0;
-    for place in 0..values.len() {
-        let b = values.get(place);
+    for place in 0..candidates.len() {
+        let b = candidates.get(place);
         let longest = table.longest_before_from(&mut start, b.life.enqueue_call());
         if if_overtaken(&b.life, longest).is_some() {
             first = Some(first.map_or(b, |so_far| sooner_of(so_far, b)));

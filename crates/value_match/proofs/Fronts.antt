@@ -6,7 +6,7 @@ use Rattle.std.proofs.Math.ListN.{set}
 use Rattle.std.proofs.lemmas.Bool.{ltb-true, ltb-false, lt-ltb, le-ltb}
 use Rattle.std.proofs.lemmas.List.{get_or-map, get_or-take, get_or-set_other, get_or-set_same, get_or_default, length-map, length-set, length-take-le, map-append, take_all, take_more}
 use Rattle.std.proofs.lemmas.List.Elements.{All-nil, All-push, All-get_or, All-from_get_or}
-use Rattle.std.proofs.lemmas.List.Sorted.{All-permutation, Contains-permutation, IsPermutation-map, IsPermutation-sym}
+use Rattle.std.proofs.lemmas.List.Sorted.{All-permutation, Contains-permutation, IsPermutation-map, IsPermutation-refl, IsPermutation-sym, IsPermutation-trans}
 use lib.Dec.{ltb}
 use Rattle.history_merge.specs.declared.operation.OpKind.TheVariants.{Empty}
 use Rattle.value_match.specs.declared.life.MatchedValue.{MatchedValue}
@@ -14,7 +14,7 @@ use Rattle.value_match.specs.declared.table.Front.{Front}
 use Rattle.value_match.specs.Lives.{enqueue_return}
 use Rattle.value_match.specs.Choice.{StaysAtLeast}
 use Rattle.value_match.specs.Longest.{EntersBefore, IsLongerOf, IsLongestOf, NonePasses, FindsLongest}
-use Rattle.value_match.specs.Fronts.{IsEntryOf, values_at, IsByReturn, Any, IsFrontAt, HasFronts, IsTableOf}
+use Rattle.value_match.specs.Fronts.{IsEntryOf, values_at, AreEntriesOf, IsByReturn, Any, IsFrontAt, HasFronts, IsTableOf}
 use Rattle.value_match.proofs.Longest.{longest_changes}
 
 -- where there is no value, and no front
@@ -43,13 +43,18 @@ lists_more values n x entries within is known = record {
       ∙ ap (λ (l : List MatchedValue). l ++ get_or values n d ∷ []) (known.each_once d) ∙ sym (take_more values n d within);
 }
 
--- all of them, sorted
-pub sorted_by_return : (values : List MatchedValue) (n : ℕ) (listed entries : List Front) → length values ≤ n → ListsValues values n listed → IsPermutation listed entries → IsNonDecreasingBy (λ e. e.enqueue_return) entries → IsByReturn values entries
-sorted_by_return values n listed entries all known moved rises = record {
+-- all of them
+pub all_listed : (values : List MatchedValue) (n : ℕ) (entries : List Front) → length values ≤ n → ListsValues values n entries → AreEntriesOf values entries
+all_listed values n entries all known = record {
+  names = known.names;
+  each_once = λ d. subst (λ (vs : List MatchedValue). IsPermutation vs (values_at values entries d)) (known.each_once d ∙ take_all n values all) (IsPermutation-refl (values_at values entries d));
+}
+
+-- the same in another order
+pub entries_moved : (values : List MatchedValue) (listed entries : List Front) → AreEntriesOf values listed → IsPermutation listed entries → AreEntriesOf values entries
+entries_moved values listed entries known moved = record {
   names = All-permutation (IsEntryOf values) listed entries moved known.names;
-  each_once = λ d.
-      subst (λ (vs : List MatchedValue). IsPermutation vs (values_at values entries d)) (known.each_once d ∙ take_all n values all) (IsPermutation-map (λ (e : Front). get_or values e.place d) listed entries moved);
-  rises = rises;
+  each_once = λ d. IsPermutation-trans values (values_at values listed d) (values_at values entries d) (known.each_once d) (IsPermutation-map (λ (e : Front). get_or values e.place d) listed entries moved);
 }
 
 -- the value at the place, if there is one
@@ -146,7 +151,7 @@ module _ (values : List MatchedValue) (fronts : List Front) (limit i : ℕ) (tab
   return_at : (d e : MatchedValue) (k : ℕ) (f : Front) → k < length fronts → (get_or fronts k f).enqueue_return ≡ enqueue_return (get_or (values_at values table.0 d) k e).life
   return_at d e k f inside =
       let below : k < length table.0 = omega (arith, table.2.one_each) in
-      (table.2.each k below f).returns nowhere ∙ (All-get_or (IsEntryOf values) table.0 k nowhere below table.1.names).returns d
+      (table.2.each k below f).returns nowhere ∙ (All-get_or (IsEntryOf values) table.0 k nowhere below table.1.are.names).returns d
       ∙ ap (λ (v : MatchedValue). enqueue_return v.life) (sym (get_or-map (λ (e : Front). get_or values e.place d) table.0 k nowhere e below))
 
   enters : (d e : MatchedValue) (k : ℕ) → k < i → EntersBefore limit (get_or (values_at values table.0 d) k e).life
@@ -162,7 +167,7 @@ module _ (values : List MatchedValue) (fronts : List Front) (limit i : ℕ) (tab
   pub none_before : i ≡ 0 → NonePasses (EntersBefore limit) values
   none_before none =
       let order = values_at values table.0 nobody in
-      All-permutation (λ v. ¬ (EntersBefore limit v.life)) order values (IsPermutation-sym values order (table.1.each_once nobody))
+      All-permutation (λ v. ¬ (EntersBefore limit v.life)) order values (IsPermutation-sym values order (table.1.are.each_once nobody))
       (All-from_get_or (λ v. ¬ (EntersBefore limit v.life)) order nobody (λ k inside. enters_not nobody nobody k (omega arith) (omega (arith, counted nobody))))
 
   pub longest_found : (last : ℕ) (front : Front) (d : MatchedValue) → last + 1 ≡ i → front ≡ get_or fronts last front → IsLongestOf (EntersBefore limit) values (get_or values front.place d)
@@ -180,7 +185,7 @@ module _ (values : List MatchedValue) (fronts : List Front) (limit i : ℕ) (tab
       value = get_or values front.place d
 
       back : IsPermutation order values
-      back = IsPermutation-sym values order (table.1.each_once d)
+      back = IsPermutation-sym values order (table.1.are.each_once d)
 
       is_longest : IsLongestOf Any (take i order) value
       is_longest =

@@ -16,10 +16,14 @@ pub record IsEntryOf (values : List MatchedValue) (entry : Front) : Type 0 where
 abbrev pub values_at : List MatchedValue → List Front → MatchedValue → List MatchedValue
 values_at values entries d = map (λ e. slice_index_or values e.place d) entries
 
--- each value once, as its enqueue return and its place, by rising return
-pub record IsByReturn (values : List MatchedValue) (entries : List Front) : Type 0 where
+-- each value once, as its enqueue return and its place
+pub record AreEntriesOf (values : List MatchedValue) (entries : List Front) : Type 0 where
   pub names : All (IsEntryOf values) entries
   pub each_once : (d : MatchedValue) → IsPermutation values (values_at values entries d)
+
+-- the same by rising return
+pub record IsByReturn (values : List MatchedValue) (entries : List Front) : Type 0 where
+  pub are : AreEntriesOf values entries
   pub rises : IsNonDecreasingBy (λ e. e.enqueue_return) entries
 
 -- any life

@@ -1,4 +1,4 @@
-ghost use Rattle.std.specs.Prelude.{◌≡◌, ◌<◌, All, IfSome, length, map, slice_index_or};
+ghost use Rattle.std.specs.Prelude.{◌≡◌, ◌<◌, ◌≤◌, All, IfSome, drop, length, map, slice_index_or, take};
 ghost use Rattle.value_match.specs.Accepted.{HasPlaces, maybe_operation_at, value_at};
 
 use crate::life::{Life, MatchedValue};
@@ -61,6 +61,23 @@ impl<'a> Values<'a> {
             unreachable!("a place of a value is that of a pair");
         }
         value_of(self.operations, pairs[place])
+    }
+
+    /// The values before this place, and the others.
+    pub fn split_at(&self, place: usize) -> (Values<'a>, Values<'a>)
+        requires { place ≤ length self.now }
+        ensures before { result.0 ≡ take place self.now }
+        ensures others { result.1 ≡ drop place self.now }
+    {
+        let pairs = self.pairs;
+        if place > pairs.len() {
+            unreachable!("a place of a value is that of a pair");
+        }
+        let (before, others) = pairs.split_at(place);
+        (
+            Values::new(self.operations, before),
+            Values::new(self.operations, others),
+        )
     }
 }
 

@@ -20,6 +20,6 @@ pub use accepted::Values;
 pub use life::{Life, MatchedValue, NEVER};
 pub use matching::{Matched, Matching};
 pub use settling::settle;
-pub use table::LongestTable;
+pub use table::{Front, LongestTable, fronts_of};
 pub use values::{match_operations, match_values};
 pub use violation::{Cover, CoverStep, Violation};

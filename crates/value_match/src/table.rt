@@ -2,7 +2,7 @@ ghost use Rattle.std.specs.Prelude.{◌≡◌, ◌<◌, ◌↔◌, IfOk, IfSome,
 ghost use Rattle.value_match.specs.Choice.{StaysAtLeast};
 ghost use Rattle.value_match.specs.declared.life.MatchedValue.{MatchedValue};
 ghost use Rattle.value_match.specs.Longest.{EntersBefore, FindsLongest, IsLongerOf};
-ghost use Rattle.value_match.specs.Fronts.{IsByReturn, HasFronts, IsTableOf};
+ghost use Rattle.value_match.specs.Fronts.{AreEntriesOf, IsByReturn, HasFronts, IsTableOf};
 
 use crate::accepted::Values;
 use crate::life::MatchedValue;
@@ -10,11 +10,14 @@ use crate::settling::settle;
 use std::alloc::{AllocError, Global};
 use std::marker::Model;
 
+/// How many fronts a look-up that goes on where another ended walks past at most.
+const MOST_STEPS: usize = 32;
+
 /// A value's enqueue return, with its place; in a table, with the place of the longest of the values up to it.
 #[derive(Clone, Copy, Debug)]
-struct Front {
-    enqueue_return: u64,
-    place: usize,
+pub struct Front {
+    pub enqueue_return: u64,
+    pub place: usize,
 }
 
 /// Values, seen as the list of them, that are asked which of those that entered the queue before some ticket stays
@@ -47,9 +50,25 @@ impl<'a> LongestTable<'a> {
     pub fn new(alloc: Global, values: Values<'a>) -> Result<LongestTable<'a>, AllocError>
         ensures { IfOk result (λ table. table ≡ values.entry) }
     {
-        let mut fronts = by_return(alloc, &values)?;
-        name_longest(&values, fronts.as_mut_slice());
-        Ok(LongestTable { values, fronts })
+        let mut fronts = fronts_of(alloc, &values)?;
+        settle(&mut fronts, &|front: &Front| front.enqueue_return);
+        fronts.sort_unstable_by_key(|front| front.enqueue_return);
+        Ok(LongestTable::by_return(values, fronts))
+    }
+
+    /// The same table, by the enqueue returns of the values, which come sorted.
+    ///
+    /// Time O(n) for n values; no memory is taken.
+    pub fn by_return(values: Values<'a>, fronts: Vec<Front>) -> LongestTable<'a>
+        requires { IsByReturn values fronts.items }
+        ensures { result ≡ values.entry }
+    {
+        let mut longest = fronts;
+        name_longest(&values, longest.as_mut_slice());
+        LongestTable {
+            values,
+            fronts: longest,
+        }
     }
 
     /// The values, in the order in which they were given.
@@ -73,15 +92,22 @@ impl<'a> LongestTable<'a> {
         Some(self.values.get(self.fronts[last].place))
     }
 
-    /// The same. The look-up begins at `start`, any place, and leaves there where it ended: for limits that rise, each
-    /// beginning where the one before ended, all together take O(n).
+    /// The same. The look-up begins at `start`, any place, and leaves there where it ended.
+    ///
+    /// Time O(log n) for n values, and a few steps where it ends near by: so for limits that rise, each beginning where the
+    /// one before ended.
     pub fn longest_before_from(&self, start: &mut usize, limit: u64) -> Option<MatchedValue>
         ensures { FindsLongest (EntersBefore limit) self.now result }
     {
         let fronts = self.fronts.as_slice();
         let mut before = (*start).min(fronts.len());
-        while before < fronts.len() && fronts[before].enqueue_return < limit {
+        let most = fronts.len().min(before.saturating_add(MOST_STEPS));
+        while before < most && fronts[before].enqueue_return < limit {
             before += 1;
+        }
+        if before == most {
+            *start = fronts.partition_point(|front| front.enqueue_return < limit);
+            return self.longest_before(limit);
         }
         *start = before;
         let last = before.checked_sub(1);
@@ -94,21 +120,21 @@ impl<'a> LongestTable<'a> {
     }
 }
 
-/// The enqueue returns and places of the values, by enqueue return.
-fn by_return(alloc: Global, values: &Values) -> Result<Vec<Front>, AllocError>
-    ensures { IfOk result (λ order. IsByReturn values.now order.items) }
+/// The enqueue returns and places of the values, in the order of the values.
+///
+/// Time O(n) for n values. The error is want of memory alone.
+pub fn fronts_of(alloc: Global, values: &Values) -> Result<Vec<Front>, AllocError>
+    ensures { IfOk result (λ fronts. AreEntriesOf values.now fronts.items) }
 {
-    let mut order = Vec::with_capacity(alloc, values.len())?;
+    let mut fronts = Vec::with_capacity(alloc, values.len())?;
     for place in 0..values.len() {
         let value = values.get(place);
-        order.push(Front {
+        fronts.push(Front {
             enqueue_return: value.life.enqueue_return(),
             place,
         })?;
     }
-    settle(&mut order, &|front: &Front| front.enqueue_return);
-    order.sort_unstable_by_key(|front| front.enqueue_return);
-    Ok(order)
+    Ok(fronts)
 }
 
 /// Puts in the place of each value that of the longest of those up to it.

@@ -42,6 +42,11 @@ pub refused_is_chosen : (operations : List Operation) (answer : Matched) (violat
 refused_is_chosen operations answer violation is (inl same) = let h = subst (IsMatchedOf operations) same is in (fresh h.0 h.1, h.2, h.3)
 refused_is_chosen operations answer violation is (inr same) = let h = subst (IsMatchedOf operations) same is in (repeat h.0 h.1 h.2, h.3, h.4)
 
+-- so the no is decided
+pub refused_is_decided : (operations : List Operation) (answer : Matched) (violation : Violation) → AreComplete operations → IsMatchedOf operations answer → (answer ≡ matched.Fresh violation) ⊎ (answer ≡ matched.Repeat violation)
+    → IsDecided operations (No violation)
+refused_is_decided operations answer violation complete is refused = no_is_decided operations violation complete (refused_is_chosen operations answer violation is refused)
+
 pub order_is_absent : (operations : List Operation) (answer : Option OrderPair) → IsOrderAnswer operations answer → ((pair : OrderPair) → answer ≡ Some pair → ⊥) → NoOrderViolation operations
 order_is_absent operations None none not = none
 order_is_absent operations (Some pair) is not = absurd (not pair refl)

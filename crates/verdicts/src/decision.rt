@@ -1,7 +1,11 @@
 ghost use Rattle.std.specs.Prelude.{◌≡◌, ◌≤◌, IfOk, length};
 ghost use Rattle.history_merge.specs.Complete.{AreComplete};
 ghost use Rattle.history_merge.specs.Operations.{operations_of};
-ghost use Rattle.value_match.specs.Violations.{IsClear};
+ghost use Rattle.std.specs.Thread.{IsSync};
+ghost use Rattle.value_match.specs.Violations.{IsClear, NoOrderViolation};
+ghost use Rattle.order_violation.specs.Pairs.{IsOrderAnswer};
+ghost use Rattle.empty_witness.specs.Answers.{IsWitnessAnswer};
+ghost use Rattle.parallel_finders.specs.declared.TheConstants.{MAX_PIECES};
 ghost use Rattle.verdicts.specs.Claiming.{IsWithin};
 ghost use Rattle.verdicts.specs.Verdicts.{IsVerdictOf, IsEvidence, IsExact, IsDecided};
 
@@ -11,7 +15,9 @@ use event_records::MAX_EVENTS;
 use history_merge::{History, Operation};
 use linearizer::linearize;
 use order_violation::{OrderPair, find_order};
+use parallel_finders::{MIN_ITEMS, find_order_par, find_witness_par};
 use std::alloc::{AllocError, Global};
+use std::thread::{Threads, join};
 use value_match::{Matched, Matching, Violation, match_operations};
 
 /// Whether a history has a legal order (Herlihy and Wing 1990): yes with the chosen order, no with the chosen violation,
@@ -44,6 +50,48 @@ pub fn decide_operations(alloc: Global, operations: &[Operation]) -> Result<Verd
     }
 }
 
+/// What `decide` answers, by searches in pieces that may run at once.
+///
+/// Whatever the number of pieces and whichever thread ends first, the answer is the same. Few operations are searched in one
+/// piece, and start no thread. Where no thread can be started the caller's thread does the work. `AllocError` comes only where
+/// a growth was refused.
+pub fn decide_par<R: Threads + Sync>(
+    rt: &R,
+    alloc: Global,
+    history: &History,
+    pieces: usize,
+) -> Result<Verdict, AllocError>
+    requires { (1 ≤ pieces) × (pieces ≤ MAX_PIECES) }
+    ensures chosen { IfOk result (λ verdict. IsVerdictOf (operations_of history.now) verdict) }
+    ensures evidence { IfOk result (λ verdict. IsEvidence (operations_of history.now) verdict) }
+    ensures exact { IfOk result (λ verdict. IsExact (operations_of history.now) verdict) }
+    ensures places { IfOk result (λ verdict. IsWithin (operations_of history.now) verdict) }
+{
+    decide_operations_par(rt, alloc, history.operations(), pieces)
+}
+
+/// The same of the operations of a history, where its events aren't kept.
+pub fn decide_operations_par<R: Threads + Sync>(
+    rt: &R,
+    alloc: Global,
+    operations: &[Operation],
+    pieces: usize,
+) -> Result<Verdict, AllocError>
+    requires complete { AreComplete operations.now }
+    requires few { length operations.now ≤ MAX_EVENTS }
+    requires pieces { (1 ≤ pieces) × (pieces ≤ MAX_PIECES) }
+    ensures chosen { IfOk result (λ verdict. IsVerdictOf operations.now verdict) }
+    ensures evidence { IfOk result (λ verdict. IsEvidence operations.now verdict) }
+    ensures exact { IfOk result (λ verdict. IsExact operations.now verdict) }
+    ensures places { IfOk result (λ verdict. IsWithin operations.now verdict) }
+{
+    match match_operations(alloc, operations)? {
+        Matched::Clear(matching) => decide_matching_par(rt, alloc, &matching, pieces),
+        Matched::Fresh(violation) => Ok(Verdict::No(violation)),
+        Matched::Repeat(violation) => Ok(Verdict::No(violation)),
+    }
+}
+
 /// The verdict where each dequeue is of a value that was there, and no value is dequeued twice.
 fn decide_matching(alloc: Global, matching: &Matching) -> Result<Verdict, AllocError>
     requires { IsClear matching.now }
@@ -52,7 +100,51 @@ fn decide_matching(alloc: Global, matching: &Matching) -> Result<Verdict, AllocE
     if let Some(pair) = find_order(alloc, matching)? {
         return Ok(Verdict::No(violation_of(pair)));
     }
-    match find_witness(alloc, matching)? {
+    let answer = find_witness(alloc, matching)?;
+    decide_in_order(alloc, matching, answer)
+}
+
+/// The same by both searches at once, each in pieces. What the second finds is let go where the first finds a violation.
+fn decide_matching_par<R: Threads + Sync>(
+    rt: &R,
+    alloc: Global,
+    matching: &Matching,
+    pieces: usize,
+) -> Result<Verdict, AllocError>
+    requires clear { IsClear matching.now }
+    requires pieces { (1 ≤ pieces) × (pieces ≤ MAX_PIECES) }
+    ensures { IfOk result (λ verdict. IsDecided matching.now verdict) }
+{
+    if pieces < 2 || matching.operations().len() < MIN_ITEMS {
+        return decide_matching(alloc, matching);
+    }
+    let order = move || -> Result<Option<OrderPair>, AllocError>
+        requires { IsSync R.row × (1 ≤ pieces) × (pieces ≤ MAX_PIECES) }
+        ensures { IfOk result (λ found. IsOrderAnswer matching.entry.now found) }
+    { find_order_par(rt, alloc, matching, pieces) };
+    let witness = move || -> Result<WitnessAnswer, AllocError>
+        requires { IsSync R.row × (1 ≤ pieces) × (pieces ≤ MAX_PIECES) }
+        ensures { IfOk result (λ answer. IsWitnessAnswer matching.entry.now answer) }
+    { find_witness_par(rt, alloc, matching, pieces) };
+    let (pair, answer) = join(rt, order, witness);
+    if let Some(pair) = pair? {
+        return Ok(Verdict::No(violation_of(pair)));
+    }
+    decide_in_order(alloc, matching, answer?)
+}
+
+/// The verdict where moreover no value is dequeued against the order of the enqueues, by what is found of the empty answers.
+fn decide_in_order(
+    alloc: Global,
+    matching: &Matching,
+    answer: WitnessAnswer,
+) -> Result<Verdict, AllocError>
+    requires clear { IsClear matching.now }
+    requires in_order { NoOrderViolation matching.now }
+    requires answer { IsWitnessAnswer matching.now answer }
+    ensures { IfOk result (λ verdict. IsDecided matching.now verdict) }
+{
+    match answer {
         WitnessAnswer::Covered { empty, cover } => {
             Ok(Verdict::No(Violation::Witness { empty, cover }))
         }

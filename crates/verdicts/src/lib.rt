@@ -14,7 +14,7 @@ mod verdict;
 mod verifying;
 
 pub use claiming::claim;
-pub use decision::{decide, decide_operations};
+pub use decision::{decide, decide_operations, decide_operations_par, decide_par};
 pub use laws::{
     a_verdict_has_few_lines, evidence_is_a_true_claim, no_legal_order, one_finding, one_verdict,
     violations_are_all,

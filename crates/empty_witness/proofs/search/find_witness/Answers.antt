@@ -1,7 +1,8 @@
-use Rattle.empty_witness.proofs.Answers.{first_is_chosen}
+use Rattle.empty_witness.proofs.Answers.{places_are_empty}
 use Rattle.empty_witness.proofs.search.find_witness.Goals as goal
 
-pub returns : goal.returns
-returns c =
-    let cover = c.in_ok-cover_of.ensures in
-    (c.in-Some.first.operation, cover.0, c.in-Some.ensures.at, cover.1, first_is_chosen c.args.matching.now c.in-Some.first cover.0 c.in-Some.ensures cover.2, cover.3)
+pub windows_at-requires-clause-empties : goal.windows_at-requires-clause-empties
+windows_at-requires-clause-empties c = places_are_empty c.args.matching.now c.empties.result.now c.empties.ensures
+
+pub witness_of-requires : goal.witness_of-requires
+witness_of-requires c = (c.empties.result.now, c.empties.ensures, c.in_ok-windows.ensures)

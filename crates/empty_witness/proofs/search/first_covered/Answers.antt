@@ -1,34 +1,36 @@
-use Rattle.std.proofs.Common.{◌+◌, take, rules, subst, sym}
-use Rattle.std.specs.Prelude.{filter}
-use Rattle.value_match.specs.Lives.{is_empty_answer}
-use Rattle.empty_witness.specs.Covered.{FindsFirstCovered}
-use Rattle.empty_witness.proofs.Answers.{answer_is_empty, is_listed, all_listed, covered_if_none, not_covered_if_some, first_stays, first_changes}
+use Rattle.std.proofs.Common.{◌≡◌, ◌++◌, get_or, rules, subst, sym}
+use Rattle.std.proofs.lemmas.List.{append-nil, take_all}
+use Rattle.history_merge.specs.Operations.{IsAt}
+use Rattle.empty_witness.specs.Covered.{IsFirstCovered}
+use Rattle.empty_witness.proofs.Answers.{answer_is_empty, covered_if_none, gap_if_some, one_more_covered, one_more_free}
 use Rattle.empty_witness.proofs.search.first_covered.Goals as goal
 use Rattle.empty_witness.proofs.search.first_covered.Goals.{then-is_none, else-is_none}
 
-pub answer_at-requires : goal.answer_at-requires
-answer_at-requires c = answer_is_empty c.args.matching.now c.empties-empty-items.result.now c.loop-empty.empty-index c.empty-item.result c.empties-empty-items.ensures c.loop-empty-test.true c.empty-item.is
+pub answer_at-answer-requires : goal.answer_at-answer-requires
+answer_at-answer-requires c = answer_is_empty c.args.matching.now c.args.others.now c.loop-empty.empty-index c.empty-item.result c.requires.others c.loop-empty-test.true c.empty-item.is
+
+pub loop-empty-init : goal.loop-empty-init
+loop-empty-init c = λ seen first. subst (λ ps. IsFirstCovered c.args.matching.now ps c.args.covered) (sym (append-nil seen)) first
 
 pub loop-empty-preserved : goal.loop-empty-preserved
-loop-empty-preserved c =
+loop-empty-preserved c = λ seen first.
     let operations = c.args.matching.now in
-    let answers = filter is_empty_answer operations in
-    let o = c.answer_at.result in
-    let found = c.loop-empty.first in
-    let seen = take (c.loop-empty.empty-index + 1) answers in
-    let listed = is_listed operations c.empties-empty-items.result.now c.loop-empty.empty-index c.empty-item.result o c.empties-empty-items.ensures c.loop-empty-test.true c.empty-item.is c.answer_at.ensures.at in
+    let others = c.args.others.now in
+    let answer = c.answer_at-answer in
+    let i = c.loop-empty.empty-index in
+    let so_far = c.loop-empty.invariant seen first in
+    let window = c.least_free_gap.ensures operations c.requires.spans in
     elim c.if-is_none.branch [
       | then-is_none w ↦
-          let covered = covered_if_none operations o c.least_free_gap.result (c.least_free_gap.ensures operations c.requires) (search rules) in
-          subst (FindsFirstCovered operations seen) (sym w.first-is)
-          (first_changes operations answers c.loop-empty.empty-index (record { place = c.empty-item.result; operation = o }) w.map_or.result found listed.0 listed.1 c.loop-empty.invariant c.answer_at.ensures.at c.answer_at.ensures.is_empty
-          covered (search rules))
+          let is = subst (λ p. p ≡ get_or others i p) (sym answer.ensures.place) c.empty-item.is in
+          let covered = covered_if_none operations answer.result.operation c.least_free_gap.result window (search rules) in
+          rw w.first-is
+          (one_more_covered operations seen others i c.loop-empty.first answer.result w.sooner_of-first.result c.loop-empty-test.true is so_far
+          (record { at = subst (λ p. IsAt operations p answer.result.operation) (sym answer.ensures.place) answer.ensures.at; is_empty = answer.ensures.is_empty; is_covered = covered }) w.sooner_of-first.ensures)
       | else-is_none w ↦
-          let not = not_covered_if_some operations o c.least_free_gap.result (c.least_free_gap.ensures operations c.requires) (search rules) in
-          subst (FindsFirstCovered operations seen) (sym w.first-is) (first_stays operations answers c.loop-empty.empty-index o found listed.0 listed.1 c.loop-empty.invariant not)
+          let gap = gap_if_some operations answer.result.operation c.least_free_gap.result window (search rules) in
+          rw w.first-is (one_more_free operations seen others i c.empty-item.result gap.0 answer.result.operation c.loop-empty.first c.loop-empty-test.true c.empty-item.is so_far answer.ensures.at gap.1)
     ]
 
 pub returns : goal.returns
-returns c =
-    subst (λ seen. FindsFirstCovered c.args.matching.now seen c.loop-empty.first) (all_listed c.args.matching.now c.empties-empty-items.result.now c.loop-empty.empty-index c.empties-empty-items.ensures c.loop-empty-test.false)
-    c.loop-empty.invariant
+returns c = λ seen first. subst (λ ps. IsFirstCovered c.args.matching.now (seen ++ ps) c.loop-empty.first) (take_all c.loop-empty.empty-index c.args.others.now c.loop-empty-test.false) (c.loop-empty.invariant seen first)

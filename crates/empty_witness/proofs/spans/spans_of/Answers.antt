@@ -7,18 +7,18 @@ use Rattle.empty_witness.specs.Spans.{AreJoined, AreSpansOf}
 use Rattle.empty_witness.proofs.ValueSpans.{stays_hold_some, are_spans}
 use Rattle.empty_witness.proofs.spans.spans_of.Goals as goal
 
-pub joined-requires-clause-hold_some : goal.joined-requires-clause-hold_some
-joined-requires-clause-hold_some c =
+pub join_spans-requires-clause-hold_some : goal.join_spans-requires-clause-hold_some
+join_spans-requires-clause-hold_some c =
     subst (All (λ stay. stay.start < stay.end)) (sym c.as_slice.ensures.value)
     (stays_hold_some c.values.result c.in_ok-stays.stays.items _ c.in_ok-stays.ensures (IsPermutation-trans _ _ _ c.settle.ensures c.sort_unstable_by_key.ensures.permutation))
 
-pub joined-requires-clause-rise : goal.joined-requires-clause-rise
-joined-requires-clause-rise c =
+pub join_spans-requires-clause-rise : goal.join_spans-requires-clause-rise
+join_spans-requires-clause-rise c =
     subst (IsNonDecreasingBy (λ stay. stay.start)) (sym c.as_slice.ensures.value)
     (IsNonDecreasingBy-from_sort_by_key (λ stay. stay.start) _ c.sort_unstable_by_key.ensures.sorted (λ e r q k. search rules))
 
 pub returns : goal.returns
 returns c =
     let moved = subst (IsPermutation c.in_ok-stays.stays.items) (sym c.as_slice.ensures.value) (IsPermutation-trans _ _ _ c.settle.ensures c.sort_unstable_by_key.ensures.permutation) in
-    IfOk-weaker c.joined.result (λ spans. AreJoined c.as_slice.result.now spans.items) (λ spans. AreSpansOf c.args.matching.now spans.items)
-    (λ spans joined. are_spans c.args.matching.now c.values.result c.values.ensures.clear c.values.ensures.values c.in_ok-stays.stays.items _ spans.items c.in_ok-stays.ensures moved joined) c.joined.ensures
+    IfOk-weaker c.join_spans.result (λ spans. AreJoined c.as_slice.result.now spans.items) (λ spans. AreSpansOf c.args.matching.now spans.items)
+    (λ spans joined. are_spans c.args.matching.now c.values.result c.values.ensures.clear c.values.ensures.values c.in_ok-stays.stays.items _ spans.items c.in_ok-stays.ensures moved joined) c.join_spans.ensures

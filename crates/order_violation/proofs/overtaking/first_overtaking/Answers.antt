@@ -1,23 +1,24 @@
 use Rattle.std.proofs.Common.{rules, arith, subst, sym, ◌∙◌}
 use Rattle.value_match.specs.Longest.{EntersBefore, FindsLongest}
-use Rattle.order_violation.specs.Overtaking.{Overtakes, FindsFirst}
+use Rattle.order_violation.specs.Overtaking.{FindsFirst}
 use Rattle.order_violation.proofs.Scans.{first_stays, first_changes, overtaken_one, overtaken_none}
 use Rattle.order_violation.proofs.overtaking.first_overtaking.Goals as goal
 use Rattle.order_violation.proofs.overtaking.first_overtaking.Goals.{then-is_some, else-is_some}
 
 pub loop-place-preserved : goal.loop-place-preserved
 loop-place-preserved c =
-    let values = c.values-values.result.now in
+    let values = c.args.table.now in
+    let candidates = c.args.candidates.now in
     let b = c.get-b.result in
     let first = c.loop-place.first in
     let longest = c.if_overtaken.result in
-    let entered = subst (λ limit. FindsLongest (EntersBefore limit) c.args.table.now c.longest_before_from-longest.result) c.enqueue_call.ensures c.longest_before_from-longest.ensures in
-    let finds = subst (λ vs. FindsLongest (Overtakes b.life) vs longest) (sym c.values-values.ensures) (c.if_overtaken.ensures c.args.table.now entered) in
+    let entered = subst (λ limit. FindsLongest (EntersBefore limit) values c.longest_before_from-longest.result) c.enqueue_call.ensures c.longest_before_from-longest.ensures in
+    let finds = c.if_overtaken.ensures values entered in
     elim c.if-is_some.branch [
       | then-is_some w ↦
           let one = overtaken_one values b.life longest finds (sym c.is_some.ensures ∙ w.if-is_some.true) in
-          subst (FindsFirst values _) (sym w.first-is) (first_changes values _ b one.0 w.map_or.result first (omega (arith, c.loop-place-test.true, c.len-place-end.ensures)) c.get-b.ensures c.loop-place.invariant one.1 one.2 (search rules))
+          subst (FindsFirst values _) (sym w.first-is) (first_changes values candidates _ b one.0 w.map_or.result first (omega (arith, c.loop-place-test.true, c.len-place-end.ensures)) c.get-b.ensures c.loop-place.invariant one.1 one.2 (search rules))
       | else-is_some w ↦
           let none = overtaken_none values b.life longest finds (sym c.is_some.ensures ∙ w.if-is_some.false) in
-          subst (FindsFirst values _) (sym w.first-is) (first_stays values _ b first (omega (arith, c.loop-place-test.true, c.len-place-end.ensures)) c.get-b.ensures c.loop-place.invariant none)
+          subst (FindsFirst values _) (sym w.first-is) (first_stays values candidates _ b first (omega (arith, c.loop-place-test.true, c.len-place-end.ensures)) c.get-b.ensures c.loop-place.invariant none)
     ]

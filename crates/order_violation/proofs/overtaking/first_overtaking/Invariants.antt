@@ -3,4 +3,4 @@ use Rattle.order_violation.specs.Overtaking.{FindsFirst}
 use Rattle.order_violation.proofs.overtaking.first_overtaking.Given as goal
 
 abbrev pub invariant-loop-place : goal.invariant-loop-place
-invariant-loop-place l = FindsFirst l.values (take l.place l.values) l.first
+invariant-loop-place l = FindsFirst l.table (take l.place l.candidates) l.first

@@ -1,6 +1,6 @@
 use Rattle.std.proofs.Common.{inl, inr, rules}
 use Rattle.std.proofs.lemmas.Result.{IfOk-weaker}
-use Rattle.verdicts.proofs.Decided.{no_is_decided, refused_is_chosen}
+use Rattle.verdicts.proofs.Decided.{refused_is_decided}
 use Rattle.verdicts.specs.declared.verdict.Verdict.TheVariants.{No}
 use Rattle.verdicts.specs.Claiming.{IsWithin}
 use Rattle.verdicts.specs.Verdicts.{IsEvidence}
@@ -8,30 +8,22 @@ use Rattle.verdicts.proofs.TrueClaims.{evidence_within}
 use Rattle.verdicts.proofs.decision.decide_operations.Goals as goal
 
 pub returns-in-Fresh-clause-exact : goal.returns-in-Fresh-clause-exact
-returns-in-Fresh-clause-exact c =
+returns-in-Fresh-clause-exact c = (refused_is_decided c.args.operations.now c.in_ok-matching.field-0 c.in-Fresh.violation c.requires.complete c.in_ok-matching.ensures (inl c.in-Fresh.is)).exact
+
+pub returns-in-Fresh-clause-places : goal.returns-in-Fresh-clause-places
+returns-in-Fresh-clause-places c =
     let operations = c.args.operations.now in
-    let decided = no_is_decided operations c.in-Fresh.violation c.requires.complete (refused_is_chosen operations c.in_ok-matching.field-0 c.in-Fresh.violation c.in_ok-matching.ensures (inl c.in-Fresh.is)) in
-    decided.exact
+    evidence_within operations (No c.in-Fresh.violation) (refused_is_decided operations c.in_ok-matching.field-0 c.in-Fresh.violation c.requires.complete c.in_ok-matching.ensures (inl c.in-Fresh.is)).evidence
 
 pub returns-in-Repeat-clause-exact : goal.returns-in-Repeat-clause-exact
-returns-in-Repeat-clause-exact c =
+returns-in-Repeat-clause-exact c = (refused_is_decided c.args.operations.now c.in_ok-matching.field-0 c.in-Repeat.violation c.requires.complete c.in_ok-matching.ensures (inr c.in-Repeat.is)).exact
+
+pub returns-in-Repeat-clause-places : goal.returns-in-Repeat-clause-places
+returns-in-Repeat-clause-places c =
     let operations = c.args.operations.now in
-    let decided = no_is_decided operations c.in-Repeat.violation c.requires.complete (refused_is_chosen operations c.in_ok-matching.field-0 c.in-Repeat.violation c.in_ok-matching.ensures (inr c.in-Repeat.is)) in
-    decided.exact
+    evidence_within operations (No c.in-Repeat.violation) (refused_is_decided operations c.in_ok-matching.field-0 c.in-Repeat.violation c.requires.complete c.in_ok-matching.ensures (inr c.in-Repeat.is)).evidence
 
 pub returns-in-Clear-clause-places : goal.returns-in-Clear-clause-places
 returns-in-Clear-clause-places c =
     let operations = c.args.operations.now in
     IfOk-weaker c.decide_matching.result (IsEvidence operations) (IsWithin operations) (λ verdict is. evidence_within operations verdict is) (search rules)
-
-pub returns-in-Fresh-clause-places : goal.returns-in-Fresh-clause-places
-returns-in-Fresh-clause-places c =
-    let operations = c.args.operations.now in
-    let decided = no_is_decided operations c.in-Fresh.violation c.requires.complete (refused_is_chosen operations c.in_ok-matching.field-0 c.in-Fresh.violation c.in_ok-matching.ensures (inl c.in-Fresh.is)) in
-    evidence_within operations (No c.in-Fresh.violation) decided.evidence
-
-pub returns-in-Repeat-clause-places : goal.returns-in-Repeat-clause-places
-returns-in-Repeat-clause-places c =
-    let operations = c.args.operations.now in
-    let decided = no_is_decided operations c.in-Repeat.violation c.requires.complete (refused_is_chosen operations c.in_ok-matching.field-0 c.in-Repeat.violation c.in_ok-matching.ensures (inr c.in-Repeat.is)) in
-    evidence_within operations (No c.in-Repeat.violation) decided.evidence

@@ -15,14 +15,14 @@ stopped c f inside = elim c.loop-before-test.branch [
   | then-loop-before-test+else-fronts-before w ↦
       let same = ap (λ (x : Front). x.enqueue_return) (get_or_default c.as_slice-fronts.result.now c.loop-before.before nowhere f inside) in
       omega (arith, w.if-fronts-before.false, same)
-  | else-loop-before-test w ↦ absurd (omega (arith, w.loop-before-test.false, inside))
+  | else-loop-before-test w ↦ absurd (omega (arith, w.loop-before-test.false, c.if-before-most.false, c.loop-before.invariant))
 ]
 
 table : (c : Then-fronts-last) → IsTableOf c.self.inside.values c.as_slice-fronts.result.now
 table c = subst (IsTableOf c.self.inside.values) (sym c.as_slice-fronts.ensures.value) c.self.invariant
 
 inside : (c : Then-fronts-last) → c.in-Some.last < length c.as_slice-fronts.result.now
-inside c = omega (arith, c.in-Some.ensures, c.loop-before.invariant)
+inside c = omega (arith, c.in-Some.ensures, c.loop-before.invariant, c.min-most.ensures)
 
 point : (c : Then-fronts-last) → IsPartitionPoint (λ (f : Front). ltb f.enqueue_return c.args.limit ≡ true) (λ (f : Front). ltb f.enqueue_return c.args.limit ≡ false) c.as_slice-fronts.result.now (c.in-Some.last + 1)
 point c =

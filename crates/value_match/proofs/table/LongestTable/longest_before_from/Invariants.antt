@@ -1,8 +1,8 @@
-use Rattle.std.proofs.Common.{length, ◌-◌, ◌≤◌}
+use Rattle.std.proofs.Common.{◌-◌, ◌≤◌}
 use Rattle.value_match.proofs.table.LongestTable.longest_before_from.Given as goal
 
 abbrev pub invariant-loop-before : goal.invariant-loop-before
-invariant-loop-before l = l.before ≤ length l.fronts
+invariant-loop-before l = l.before ≤ l.most
 
 abbrev pub decreases-loop-before : goal.decreases-loop-before
-decreases-loop-before l = length l.fronts - l.before
+decreases-loop-before l = l.most - l.before

@@ -1,7 +1,7 @@
 use Rattle.std.proofs.Common.{◌+◌, ◌≤◌, take, length}
 use Rattle.std.specs.List.{AllWithin}
 use Rattle.empty_witness.proofs.Joined.{IsJoinedSoFar}
-use Rattle.empty_witness.proofs.spans.joined.Given as goal
+use Rattle.empty_witness.proofs.spans.join_spans.Given as goal
 
 abbrev pub invariant-loop-stay : goal.invariant-loop-stay
 invariant-loop-stay l = record {

@@ -3,8 +3,8 @@ use Rattle.std.proofs.lemmas.List.{get_or_default}
 use Rattle.empty_witness.specs.declared.spans.Span.{Span}
 use Rattle.empty_witness.specs.Spans.{AreJoined}
 use Rattle.empty_witness.proofs.Joined.{IsJoinedSoFar, starts, first_is_least, next_is_least, comes_later, stay_holds_some, with_next, joins, begins_anew, all_seen, all_joined}
-use Rattle.empty_witness.proofs.spans.joined.Goals as goal
-use Rattle.empty_witness.proofs.spans.joined.Goals.{then-stay-last, else-stay-last+in_ok-push}
+use Rattle.empty_witness.proofs.spans.join_spans.Goals as goal
+use Rattle.empty_witness.proofs.spans.join_spans.Goals.{then-stay-last, else-stay-last+in_ok-push}
 
 pub loop-stay-init : goal.loop-stay-init
 loop-stay-init c = record {

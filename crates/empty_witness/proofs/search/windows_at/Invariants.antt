@@ -1,0 +1,6 @@
+use Rattle.std.proofs.Common.{take}
+use Rattle.empty_witness.specs.Answers.{AreGapsAt}
+use Rattle.empty_witness.proofs.search.windows_at.Given as goal
+
+abbrev pub invariant-loop-index : goal.invariant-loop-index
+invariant-loop-index l = AreGapsAt l.matching (take l.index l.empties) l.gaps.items

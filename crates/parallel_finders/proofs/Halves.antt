@@ -1,0 +1,7 @@
+-- A list in two parts.
+use Rattle.std.proofs.Common.{◌≡◌, ℕ, List, ◌++◌, take, drop}
+use Rattle.std.proofs.lemmas.List.{take-append-drop}
+
+-- the parts make the whole
+pub whole : {X : Type 0} (xs low high : List X) (n : ℕ) → low ≡ take n xs → high ≡ drop n xs → low ++ high ≡ xs
+whole xs low high n is_low is_high = rw (is_low, is_high) (take-append-drop n xs)

@@ -1,0 +1,14 @@
+use Rattle.std.proofs.Common.{◌++◌, subst, sym, ap, ◌∙◌}
+use Rattle.empty_witness.specs.Answers.{AreGapsAt}
+use Rattle.empty_witness.specs.Covered.{AreWindowsAt}
+use Rattle.empty_witness.proofs.Answers.{gaps_together, high_is_first}
+use Rattle.parallel_finders.proofs.windows.after_gaps.Goals as goal
+
+pub returns-in_ok-gaps_of_both-in-Free : goal.returns-in_ok-gaps_of_both-in-Free
+returns-in_ok-gaps_of_both-in-Free c operations xs ys a b =
+    let gaps = c.args.gaps.items in
+    let both = c.in_ok-gaps_of_both-in-Free.ensures ∙ ap (λ more. gaps ++ more) c.as_slice.ensures.value in
+    subst (AreGapsAt operations (xs ++ ys)) (sym both) (gaps_together operations xs ys gaps c.in-Free.more.items a (subst (AreWindowsAt operations ys) c.in-Free.is b))
+
+pub returns-in-Covered : goal.returns-in-Covered
+returns-in-Covered c operations xs ys a b = high_is_first operations xs ys c.args.gaps.items c.in-Covered.first a (subst (AreWindowsAt operations ys) c.in-Covered.is b)

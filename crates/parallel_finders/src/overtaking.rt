@@ -1,0 +1,47 @@
+ghost use Rattle.std.specs.Prelude.{◌++◌, List};
+ghost use Rattle.std.specs.Thread.{IsSync};
+ghost use Rattle.value_match.specs.declared.life.MatchedValue.{MatchedValue};
+ghost use Rattle.order_violation.specs.Overtaking.{FindsFirst};
+
+use order_violation::{first_overtaking, sooner_of};
+use std::thread::{Threads, join};
+use value_match::{LongestTable, MatchedValue, Values};
+
+/// Of the candidates that overtake a value of the table, the one that is dequeued first, searched for in pieces.
+#[cycle(halves)]
+pub fn first_overtaking_par<R: Threads + Sync>(
+    rt: &R,
+    table: &LongestTable,
+    candidates: &Values,
+    pieces: usize,
+) -> Option<MatchedValue>
+    ensures { FindsFirst table.now candidates.now result }
+{
+    if pieces < 2 || candidates.len() < 2 {
+        return first_overtaking(table, candidates);
+    }
+    let (low, high) = candidates.split_at(candidates.len() / 2);
+    let some = pieces / 2;
+    let others = pieces - some;
+    let left = || -> Option<MatchedValue>
+        requires { IsSync R.row }
+        ensures { FindsFirst table.entry.now low.entry result }
+    { first_overtaking_par(rt, table, &low, some) };
+    let right = || -> Option<MatchedValue>
+        requires { IsSync R.row }
+        ensures { FindsFirst table.entry.now high.entry result }
+    { first_overtaking_par(rt, table, &high, others) };
+    let (first, second) = join(rt, left, right);
+    first_of_both(first, second)
+}
+
+/// What the candidates of two pieces give together.
+fn first_of_both(low: Option<MatchedValue>, high: Option<MatchedValue>) -> Option<MatchedValue>
+    ensures { (values xs ys : List MatchedValue) → FindsFirst values xs low → FindsFirst values ys high → FindsFirst values (xs ++ ys) result }
+{
+    match (low, high) {
+        (None, found) => found,
+        (Some(low), None) => Some(low),
+        (Some(low), Some(high)) => Some(sooner_of(low, high)),
+    }
+}

@@ -1,0 +1,68 @@
+ghost use Rattle.std.specs.Prelude.{◌≤◌, IfOk};
+ghost use Rattle.empty_witness.specs.Answers.{IsWitnessAnswer};
+ghost use Rattle.empty_witness.specs.Spans.{AreSpansOf};
+ghost use Rattle.parallel_finders.specs.declared.TheConstants.{MAX_PIECES};
+
+use crate::MIN_ITEMS;
+use crate::sorting::sort_stays;
+use crate::windows::windows_at_par;
+use empty_witness::{Span, WitnessAnswer, find_witness, join_spans, stays_of, witness_of};
+use std::alloc::{AllocError, Global};
+use std::thread::Threads;
+use value_match::Matching;
+
+/// What `find_witness` answers, by a search in pieces that may run at once.
+///
+/// Each piece gives the gaps of its empty answers, or that of its own whose window is covered and that returned first; of
+/// these the one that returned first counts, whichever piece ends first. Where there are few values and few empty answers
+/// they are searched in one piece. Where no thread can be started the caller's thread does the work. Time and memory are those of
+/// `find_witness`, and the gaps of one piece once more. `AllocError` comes only where a growth was refused.
+pub fn find_witness_par<R: Threads + Sync>(
+    rt: &R,
+    alloc: Global,
+    matching: &Matching,
+    pieces: usize,
+) -> Result<WitnessAnswer, AllocError>
+    requires { (1 ≤ pieces) × (pieces ≤ MAX_PIECES) }
+    ensures { IfOk result (λ answer. IsWitnessAnswer matching.now answer) }
+{
+    if matching.values().len() < MIN_ITEMS && matching.empties().len() < MIN_ITEMS {
+        find_witness(alloc, matching)
+    } else {
+        witness_in_pieces(rt, alloc, matching, pieces)
+    }
+}
+
+/// The same for any number of values and empty answers.
+pub fn witness_in_pieces<R: Threads + Sync>(
+    rt: &R,
+    alloc: Global,
+    matching: &Matching,
+    pieces: usize,
+) -> Result<WitnessAnswer, AllocError>
+    ensures { IfOk result (λ answer. IsWitnessAnswer matching.now answer) }
+{
+    let spans = spans_of_par(rt, alloc, matching)?;
+    let windows = windows_at_par(
+        rt,
+        alloc,
+        matching,
+        spans.as_slice(),
+        matching.empties(),
+        pieces,
+    )?;
+    witness_of(alloc, matching, windows)
+}
+
+/// The spans in which the gaps lie at which some value surely is in the queue.
+fn spans_of_par<R: Threads + Sync>(
+    rt: &R,
+    alloc: Global,
+    matching: &Matching,
+) -> Result<Vec<Span>, AllocError>
+    ensures { IfOk result (λ spans. AreSpansOf matching.now spans.items) }
+{
+    let mut stays = stays_of(alloc, &matching.values())?;
+    sort_stays(rt, &mut stays);
+    join_spans(alloc, stays.as_slice())
+}

@@ -1,5 +1,0 @@
-use Rattle.value_match.proofs.Fronts.{ListsValues}
-use Rattle.value_match.proofs.table.by_return.Given as goal
-
-abbrev pub invariant-loop-place : goal.invariant-loop-place
-invariant-loop-place l = ListsValues l.values l.place l.order.items
