@@ -8,7 +8,6 @@ ghost use Rattle.linearizer.specs.Placement.{Adds, AreEnqueueGaps, HoldsIdles, I
 ghost use Rattle.linearizer.specs.Merging.{IsDequeueFrom, IsEnqueueFrom, IsIdleFrom, IsMerge, IsMergedUpTo, IsValueFrom, NoneBelow};
 
 use crate::choice::ordered_places;
-use crate::life_times::{entered_by, leaves_from};
 use crate::position::{Placed, Position};
 use history_merge::OpId;
 use std::alloc::{AllocError, Global};
@@ -61,7 +60,7 @@ fn enqueue_gaps(alloc: Global, matching: &Matching, order: &[usize]) -> Result<V
     let mut gaps = vec![in alloc; 0; order.len()]?;
     let mut least = NEVER;
     for rank in (0..order.len()).rev() {
-        least = least.min(entered_by(&values.get(order[rank]).life));
+        least = least.min(values.get(order[rank]).life.entered_by());
         gaps[rank] = least.saturating_sub(1);
     }
     Ok(gaps)
@@ -123,7 +122,7 @@ fn place_dequeues(
         let rank = so_far.dequeues;
         let value = values.get(order[rank]);
         let enqueue_gap = gaps[rank];
-        let left = leaves_from(&value.life).max(so_far.left);
+        let left = value.life.leaves_from().max(so_far.left);
         if let Some(dequeue) = value.dequeue {
             let dequeue = Placed::dequeue(dequeue, enqueue_gap, left.max(enqueue_gap), rank);
             if stands_after(&dequeue, before) {
