@@ -2,9 +2,9 @@
 use Rattle.std.proofs.Common.{◌≡◌, ℕ, ◌<◌, List, [], ◌∷◌, ◌++◌, length, get_or, map, refl, sym, ◌∙◌, ap, subst, arith}
 use Rattle.std.specs.Prelude.{All, AllPairs, IsPermutation, filter}
 use Rattle.std.specs.List.{AllZip}
-use Rattle.std.proofs.lemmas.List.{get_or-map, length-map}
+use Rattle.std.proofs.lemmas.List.{append_assoc, get_or-map, length-map}
 use Rattle.std.proofs.lemmas.List.Elements.{All-cons, All-head, All-nil, All-tail}
-use Rattle.std.proofs.lemmas.List.Sorted.{All-permutation, IsPermutation-append_left, IsPermutation-map, IsPermutation-trans}
+use Rattle.std.proofs.lemmas.List.Sorted.{All-permutation, IsPermutation-append_left, IsPermutation-append_right, IsPermutation-map, IsPermutation-trans}
 use Rattle.std.proofs.lemmas.Option.{get_or_from_slice_get}
 use Rattle.history_merge.specs.declared.operation.Operation.{Operation}
 use Rattle.history_merge.specs.declared.operation.OpKind.TheVariants.{Empty}
@@ -15,7 +15,8 @@ use Rattle.value_match.specs.Violations.{IsClear, NoOrderViolation}
 use Rattle.linearizer.specs.declared.position.Class.TheVariants.{Idle}
 use Rattle.linearizer.specs.declared.position.Placed.{Placed}
 use Rattle.linearizer.specs.Order.{StandsBefore, IsPositionOf, AreChosenAndLegal}
-use Rattle.linearizer.specs.Placement.{Adds, AreByPosition, HoldsValues, IsPlaced, dequeues_of, enqueues_of, position_of}
+use Rattle.linearizer.specs.Placement.{Adds, AreByPosition, HoldsIdles, HoldsValues, IsPlaced, NeverFall, dequeues_of, enqueues_of, position_of}
+use Rattle.linearizer.specs.Merging.{IsMerge}
 use Rattle.linearizer.proofs.LegalOrder.{chosen_order_is_legal}
 use Rattle.linearizer.proofs.OneOrder.{operations_rise, sorted_is_chosen}
 use Rattle.linearizer.proofs.Partition.{each_once}
@@ -75,19 +76,27 @@ positions_never_fall placed never i j d below within =
     let inside : j < length placed = omega arith in
     rw (get_or-map (λ p. position_of p.position) placed i nowhere d (omega arith), get_or-map (λ p. position_of p.position) placed j nowhere d inside) (never i j nowhere below inside)
 
--- all operations stand at their positions, and are sorted by them
-pub chosen_and_legal : (operations : List Operation) (values empties all : List Placed) (places : List ℕ) → IsClear operations → NoOrderViolation operations → HoldsValues operations values
-    → Adds operations (filter is_empty_answer operations) values empties → Adds operations (filter is_refused operations) empties all → AreByPosition all places → AreChosenAndLegal operations places
-chosen_and_legal operations values empties all places clear none held with_empties with_refused sorted =
+-- what is added to no operations, and sorted
+pub idles_held : (operations : List Operation) (empties all idles : List Placed) → Adds operations (filter is_empty_answer operations) [] empties → Adds operations (filter is_refused operations) empties all → IsPermutation all idles → NeverFall idles
+    → HoldsIdles operations idles
+idles_held operations empties all idles first second moved never = record {
+  added = all;
+  each_placed = λ lives. subst (AllZip (IsPlaced operations lives) (filter is_empty_answer operations ++ filter is_refused operations)) (sym (second.after ∙ ap (λ xs. xs ++ second.added) first.after))
+      (zip_joined (IsPlaced operations lives) (filter is_empty_answer operations) (filter is_refused operations) first.added second.added (first.each_placed lives) (second.each_placed lives));
+  each_once = moved;
+  never_fall = never;
+}
+
+-- all operations stand at their positions, and are merged by them
+pub chosen_and_legal : (operations : List Operation) (idles : List Placed) (places : List ℕ) → IsClear operations → NoOrderViolation operations → HoldsIdles operations idles → IsMerge operations idles places → AreChosenAndLegal operations places
+chosen_and_legal operations idles places clear none idle merged =
     let lives = held.lives in
-    let listed = held.listed ++ filter is_empty_answer operations ++ filter is_refused operations in
-    let zip : AllZip (IsPlaced operations lives) listed all = zipped in
-    let same = listed_are operations lives listed all zip in
+    let same = listed_are operations lives listed all zipped in
     let moved : IsPermutation operations (map (operation_of operations) sorted.sorted) =
     IsPermutation-trans operations (map (operation_of operations) all) (map (operation_of operations) sorted.sorted)
     (subst (IsPermutation operations) same listed_once)
-    (IsPermutation-map (operation_of operations) all sorted.sorted sorted.holds_each_once) in
-    let well = All-permutation (λ p. IsPlaced operations lives (operation_of operations p) p) all sorted.sorted sorted.holds_each_once (all_well_placed operations lives listed all zip) in
+    (IsPermutation-map (operation_of operations) all sorted.sorted all_sorted) in
+    let well = All-permutation (λ p. IsPlaced operations lives (operation_of operations p) p) all sorted.sorted all_sorted (all_well_placed operations lives listed all zipped) in
     let chosen = sorted_is_chosen operations (map (operation_of operations) sorted.sorted) lives (map (λ p. position_of p.position) sorted.sorted) clear held.in_order moved
     (positions_named operations lives sorted.sorted well) (positions_never_fall sorted.sorted sorted.never_falls) in (
       map (operation_of operations) sorted.sorted,
@@ -96,19 +105,35 @@ chosen_and_legal operations values empties all places clear none held with_empti
       chosen_order_is_legal operations (map (operation_of operations) sorted.sorted) clear none chosen,
     )
   where
+    values : List Placed
+    values = merged.0
+
+    held : HoldsValues operations values
+    held = merged.1
+
+    sorted : AreByPosition (values ++ idles) places
+    sorted = merged.2
+
+    idle_listed : List Operation
+    idle_listed = filter is_empty_answer operations ++ filter is_refused operations
+
+    listed : List Operation
+    listed = held.listed ++ idle_listed
+
+    all : List Placed
+    all = values ++ idle.added
+
+    all_sorted : IsPermutation all sorted.sorted
+    all_sorted = IsPermutation-trans all (values ++ idles) sorted.sorted (IsPermutation-append_right values idle.added idles idle.each_once) sorted.holds_each_once
+
     values_listed : List Operation
     values_listed = enqueues_of held.lives ++ dequeues_of held.lives
 
-    listed_once : IsPermutation operations (held.listed ++ filter is_empty_answer operations ++ filter is_refused operations)
+    listed_once : IsPermutation operations listed
     listed_once =
-        IsPermutation-trans operations (values_listed ++ filter is_empty_answer operations ++ filter is_refused operations) (held.listed ++ filter is_empty_answer operations ++ filter is_refused operations)
-        (each_once operations clear held.lives held.in_order (operations_rise operations clear.complete))
-        (IsPermutation-append_left (filter is_refused operations) (values_listed ++ filter is_empty_answer operations) (held.listed ++ filter is_empty_answer operations)
-        (IsPermutation-append_left (filter is_empty_answer operations) values_listed held.listed held.each_once))
+        IsPermutation-trans operations (values_listed ++ idle_listed) listed
+        (subst (IsPermutation operations) (append_assoc values_listed (filter is_empty_answer operations) (filter is_refused operations)) (each_once operations clear held.lives held.in_order (operations_rise operations clear.complete)))
+        (IsPermutation-append_left idle_listed values_listed held.listed held.each_once)
 
-    zipped : AllZip (IsPlaced operations held.lives) (held.listed ++ filter is_empty_answer operations ++ filter is_refused operations) all
-    zipped =
-        subst (AllZip (IsPlaced operations held.lives) (held.listed ++ filter is_empty_answer operations ++ filter is_refused operations)) (sym (with_refused.after ∙ ap (λ xs. xs ++ with_refused.added) with_empties.after))
-        (zip_joined (IsPlaced operations held.lives) (held.listed ++ filter is_empty_answer operations) (filter is_refused operations) (values ++ with_empties.added) with_refused.added
-        (zip_joined (IsPlaced operations held.lives) held.listed (filter is_empty_answer operations) values with_empties.added held.each_placed (with_empties.each_placed held.lives))
-        (with_refused.each_placed held.lives))
+    zipped : AllZip (IsPlaced operations held.lives) listed all
+    zipped = zip_joined (IsPlaced operations held.lives) held.listed idle_listed values idle.added held.each_placed (idle.each_placed held.lives)

@@ -10,6 +10,7 @@ pub mod DifferentTimes
 pub mod Windows
 pub mod Positions
 pub mod LegalOrder
+pub mod Merging
 pub mod ValueOrder
 pub mod EachPosition
 pub mod OneOrder

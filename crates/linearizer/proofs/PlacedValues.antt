@@ -26,7 +26,7 @@ fold_max-append a [] ys = refl
 fold_max-append a (x ∷ xs) ys = fold_max-append (max a x) xs ys
 
 -- one more in the midst of a list
-one_more_among : {X : Type 0} (xs ys zs : List X) (x : X) → IsPermutation (xs ++ ys) zs → IsPermutation ((xs ++ x ∷ []) ++ ys) (zs ++ x ∷ [])
+pub one_more_among : {X : Type 0} (xs ys zs : List X) (x : X) → IsPermutation (xs ++ ys) zs → IsPermutation ((xs ++ x ∷ []) ++ ys) (zs ++ x ∷ [])
 one_more_among xs ys zs x moved =
     subst (λ l. IsPermutation l (zs ++ x ∷ [])) (sym (append_assoc xs (x ∷ []) ys))
     (IsPermutation-trans (xs ++ x ∷ ys) (x ∷ (xs ++ ys)) (zs ++ x ∷ []) (IsPermutation-middle xs x ys)
@@ -38,6 +38,14 @@ zip_joined R [] xs' [] ys' zip zip' = zip'
 zip_joined R [] xs' (y ∷ ys) ys' zip zip' = absurd zip
 zip_joined R (x ∷ xs) xs' [] ys' zip zip' = absurd zip
 zip_joined R (x ∷ xs) xs' (y ∷ ys) ys' zip zip' = (zip.0, zip_joined R xs xs' ys ys' zip.1 zip')
+
+-- where a dequeue stands that is placed at the greatest of these times
+pub dequeue_stands : (lives : List Life) (i gap left later : ℕ) (placed : Placed) → gap ≡ enqueue_gap lives i → left ≡ greatest_leaves_from (take (i + 1) lives) → later ≡ max left gap
+    → position_of placed.position ≡ record { gap = later; class = (if nat_lt gap later then earlier_dequeues else other_dequeues); rank = i } → position_of placed.position ≡ dequeue_position lives i
+dequeue_stands lives i gap left later placed gap_is left_is later_is stands =
+    let last : later ≡ dequeue_gap lives i = later_is ∙ ap (λ m. max m gap) left_is ∙ ap (max (greatest_leaves_from (take (i + 1) lives))) gap_is in
+    stands ∙ ap (λ g. record { gap = later; class = (if nat_lt g later then earlier_dequeues else other_dequeues); rank = i }) gap_is
+    ∙ ap (λ g. record { gap = g; class = (if nat_lt (enqueue_gap lives i) g then earlier_dequeues else other_dequeues); rank = i }) last
 
 -- one value more, of which the gaps and the tickets are known
 module _ (operations : List Operation) (lives : List Life) (order : IsValueOrder operations lives) (i : ℕ) (life : Life) (at : slice_get lives i ≡ Some life) where
@@ -78,10 +86,7 @@ module _ (operations : List Operation) (lives : List Life) (order : IsValueOrder
       did = subst (λ e. MatchOption e (NoneDid operations (Deq is.0)) (λ d. Did operations d (Deq is.0))) dequeues is.2
 
       there : position_of placed.position ≡ dequeue_position lives i
-      there =
-          let last : later ≡ dequeue_gap lives i = later_is ∙ ap (λ m. max m gap) left_is ∙ ap (max (greatest_leaves_from (take (i + 1) lives))) gap_is in
-          stands ∙ ap (λ g. record { gap = later; class = (if nat_lt g later then earlier_dequeues else other_dequeues); rank = i }) gap_is
-          ∙ ap (λ g. record { gap = g; class = (if nat_lt (enqueue_gap lives i) g then earlier_dequeues else other_dequeues); rank = i }) last
+      there = dequeue_stands lives i gap left later placed gap_is left_is later_is stands
 
       stands_for : (k : OpKind) → k ≡ Deq is.0 → IsPositionFor operations lives d k (position_of placed.position)
       stands_for k same = subst (λ k. IsPositionFor operations lives d k (position_of placed.position)) (sym same) (i, life, at, dequeues, there)
@@ -153,7 +158,7 @@ module _ (operations : List Operation) (lives : List Life) (i : ℕ) (m : Matche
 
 -- the turn of the next dequeue
 module _ (operations : List Operation) (lives : List Life) (j : ℕ) (m : MatchedValue) (gap left left' : ℕ) (turn : IsTurn operations lives j m gap) (left_is : left' ≡ max (leaves_from m.life) left) (i : ℕ) (placed : List Placed) (so_far : HoldsUpTo operations lives i j left placed) where
-  left_more : left' ≡ greatest_leaves_from (take (j + 1) lives)
+  pub left_more : left' ≡ greatest_leaves_from (take (j + 1) lives)
   left_more = let more = greatest_more operations lives turn.order j m.life turn.at in omega (arith, more, left_is, so_far.left_is)
 
   with_rest : (rest : List Placed) → AllZip (IsPlaced operations lives) (option_to_list m.life.dequeue) rest → HoldsUpTo operations lives i (j + 1) left' (placed ++ rest)

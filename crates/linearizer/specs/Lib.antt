@@ -2,3 +2,4 @@ pub mod Values
 pub mod Order
 pub mod Placement
 pub mod Sweep
+pub mod Merging

@@ -1,11 +1,11 @@
 -- What the steps on the way to the chosen order give.
-use Rattle.std.specs.Prelude.{◌≡◌, ℕ, ◌<◌, ◌++◌, List, All, AllPairs, IsPermutation, length, map, filter_map, slice_get, slice_index, take}
+use Rattle.std.specs.Prelude.{◌≡◌, ℕ, ◌<◌, ◌++◌, List, All, AllPairs, IsPermutation, length, map, filter, filter_map, slice_get, slice_index, take}
 use Rattle.std.specs.List.{AllZip}
 use Rattle.history_merge.specs.declared.operation.Operation.{Operation}
 use Rattle.history_merge.specs.Operations.{IsAt}
 use Rattle.value_match.specs.declared.life.Life.{Life}
 use Rattle.value_match.specs.declared.life.MatchedValue.{MatchedValue}
-use Rattle.value_match.specs.Lives.{IsMaybeAt, lives_of}
+use Rattle.value_match.specs.Lives.{IsMaybeAt, is_empty_answer, is_refused, lives_of}
 use Rattle.linearizer.specs.declared.position.Class.{Class}
 use Rattle.linearizer.specs.declared.position.Class.TheVariants.{EarlierDequeue, Idle, Enqueue, OtherDequeue}
 use Rattle.linearizer.specs.declared.position.Position.{Position as Stored}
@@ -84,9 +84,20 @@ pub record Adds (operations listed : List Operation) (old new : List Placed) : T
   pub after : new ≡ old ++ added
   pub each_placed : (lives : List Life) → AllZip (IsPlaced operations lives) listed added
 
+-- no operation stands before an earlier one
+abbrev pub NeverFall : List Placed → Type 0
+NeverFall placed = AllPairs (λ p q. ¬ (StandsBefore (position_of q.position) (position_of p.position))) placed
+
+-- the empty answers and the refused enqueues, each once and at its position whatever the order of the values, by rising position
+pub record HoldsIdles (operations : List Operation) (idles : List Placed) : Type 0 where
+  pub added : List Placed
+  pub each_placed : (lives : List Life) → AllZip (IsPlaced operations lives) (filter is_empty_answer operations ++ filter is_refused operations) added
+  pub each_once : IsPermutation added idles
+  pub never_fall : NeverFall idles
+
 -- the places of what was listed, by positions that never fall
 pub record AreByPosition (placed : List Placed) (places : List ℕ) : Type 0 where
   pub sorted : List Placed
   pub holds_each_once : IsPermutation placed sorted
-  pub never_falls : AllPairs (λ p q. ¬ (StandsBefore (position_of q.position) (position_of p.position))) sorted
+  pub never_falls : NeverFall sorted
   pub places_are : places ≡ map (λ p. p.operation) sorted

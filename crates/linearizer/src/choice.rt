@@ -4,7 +4,6 @@ ghost use Rattle.linearizer.specs.Values.{EachIsChoice};
 ghost use Rattle.linearizer.specs.Placement.{IsOrderOfPlaces, elements_at, lives_in};
 ghost use Rattle.linearizer.specs.Sweep.{TakesOneOf};
 
-use crate::life_times::leaves_from;
 use crate::timed::{Timed, by_dequeue, by_entry, first_left};
 use std::alloc::{AllocError, Global};
 use value_match::{Matching, Values};
@@ -47,7 +46,7 @@ fn choice(values: &Values, first_in: Timed, first_out: Timed) -> usize
     requires { first_in.place < length values.now }
     ensures { TakesOneOf values.now first_in first_out result }
 {
-    if first_out.time < leaves_from(&values.get(first_in.place).life) {
+    if first_out.time < values.get(first_in.place).life.leaves_from() {
         return first_out.place;
     }
     first_in.place

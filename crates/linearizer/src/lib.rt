@@ -2,7 +2,6 @@
 #![tactic(auto)]
 
 mod choice;
-mod life_times;
 mod order;
 mod placing;
 mod position;

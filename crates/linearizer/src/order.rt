@@ -2,10 +2,8 @@ ghost use Rattle.std.specs.Prelude.{IfOk};
 ghost use Rattle.value_match.specs.Violations.{NoOrderViolation};
 ghost use Rattle.value_match.specs.Lives.{AreLeastFreeGaps};
 ghost use Rattle.linearizer.specs.Order.{AreChosenAndLegal};
-ghost use Rattle.linearizer.specs.Placement.{AreByPosition};
 
-use crate::placing::{place_empties, place_refused, place_values};
-use crate::position::Placed;
+use crate::placing::{idles_of, merge};
 use history_merge::OpId;
 use std::alloc::{AllocError, Global};
 use value_match::Matching;
@@ -15,23 +13,13 @@ use value_match::Matching;
 ///
 /// Of two operations the one at the lower gap stands first, where gap `c` is the time between
 /// tickets `c` and `c + 1`. `gaps` has the least free gap of each empty answer, in the order of
-/// their calls. The only error is want of memory, of which the call takes a few words an
-/// operation. Its time grows as that of a sort.
+/// their calls. The only error is want of memory, of which the call takes a few words for each accepted value, empty answer
+/// and refused enqueue, and one for each operation. Its time grows as that of a sort.
 pub fn linearize(alloc: Global, matching: &Matching, gaps: &[u64]) -> Result<Vec<OpId>, AllocError>
     requires no_order_violation { NoOrderViolation matching.now }
     requires least_free_gaps { AreLeastFreeGaps matching.now gaps.now }
     ensures { IfOk result (λ places. AreChosenAndLegal matching.now places.items) }
 {
-    let mut placed = place_values(alloc, matching)?;
-    place_empties(&mut placed, matching, gaps)?;
-    place_refused(&mut placed, matching)?;
-    by_position(alloc, placed)
-}
-
-/// The operations by rising position.
-fn by_position(alloc: Global, mut placed: Vec<Placed>) -> Result<Vec<OpId>, AllocError>
-    ensures { IfOk result (λ places. AreByPosition placed.items places.items) }
-{
-    placed.sort_by_key(|placed| placed.position)?;
-    placed.iter().map(|placed| placed.operation).collect(alloc)
+    let idles = idles_of(alloc, matching, gaps)?;
+    merge(alloc, matching, &idles)
 }

@@ -1,36 +1,54 @@
-ghost use Rattle.std.specs.Prelude.{◌≡◌, ◌≤◌, ℕ, [], IfOk, None, OnOk, false, filter, length};
+ghost use Rattle.std.specs.Prelude.{◌≡◌, ◌↔◌, ℕ, [], IfOk, IsTrue, List, MatchOption, OnOk, false, filter, length};
+ghost use Rattle.history_merge.specs.declared.operation.Operation.{Operation};
+ghost use Rattle.value_match.specs.declared.life.Life.{Life};
 ghost use Rattle.value_match.specs.Lives.{AreLeastFreeGaps, is_empty_answer, is_refused};
 ghost use Rattle.value_match.specs.Violations.{IsClear};
-ghost use Rattle.linearizer.specs.Placement.{Adds, AreEnqueueGaps, HoldsUpTo, HoldsValues, IsOrderOfPlaces, lives_at};
+ghost use Rattle.linearizer.specs.Order.{StandsBefore};
+ghost use Rattle.linearizer.specs.Placement.{Adds, AreEnqueueGaps, HoldsIdles, IsOrderOfPlaces, NeverFall, lives_at, position_of};
+ghost use Rattle.linearizer.specs.Merging.{IsDequeueFrom, IsEnqueueFrom, IsIdleFrom, IsMerge, IsMergedUpTo, IsValueFrom, NoneBelow};
 
 use crate::choice::ordered_places;
-use crate::life_times::{entered_by, leaves_from};
 use crate::position::{Placed, Position};
 use history_merge::OpId;
 use std::alloc::{AllocError, Global};
 use value_match::{Matching, NEVER};
 
-/// The enqueues and dequeues of the accepted values.
+/// The operations by rising position.
 ///
-/// They stand nearly by rising position, and the empty answers and the refused enqueues do so too: a stable sort of all of
-/// them finds three lists to merge.
-pub(crate) fn place_values(alloc: Global, matching: &Matching) -> Result<Vec<Placed>, AllocError>
+/// The enqueues rise, the dequeues do, and the idle operations are sorted: the three lists are merged.
+pub(crate) fn merge(
+    alloc: Global,
+    matching: &Matching,
+    idles: &[Placed],
+) -> Result<Vec<OpId>, AllocError>
+    requires { NeverFall idles.now }
     ensures clear { IsClear matching.now }
-    ensures placed { IfOk result (λ placed. HoldsValues matching.now placed.items) }
+    ensures merged { IfOk result (λ places. IsMerge matching.now idles.now places.items) }
 {
     let order = ordered_places(alloc, matching)?;
     let gaps = enqueue_gaps(alloc, matching, &order)?;
-    let mut placed = Vec::with_capacity(alloc, matching.operations().len())?;
-    let mut so_far = place_enqueues(&mut placed, matching, &order, &gaps)?;
-    place_dequeues(&mut placed, &mut so_far, matching, &order, &gaps, None)?;
-    Ok(placed)
+    let mut places = Vec::with_capacity(alloc, matching.operations().len())?;
+    let mut so_far = place_enqueues(&mut places, matching, &order, &gaps, idles)?;
+    place_dequeues(
+        &mut places,
+        &mut so_far,
+        matching,
+        &order,
+        &gaps,
+        idles,
+        None,
+    )?;
+    place_idles(&mut places, &mut so_far.idles, idles, None)?;
+    Ok(places)
 }
 
-/// How many values of the order had their dequeues placed, and the time from which all of these can have left.
+/// How many values of the order had their dequeues placed, and the time from which all of these can have left; and how
+/// many idle operations were placed.
 #[derive(Clone, Copy)]
-pub(crate) struct Dequeued {
-    pub(crate) count: usize,
+pub(crate) struct Merged {
+    pub(crate) dequeues: usize,
     pub(crate) left: u64,
+    pub(crate) idles: usize,
 }
 
 /// The gap of the enqueue of each value, in the order of the values.
@@ -42,80 +60,112 @@ fn enqueue_gaps(alloc: Global, matching: &Matching, order: &[usize]) -> Result<V
     let mut gaps = vec![in alloc; 0; order.len()]?;
     let mut least = NEVER;
     for rank in (0..order.len()).rev() {
-        least = least.min(entered_by(&values.get(order[rank]).life));
+        least = least.min(values.get(order[rank]).life.entered_by());
         gaps[rank] = least.saturating_sub(1);
     }
     Ok(gaps)
 }
 
-/// Adds the enqueues in the order of the values, each after the dequeues that stand before it.
+/// Adds the enqueues in the order of the values, each after the other operations that stand before it.
 fn place_enqueues(
-    placed: &mut Vec<Placed>,
+    places: &mut Vec<OpId>,
     matching: &Matching,
     order: &[usize],
     gaps: &[u64],
-) -> Result<Dequeued, AllocError>
-    requires none { placed.old.items ≡ [] }
+    idles: &[Placed],
+) -> Result<Merged, AllocError>
+    requires none { places.old.items ≡ [] }
     requires order { IsOrderOfPlaces matching.now order.now }
     requires gaps { AreEnqueueGaps (lives_at matching.now order.now) gaps.now }
-    ensures { IfOk result (λ so_far. HoldsUpTo matching.now (lives_at matching.now order.now) (length order.now) so_far.count so_far.left placed.new.items) }
+    requires idles { NeverFall idles.now }
+    ensures { IfOk result (λ so_far. IsMergedUpTo matching.now (lives_at matching.now order.now) idles.now (length order.now) so_far.dequeues so_far.left so_far.idles places.new.items) }
 {
     let values = matching.values();
-    let mut so_far = Dequeued { count: 0, left: 0 };
+    let mut so_far = Merged {
+        dequeues: 0,
+        left: 0,
+        idles: 0,
+    };
     for (rank, place) in order.iter().enumerate() {
         let enqueue = Placed::enqueue(values.get(*place).enqueue, gaps[rank], rank);
-        place_dequeues(
-            placed,
-            &mut so_far,
-            matching,
-            order,
-            gaps,
-            Some(enqueue.position),
-        )?;
-        placed.push(enqueue)?;
+        let before = Some(enqueue.position);
+        place_dequeues(places, &mut so_far, matching, order, gaps, idles, before)?;
+        place_idles(places, &mut so_far.idles, idles, before)?;
+        places.push(enqueue.operation)?;
     }
     Ok(so_far)
 }
 
-/// Adds the next dequeues in the order of the values, up to the first that stands after this position, if one is given.
+/// Adds the next dequeues in the order of the values, up to the first that stands after this position, if one is given;
+/// each after the idle operations that stand before it.
 fn place_dequeues(
-    placed: &mut Vec<Placed>,
-    so_far: &mut Dequeued,
+    places: &mut Vec<OpId>,
+    so_far: &mut Merged,
     matching: &Matching,
     order: &[usize],
     gaps: &[u64],
+    idles: &[Placed],
     before: Option<Position>,
 ) -> Result<(), AllocError>
     requires order { IsOrderOfPlaces matching.now order.now }
     requires gaps { AreEnqueueGaps (lives_at matching.now order.now) gaps.now }
-    ensures adds { OnOk result ((i : ℕ) → HoldsUpTo matching.now (lives_at matching.now order.now) i so_far.old.count so_far.old.left placed.old.items
-        → HoldsUpTo matching.now (lives_at matching.now order.now) i so_far.new.count so_far.new.left placed.new.items) }
-    ensures all { OnOk result (before ≡ None → length order.now ≤ so_far.new.count) }
+    requires idles { NeverFall idles.now }
+    ensures adds { OnOk result ((i : ℕ) → NoneBelow (IsEnqueueFrom (lives_at matching.now order.now) i) before
+        → IsMergedUpTo matching.now (lives_at matching.now order.now) idles.now i so_far.old.dequeues so_far.old.left so_far.old.idles places.old.items
+        → IsMergedUpTo matching.now (lives_at matching.now order.now) idles.now i so_far.new.dequeues so_far.new.left so_far.new.idles places.new.items) }
+    ensures up_to { OnOk result ((i : ℕ) → NoneBelow (IsEnqueueFrom (lives_at matching.now order.now) i) before
+        → IsMergedUpTo matching.now (lives_at matching.now order.now) idles.now i so_far.old.dequeues so_far.old.left so_far.old.idles places.old.items
+        → NoneBelow (IsDequeueFrom (lives_at matching.now order.now) so_far.new.dequeues) before) }
 {
     let values = matching.values();
-    while so_far.count < order.len() {
-        let rank = so_far.count;
+    while so_far.dequeues < order.len() {
+        let rank = so_far.dequeues;
         let value = values.get(order[rank]);
         let enqueue_gap = gaps[rank];
-        let left = leaves_from(&value.life).max(so_far.left);
+        let left = value.life.leaves_from().max(so_far.left);
         if let Some(dequeue) = value.dequeue {
             let dequeue = Placed::dequeue(dequeue, enqueue_gap, left.max(enqueue_gap), rank);
             if stands_after(&dequeue, before) {
                 return Ok(());
             }
-            placed.push(dequeue)?;
+            place_idles(places, &mut so_far.idles, idles, Some(dequeue.position))?;
+            places.push(dequeue.operation)?;
         }
-        *so_far = Dequeued {
-            count: rank + 1,
+        *so_far = Merged {
+            dequeues: rank + 1,
             left,
+            idles: so_far.idles,
         };
+    }
+    Ok(())
+}
+
+/// Adds the next idle operations, up to the first that stands after this position, if one is given.
+fn place_idles(
+    places: &mut Vec<OpId>,
+    count: &mut usize,
+    idles: &[Placed],
+    before: Option<Position>,
+) -> Result<(), AllocError>
+    requires { NeverFall idles.now }
+    ensures adds { OnOk result ((operations : List Operation) (lives : List Life) (i j left : ℕ) → NoneBelow (IsValueFrom lives i j) before
+        → IsMergedUpTo operations lives idles.now i j left count.old places.old.items → IsMergedUpTo operations lives idles.now i j left count.new places.new.items) }
+    ensures up_to { OnOk result (NoneBelow (IsIdleFrom idles.now count.new) before) }
+{
+    while *count < idles.len() {
+        let idle = idles[*count];
+        if stands_after(&idle, before) {
+            return Ok(());
+        }
+        places.push(idle.operation)?;
+        *count += 1;
     }
     Ok(())
 }
 
 /// Whether the operation stands after this position, if one is given.
 fn stands_after(placed: &Placed, position: Option<Position>) -> bool
-    ensures { position ≡ None → result ≡ false }
+    ensures { MatchOption position (result ≡ false) (λ p. IsTrue result ↔ StandsBefore (position_of p) (position_of placed.now.position)) }
 {
     match position {
         Some(position) => position < placed.position,
@@ -123,8 +173,25 @@ fn stands_after(placed: &Placed, position: Option<Position>) -> bool
     }
 }
 
+/// The empty answers and the refused enqueues, by rising position.
+pub(crate) fn idles_of(
+    alloc: Global,
+    matching: &Matching,
+    gaps: &[u64],
+) -> Result<Vec<Placed>, AllocError>
+    requires { AreLeastFreeGaps matching.now gaps.now }
+    ensures { IfOk result (λ idles. HoldsIdles matching.now idles.items) }
+{
+    let count = gaps.len().saturating_add(matching.refused().len());
+    let mut idles = Vec::with_capacity(alloc, count)?;
+    place_empties(&mut idles, matching, gaps)?;
+    place_refused(&mut idles, matching)?;
+    idles.sort_by_key(|idle| idle.position)?;
+    Ok(idles)
+}
+
 /// Adds the empty answers.
-pub(crate) fn place_empties(
+fn place_empties(
     placed: &mut Vec<Placed>,
     matching: &Matching,
     gaps: &[u64],
@@ -141,7 +208,7 @@ pub(crate) fn place_empties(
 }
 
 /// Adds the refused enqueues.
-pub(crate) fn place_refused(placed: &mut Vec<Placed>, matching: &Matching) -> Result<(), AllocError>
+fn place_refused(placed: &mut Vec<Placed>, matching: &Matching) -> Result<(), AllocError>
     ensures { OnOk result (Adds matching.now (filter is_refused matching.now) placed.old.items placed.new.items) }
 {
     let operations = matching.operations();

@@ -2,7 +2,6 @@ ghost use Rattle.std.specs.Prelude.{◌<◌, All, Contains, IfOk, length, take};
 ghost use Rattle.value_match.specs.Lives.{dequeue_return, entered_by};
 ghost use Rattle.linearizer.specs.Sweep.{AreByTime, IsFirstLeft, IsLeft, IsTaken};
 
-use crate::life_times::{dequeue_return, entered_by};
 use std::alloc::{AllocError, Global};
 use value_match::{Values, settle};
 
@@ -20,7 +19,7 @@ pub(crate) fn by_entry(alloc: Global, values: &Values) -> Result<Vec<Timed>, All
     let mut entries = Vec::with_capacity(alloc, values.len())?;
     for place in 0..values.len() {
         let value = values.get(place);
-        let time = entered_by(&value.life);
+        let time = value.life.entered_by();
         entries.push(Timed { time, place })?;
     }
     settle(&mut entries, &|entry: &Timed| entry.time);
@@ -35,7 +34,7 @@ pub(crate) fn by_dequeue(alloc: Global, values: &Values) -> Result<Vec<Timed>, A
     let mut entries = Vec::with_capacity(alloc, values.len())?;
     for place in 0..values.len() {
         let value = values.get(place);
-        let time = dequeue_return(&value.life);
+        let time = value.life.dequeue_return();
         entries.push(Timed { time, place })?;
     }
     settle(&mut entries, &|entry: &Timed| entry.time);

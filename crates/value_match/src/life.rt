@@ -1,6 +1,6 @@
 ghost use Rattle.std.specs.Prelude.{◌≡◌, ◌↔◌, IsTrue};
 ghost use Rattle.value_match.specs.Choice.{StaysAtLeast};
-ghost use Rattle.value_match.specs.Lives.{enqueue_call, enqueue_return, dequeue_call, dequeue_return};
+ghost use Rattle.value_match.specs.Lives.{enqueue_call, enqueue_return, dequeue_call, dequeue_return, entered_by, leaves_from};
 ghost use Rattle.value_match.specs.Longest.{IsLongerOf};
 
 use event_records::MAX_TICKET;
@@ -43,6 +43,20 @@ impl Life {
         ensures { result ≡ dequeue_return self.now }
     {
         self.dequeue.map_or(NEVER, |dequeue| dequeue.ret)
+    }
+
+    /// The return by which the value has entered the queue: that of its enqueue or of its dequeue, whichever is less.
+    pub fn entered_by(&self) -> u64
+        ensures { result ≡ entered_by self.now }
+    {
+        self.enqueue_return().min(self.dequeue_return())
+    }
+
+    /// The call before which the value has not left the queue: that of its dequeue or of its enqueue, whichever is greater.
+    pub fn leaves_from(&self) -> u64
+        ensures { result ≡ leaves_from self.now }
+    {
+        self.dequeue_call().max(self.enqueue_call())
     }
 
     /// Whether the value is dequeued later than the other, or as late and enqueued no later.

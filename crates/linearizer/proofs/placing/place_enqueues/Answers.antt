@@ -1,7 +1,10 @@
-use Rattle.std.proofs.Common.{◌≡◌, get_or, refl, arith, rules, subst, length}
-use Rattle.std.proofs.lemmas.Option.{slice_get-get_or}
-use Rattle.linearizer.specs.Placement.{HoldsUpTo, lives_at}
-use Rattle.linearizer.proofs.PlacedValues.{enqueue_more, gap_within, nothing_placed, turn_is}
+use Rattle.std.proofs.Common.{◌≡◌, ◌∙◌, ap, get_or, inl, inr, refl, arith, rules, subst, sym, length, Some}
+use Rattle.std.proofs.lemmas.Option.{slice_get-get_or, slice_get_within}
+use Rattle.linearizer.specs.Order.{StandsBefore, enqueue_position, enqueues}
+use Rattle.linearizer.specs.Placement.{lives_at, position_of}
+use Rattle.linearizer.specs.Merging.{IsEnqueueFrom, IsMergedUpTo, IsValueFrom, NoneBelow}
+use Rattle.linearizer.proofs.Merging.{enqueue_added, next_enqueue, nothing_merged}
+use Rattle.linearizer.proofs.PlacedValues.{enqueue_more, gap_within, turn_is}
 use Rattle.linearizer.proofs.placing.place_enqueues.Goals as goal
 
 pub bounds-gaps-rank : goal.bounds-gaps-rank
@@ -9,19 +12,28 @@ bounds-gaps-rank c =
     gap_within c.args.matching.now c.args.order.now c.args.gaps.now c.loop-rank.rank (get_or c.args.order.now c.loop-rank.rank 0) c.requires.order c.requires.gaps (slice_get-get_or c.args.order.now c.loop-rank.rank 0 c.loop-rank-test.true)
 
 pub loop-rank-init : goal.loop-rank-init
-loop-rank-init c = rw c.requires.none (nothing_placed c.args.matching.now (lives_at c.args.matching.now c.args.order.now))
+loop-rank-init c = rw c.requires.none (nothing_merged c.args.matching.now (lives_at c.args.matching.now c.args.order.now) c.args.idles.now)
 
 pub loop-rank-preserved : goal.loop-rank-preserved
 loop-rank-preserved c =
-    let names : c.enqueue-enqueue.result.operation ≡ c.get.result.enqueue = search rules in
+    let lives = lives_at c.args.matching.now c.args.order.now in
+    let i = c.loop-rank.rank in
+    let x = c.enqueue-enqueue.result in
+    let names : x.operation ≡ c.get.result.enqueue = search rules in
     let turn =
-    turn_is c.args.matching.now c.values-values.result c.args.order.now c.args.gaps.now c.loop-rank.rank (get_or c.args.order.now c.loop-rank.rank 0) c.get.result (get_or c.args.gaps.now c.loop-rank.rank 0) 0 c.values-values.ensures.values c.requires.order
-    c.requires.gaps (slice_get-get_or c.args.order.now c.loop-rank.rank 0 c.loop-rank-test.true) c.get.ensures refl in
+    turn_is c.args.matching.now c.values-values.result c.args.order.now c.args.gaps.now i (get_or c.args.order.now i 0) c.get.result (get_or c.args.gaps.now i 0) 0 c.values-values.ensures.values c.requires.order
+    c.requires.gaps (slice_get-get_or c.args.order.now i 0 c.loop-rank-test.true) c.get.ensures refl in
+    let within = slice_get_within lives i c.get.result.life turn.at in
+    let stands : position_of x.position ≡ enqueue_position lives i = c.enqueue-enqueue.ensures.position ∙ ap (λ g. record { gap = g; class = enqueues; rank = i }) turn.gap_is in
+    let none : NoneBelow (IsEnqueueFrom lives i) (Some x.position) = (λ p is. subst (λ q. ¬ (StandsBefore p q)) (sym stands) (next_enqueue lives i p within is)) in
+    let past = c.in_ok-place_dequeues.ensures.up_to i none c.loop-rank.invariant in
+    let values : NoneBelow (IsValueFrom lives i c.place_dequeues.new.so_far.dequeues) (Some x.position) = (λ p is. elim is [ inl enqueue ↦ none p enqueue | inr dequeue ↦ past p dequeue ]) in
+    let merged = c.in_ok-place_idles.ensures.adds c.args.matching.now lives i _ _ values (c.in_ok-place_dequeues.ensures.adds i none c.loop-rank.invariant) in
     rw c.in_ok-push.ensures.items
-    (enqueue_more c.args.matching.now (lives_at c.args.matching.now c.args.order.now) c.loop-rank.rank c.get.result (get_or c.args.gaps.now c.loop-rank.rank 0) turn _ _ c.place_dequeues.new.placed.items c.enqueue-enqueue.result
-    (c.in_ok-place_dequeues.ensures.adds c.loop-rank.rank c.loop-rank.invariant) names c.enqueue-enqueue.ensures.position)
+    (enqueue_added c.args.matching.now lives c.args.idles.now i _ _ _ _ merged x (enqueue_more c.args.matching.now lives i c.get.result (get_or c.args.gaps.now i 0) turn _ _ merged.values x merged.held names c.enqueue-enqueue.ensures.position) within stands past
+    c.in_ok-place_idles.ensures.up_to)
 
 pub returns : goal.returns
 returns c =
     let all : c.loop-rank.rank ≡ length c.args.order.now = omega (arith, c.loop-rank-test.false, c.loop-rank.auto.rank-end) in
-    subst (λ n. HoldsUpTo c.args.matching.now (lives_at c.args.matching.now c.args.order.now) n c.loop-rank.so_far.count c.loop-rank.so_far.left c.loop-rank.placed.items) all c.loop-rank.invariant
+    subst (λ n. IsMergedUpTo c.args.matching.now (lives_at c.args.matching.now c.args.order.now) c.args.idles.now n c.loop-rank.so_far.dequeues c.loop-rank.so_far.left c.loop-rank.so_far.idles c.loop-rank.places.items) all c.loop-rank.invariant

@@ -1,5 +1,6 @@
-use Rattle.linearizer.specs.Placement.{HoldsUpTo, lives_at}
+use Rattle.linearizer.specs.Merging.{IsMergedUpTo}
+use Rattle.linearizer.specs.Placement.{lives_at}
 use Rattle.linearizer.proofs.placing.place_enqueues.Given as goal
 
 abbrev pub invariant-loop-rank : goal.invariant-loop-rank
-invariant-loop-rank l = HoldsUpTo l.matching (lives_at l.matching l.order) l.rank l.so_far.count l.so_far.left l.placed.items
+invariant-loop-rank l = IsMergedUpTo l.matching (lives_at l.matching l.order) l.idles l.rank l.so_far.dequeues l.so_far.left l.so_far.idles l.places.items

@@ -1,0 +1,235 @@
+-- Three lists that rise are merged by the positions of their operations.
+use Rattle.std.proofs.Common.{◌≡◌, ℕ, ◌+◌, ◌<◌, ◌≤◌, ◌⊎◌, Bool, true, false, List, [], ◌∷◌, ◌++◌, length, get_or, take, Option, None, Some, refl, sym, ◌∙◌, ap, subst, inl, inr, arith}
+use Rattle.std.specs.Prelude.{◌↔◌, IsPermutation, IsSomeAnd, IsTrue, MatchOption, slice_get}
+use Rattle.std.proofs.lemmas.List.{append_assoc, map-append, take_all, take_more}
+use Rattle.std.proofs.lemmas.List.Elements.{All-get_or, All-nil, All-push, All-weaker}
+use Rattle.std.proofs.lemmas.List.Quantifiers.{all_pairs_push}
+use Rattle.std.proofs.lemmas.List.Sorted.{IsPermutation-append_left, IsPermutation-refl, IsPermutation-sym, IsPermutation-trans}
+use Rattle.std.proofs.lemmas.Option.{get_or_from_slice_get, slice_get-get_or, slice_get_within}
+use Rattle.history_merge.specs.declared.operation.Operation.{Operation}
+use Rattle.value_match.specs.declared.life.Life.{Life}
+use Rattle.linearizer.specs.declared.position.Class.TheVariants.{Idle}
+use Rattle.linearizer.specs.declared.position.Position.{Position as Stored}
+use Rattle.linearizer.specs.declared.position.Placed.{Placed}
+use Rattle.linearizer.specs.Values.{dequeue_gap, enqueue_gap}
+use Rattle.linearizer.specs.Order.{Position, StandsBefore, dequeue_position, enqueue_position}
+use Rattle.linearizer.specs.Placement.{HoldsUpTo, IsOrderOfPlaces, NeverFall, lives_at, position_of}
+use Rattle.linearizer.specs.Merging.{IsAhead, IsDequeueFrom, IsEnqueueFrom, IsIdleFrom, IsMerge, IsMergedUpTo, IsValueFrom, NoneBelow}
+use Rattle.linearizer.proofs.OrderedPlaces.{lives_long}
+use Rattle.linearizer.proofs.PlacedValues.{all_placed, nothing_placed, one_more_among}
+use Rattle.linearizer.proofs.Positions.{are_gaps}
+use Rattle.linearizer.proofs.Rising.{dequeues_rise, enqueues_rise, not_both, not_itself}
+
+-- what does not stand before q does not stand before r, where r does not stand after q
+pub through : (p q r : Position) → ¬ (StandsBefore p q) → ¬ (StandsBefore q r) → ¬ (StandsBefore p r)
+through p q r first second both = grind arith
+
+both : (p q r : Position) → StandsBefore p q → StandsBefore q r → StandsBefore p r
+both p q r first second = grind arith
+
+-- of the enqueues and of the dequeues the next stands first
+pub next_enqueue : (lives : List Life) (i : ℕ) (p : Position) → i < length lives → IsEnqueueFrom lives i p → ¬ (StandsBefore p (enqueue_position lives i))
+next_enqueue lives i p within from before =
+    let n = from.0 in
+    let there : StandsBefore (enqueue_position lives n) (enqueue_position lives i) = subst (λ p. StandsBefore p (enqueue_position lives i)) from.3 before in
+    let order : (i < n) ⊎ (n ≡ i) = grind (arith, from.1) in
+    elim order [
+      | inl later ↦ not_both (enqueue_position lives i) (enqueue_position lives n) (enqueues_rise (length lives) (enqueue_gap lives) (dequeue_gap lives) (are_gaps lives) i n later from.2) there
+      | inr same ↦ not_itself (enqueue_position lives i) (subst (λ k. StandsBefore (enqueue_position lives k) (enqueue_position lives i)) same there)
+    ]
+
+pub next_dequeue : (lives : List Life) (j : ℕ) (p : Position) → j < length lives → IsDequeueFrom lives j p → ¬ (StandsBefore p (dequeue_position lives j))
+next_dequeue lives j p within from before =
+    let n = from.0 in
+    let there : StandsBefore (dequeue_position lives n) (dequeue_position lives j) = subst (λ p. StandsBefore p (dequeue_position lives j)) from.3 before in
+    let order : (j < n) ⊎ (n ≡ j) = grind (arith, from.1) in
+    elim order [
+      | inl later ↦ not_both (dequeue_position lives j) (dequeue_position lives n) (dequeues_rise (length lives) (enqueue_gap lives) (dequeue_gap lives) (are_gaps lives) j n later from.2) there
+      | inr same ↦ not_itself (dequeue_position lives j) (subst (λ k. StandsBefore (dequeue_position lives k) (dequeue_position lives j)) same there)
+    ]
+
+-- of the idle operations too
+pub next_idle : (idles : List Placed) (k : ℕ) (x : Placed) (p : Position) → NeverFall idles → slice_get idles k ≡ Some x → IsIdleFrom idles k p → ¬ (StandsBefore p (position_of x.position))
+next_idle idles k x p never at from before =
+    let n = from.0 in
+    let y = from.1 in
+    let there : StandsBefore (position_of y.position) (position_of x.position) = subst (λ p. StandsBefore p (position_of x.position)) from.4 before in
+    let here = get_or_from_slice_get idles k x x at in
+    let that = get_or_from_slice_get idles n y x from.3 in
+    let order : (k < n) ⊎ (n ≡ k) = grind (arith, from.2) in
+    elim order [
+      | inl later ↦ never k n x later (slice_get_within idles n y from.3)
+          (subst (λ a. StandsBefore (position_of (get_or idles n x).position) (position_of a.position)) (sym here) (subst (λ b. StandsBefore (position_of b.position) (position_of x.position)) (sym that) there))
+      | inr same ↦
+          let both : y ≡ x = sym that ∙ ap (λ m. get_or idles m x) same ∙ here in
+          not_itself (position_of x.position) (subst (λ y. StandsBefore (position_of y.position) (position_of x.position)) both there)
+    ]
+
+-- one operation more, than which none of those ahead stands before
+module _ (operations : List Operation) (lives : List Life) (idles : List Placed) (i j left k : ℕ) (places : List ℕ) (merged : IsMergedUpTo operations lives idles i j left k places) where
+  pub grown : (i' j' left' k' : ℕ) (x : Placed) (values' : List Placed) → HoldsUpTo operations lives i' j' left' values' → IsPermutation ((merged.values ++ take k idles) ++ x ∷ []) (values' ++ take k' idles)
+      → IsAhead lives idles i j k (position_of x.position) → ((p : Position) → IsAhead lives idles i' j' k' p → IsAhead lives idles i j k p) → NoneBelow (IsAhead lives idles i' j' k') (Some x.position)
+      → IsMergedUpTo operations lives idles i' j' left' k' (places ++ x.operation ∷ [])
+  grown i' j' left' k' x values' held moved ahead still none = record {
+    values = values';
+    held = held;
+    sorted = merged.sorted ++ x ∷ [];
+    each_once = IsPermutation-trans (values' ++ take k' idles) ((merged.values ++ take k idles) ++ x ∷ []) (merged.sorted ++ x ∷ []) (IsPermutation-sym ((merged.values ++ take k idles) ++ x ∷ []) (values' ++ take k' idles) moved)
+        (IsPermutation-append_left (x ∷ []) (merged.values ++ take k idles) merged.sorted merged.each_once);
+    never_fall = all_pairs_push (λ p q. ¬ (StandsBefore (position_of q.position) (position_of p.position))) merged.sorted x merged.never_fall
+        (λ n d below. All-get_or (λ y. NoneBelow (IsAhead lives idles i j k) (Some y.position)) merged.sorted n d below merged.none_below (position_of x.position) ahead);
+    none_below = All-push (λ y. NoneBelow (IsAhead lives idles i' j' k') (Some y.position)) merged.sorted x
+        (All-weaker (λ y. NoneBelow (IsAhead lives idles i j k) (Some y.position)) (λ y. NoneBelow (IsAhead lives idles i' j' k') (Some y.position)) (λ y none p is. none p (still p is)) merged.sorted merged.none_below) none;
+    places_are = ap (λ ps. ps ++ x.operation ∷ []) merged.places_are ∙ sym (map-append (λ p. p.operation) merged.sorted (x ∷ []));
+  }
+
+  -- a value more, with or without a dequeue that is placed
+  pub passed : (left' : ℕ) → HoldsUpTo operations lives i (j + 1) left' merged.values → IsMergedUpTo operations lives idles i (j + 1) left' k places
+  passed left' held = record {
+    values = merged.values;
+    held = held;
+    sorted = merged.sorted;
+    each_once = merged.each_once;
+    never_fall = merged.never_fall;
+    none_below = All-weaker (λ y. NoneBelow (IsAhead lives idles i j k) (Some y.position)) (λ y. NoneBelow (IsAhead lives idles i (j + 1) k) (Some y.position)) (λ y none p is. none p (later p is)) merged.sorted merged.none_below;
+    places_are = merged.places_are;
+  }
+    where
+      later : (p : Position) → IsAhead lives idles i (j + 1) k p → IsAhead lives idles i j k p
+      later p (inl (inl enqueue)) = inl (inl enqueue)
+      later p (inl (inr dequeue)) = inl (inr (dequeue.0, omega (arith, dequeue.1), dequeue.2, dequeue.3))
+      later p (inr idle) = inr idle
+
+  -- the next dequeue, past the idle operations and the enqueues that are left
+  pub dequeue_added : (left' : ℕ) (x : Placed) → HoldsUpTo operations lives i (j + 1) left' (merged.values ++ x ∷ []) → j < length lives → position_of x.position ≡ dequeue_position lives j
+      → NoneBelow (IsEnqueueFrom lives i) (Some x.position) → NoneBelow (IsIdleFrom idles k) (Some x.position) → IsMergedUpTo operations lives idles i (j + 1) left' k (places ++ x.operation ∷ [])
+  dequeue_added left' x held within stands enqueues idle =
+      grown i (j + 1) left' k x (merged.values ++ x ∷ []) held
+      (IsPermutation-sym ((merged.values ++ x ∷ []) ++ take k idles) ((merged.values ++ take k idles) ++ x ∷ []) (one_more_among merged.values (take k idles) (merged.values ++ take k idles) x (IsPermutation-refl (merged.values ++ take k idles))))
+      (inl (inr (j, omega arith, within, stands))) later none
+    where
+      later : (p : Position) → IsAhead lives idles i (j + 1) k p → IsAhead lives idles i j k p
+      later p (inl (inl enqueue)) = inl (inl enqueue)
+      later p (inl (inr dequeue)) = inl (inr (dequeue.0, omega (arith, dequeue.1), dequeue.2, dequeue.3))
+      later p (inr idle) = inr idle
+
+      none : (p : Position) → IsAhead lives idles i (j + 1) k p → ¬ (StandsBefore p (position_of x.position))
+      none p (inl (inl is)) = enqueues p is
+      none p (inl (inr is)) = subst (λ q. ¬ (StandsBefore p q)) (sym stands) (next_dequeue lives j p within (is.0, omega (arith, is.1), is.2, is.3))
+      none p (inr is) = idle p is
+
+  -- the next enqueue, past the dequeues and the idle operations that are left
+  pub enqueue_added : (x : Placed) → HoldsUpTo operations lives (i + 1) j left (merged.values ++ x ∷ []) → i < length lives → position_of x.position ≡ enqueue_position lives i
+      → NoneBelow (IsDequeueFrom lives j) (Some x.position) → NoneBelow (IsIdleFrom idles k) (Some x.position) → IsMergedUpTo operations lives idles (i + 1) j left k (places ++ x.operation ∷ [])
+  enqueue_added x held within stands dequeues idle =
+      grown (i + 1) j left k x (merged.values ++ x ∷ []) held
+      (IsPermutation-sym ((merged.values ++ x ∷ []) ++ take k idles) ((merged.values ++ take k idles) ++ x ∷ []) (one_more_among merged.values (take k idles) (merged.values ++ take k idles) x (IsPermutation-refl (merged.values ++ take k idles))))
+      (inl (inl (i, omega arith, within, stands))) later none
+    where
+      later : (p : Position) → IsAhead lives idles (i + 1) j k p → IsAhead lives idles i j k p
+      later p (inl (inl enqueue)) = inl (inl (enqueue.0, omega (arith, enqueue.1), enqueue.2, enqueue.3))
+      later p (inl (inr dequeue)) = inl (inr dequeue)
+      later p (inr idle) = inr idle
+
+      none : (p : Position) → IsAhead lives idles (i + 1) j k p → ¬ (StandsBefore p (position_of x.position))
+      none p (inl (inl is)) = subst (λ q. ¬ (StandsBefore p q)) (sym stands) (next_enqueue lives i p within (is.0, omega (arith, is.1), is.2, is.3))
+      none p (inl (inr is)) = dequeues p is
+      none p (inr is) = idle p is
+
+  -- the next idle operation, past the values that are left
+  pub idle_added : (x : Placed) → NeverFall idles → slice_get idles k ≡ Some x → NoneBelow (IsValueFrom lives i j) (Some x.position) → IsMergedUpTo operations lives idles i j left (k + 1) (places ++ x.operation ∷ [])
+  idle_added x never at values =
+      grown i j left (k + 1) x merged.values merged.held
+      (subst (IsPermutation ((merged.values ++ take k idles) ++ x ∷ [])) (append_assoc merged.values (take k idles) (x ∷ []) ∙ ap (λ xs. merged.values ++ xs) (sym longer)) (IsPermutation-refl ((merged.values ++ take k idles) ++ x ∷ [])))
+      (inr (k, x, omega arith, at, refl)) later none
+    where
+      longer : take (k + 1) idles ≡ take k idles ++ x ∷ []
+      longer = take_more idles k x (slice_get_within idles k x at) ∙ ap (λ y. take k idles ++ y ∷ []) (get_or_from_slice_get idles k x x at)
+
+      later : (p : Position) → IsAhead lives idles i j (k + 1) p → IsAhead lives idles i j k p
+      later p (inl value) = inl value
+      later p (inr idle) = inr (idle.0, idle.1, omega (arith, idle.2), idle.3, idle.4)
+
+      none : (p : Position) → IsAhead lives idles i j (k + 1) p → ¬ (StandsBefore p (position_of x.position))
+      none p (inl is) = values p is
+      none p (inr is) = next_idle idles k x p never at (is.0, is.1, omega (arith, is.2), is.3, is.4)
+
+pub nothing_merged : (operations : List Operation) (lives : List Life) (idles : List Placed) → IsMergedUpTo operations lives idles 0 0 0 0 []
+nothing_merged operations lives idles = record {
+  values = [];
+  held = nothing_placed operations lives;
+  sorted = [];
+  each_once = IsPermutation-refl [];
+  never_fall = λ i j d below within. absurd (omega arith);
+  none_below = All-nil (λ x. NoneBelow (IsAhead lives idles 0 0 0) (Some x.position));
+  places_are = refl;
+}
+
+-- what is not below the limit is not below an operation that does not stand after it
+pub below_next : (Is : Position → Type 0) (limit : Option Stored) (x : Placed) → NoneBelow Is limit → ((q : Stored) → limit ≡ Some q → ¬ (StandsBefore (position_of q) (position_of x.position))) → NoneBelow Is (Some x.position)
+below_next Is None x none after p is = absurd (none p is)
+below_next Is (Some q) x none after p is = through p (position_of q) (position_of x.position) (none p is) (after q refl)
+
+-- what is told of an operation and the limit
+pub stands_not_after : (limit : Option Stored) (x : Placed) (told : Bool) → MatchOption limit (told ≡ false) (λ q. IsTrue told ↔ StandsBefore (position_of q) (position_of x.position)) → told ≡ false
+    → (q : Stored) → limit ≡ Some q → ¬ (StandsBefore (position_of q) (position_of x.position))
+stands_not_after None x told tells not q same before = cc
+stands_not_after (Some r) x told tells not q same before =
+    let r_is : r ≡ q = cc in
+    let is : told ≡ true = tells.1 (subst (λ s. StandsBefore (position_of s) (position_of x.position)) (sym r_is) before) in
+    cc
+
+pub stands_after : (limit : Option Stored) (x : Placed) (told : Bool) → MatchOption limit (told ≡ false) (λ q. IsTrue told ↔ StandsBefore (position_of q) (position_of x.position)) → told ≡ true
+    → IsSomeAnd limit (λ q. StandsBefore (position_of q) (position_of x.position))
+stands_after None x told tells is = cc
+stands_after (Some q) x told tells is = tells.0 is
+
+-- none is below the limit where none stands before an operation that stands after it
+pub below_limit : (Is : Position → Type 0) (limit : Option Stored) (x : Position) → ((p : Position) → Is p → ¬ (StandsBefore p x)) → IsSomeAnd limit (λ q. StandsBefore (position_of q) x) → NoneBelow Is limit
+below_limit Is None x none after = λ p is. absurd after
+below_limit Is (Some q) x none after = λ p is before. none p is (both p (position_of q) x before after)
+
+-- where all idle operations are merged
+pub no_idle : (idles : List Placed) (k : ℕ) (limit : Option Stored) → length idles ≤ k → NoneBelow (IsIdleFrom idles k) limit
+no_idle idles k limit all p is = absurd (omega (arith, all, is.2, slice_get_within idles is.0 is.1 is.3))
+
+pub no_dequeue : (lives : List Life) (j : ℕ) (limit : Option Stored) → length lives ≤ j → NoneBelow (IsDequeueFrom lives j) limit
+no_dequeue lives j limit all p is = absurd (omega (arith, all, is.1, is.2))
+
+pub no_enqueue : (lives : List Life) (i : ℕ) (limit : Option Stored) → length lives ≤ i → NoneBelow (IsEnqueueFrom lives i) limit
+no_enqueue lives i limit all p is = absurd (omega (arith, all, is.1, is.2))
+
+-- no value that is left stands before the next dequeue, if no enqueue does
+pub none_of_values : (lives : List Life) (i j : ℕ) (x : Placed) → j < length lives → position_of x.position ≡ dequeue_position lives j → NoneBelow (IsEnqueueFrom lives i) (Some x.position) → NoneBelow (IsValueFrom lives i j) (Some x.position)
+none_of_values lives i j x within stands enqueues p (inl is) = enqueues p is
+none_of_values lives i j x within stands enqueues p (inr is) = subst (λ q. ¬ (StandsBefore p q)) (sym stands) (next_dequeue lives j p within is)
+
+-- any operation
+nowhere : Placed
+nowhere = record { operation = 0; position = record { gap = 0; class = Idle; rank = 0 } }
+
+-- where no limit is, nothing is left
+all_dequeued : (lives : List Life) (j : ℕ) → NoneBelow (IsDequeueFrom lives j) None → length lives ≤ j
+all_dequeued lives j none =
+    let order : (length lives ≤ j) ⊎ (j < length lives) = grind arith in
+    elim order [ inl all ↦ all | inr more ↦ absurd (none (dequeue_position lives j) (j, omega arith, more, refl)) ]
+
+all_idle : (idles : List Placed) (k : ℕ) → NoneBelow (IsIdleFrom idles k) None → length idles ≤ k
+all_idle idles k none =
+    let order : (length idles ≤ k) ⊎ (k < length idles) = grind arith in
+    let x = get_or idles k nowhere in
+    elim order [ inl all ↦ all | inr more ↦ absurd (none (position_of x.position) (k, x, omega arith, slice_get-get_or idles k nowhere more, refl)) ]
+
+-- all are merged
+pub all_merged : (operations : List Operation) (order : List ℕ) (idles : List Placed) (i j left k : ℕ) (places : List ℕ) → IsOrderOfPlaces operations order → length order ≤ i → NoneBelow (IsDequeueFrom (lives_at operations order) j) None
+    → NoneBelow (IsIdleFrom idles k) None → IsMergedUpTo operations (lives_at operations order) idles i j left k places → IsMerge operations idles places
+all_merged operations order idles i j left k places is all_in all_out none merged = (
+  merged.values,
+  all_placed operations order i j left merged.values is all_in (omega (arith, all_dequeued (lives_at operations order) j all_out, lives_long operations order is)) merged.held,
+  record {
+    sorted = merged.sorted;
+    holds_each_once = subst (λ xs. IsPermutation (merged.values ++ xs) merged.sorted) (take_all k idles (all_idle idles k none)) merged.each_once;
+    never_falls = merged.never_fall;
+    places_are = merged.places_are;
+  },
+)
