@@ -1,7 +1,8 @@
 //! The texts of the help.
 
-/// The version of the program. docs/ and CHANGELOG.md name the same one.
-pub(crate) const VERSION: &str = "0.1.0";
+/// The version of the program, as CHANGELOG.md has it, and in a second line the kit that proves and builds it.
+pub(crate) const VERSION: &str =
+    "0.1.0\nproved and built with rattle-kit-13b logic dac8208d650f15bf";
 
 pub(crate) const ABOUT: &str = "Records and judges histories of a concurrent FIFO queue";
 

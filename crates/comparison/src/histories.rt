@@ -166,3 +166,26 @@ pub fn honest_history(alloc: Global, first: u64, rounds: u64) -> Result<History,
     }
     collected_history(alloc, &machine, MANY_THREADS)
 }
+
+/// One operation of a thread, from its ask to its return.
+fn operate(machine: &mut Machine, ask: Step, thread: u8)
+    ensures { length machine.new.threads ≡ length machine.old.threads }
+{
+    let _ = take(machine, ask, thread);
+    let _ = take(machine, Step::Effect(thread), thread);
+    let _ = take(machine, Step::Ret(thread), thread);
+}
+
+/// A history with one empty answer, around so many values, each of which is dequeued only after the next is there.
+pub fn covered_history(alloc: Global, values: u64) -> Result<History, Fail> {
+    let mut machine = Machine::new(alloc, 2, 4)?;
+    operate(&mut machine, Step::AskEnq(0), 0);
+    let _ = take(&mut machine, Step::AskDeq(1), 1);
+    for _ in 1..values {
+        operate(&mut machine, Step::AskEnq(0), 0);
+        operate(&mut machine, Step::AskDeq(0), 0);
+    }
+    let _ = machine.step(Step::Say(1, Answer::Empty));
+    let _ = take(&mut machine, Step::Ret(1), 1);
+    collected_history(alloc, &machine, 2)
+}

@@ -1,7 +1,8 @@
 use crate::comparing::{Kind, compare, kind_of};
-use crate::histories::{Lies, MOST_OPERATIONS, honest_history, seeded_history};
+use crate::histories::{Lies, MOST_OPERATIONS, covered_history, honest_history, seeded_history};
 use empty_witness::{GapAnswer, gap_for};
 use event_records::MAX_THREAD_OPERATIONS;
+use history_merge::History;
 use std::alloc::Global;
 use std::process::Abort;
 use std::test::Fail;
@@ -83,16 +84,32 @@ fn the_claim_of_a_large_verdict_is_true(rt: HostRuntime) -> Result<(), Fail> {
     Ok(())
 }
 
-#[test]
-fn a_gap_of_a_large_history_is_found(rt: HostRuntime) -> Result<(), Fail> {
-    let history = honest_history(rt.alloc(), 2, MAX_THREAD_OPERATIONS)?;
-    let Matched::Clear(matching) = match_values(rt.alloc(), &history)? else {
+/// What is found of the window of the first empty answer.
+fn first_gap(alloc: Global, history: &History) -> Result<GapAnswer, Fail> {
+    let Matched::Clear(matching) = match_values(alloc, history)? else {
         return Err(Fail::from("a value that was not there, or came twice"));
     };
     for empty in matching.empties() {
-        let answer = gap_for(rt.alloc(), &matching, *empty)?;
-        assert!(rt; matches!(answer, GapAnswer::Free(_)));
-        return Ok(());
+        return Ok(gap_for(alloc, &matching, *empty)?);
     }
     Err(Fail::from("no empty answer"))
+}
+
+#[test]
+fn a_gap_of_a_large_history_is_found(rt: HostRuntime) -> Result<(), Fail> {
+    let history = honest_history(rt.alloc(), 2, MAX_THREAD_OPERATIONS)?;
+    assert!(rt; matches!(first_gap(rt.alloc(), &history)?, GapAnswer::Free(_)));
+    Ok(())
+}
+
+#[test]
+fn a_large_cover_is_found_and_claimed(rt: HostRuntime) -> Result<(), Fail> {
+    let history = covered_history(rt.alloc(), 40_000)?;
+    assert_eq!(rt; history.operations().len(), 80_000);
+    assert!(rt; matches!(first_gap(rt.alloc(), &history)?, GapAnswer::Covered(_)));
+    let verdict = decide(rt.alloc(), &history)?;
+    assert_eq!(rt; kind_of(&verdict), Kind::Witness);
+    let claimed = claim(rt.alloc(), &history, &verdict)?;
+    assert!(rt; verify(rt.alloc(), &history, &claimed)?);
+    Ok(())
 }

@@ -2,6 +2,7 @@ ghost use Rattle.std.specs.Prelude.{◌≡◌, false};
 
 mod checks;
 mod lying;
+mod one_byte;
 mod recorded;
 mod schedules;
 mod shrinking;

@@ -56,67 +56,6 @@ fn operate_up_to_limit(machine: &mut Machine, thread: u8) -> Result<(), StepRefu
 }
 
 #[test]
-fn a_full_ring_and_a_held_event(rt: HostRuntime) -> Result<(), Fail> {
-    let mut machine = Machine::new(rt.alloc(), 1, 2)?;
-    let cases = [
-        (Step::AskEnq(0), Ok(Done::Ticket(0))),
-        (Step::Push(0), Ok(Done::Pushed)),
-        (Step::Effect(0), Ok(Done::Answered(Answer::Taken))),
-        (Step::Ret(0), Ok(Done::Ticket(1))),
-        (Step::Push(0), Ok(Done::Pushed)),
-        (Step::AskDeq(0), Ok(Done::Ticket(2))),
-        (Step::Push(0), Err(StepRefused::RingFull)),
-        (Step::Close(0), Err(StepRefused::Held)),
-        (Step::Drain(0, 2), Ok(Done::Drained(2))),
-        (Step::Push(0), Ok(Done::Pushed)),
-        (Step::Effect(0), Ok(Done::Answered(Answer::Got(0)))),
-        (Step::Ret(0), Ok(Done::Ticket(3))),
-        (Step::Push(0), Ok(Done::Pushed)),
-        (Step::Drain(0, 2), Ok(Done::Drained(2))),
-        (Step::Close(0), Ok(Done::Closed)),
-    ];
-    take_all(&rt, &mut machine, &cases);
-    let collected = [
-        event(0, What::CallEnq(0)),
-        event(1, What::RetEnq),
-        event(2, What::CallDeq),
-        event(3, What::RetDeq(0)),
-    ];
-    assert!(rt; machine.done());
-    assert_eq!(rt; machine.collected(0), collected.as_slice());
-    Ok(())
-}
-
-#[test]
-fn twelve_refused_steps_of_one_thread(rt: HostRuntime) -> Result<(), Fail> {
-    let mut machine = Machine::new(rt.alloc(), 1, 2)?;
-    let cases = [
-        (Step::Push(0), Err(StepRefused::NothingHeld)),
-        (Step::Effect(0), Err(StepRefused::NotPending)),
-        (Step::Ret(0), Err(StepRefused::NotPending)),
-        (Step::AskDeq(0), Ok(Done::Ticket(0))),
-        (Step::Ret(0), Err(StepRefused::Held)),
-        (Step::Push(0), Ok(Done::Pushed)),
-        (Step::AskEnq(0), Err(StepRefused::Pending)),
-        (Step::Close(0), Err(StepRefused::Pending)),
-        (Step::Ret(0), Err(StepRefused::NoAnswer)),
-        (Step::Say(0, Answer::Taken), Err(StepRefused::WrongAnswer)),
-        (Step::Effect(0), Ok(Done::Answered(Answer::Empty))),
-        (Step::Effect(0), Err(StepRefused::AnswerTaken)),
-        (Step::Ret(0), Ok(Done::Ticket(1))),
-        (Step::Close(0), Err(StepRefused::Held)),
-        (Step::Push(0), Ok(Done::Pushed)),
-        (Step::Close(0), Ok(Done::Closed)),
-        (Step::AskDeq(0), Err(StepRefused::Closed)),
-        (Step::Drain(1, 1), Err(StepRefused::NoThread)),
-    ];
-    take_all(&rt, &mut machine, &cases);
-    assert!(rt; !machine.done());
-    assert_eq!(rt; machine.collected(0).len(), 0);
-    Ok(())
-}
-
-#[test]
 fn an_answer_that_was_told(rt: HostRuntime) -> Result<(), Fail> {
     let mut machine = Machine::new(rt.alloc(), 1, 2)?;
     let cases = [

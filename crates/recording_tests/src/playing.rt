@@ -4,16 +4,10 @@ use simulation::{Ending, Rejection, simulate};
 use std::alloc::AllocError;
 use std::test::Fail;
 
-const FULL_RING: [Step; 15] = [
+/// One operation, after a push of nothing.
+const CLOSED: [Step; 8] = [
+    Step::Push(0),
     Step::AskEnq(0),
-    Step::Push(0),
-    Step::Effect(0),
-    Step::Ret(0),
-    Step::Push(0),
-    Step::AskDeq(0),
-    Step::Push(0),
-    Step::Close(0),
-    Step::Drain(0, 2),
     Step::Push(0),
     Step::Effect(0),
     Step::Ret(0),
@@ -39,12 +33,7 @@ fn event(ticket: u64, what: What) -> Event {
 }
 
 fn is_expected(list: &[Event]) -> bool {
-    let expected = [
-        event(0, What::CallEnq(0)),
-        event(1, What::RetEnq),
-        event(2, What::CallDeq),
-        event(3, What::RetDeq(0)),
-    ];
+    let expected = [event(0, What::CallEnq(0)), event(1, What::RetEnq)];
     list == expected.as_slice()
 }
 
@@ -63,12 +52,9 @@ fn rejection(step: u64, reason: StepRefused) -> Rejection {
 }
 
 #[test]
-fn a_full_ring_is_drained_and_the_rest_goes_on(rt: HostRuntime) -> Result<(), Fail> {
-    let played = simulate(rt.alloc(), 1, 2, &FULL_RING)?;
-    let rejected = [
-        rejection(7, StepRefused::RingFull),
-        rejection(8, StepRefused::Held),
-    ];
+fn what_is_collected_of_closed_threads_is_given(rt: HostRuntime) -> Result<(), Fail> {
+    let played = simulate(rt.alloc(), 1, 2, &CLOSED)?;
+    let rejected = [rejection(1, StepRefused::NothingHeld)];
     assert_eq!(rt; played.rejections.as_slice(), rejected.as_slice());
     assert!(rt; is_collected(&played.ending));
     Ok(())

@@ -62,34 +62,6 @@ fn reads_each_step(rt: HostRuntime) -> Result<(), Fail> {
     Ok(())
 }
 
-#[test]
-fn reads_worked_schedules(rt: HostRuntime) -> Result<(), Fail> {
-    let cases: [(&[u8], usize); 3] = [
-        (
-            b"fifo-schedule 1\nthreads 1 ring 2\nask-enq 0\npush 0\neffect 0\nret 0\npush 0\nask-deq 0\n\
-            push 0\nclose 0\ndrain 0 2\npush 0\neffect 0\nret 0\npush 0\ndrain 0 2\nclose 0\nend 15\n",
-            15,
-        ),
-        (
-            b"fifo-schedule 1\nthreads 1 ring 2\npush 0\neffect 0\nret 0\nask-deq 0\nret 0\npush 0\nask-enq 0\n\
-            close 0\nret 0\nsay 0 taken\neffect 0\neffect 0\nret 0\nclose 0\npush 0\nclose 0\nask-deq 0\ndrain 1 1\nend 18\n",
-            18,
-        ),
-        (
-            b"fifo-schedule 1\nthreads 1 ring 2\nask-deq 0\npush 0\nsay 0 got 5\nret 0\npush 0\ndrain 0 2\nclose 0\nend 7\n",
-            7,
-        ),
-    ];
-    for (text, count) in cases {
-        assert_eq!(rt;
-            outcome(rt.alloc(), MemorySource::new(text))?,
-            Ok(count),
-            "{text:?}"
-        );
-    }
-    Ok(())
-}
-
 /// Checks what inputs give that begin with the first line of a schedule.
 fn judged(
     rt: &impl Abort,

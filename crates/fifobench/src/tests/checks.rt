@@ -173,20 +173,36 @@ fn refusals(rt: HostRuntime) -> Result<(), Fail> {
     Ok(())
 }
 
+/// What a reader gives before it fails, what is written of it, and the status.
+const FAILED_READS: [(&str, &str, u8); 6] = [
+    ("fifo-history 3\n", "REFUSED Header\n", 2),
+    ("fifo-history 1\n0 0 call-e", "FAULT Read\n", 3),
+    (
+        "fifo-history 1\n0 0 call-enq 7\n1 0 ret-enq\nend 2\n",
+        "FAULT Read\n",
+        3,
+    ),
+    ("fifo-history 1\nend 0\n", "FAULT Read\n", 3),
+    (
+        "xxxxxxxxxxxxxxxxxxxxxxxxxxxxxxxxxxxxxxxxxxxxxxxxxxxxxxxxxxxxxxxxxxxxxxxxxxxxxxxx",
+        "FAULT Read\n",
+        3,
+    ),
+    (
+        "xxxxxxxxxxxxxxxxxxxxxxxxxxxxxxxxxxxxxxxxxxxxxxxxxxxxxxxxxxxxxxxxxxxxxxxxxxxxxxxxx",
+        "REFUSED Header\n",
+        2,
+    ),
+];
+
 #[test]
 fn a_failed_read_is_a_fault(rt: HostRuntime) -> Result<(), Fail> {
-    let words = ["fifobench", "check"];
-    for input in [
-        b"fifo-history 1\nend 0\n".as_slice(),
-        b"fifo-history 1\n0 0 c",
-    ] {
-        let (written, status) = run(&rt, &words, MemorySource::failing(input), &[])?;
-        assert_eq!(rt; written.as_slice(), b"FAULT Read\n".as_slice());
-        assert_eq!(rt; status, 3);
+    for (input, text, status) in FAILED_READS {
+        let reader = MemorySource::failing(input.as_bytes());
+        let (written, ended) = run(&rt, &["fifobench", "check"], reader, &[])?;
+        assert_eq!(rt; written.as_slice(), text.as_bytes());
+        assert_eq!(rt; ended, status);
     }
-    let (written, status) = run(&rt, &words, MemorySource::failing(b"fifo-history 3\n"), &[])?;
-    assert_eq!(rt; written.as_slice(), b"REFUSED Header\n".as_slice());
-    assert_eq!(rt; status, 2);
     Ok(())
 }
 

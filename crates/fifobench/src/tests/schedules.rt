@@ -110,6 +110,17 @@ fn schedules_are_played(rt: HostRuntime) -> Result<(), Fail> {
     Ok(())
 }
 
+#[test]
+fn fronts_of_a_schedule_are_cut(rt: HostRuntime) -> Result<(), Fail> {
+    let (schedule, _, _) = SCHEDULES[0];
+    for length in 0..schedule.len() {
+        if let Some(front) = schedule.get(..length) {
+            assert_answer(&rt, "sim", front, "REFUSED Cut\n", 2)?;
+        }
+    }
+    Ok(())
+}
+
 const REFUSALS: [(&str, &str); 8] = [
     ("", "REFUSED Cut\n"),
     (

@@ -1,0 +1,156 @@
+//! What is answered of a history.
+ghost use Rattle.std.specs.Prelude.{IfOk};
+ghost use Rattle.history_merge.specs.Operations.{operations_of};
+ghost use Rattle.value_match.specs.Outcome.{IsChosenViolation};
+ghost use Rattle.verdicts.specs.Claiming.{IsWithin};
+ghost use Rattle.verdicts.specs.Verdicts.{IsVerdictOf};
+
+use crate::histories::{by, history_of};
+use history_merge::OpKind::{Deq, Empty, Enq};
+use history_merge::{History, Operation};
+use std::alloc::{AllocError, Global};
+use std::process::Abort;
+use std::test::Fail;
+use value_match::Violation;
+use verdicts::{Claimed, Lines, Verdict, ViolationKind, claim, decide, shrink, verify};
+
+/// A history with the answer that it gets, the lines of its verdict, and its operations where it is shrunk.
+#[derive(Drop)]
+struct Case<'a> {
+    operations: &'a [Operation],
+    /// None for a yes.
+    kind: Option<ViolationKind>,
+    lines: &'a [Operation],
+    kept: &'a [Operation],
+}
+
+/// Compares what is answered of one history.
+fn compare(rt: &(impl Abort + AllocGlobal), case: &Case) -> Result<(), Fail> {
+    let history = history_of(rt.alloc(), case.operations)?;
+    let verdict = decided(rt.alloc(), &history)?;
+    let claimed = claim_of(rt.alloc(), &history, &verdict)?;
+    assert!(rt; is_wanted(case, &claimed), "{claimed:?}");
+    assert!(rt; is_evidence_again(rt.alloc(), &history, case.kind, case.lines)?);
+    assert!(rt; !is_evidence_again(rt.alloc(), &history, case.kind, &[])?);
+    if let Verdict::No(violation) = &verdict {
+        let small = shrunk(rt.alloc(), &history, violation)?;
+        assert_eq!(rt; small.operations(), case.kept);
+    }
+    Ok(())
+}
+
+/// An empty answer while first one value and then another was in the queue.
+#[test]
+fn of_a_covered_empty_answer(rt: HostRuntime) -> Result<(), Fail> {
+    let (enq_7, empty) = (by(0, Enq(7), 0, 1), by(1, Empty, 2, 9));
+    let (enq_9, deq_7, deq_9) = (
+        by(0, Enq(9), 3, 4),
+        by(0, Deq(7), 5, 6),
+        by(0, Deq(9), 10, 11),
+    );
+    let case = Case {
+        operations: &[enq_7, empty, enq_9, deq_7, deq_9],
+        kind: Some(ViolationKind::VWit),
+        lines: &[empty, enq_7, deq_7, enq_9, deq_9],
+        kept: &[enq_7, empty, enq_9, deq_7, deq_9],
+    };
+    compare(&rt, &case)
+}
+
+/// A value that overtakes another, and a third one.
+#[test]
+fn of_values_out_of_order(rt: HostRuntime) -> Result<(), Fail> {
+    let (enq_7, enq_9, deq_9) = (
+        by(0, Enq(7), 0, 1),
+        by(0, Enq(9), 2, 3),
+        by(0, Deq(9), 4, 5),
+    );
+    let case = Case {
+        operations: &[enq_7, enq_9, deq_9, by(0, Enq(5), 6, 7)],
+        kind: Some(ViolationKind::VOrd),
+        lines: &[enq_7, enq_9, deq_9],
+        kept: &[enq_7, enq_9, deq_9],
+    };
+    compare(&rt, &case)
+}
+
+/// An empty answer at the one gap at which the queue may have been empty.
+#[test]
+fn of_a_legal_order(rt: HostRuntime) -> Result<(), Fail> {
+    let (enq_7, empty, deq_7) = (by(0, Enq(7), 0, 1), by(1, Empty, 2, 9), by(2, Deq(7), 4, 5));
+    let (enq_9, deq_9) = (by(0, Enq(9), 3, 6), by(0, Deq(9), 10, 11));
+    let case = Case {
+        operations: &[enq_7, empty, enq_9, deq_7, deq_9],
+        kind: None,
+        lines: &[enq_7, deq_7, empty, enq_9, deq_9],
+        kept: &[],
+    };
+    compare(&rt, &case)
+}
+
+/// The verdict on a history.
+pub fn decided(alloc: Global, history: &History) -> Result<Verdict, AllocError>
+    ensures chosen { IfOk result (λ verdict. IsVerdictOf (operations_of history.now) verdict) }
+    ensures places { IfOk result (λ verdict. IsWithin (operations_of history.now) verdict) }
+{
+    match decide(alloc, history) {
+        Ok(verdict) => Ok(verdict),
+        Err(_) => decide(alloc, history),
+    }
+}
+
+/// What a verdict claims.
+fn claim_of(alloc: Global, history: &History, verdict: &Verdict) -> Result<Claimed, AllocError>
+    requires { IsWithin (operations_of history.now) verdict.now }
+{
+    match claim(alloc, history, verdict) {
+        Ok(claimed) => Ok(claimed),
+        Err(_) => claim(alloc, history, verdict),
+    }
+}
+
+/// Whether a claim is the one that a case wants.
+fn is_wanted(case: &Case, claimed: &Claimed) -> bool {
+    match claimed {
+        Claimed::Yes(lines) => case.kind.is_none() && lines.as_slice() == case.lines,
+        Claimed::No(kind, lines) => case.kind == Some(*kind) && lines.as_slice() == case.lines,
+    }
+}
+
+/// Whether these lines are evidence of this kind in a history.
+fn is_evidence(
+    alloc: Global,
+    history: &History,
+    kind: Option<ViolationKind>,
+    lines: &[Operation],
+) -> Result<bool, AllocError> {
+    let lines = Lines::from_vec(Vec::from_slice(alloc, lines)?);
+    let claimed = match kind {
+        None => Claimed::Yes(lines),
+        Some(kind) => Claimed::No(kind, lines),
+    };
+    verify(alloc, history, &claimed)
+}
+
+/// The same, asked once more for want of memory.
+fn is_evidence_again(
+    alloc: Global,
+    history: &History,
+    kind: Option<ViolationKind>,
+    lines: &[Operation],
+) -> Result<bool, AllocError> {
+    match is_evidence(alloc, history, kind, lines) {
+        Ok(is_evidence) => Ok(is_evidence),
+        Err(_) => is_evidence(alloc, history, kind, lines),
+    }
+}
+
+/// The history of a violation alone.
+fn shrunk(alloc: Global, history: &History, violation: &Violation) -> Result<History, AllocError>
+    requires { IsChosenViolation (operations_of history.now) violation.now }
+{
+    match shrink(alloc, history, violation) {
+        Ok(small) => Ok(small),
+        Err(_) => shrink(alloc, history, violation),
+    }
+}

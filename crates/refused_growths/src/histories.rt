@@ -1,0 +1,61 @@
+//! Small histories.
+ghost use Rattle.std.specs.Prelude.{◌≤◌, length};
+
+use event_records::{Event, MAX_EVENTS, What};
+use history_merge::{History, HistoryFault, OpKind, Operation, history};
+use std::alloc::{AllocError, Global};
+use std::test::Fail;
+
+/// An operation of this thread, with the tickets of its call and its return.
+pub fn by(thread: u8, kind: OpKind, call: u64, ret: u64) -> Operation {
+    Operation {
+        call,
+        ret,
+        thread,
+        kind,
+    }
+}
+
+/// The call and the return of an operation.
+fn events_of(operation: &Operation) -> [Event; 2] {
+    let (called, answered) = match operation.kind {
+        OpKind::Enq(value) => (What::CallEnq(value), What::RetEnq),
+        OpKind::Not(value) => (What::CallEnq(value), What::RetNot),
+        OpKind::Deq(value) => (What::CallDeq, What::RetDeq(value)),
+        OpKind::Empty => (What::CallDeq, What::RetEmpty),
+    };
+    let at = |ticket: u64, what: What| Event {
+        ticket,
+        thread: operation.thread,
+        what,
+    };
+    [at(operation.call, called), at(operation.ret, answered)]
+}
+
+/// The history of these operations, or none where a growth is refused.
+fn history_or_none(
+    alloc: Global,
+    operations: &[Operation],
+) -> Result<Result<History, HistoryFault>, AllocError> {
+    let mut events = Vec::new(alloc);
+    for operation in operations {
+        events.extend_from_slice(&events_of(operation))?;
+    }
+    events.sort_by_key(|event| event.ticket)?;
+    if events.len() > MAX_EVENTS {
+        return Err(AllocError);
+    }
+    match history(alloc, events) {
+        Err(HistoryFault::Memory) => Err(AllocError),
+        judged => Ok(judged),
+    }
+}
+
+/// The history of these operations.
+pub fn history_of(alloc: Global, operations: &[Operation]) -> Result<History, Fail> {
+    let judged = match history_or_none(alloc, operations) {
+        Ok(judged) => judged,
+        Err(_) => history_or_none(alloc, operations)?,
+    };
+    Ok(judged?)
+}

@@ -1,0 +1,79 @@
+//! A collector's round.
+ghost use Rattle.std.specs.Prelude.{◌≡◌, ◌∷◌, [], IfOk};
+ghost use Rattle.collector.specs.Ends.{rings_of};
+
+use collector::Collector;
+use event_records::{Event, Lists, Namer, Noted, ThreadNo, What};
+use event_rings::{CloseToken, ring};
+use std::alloc::{AllocError, Global};
+use std::test::Fail;
+use tickets::Tickets;
+
+/// The calls of a thread's first two operations, which enqueue.
+fn two_calls(alloc: Global, thread: ThreadNo) -> Result<(Noted, Noted), AllocError>
+    ensures first { IfOk result (λ calls. calls.0.thread ≡ thread) }
+    ensures second { IfOk result (λ calls. calls.1.thread ≡ thread) }
+{
+    let (tickets, mut pass) = Tickets::new(alloc, 2)?;
+    let mut namer = Namer::new(thread);
+    let (_, first) = namer.ask_enq(pass.draw(&tickets));
+    let (_, second) = namer.ask_enq(pass.draw(&tickets));
+    Ok((first, second))
+}
+
+/// The call of thread 0's n-th operation, at ticket n.
+fn call(n: u64) -> Event {
+    Event {
+        ticket: n,
+        thread: 0,
+        what: What::CallEnq(n),
+    }
+}
+
+/// A round of two events, or the one after it where that is refused.
+fn drain_two(collector: &mut Collector) -> Result<u64, AllocError>
+    ensures { rings_of collector.new.rings ≡ rings_of collector.old.rings }
+{
+    match collector.drain_round(2) {
+        Ok(drained) => Ok(drained),
+        Err(_) => collector.drain_round(2),
+    }
+}
+
+/// The events of the one ring, by its token.
+fn sealed(alloc: Global, collector: Collector, token: CloseToken) -> Result<Lists, AllocError>
+    requires { rings_of collector.rings ≡ (token.ring, token.thread) ∷ [] }
+{
+    match collector.seal(vec![in alloc; token]?) {
+        Ok(lists) => Ok(lists),
+        Err(_) => Err(AllocError),
+    }
+}
+
+/// Whether a round gives both events of a ring, the first round or the one after a refused one, and the sealed list has both.
+fn gives_both(alloc: Global, thread: ThreadNo) -> Result<bool, AllocError>
+    requires { thread ≡ 0 }
+{
+    let (mut push, drain) = ring(alloc, thread, 2)?;
+    let (first, second) = two_calls(alloc, thread)?;
+    let mut collector = Collector::new(alloc, vec![in alloc; drain]?)?;
+    if push.push(first).is_err() || push.push(second).is_err() {
+        return Ok(false);
+    }
+    let drained = drain_two(&mut collector)?;
+    let token = push.close().map_err(|_| AllocError)?;
+    let lists = sealed(alloc, collector, token)?.into_vec();
+    Ok(drained == 2 && lists.len() == 1 && lists[0].as_slice() == [call(0), call(1)].as_slice())
+}
+
+#[test]
+fn a_refused_round_leaves_both_events_to_the_next(rt: HostRuntime) -> Result<(), Fail> {
+    let thread = ThreadNo::new(0).ok_or("thread")?;
+    // Where it isn't the round that is refused, all is done once more.
+    let gives_both = match gives_both(rt.alloc(), thread) {
+        Ok(gives_both) => gives_both,
+        Err(_) => gives_both(rt.alloc(), thread)?,
+    };
+    assert!(rt; gives_both);
+    Ok(())
+}
