@@ -238,16 +238,10 @@ fn rounds(alloc: Global, staying: u64) -> Result<Vec<Row>, AllocError> {
     Ok(rows)
 }
 
-/// What the searches find of the operations.
-fn found<R: Abort + Threads + Sync>(
-    rt: &R,
-    alloc: Global,
-    matching: &Matching,
-    pieces: usize,
-) -> Result<Found, Fail> {
-    assert!(rt; 1 <= pieces && pieces <= 64);
-    let pair = find_order_par(rt, alloc, matching, pieces)?;
-    let answer = find_witness_par(rt, alloc, matching, pieces)?;
+/// What the searches find of the operations, which are few.
+fn found<R: Threads + Sync>(rt: &R, alloc: Global, matching: &Matching) -> Result<Found, AllocError> {
+    let pair = find_order_par(rt, alloc, matching, 64)?;
+    let answer = find_witness_par(rt, alloc, matching, 64)?;
     Ok((
         places_of_pair(alloc, pair)?,
         places_of_witness(alloc, &answer)?,
@@ -259,10 +253,10 @@ fn finds_the_same_in_any_pieces(rt: HostRuntime) -> Result<(), Fail> {
     let alloc = rt.alloc();
     let history = history_of(&rt, alloc, rounds(alloc, 5000)?.as_slice())?;
     let emptied = matching_of(&rt, alloc, &history)?;
-    let (pair, answer) = found(&rt, alloc, &emptied, 1)?;
+    let (pair, answer) = found(&rt, alloc, &emptied)?;
     assert!(rt; pair.is_none());
     assert_eq!(rt; answer.as_ref().map_or(0, |gaps| gaps.len()), 5000);
-    assert!(rt; (pair, answer) == found(&rt, alloc, &emptied, 64)?);
+    assert!(rt; (pair, answer) == found_in_pieces(&rt, alloc, &emptied, 64)?);
     Ok(())
 }
 
@@ -271,11 +265,11 @@ fn finds_one_value_in_any_pieces(rt: HostRuntime) -> Result<(), Fail> {
     let alloc = rt.alloc();
     let history = history_of(&rt, alloc, rounds(alloc, 3000)?.as_slice())?;
     let overtaken = matching_of(&rt, alloc, &history)?;
-    let (pair, answer) = found(&rt, alloc, &overtaken, 1)?;
+    let (pair, answer) = found(&rt, alloc, &overtaken)?;
     let places = pair.as_ref().ok_or("no pair is found")?;
     assert_eq!(rt; places.as_slice(), [9000, 9002, 9003].as_slice());
     let covered = answer.as_ref().err().ok_or("no window is covered")?;
     assert_eq!(rt; covered.as_slice(), [9001, 9000].as_slice());
-    assert!(rt; (pair, answer) == found(&rt, alloc, &overtaken, 64)?);
+    assert!(rt; (pair, answer) == found_in_pieces(&rt, alloc, &overtaken, 64)?);
     Ok(())
 }

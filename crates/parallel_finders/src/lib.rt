@@ -14,5 +14,5 @@ pub use witness::{find_witness_par, witness_in_pieces};
 /// Into how many pieces a search may be cut.
 pub const MAX_PIECES: usize = 64;
 
-/// A search among fewer values, and empty answers, than this is made in one piece, and starts no thread.
-pub const MIN_ITEMS: usize = 4096;
+/// Among fewer values than this, and of fewer empty answers, a search is made in one piece, and starts no thread.
+pub const MIN_ITEMS: usize = 100_000;

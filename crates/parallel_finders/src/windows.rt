@@ -1,9 +1,10 @@
-ghost use Rattle.std.specs.Prelude.{◌≡◌, ◌++◌, ℕ, All, IfOk, List};
+ghost use Rattle.std.specs.Prelude.{◌≡◌, ◌++◌, All, IfOk};
 ghost use Rattle.std.specs.Thread.{IsSync};
-ghost use Rattle.history_merge.specs.declared.operation.Operation.{Operation};
-ghost use Rattle.empty_witness.specs.Answers.{AreGapsAt, IsEmptyAnswerAt};
-ghost use Rattle.empty_witness.specs.Covered.{AreWindowsAt, IsFirstCovered};
+ghost use Rattle.empty_witness.specs.Answers.{IsEmptyAnswerAt};
+ghost use Rattle.empty_witness.specs.Covered.{AreWindowsAt};
 ghost use Rattle.empty_witness.specs.Spans.{AreSpansOf};
+ghost use Rattle.empty_witness.specs.declared.search.Windows.TheVariants.{Free, Covered};
+ghost use Rattle.parallel_finders.specs.Together.{AreTogether};
 
 use empty_witness::{EmptyAnswer, Span, Windows, sooner_of, windows_at};
 use history_merge::OpId;
@@ -45,7 +46,7 @@ pub fn windows_at_par<R: Threads + Sync>(
 
 /// What the empty answers of two pieces give together.
 fn windows_of_both(low: Windows, high: Windows) -> Result<Windows, AllocError>
-    ensures { IfOk result (λ windows. (operations : List Operation) (xs ys : List ℕ) → AreWindowsAt operations xs low → AreWindowsAt operations ys high → AreWindowsAt operations (xs ++ ys) windows) }
+    ensures { IfOk result (λ windows. AreTogether low high windows) }
 {
     match low {
         Windows::Free(gaps) => after_gaps(gaps, high),
@@ -55,7 +56,7 @@ fn windows_of_both(low: Windows, high: Windows) -> Result<Windows, AllocError>
 
 /// The same where the first piece has these gaps.
 fn after_gaps(gaps: Vec<u64>, high: Windows) -> Result<Windows, AllocError>
-    ensures { IfOk result (λ windows. (operations : List Operation) (xs ys : List ℕ) → AreGapsAt operations xs gaps.items → AreWindowsAt operations ys high → AreWindowsAt operations (xs ++ ys) windows) }
+    ensures { IfOk result (λ windows. AreTogether (Free gaps) high windows) }
 {
     match high {
         Windows::Free(more) => Ok(Windows::Free(gaps_of_both(gaps, more.as_slice())?)),
@@ -74,7 +75,7 @@ fn gaps_of_both(low: Vec<u64>, high: &[u64]) -> Result<Vec<u64>, AllocError>
 
 /// Of the first covered answers of two pieces, where the second has one, the one that returned first.
 fn sooner_covered(first: EmptyAnswer, high: &Windows) -> EmptyAnswer
-    ensures { (operations : List Operation) (xs ys : List ℕ) → IsFirstCovered operations xs first → AreWindowsAt operations ys high.now → IsFirstCovered operations (xs ++ ys) result }
+    ensures { AreTogether (Covered first) high.now (Covered result) }
 {
     match high {
         Windows::Free(_) => first,

@@ -14,9 +14,9 @@ use value_match::Matching;
 /// What `find_witness` answers, by a search in pieces that may run at once.
 ///
 /// Each piece gives the gaps of its empty answers, or that of its own whose window is covered and that returned first; of
-/// these the one that returned first counts, whichever piece ends first. Where there are few values and few empty answers
-/// they are searched in one piece. Where no thread can be started the caller's thread does the work. Time and memory are those of
-/// `find_witness`, and the gaps of one piece once more. `AllocError` comes only where a growth was refused.
+/// these the one that returned first counts, whichever piece ends first. Few empty answers, or any among few values, are searched
+/// in one piece. Where no thread can be started the caller's thread does the work. Time and memory are those of `find_witness`,
+/// and the gaps of some pieces once more. `AllocError` comes only where a growth was refused.
 pub fn find_witness_par<R: Threads + Sync>(
     rt: &R,
     alloc: Global,
@@ -26,11 +26,11 @@ pub fn find_witness_par<R: Threads + Sync>(
     requires { (1 ≤ pieces) × (pieces ≤ MAX_PIECES) }
     ensures { IfOk result (λ answer. IsWitnessAnswer matching.now answer) }
 {
-    if matching.values().len() < MIN_ITEMS && matching.empties().len() < MIN_ITEMS {
-        find_witness(alloc, matching)
-    } else {
-        witness_in_pieces(rt, alloc, matching, pieces)
+    if matching.values().len() < MIN_ITEMS {
+        return find_witness(alloc, matching);
     }
+    let few = matching.empties().len() < MIN_ITEMS;
+    witness_in_pieces(rt, alloc, matching, if few { 1 } else { pieces })
 }
 
 /// The same for any number of values and empty answers.

@@ -1,6 +1,6 @@
 -- Each event of a complete history is the call or the return of one of its operations; so operations tell their events.
-use Rattle.std.proofs.Common.{◌≡◌, ℕ, ◌⊎◌, Bool, true, false, cond, List, [], ◌∷◌, Option, Some, None, refl, sym, ◌∙◌, ap, subst, inl, inr, arith, nat_eq}
-use Rattle.std.specs.Prelude.{Contains, MatchOption, filter, find, slice_get}
+use Rattle.std.proofs.Common.{◌≡◌, ℕ, ◌⊎◌, Bool, true, false, cond, List, [], ◌∷◌, Option, Some, None, refl, sym, ◌∙◌, ap, subst, inl, inr, nat_eq}
+use Rattle.std.specs.Prelude.{Contains, MatchOption, find, slice_get}
 use Rattle.std.specs.List.{cons_option}
 use Rattle.std.proofs.lemmas.Bool.{eqb-true, eq-eqb}
 use Rattle.event_records.specs.declared.event.Event.{Event}

@@ -1,13 +1,13 @@
 -- Two minimal selections that keep one violation, the chosen one of both, are one.
-use Rattle.std.proofs.Common.{◌≡◌, ℕ, ◌⊎◌, Bool, true, false, List, sym, ◌∙◌, ap, subst, inl, inr, refl}
-use Rattle.std.specs.Prelude.{AllPairs, Contains, filter}
+use Rattle.std.proofs.Common.{◌≡◌, ℕ, Bool, true, false, List, sym, ◌∙◌, subst, inl, inr, refl}
+use Rattle.std.specs.Prelude.{Contains, filter}
 use Rattle.history_merge.specs.declared.operation.Operation.{Operation}
 use Rattle.history_merge.specs.Complete.{AreComplete}
 use Rattle.history_merge.proofs.Distinct.{calls_rise}
 use Rattle.value_match.specs.declared.violation.Violation.{Violation}
 use Rattle.value_match.specs.Violations.{Breach, IsBreachOf, lines_of}
 use Rattle.value_match.proofs.Lists.{passes_filter, passed_filter}
-use Rattle.verdicts.specs.Selection.{selects, IsMinimal, IsValueClosed, KeepsViolation, StaysChosen}
+use Rattle.verdicts.specs.Selection.{selects, IsMinimal, KeepsViolation, StaysChosen}
 use Rattle.verdicts.proofs.Chosen.{chosen_is_breach}
 use Rattle.verdicts.proofs.ChosenSelections.{names_one}
 use Rattle.verdicts.proofs.Excludes.{breach_excludes_order}

@@ -1,6 +1,6 @@
 -- What is found of a history is the only thing that can be found of it.
-use Rattle.std.proofs.Common.{◌≡◌, ℕ, zero, suc, ◌<◌, ◌≤◌, Bool, true, List, [], ◌∷◌, map, filter, Option, Some, None, refl, sym, ◌∙◌, ap, ap₂, subst, inl, inr, arith, rules}
-use Rattle.std.specs.Prelude.{Contains, AllPairs, slice_get}
+use Rattle.std.proofs.Common.{◌≡◌, ℕ, ◌<◌, true, List, [], ◌∷◌, map, filter, Option, Some, None, refl, sym, ◌∙◌, ap, ap₂, subst, inl, inr, arith}
+use Rattle.std.specs.Prelude.{slice_get}
 use Rattle.std.specs.List.{AllZip}
 use Rattle.std.proofs.lemmas.Bool.{cases_order}
 use Rattle.history_merge.specs.declared.operation.Operation.{Operation}
@@ -8,9 +8,8 @@ use Rattle.history_merge.specs.declared.operation.OpKind.TheVariants.{Empty}
 use Rattle.history_merge.specs.Complete.{AreComplete}
 use Rattle.history_merge.specs.Legal.{ArePlacesOf}
 use Rattle.history_merge.specs.Operations.{IsAt, Did}
-use Rattle.history_merge.proofs.Distinct.{pairs_at, place_of, contains_at, one_at}
+use Rattle.history_merge.proofs.Distinct.{pairs_at, place_of, one_at}
 use Rattle.value_match.specs.declared.life.Life.{Life}
-use Rattle.value_match.specs.declared.matching.Matched.{Matched}
 use Rattle.value_match.specs.declared.matching.Matched.TheVariants as matched
 use Rattle.value_match.specs.declared.violation.CoverStep.{CoverStep}
 use Rattle.value_match.specs.declared.violation.Violation.{Violation}
@@ -21,15 +20,10 @@ use Rattle.value_match.specs.Outcome.{Names, NamesCover, IsMatchedOf, IsChosenVi
 use Rattle.value_match.specs.Violations.{Breach, fresh, repeat, order, witness, IsBreachOf, IsClear}
 use Rattle.value_match.proofs.Lists.{passes_filter}
 use Rattle.order_violation.specs.declared.pair.OrderPair.{OrderPair}
-use Rattle.order_violation.specs.Pairs.{IsOrderAnswer}
-use Rattle.empty_witness.specs.declared.answer.GapAnswer.{GapAnswer}
 use Rattle.empty_witness.specs.declared.answer.GapAnswer.TheVariants as gap
-use Rattle.empty_witness.specs.declared.answer.WitnessAnswer.{WitnessAnswer}
 use Rattle.empty_witness.specs.declared.answer.WitnessAnswer.TheVariants as found
-use Rattle.empty_witness.specs.Answers.{IsGapAnswer, IsWitnessAnswer}
 use Rattle.linearizer.proofs.OneOrder.{chosen_order_is_one, operations_rise}
 use Rattle.linearizer.proofs.Positions.{beside}
-use Rattle.verdicts.specs.declared.verdict.Verdict.{Verdict}
 use Rattle.verdicts.specs.declared.verdict.Verdict.TheVariants.{Yes, No}
 use Rattle.verdicts.specs.Laws.{VerdictIsOne, MatchedIsOne, PairIsOne, GapIsOne, WitnessIsOne}
 use Rattle.verdicts.proofs.Chosen.{one_chosen_breach, one_order, one_cover, one_witness}

@@ -1,9 +1,7 @@
 ghost use Rattle.std.specs.Prelude.{◌≡◌, ◌≤◌, IfOk, length};
 ghost use Rattle.history_merge.specs.Complete.{AreComplete};
 ghost use Rattle.history_merge.specs.Operations.{operations_of};
-ghost use Rattle.std.specs.Thread.{IsSync};
 ghost use Rattle.value_match.specs.Violations.{IsClear, NoOrderViolation};
-ghost use Rattle.order_violation.specs.Pairs.{IsOrderAnswer};
 ghost use Rattle.empty_witness.specs.Answers.{IsWitnessAnswer};
 ghost use Rattle.parallel_finders.specs.declared.TheConstants.{MAX_PIECES};
 ghost use Rattle.verdicts.specs.Claiming.{IsWithin};
@@ -15,9 +13,9 @@ use event_records::MAX_EVENTS;
 use history_merge::{History, Operation};
 use linearizer::linearize;
 use order_violation::{OrderPair, find_order};
-use parallel_finders::{MIN_ITEMS, find_order_par, find_witness_par};
+use parallel_finders::{find_order_par, find_witness_par};
 use std::alloc::{AllocError, Global};
-use std::thread::{Threads, join};
+use std::thread::Threads;
 use value_match::{Matched, Matching, Violation, match_operations};
 
 /// Whether a history has a legal order (Herlihy and Wing 1990): yes with the chosen order, no with the chosen violation,
@@ -104,7 +102,7 @@ fn decide_matching(alloc: Global, matching: &Matching) -> Result<Verdict, AllocE
     decide_in_order(alloc, matching, answer)
 }
 
-/// The same by both searches at once, each in pieces. What the second finds is let go where the first finds a violation.
+/// The same by searches in pieces.
 fn decide_matching_par<R: Threads + Sync>(
     rt: &R,
     alloc: Global,
@@ -115,22 +113,11 @@ fn decide_matching_par<R: Threads + Sync>(
     requires pieces { (1 ≤ pieces) × (pieces ≤ MAX_PIECES) }
     ensures { IfOk result (λ verdict. IsDecided matching.now verdict) }
 {
-    if pieces < 2 || matching.operations().len() < MIN_ITEMS {
-        return decide_matching(alloc, matching);
-    }
-    let order = move || -> Result<Option<OrderPair>, AllocError>
-        requires { IsSync R.row × (1 ≤ pieces) × (pieces ≤ MAX_PIECES) }
-        ensures { IfOk result (λ found. IsOrderAnswer matching.entry.now found) }
-    { find_order_par(rt, alloc, matching, pieces) };
-    let witness = move || -> Result<WitnessAnswer, AllocError>
-        requires { IsSync R.row × (1 ≤ pieces) × (pieces ≤ MAX_PIECES) }
-        ensures { IfOk result (λ answer. IsWitnessAnswer matching.entry.now answer) }
-    { find_witness_par(rt, alloc, matching, pieces) };
-    let (pair, answer) = join(rt, order, witness);
-    if let Some(pair) = pair? {
+    if let Some(pair) = find_order_par(rt, alloc, matching, pieces)? {
         return Ok(Verdict::No(violation_of(pair)));
     }
-    decide_in_order(alloc, matching, answer?)
+    let answer = find_witness_par(rt, alloc, matching, pieces)?;
+    decide_in_order(alloc, matching, answer)
 }
 
 /// The verdict where moreover no value is dequeued against the order of the enqueues, by what is found of the empty answers.

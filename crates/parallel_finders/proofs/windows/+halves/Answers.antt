@@ -1,10 +1,7 @@
-use Rattle.std.proofs.Common.{rules, subst, sym, ap, ◌++◌, ◌∙◌, ◌≡◌}
+use Rattle.std.proofs.Common.{rules, subst, sym}
 use Rattle.std.specs.Prelude.{All}
-use Rattle.std.proofs.lemmas.List.{take-append-drop}
 use Rattle.std.proofs.lemmas.List.Elements.{All-take, All-drop}
-use Rattle.std.proofs.lemmas.Result.{IfOk-weaker}
 use Rattle.empty_witness.specs.Answers.{IsEmptyAnswerAt}
-use Rattle.empty_witness.specs.Covered.{AreWindowsAt}
 use Rattle.parallel_finders.proofs.windows.+halves.Goals as goal
 
 pub join-first-requires-after_bounds : goal.join-first-requires-after_bounds
