@@ -1,10 +1,10 @@
 ghost use Rattle.std.specs.Prelude.{◌≤◌, length, vec_len};
 
-use parallel_finders::{find_order_par, find_witness_par, order_in_pieces, witness_in_pieces};
 use empty_witness::WitnessAnswer;
 use event_records::{Event, MAX_EVENTS, What};
 use history_merge::{History, OpId, OpKind, history};
 use order_violation::OrderPair;
+use parallel_finders::{find_order_par, find_witness_par, order_in_pieces, witness_in_pieces};
 use std::alloc::{AllocError, Global};
 use std::process::Abort;
 use std::test::Fail;
@@ -239,7 +239,11 @@ fn rounds(alloc: Global, staying: u64) -> Result<Vec<Row>, AllocError> {
 }
 
 /// What the searches find of the operations, which are few.
-fn found<R: Threads + Sync>(rt: &R, alloc: Global, matching: &Matching) -> Result<Found, AllocError> {
+fn found<R: Threads + Sync>(
+    rt: &R,
+    alloc: Global,
+    matching: &Matching,
+) -> Result<Found, AllocError> {
     let pair = find_order_par(rt, alloc, matching, 64)?;
     let answer = find_witness_par(rt, alloc, matching, 64)?;
     Ok((

@@ -8,7 +8,5 @@ mod search;
 mod spans;
 
 pub use answer::{GapAnswer, Gaps, WitnessAnswer};
-pub use search::{
-    EmptyAnswer, Windows, find_witness, gap_for, sooner_of, windows_at, witness_of,
-};
+pub use search::{EmptyAnswer, Windows, find_witness, gap_for, sooner_of, windows_at, witness_of};
 pub use spans::{Span, join_spans, spans_of, stays_of};

@@ -13,7 +13,11 @@ pub fn sort_fronts<R: Threads + Sync>(rt: &R, fronts: &mut Vec<Front>)
 {
     settle(fronts, &|front: &Front| front.enqueue_return);
     if !fronts.is_sorted_by_key(|front| front.enqueue_return) {
-        par_sort_unstable_by_key(rt, fronts.as_mut_slice(), |front: &Front| front.enqueue_return);
+        par_sort_unstable_by_key(
+            rt,
+            fronts.as_mut_slice(),
+            |front: &Front| front.enqueue_return,
+        );
     }
 }
 
