@@ -1,5 +1,4 @@
 //! Small histories.
-ghost use Rattle.std.specs.Prelude.{◌≤◌, length};
 
 use event_records::{Event, MAX_EVENTS, What};
 use history_merge::{History, HistoryFault, OpKind, Operation, history};
