@@ -5,7 +5,7 @@ cases.py PROGRAM LIBRARY FOLDER EXAMPLES
 Of a refused growth the program may answer as with ample memory, or `FAULT Memory` with status 3; a run may also answer with one of
 its faults, or with another history, which `verify` then has to answer with VALID. Of a refused write a front of the text is there,
 the status is 3, and nothing is written after it. Of a refused read the answer is `FAULT Read`, status 3. Where a thread can't be
-started a run answers with a history, or with a stall.
+started a run answers with a history, or with a stall, and a check as with threads.
 """
 
 import os
@@ -31,12 +31,25 @@ RUN_FAULT = re.compile(rb"FAULT (Memory|Stalled \d+|CloseLost \d+)\n\Z")
 class Case:
     """A command with its words and its input, and what it answers of these with ample memory."""
 
-    def __init__(self, words, text=b"", is_run=False):
-        self.words, self.text, self.is_run = words, text, is_run
+    def __init__(self, words, text=b"", is_run=False, kinds=("growth", "write", "read", "thread")):
+        self.words, self.text, self.is_run, self.kinds = words, text, is_run, kinds
         self.plain = None
 
     def __str__(self):
         return " ".join(self.words)
+
+
+def many_windows():
+    """A history of so many values and empty answers that a check searches in threads; the last empty answer can't be."""
+    rounds = 100_000
+    lines = [b"fifo-history 1"]
+    for i in range(rounds):
+        steps = [(b"call-enq %d" % i, b"ret-enq"), (b"call-deq", b"ret-deq %d" % i), (b"call-deq", b"ret-empty")]
+        if i == rounds - 1:
+            steps[1], steps[2] = steps[2], steps[1]
+        for at, (call, ret) in enumerate(steps, 3 * i):
+            lines += [b"%d 0 %s" % (2 * at, call), b"%d 0 %s" % (2 * at + 1, ret)]
+    return b"\n".join([*lines, b"end %d\n" % (6 * rounds)])
 
 
 def example(name):
@@ -94,6 +107,8 @@ def wrong_read(case, answer, after):
 
 
 def wrong_thread(case, answer, after):
+    if not case.is_run:
+        return "" if answer == case.plain else "not the answer that threads give"
     if answer[0] == 3 and RUN_FAULT.match(answer[1]):
         return ""
     return "" if is_history_with_verdict(answer) else "neither a history nor a fault of a run"
@@ -110,6 +125,7 @@ def cases():
         Case(["check"], violated),
         Case(["check"], example("pending.history")),
         Case(["check"], b"fifo-history 1\nnothing\n"),
+        Case(["check"], many_windows(), kinds=("growth", "thread")),
         Case(["shrink"], violated),
         Case(["verify"], violated + claim),
         Case(["sim"], example("full-ring.schedule")),
@@ -124,7 +140,7 @@ def cases():
 
 def tries_of(case):
     """The refusals to try: a kind, a place, whether all later ones are refused, and how."""
-    for kind in JUDGES:
+    for kind in case.kinds:
         calls = counted(case, kind)[1]
         # A run makes another number of calls each time: some more places are tried.
         last = min(calls + 20 if case.is_run and calls else calls, MOST_CALLS)

@@ -11,8 +11,9 @@ use history_merge::{History, Operation};
 use std::alloc::{AllocError, Global};
 use std::process::Abort;
 use std::test::Fail;
+use std::thread::Threads;
 use value_match::Violation;
-use verdicts::{Claimed, Lines, Verdict, ViolationKind, claim, decide, shrink, verify};
+use verdicts::{Claimed, Lines, Verdict, ViolationKind, claim, decide, decide_par, shrink, verify};
 
 /// A history with the answer that it gets, the lines of its verdict, and its operations where it is shrunk.
 #[derive(Drop)]
@@ -25,11 +26,13 @@ struct Case<'a> {
 }
 
 /// Compares what is answered of one history.
-fn compare(rt: &(impl Abort + AllocGlobal), case: &Case) -> Result<(), Fail> {
+fn compare<R: Abort + AllocGlobal + Threads + Sync>(rt: &R, case: &Case) -> Result<(), Fail> {
     let history = history_of(rt.alloc(), case.operations)?;
     let verdict = decided(rt.alloc(), &history)?;
     let claimed = claim_of(rt.alloc(), &history, &verdict)?;
     assert!(rt; is_wanted(case, &claimed), "{claimed:?}");
+    let in_pieces = decided_in_pieces(rt, &history)?;
+    assert!(rt; is_wanted(case, &claim_of(rt.alloc(), &history, &in_pieces)?));
     assert!(rt; is_evidence_again(rt.alloc(), &history, case.kind, case.lines)?);
     assert!(rt; !is_evidence_again(rt.alloc(), &history, case.kind, &[])?);
     if let Verdict::No(violation) = &verdict {
@@ -96,6 +99,19 @@ pub fn decided(alloc: Global, history: &History) -> Result<Verdict, AllocError>
     match decide(alloc, history) {
         Ok(verdict) => Ok(verdict),
         Err(_) => decide(alloc, history),
+    }
+}
+
+/// The verdict on a history by searches in pieces.
+fn decided_in_pieces<R: AllocGlobal + Threads + Sync>(
+    rt: &R,
+    history: &History,
+) -> Result<Verdict, AllocError>
+    ensures { IfOk result (λ verdict. IsWithin (operations_of history.now) verdict) }
+{
+    match decide_par(rt, rt.alloc(), history, 4) {
+        Ok(verdict) => Ok(verdict),
+        Err(_) => decide_par(rt, rt.alloc(), history, 4),
     }
 }
 
