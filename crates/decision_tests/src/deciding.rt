@@ -11,10 +11,10 @@ use value_match::{Cover, Matched, Matching, Violation, match_values};
 use verdicts::{Verdict, decide};
 
 /// An operation of a row: its thread, what it did, and the tickets of its call and its return.
-type Row = (u8, OpKind, u64, u64);
+pub(crate) type Row = (u8, OpKind, u64, u64);
 
 /// The calls of two overlapping enqueues and of the dequeues of their values in the other order.
-const OVERLAPPING: &[Row] = &[
+pub(crate) const OVERLAPPING: &[Row] = &[
     (0, OpKind::Enq(7), 0, 2),
     (1, OpKind::Enq(9), 1, 3),
     (0, OpKind::Deq(9), 4, 5),
@@ -22,7 +22,7 @@ const OVERLAPPING: &[Row] = &[
 ];
 
 /// A value that overtakes one that is never dequeued.
-const OVERTAKEN: &[Row] = &[
+pub(crate) const OVERTAKEN: &[Row] = &[
     (0, OpKind::Enq(7), 0, 1),
     (0, OpKind::Enq(9), 2, 3),
     (0, OpKind::Deq(9), 4, 5),
@@ -37,7 +37,7 @@ const TWO_OVERTAKEN: &[Row] = &[
 ];
 
 /// An empty answer while first one value and then another was in the queue.
-const NEVER_EMPTY: &[Row] = &[
+pub(crate) const NEVER_EMPTY: &[Row] = &[
     (0, OpKind::Enq(7), 0, 1),
     (1, OpKind::Empty, 2, 9),
     (0, OpKind::Enq(9), 3, 4),
@@ -46,7 +46,7 @@ const NEVER_EMPTY: &[Row] = &[
 ];
 
 /// An empty answer at the one gap at which the queue may have been empty.
-const ONCE_EMPTY: &[Row] = &[
+pub(crate) const ONCE_EMPTY: &[Row] = &[
     (0, OpKind::Enq(7), 0, 1),
     (1, OpKind::Empty, 2, 9),
     (0, OpKind::Enq(9), 3, 6),
@@ -55,7 +55,7 @@ const ONCE_EMPTY: &[Row] = &[
 ];
 
 /// An empty answer that two of three values cover.
-const COVERED_BY_TWO: &[Row] = &[
+pub(crate) const COVERED_BY_TWO: &[Row] = &[
     (0, OpKind::Enq(1), 0, 1),
     (1, OpKind::Empty, 2, 11),
     (0, OpKind::Enq(2), 3, 4),
@@ -91,14 +91,14 @@ fn events_of(alloc: Global, rows: &[Row]) -> Result<Vec<Event>, AllocError> {
 }
 
 /// The history of the operations.
-fn history_of(rt: &impl Abort, alloc: Global, rows: &[Row]) -> Result<History, Fail> {
+pub(crate) fn history_of(rt: &impl Abort, alloc: Global, rows: &[Row]) -> Result<History, Fail> {
     let events = events_of(alloc, rows)?;
     assert!(rt; events.len() <= MAX_EVENTS);
     Ok(history(alloc, events)?)
 }
 
 /// The matching of the history, in which nothing is fresh or repeated.
-fn matching_of<'a>(
+pub(crate) fn matching_of<'a>(
     rt: &impl Abort,
     alloc: Global,
     history: &'a History,
@@ -128,7 +128,7 @@ enum Kind {
 }
 
 /// The places of the operations of a cover, value by value.
-fn push_cover(cover: &Cover, places: &mut Vec<usize>) -> Result<(), AllocError> {
+pub(crate) fn push_cover(cover: &Cover, places: &mut Vec<usize>) -> Result<(), AllocError> {
     for step in cover.as_slice() {
         places.push(step.enqueue.place())?;
         push_maybe(step.dequeue, places)?;
@@ -136,7 +136,7 @@ fn push_cover(cover: &Cover, places: &mut Vec<usize>) -> Result<(), AllocError> 
     Ok(())
 }
 
-fn push_maybe(id: Option<OpId>, places: &mut Vec<usize>) -> Result<(), AllocError> {
+pub(crate) fn push_maybe(id: Option<OpId>, places: &mut Vec<usize>) -> Result<(), AllocError> {
     if let Some(id) = id {
         places.push(id.place())?;
     }

@@ -1,66 +1,19 @@
-ghost use Rattle.std.specs.Prelude.{◌≤◌, length, vec_len};
-
+use crate::deciding::{
+    COVERED_BY_TWO, NEVER_EMPTY, ONCE_EMPTY, OVERLAPPING, OVERTAKEN, Row, history_of, matching_of,
+    push_cover, push_maybe,
+};
 use empty_witness::WitnessAnswer;
-use event_records::{Event, MAX_EVENTS, What};
-use history_merge::{History, OpId, OpKind, history};
+use history_merge::OpKind;
 use order_violation::OrderPair;
 use parallel_finders::{find_order_par, find_witness_par, order_in_pieces, witness_in_pieces};
 use std::alloc::{AllocError, Global};
 use std::process::Abort;
 use std::test::Fail;
 use std::thread::Threads;
-use value_match::{Matched, Matching, match_values};
-
-/// An operation of a row: its thread, what it did, and the tickets of its call and its return.
-type Row = (u8, OpKind, u64, u64);
+use value_match::Matching;
 
 /// What the two searches find: the places of the pair, if there is one, and the gaps, or the empty answer and its cover.
 type Found = (Option<Vec<usize>>, Result<Vec<u64>, Vec<usize>>);
-
-/// The history of the operations.
-fn history_of(rt: &impl Abort, alloc: Global, rows: &[Row]) -> Result<History, Fail> {
-    let mut events = Vec::new(alloc);
-    for (thread, kind, call, ret) in rows {
-        let (called, answered) = match *kind {
-            OpKind::Enq(value) => (What::CallEnq(value), What::RetEnq),
-            OpKind::Not(value) => (What::CallEnq(value), What::RetNot),
-            OpKind::Deq(value) => (What::CallDeq, What::RetDeq(value)),
-            OpKind::Empty => (What::CallDeq, What::RetEmpty),
-        };
-        events.push(Event {
-            ticket: *call,
-            thread: *thread,
-            what: called,
-        })?;
-        events.push(Event {
-            ticket: *ret,
-            thread: *thread,
-            what: answered,
-        })?;
-    }
-    events.sort_by_key(|event| event.ticket)?;
-    assert!(rt; events.len() <= MAX_EVENTS);
-    Ok(history(alloc, events)?)
-}
-
-/// The matching of the history, in which nothing is fresh or repeated.
-fn matching_of<'a>(
-    rt: &impl Abort,
-    alloc: Global,
-    history: &'a History,
-) -> Result<Matching<'a>, Fail> {
-    match match_values(alloc, history)? {
-        Matched::Clear(matching) => Ok(matching),
-        Matched::Fresh(_) | Matched::Repeat(_) => panic!(rt; "the values are not clear"),
-    }
-}
-
-fn push_maybe(id: Option<OpId>, places: &mut Vec<usize>) -> Result<(), AllocError> {
-    if let Some(id) = id {
-        places.push(id.place())?;
-    }
-    Ok(())
-}
 
 /// The places of the pair: the enqueues of a and b, the dequeue of b, and that of a if there is one.
 fn places_of_pair(
@@ -92,10 +45,7 @@ fn places_of_witness(
         WitnessAnswer::Covered { empty, cover } => {
             let mut places = Vec::new(alloc);
             places.push(empty.place())?;
-            for step in cover.as_slice() {
-                places.push(step.enqueue.place())?;
-                push_maybe(step.dequeue, &mut places)?;
-            }
+            push_cover(cover, &mut places)?;
             Ok(Err(places))
         }
     }
@@ -145,17 +95,6 @@ fn check<R: Abort + Threads + Sync>(
 #[test]
 fn finds_pairs_in_pieces(rt: HostRuntime) -> Result<(), Fail> {
     let alloc = rt.alloc();
-    let overlapping: &[Row] = &[
-        (0, OpKind::Enq(7), 0, 2),
-        (1, OpKind::Enq(9), 1, 3),
-        (0, OpKind::Deq(9), 4, 5),
-        (0, OpKind::Deq(7), 6, 7),
-    ];
-    let overtaken: &[Row] = &[
-        (0, OpKind::Enq(7), 0, 1),
-        (0, OpKind::Enq(9), 2, 3),
-        (0, OpKind::Deq(9), 4, 5),
-    ];
     let dequeued_later: &[Row] = &[
         (0, OpKind::Enq(7), 0, 1),
         (0, OpKind::Enq(9), 2, 3),
@@ -177,8 +116,8 @@ fn finds_pairs_in_pieces(rt: HostRuntime) -> Result<(), Fail> {
         (0, OpKind::Deq(4), 8, 9),
         (0, OpKind::Deq(2), 10, 11),
     ];
-    check(&rt, alloc, overlapping, None, Ok(&[]))?;
-    check(&rt, alloc, overtaken, Some(&[0, 1, 2]), Ok(&[]))?;
+    check(&rt, alloc, OVERLAPPING, None, Ok(&[]))?;
+    check(&rt, alloc, OVERTAKEN, Some(&[0, 1, 2]), Ok(&[]))?;
     check(&rt, alloc, dequeued_later, Some(&[0, 1, 2, 3]), Ok(&[]))?;
     check(&rt, alloc, hidden, None, Ok(&[]))?;
     check(&rt, alloc, two_pairs, Some(&[0, 3, 4]), Ok(&[]))
@@ -187,29 +126,6 @@ fn finds_pairs_in_pieces(rt: HostRuntime) -> Result<(), Fail> {
 #[test]
 fn finds_covers_in_pieces(rt: HostRuntime) -> Result<(), Fail> {
     let alloc = rt.alloc();
-    let never_empty: &[Row] = &[
-        (0, OpKind::Enq(7), 0, 1),
-        (1, OpKind::Empty, 2, 9),
-        (0, OpKind::Enq(9), 3, 4),
-        (0, OpKind::Deq(7), 5, 6),
-        (0, OpKind::Deq(9), 10, 11),
-    ];
-    let once_empty: &[Row] = &[
-        (0, OpKind::Enq(7), 0, 1),
-        (1, OpKind::Empty, 2, 9),
-        (0, OpKind::Enq(9), 3, 6),
-        (2, OpKind::Deq(7), 4, 5),
-        (0, OpKind::Deq(9), 10, 11),
-    ];
-    let covered_by_two: &[Row] = &[
-        (0, OpKind::Enq(1), 0, 1),
-        (1, OpKind::Empty, 2, 11),
-        (0, OpKind::Enq(2), 3, 4),
-        (0, OpKind::Enq(3), 5, 6),
-        (0, OpKind::Deq(1), 7, 8),
-        (0, OpKind::Deq(2), 9, 10),
-        (0, OpKind::Deq(3), 12, 13),
-    ];
     // of four answers the first has a gap, and of the others the third returns first
     let thrice_covered: &[Row] = &[
         (3, OpKind::Empty, 0, 1),
@@ -218,9 +134,9 @@ fn finds_covers_in_pieces(rt: HostRuntime) -> Result<(), Fail> {
         (2, OpKind::Empty, 5, 6),
         (3, OpKind::Empty, 7, 10),
     ];
-    check(&rt, alloc, never_empty, None, Err(&[1, 0, 3, 2, 4]))?;
-    check(&rt, alloc, once_empty, None, Ok(&[4]))?;
-    check(&rt, alloc, covered_by_two, None, Err(&[1, 0, 4, 3, 6]))?;
+    check(&rt, alloc, NEVER_EMPTY, None, Err(&[1, 0, 3, 2, 4]))?;
+    check(&rt, alloc, ONCE_EMPTY, None, Ok(&[4]))?;
+    check(&rt, alloc, COVERED_BY_TWO, None, Err(&[1, 0, 4, 3, 6]))?;
     check(&rt, alloc, thrice_covered, None, Err(&[3, 1]))
 }
 
