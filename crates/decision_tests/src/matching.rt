@@ -238,22 +238,20 @@ fn finds_the_longest_of_the_values_before_a_ticket(rt: HostRuntime) -> Result<()
         panic!(rt; "no violation of the first two kinds");
     };
     let table = LongestTable::new(rt.alloc(), matching.values())?;
+    // Up to each limit, the call of the longest value's enqueue.
     let cases = [
         (0, None),
         (2, None),
-        (3, Some(1)),
-        (4, Some(1)),
-        (5, Some(2)),
-        (8, Some(2)),
-        (9, Some(3)),
-        (11, Some(3)),
+        (3, Some(0)),
+        (4, Some(0)),
+        (5, Some(1)),
+        (8, Some(1)),
+        (9, Some(5)),
+        (11, Some(5)),
     ];
-    for (limit, name) in cases {
+    for (limit, call) in cases {
         let longest = table.longest_before(limit);
-        assert_eq!(rt;
-            longest.map(|value| value.life.enqueue.kind),
-            name.map(OpKind::Enq)
-        );
+        assert_eq!(rt; longest.map(|value| value.life.enqueue_call()), call);
     }
     assert_eq!(rt; table.values().len(), 4);
     Ok(())

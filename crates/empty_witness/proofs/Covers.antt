@@ -8,7 +8,7 @@ use Rattle.history_merge.specs.Operations.{Did, NoneDid, Precedes}
 use Rattle.history_merge.proofs.Distinct.{contains_cons, not_in_none, return_differs_from_call, return_in_range, call_before_return}
 use Rattle.value_match.specs.declared.life.Life.{Life}
 use Rattle.value_match.specs.declared.life.TheConstants.{NEVER}
-use Rattle.value_match.specs.Lives.{IsLife, lives_of, Covers, IsCovered, call_or_never, enqueue_return, dequeue_call}
+use Rattle.value_match.specs.Lives.{IsLife, lives_of, Covers, IsCovered, call_or_never, enqueue_return, dequeue_call, dequeue_of, enqueue_of}
 use Rattle.value_match.specs.Violations.{IsClear, CoversFrom, IsWitnessViolation}
 use Rattle.value_match.specs.Choice.{StaysAtLeast, IsNextOfCover, IsChosenCoverFrom, IsChosenCover}
 use Rattle.value_match.proofs.Lives.{life_of_contained, life_is_contained, dequeued_if_called}
@@ -89,7 +89,7 @@ next_of_cover operations frontier some clear is before = elim (longest_of (lives
 ]
 
 -- a cover that begins with one value and goes on from its dequeue
-go_on : (operations : List Operation) (empty before d : Operation) (life : Life) (rest : List Life) → IsLife operations life → Precedes life.enqueue before → life.dequeue ≡ Some d → CoversFrom operations empty d rest
+go_on : (operations : List Operation) (empty before d : Operation) (life : Life) (rest : List Life) → IsLife operations life → Precedes (enqueue_of life) before → dequeue_of life ≡ Some d → CoversFrom operations empty d rest
     → CoversFrom operations empty before (life ∷ rest)
 go_on operations empty before d life [] is precedes dequeues covers = absurd covers
 go_on operations empty before d life (next ∷ rest) is precedes dequeues covers =
@@ -105,7 +105,7 @@ cover_from : (left : ℕ) (operations : List Operation) (empty before : Operatio
 cover_from zero operations empty before clear did covered among above below left = absurd (omega arith)
 cover_from (suc left) operations empty before clear did covered among above below near =
     let z = covered before.call (above, below) in
-    let differs = return_differs_from_call operations z.0.enqueue before clear.complete z.1.1.0 among in
+    let differs = return_differs_from_call operations (enqueue_of z.0) before clear.complete z.1.1.0 among in
     let entered : enqueue_return z.0 < before.call = strictly (enqueue_return z.0) before.call z.2.0 differs in
     let next = next_of_cover operations before.call z.0 clear z.1 entered in
     let stays = next.1.longest z.0 z.1 entered in
@@ -122,7 +122,7 @@ cover_from (suc left) operations empty before clear did covered among above belo
         let range = return_in_range operations empty clear.complete did.0 in
         let cases : (empty.ret < dequeue_call life) ⊎ (dequeue_call life ≤ empty.ret) = grind arith in
         elim cases [
-          | inl stays ↦ (life ∷ [], (next, rw (lt-ltb empty.ret (dequeue_call life) stays) refl), (next.is_life, next.before_frontier, stays_past empty life.dequeue stays))
+          | inl stays ↦ (life ∷ [], (next, rw (lt-ltb empty.ret (dequeue_call life) stays) refl), (next.is_life, next.before_frontier, stays_past empty (dequeue_of life) stays))
           | inr leaves ↦
               let found = dequeued_if_called life (omega arith) in
               let d = found.0 in
@@ -147,15 +147,15 @@ chosen_cover operations empty clear did covered =
 covered_by : (operations : List Operation) (empty before : Operation) (cover : List Life) (c : ℕ) → CoversFrom operations empty before cover → before.call ≤ c → c < empty.ret → c < NEVER → (life : Life) × IsLife operations life × Covers life c
 covered_by operations empty before [] c covers above below in_range = absurd covers
 covered_by operations empty before (life ∷ []) c covers above below in_range =
-    (life, covers.0, (omega (arith, covers.1), past life.dequeue covers.2))
+    (life, covers.0, (omega (arith, covers.1), past (dequeue_of life) covers.2))
   where
     past : (dequeue : Option Operation) → MatchOption dequeue ⊤ (λ d. Precedes empty d) → c < call_or_never dequeue
     past None none = in_range
     past (Some d) after = omega arith
 covered_by operations empty before (life ∷ next ∷ rest) c covers above below in_range =
-    go life.dequeue refl covers.2 (λ d further above'. covered_by operations empty d (next ∷ rest) c further above' below in_range)
+    go (dequeue_of life) refl covers.2 (λ d further above'. covered_by operations empty d (next ∷ rest) c further above' below in_range)
   where
-    go : (dequeue : Option Operation) → life.dequeue ≡ dequeue → MatchOption dequeue ⊥ (λ d. CoversFrom operations empty d (next ∷ rest))
+    go : (dequeue : Option Operation) → dequeue_of life ≡ dequeue → MatchOption dequeue ⊥ (λ d. CoversFrom operations empty d (next ∷ rest))
         → ((d : Operation) → CoversFrom operations empty d (next ∷ rest) → d.call ≤ c → (life : Life) × IsLife operations life × Covers life c) → (life : Life) × IsLife operations life × Covers life c
     go None same further more = absurd further
     go (Some d) same further more =
@@ -178,7 +178,7 @@ no_shorter operations empty before frontier [] other in_range chosen covers le =
 no_shorter operations empty before frontier (x ∷ xs) [] in_range chosen covers le = absurd covers
 no_shorter operations empty before frontier (x ∷ xs) (y ∷ []) in_range chosen covers le =
     let stays = chosen.0.longest y covers.0 (omega (arith, covers.1)) in
-    let past : empty.ret < dequeue_call y = after y.dequeue covers.2 in
+    let past : empty.ret < dequeue_call y = after (dequeue_of y) covers.2 in
     let ends : ◌≡◌ {A = List Life} xs [] = last (lt-ltb empty.ret (dequeue_call x) (omega (arith, stays.0))) chosen.1 in
     let long : length xs ≡ 0 = ap length ends in
     omega arith
@@ -191,9 +191,9 @@ no_shorter operations empty before frontier (x ∷ xs) (y ∷ []) in_range chose
     last test chosen' = subst (λ b. MatchBool b (xs ≡ []) (IsChosenCoverFrom operations empty (dequeue_call x) xs)) test chosen'
 no_shorter operations empty before frontier (x ∷ xs) (y ∷ next ∷ ys) in_range chosen covers le =
     let stays = chosen.0.longest y covers.0 (omega (arith, covers.1)) in
-    go y.dequeue refl covers.2 stays.0 (nat_lt empty.ret (dequeue_call x)) refl chosen.1 (λ d more further le'. no_shorter operations empty d (dequeue_call x) xs (next ∷ ys) in_range more further le')
+    go (dequeue_of y) refl covers.2 stays.0 (nat_lt empty.ret (dequeue_call x)) refl chosen.1 (λ d more further le'. no_shorter operations empty d (dequeue_call x) xs (next ∷ ys) in_range more further le')
   where
-    go : (dequeue : Option Operation) → y.dequeue ≡ dequeue → MatchOption dequeue ⊥ (λ d. CoversFrom operations empty d (next ∷ ys)) → dequeue_call y ≤ dequeue_call x
+    go : (dequeue : Option Operation) → dequeue_of y ≡ dequeue → MatchOption dequeue ⊥ (λ d. CoversFrom operations empty d (next ∷ ys)) → dequeue_call y ≤ dequeue_call x
         → (b : Bool) → nat_lt empty.ret (dequeue_call x) ≡ b → MatchBool b (xs ≡ []) (IsChosenCoverFrom operations empty (dequeue_call x) xs)
         → ((d : Operation) → IsChosenCoverFrom operations empty (dequeue_call x) xs → CoversFrom operations empty d (next ∷ ys) → d.call ≤ dequeue_call x → length xs ≤ length (next ∷ ys))
         → length (x ∷ xs) ≤ length (y ∷ next ∷ ys)
@@ -219,16 +219,16 @@ chosen_covers operations empty before frontier (life ∷ rest) in_range same cho
         → ((d : Operation) → d.call ≡ dequeue_call life → IsChosenCoverFrom operations empty (dequeue_call life) rest → CoversFrom operations empty d rest) → CoversFrom operations empty before (life ∷ rest)
     go true test ends more =
         let past = ltb-true empty.ret (dequeue_call life) test in
-        subst (λ r. CoversFrom operations empty before (life ∷ r)) (sym ends) (chosen.0.is_life, before_call chosen.0.before_frontier, stays_past empty life.dequeue past)
+        subst (λ r. CoversFrom operations empty before (life ∷ r)) (sym ends) (chosen.0.is_life, before_call chosen.0.before_frontier, stays_past empty (dequeue_of life) past)
       where
-        before_call : enqueue_return life < frontier → Precedes life.enqueue before
+        before_call : enqueue_return life < frontier → Precedes (enqueue_of life) before
         before_call less = omega (arith, same)
     go false test further more =
         let leaves = ltb-false empty.ret (dequeue_call life) test in
         let found = dequeued_if_called life (omega arith) in
         go_on operations empty before found.0 life rest chosen.0.is_life (before_call chosen.0.before_frontier) found.1 (more found.0 (sym (ap call_or_never found.1)) further)
       where
-        before_call : enqueue_return life < frontier → Precedes life.enqueue before
+        before_call : enqueue_return life < frontier → Precedes (enqueue_of life) before
         before_call less = omega (arith, same)
 
 pub chosen_cover_violates : (operations : List Operation) (empty : Operation) (cover : List Life) → IsClear operations → Did operations empty Empty → IsChosenCover operations empty cover → IsWitnessViolation operations empty cover

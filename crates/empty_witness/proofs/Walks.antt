@@ -11,7 +11,7 @@ use Rattle.history_merge.proofs.Distinct.{return_differs_from_call, return_in_ra
 use Rattle.value_match.specs.declared.life.Life.{Life}
 use Rattle.value_match.specs.declared.life.MatchedValue.{MatchedValue}
 use Rattle.value_match.specs.declared.violation.CoverStep.{CoverStep}
-use Rattle.value_match.specs.Lives.{IsLife, HoldsLives, IsMaybeAt, IsCovered, call_or_never, enqueue_return, dequeue_call}
+use Rattle.value_match.specs.Lives.{IsLife, HoldsLives, IsMaybeAt, IsCovered, call_or_never, enqueue_return, dequeue_call, dequeue_of, enqueue_of}
 use Rattle.value_match.specs.Violations.{IsClear}
 use Rattle.value_match.specs.Choice.{StaysAtLeast, IsNextOfCover, IsChosenCoverFrom, IsChosenCover}
 use Rattle.value_match.specs.Outcome.{NamesCover}
@@ -53,7 +53,7 @@ module _ (operations : List Operation) (values : List MatchedValue) (o : Operati
   entered_before steps frontier so_far below =
       let life = covered frontier (so_far.past_call, below) in
       let value = value_of_life operations values life.0 clear holds life.1 in
-      let differs = so_far.no_return life.0.enqueue life.1.1.0 in
+      let differs = so_far.no_return (enqueue_of life.0) life.1.1.0 in
       let entered : EntersBefore frontier life.0 = strictly (enqueue_return life.0) life.2.0 differs in
       (value.0, value.1, subst (EntersBefore frontier) (sym value.2) entered, subst (λ l. frontier < dequeue_call l) (sym value.2) life.2.1)
     where
@@ -89,10 +89,10 @@ module _ (operations : List Operation) (values : List MatchedValue) (o : Operati
       → IsCoverSoFar operations o (steps ++ (record { enqueue = value.enqueue; dequeue = value.dequeue }) ∷ []) (dequeue_call value.life)
   one_more_step steps frontier value so_far below is = record {
     lives = so_far.lives ++ value.life ∷ [];
-    named = one_more_zipped (λ step life. IsAt operations step.enqueue life.enqueue × IsMaybeAt operations step.dequeue life.dequeue) steps so_far.lives (record { enqueue = value.enqueue; dequeue = value.dequeue }) value.life
+    named = one_more_zipped (λ step life. IsAt operations step.enqueue (enqueue_of life) × IsMaybeAt operations step.dequeue (dequeue_of life)) steps so_far.lives (record { enqueue = value.enqueue; dequeue = value.dequeue }) value.life
         so_far.named (places_of_value operations values value holds is.among);
     past_call = let rises = frontier_rises steps frontier value so_far below is in omega (arith, so_far.past_call);
-    no_return = no_return_at operations is_life.0 value.life.dequeue clear.complete is_life.2;
+    no_return = no_return_at operations is_life.0 (dequeue_of value.life) clear.complete is_life.2;
     goes_on = λ below' rest chosen.
         subst (IsChosenCover operations o) (sym (append_assoc so_far.lives (value.life ∷ []) rest))
         (so_far.goes_on below (value.life ∷ rest) (next, further below' rest chosen));

@@ -10,7 +10,8 @@ use Rattle.history_merge.specs.declared.operation.OpKind.TheVariants.{Enq, Deq, 
 use Rattle.history_merge.specs.Operations.{operations_of}
 use Rattle.history_merge.proofs.Distinct.{contains_at}
 use Rattle.recorder_core.specs.Laws.{operation_call, operation_return, call_what, return_what}
-use Rattle.recorder_core.proofs.Members.{contains_cons, none_in_nil}
+use Rattle.history_merge.proofs.Distinct.{contains_cons}
+use Rattle.recorder_core.proofs.Members.{none_in_nil}
 use Rattle.recorder_core.proofs.Ticketed.{operation_events}
 use Rattle.verdicts.specs.declared.verdict.Verdict.{Verdict}
 use Rattle.verdicts.specs.declared.verdict.Verdict.TheVariants as found

@@ -10,7 +10,7 @@ use Rattle.history_merge.specs.Complete.{AreComplete}
 use Rattle.history_merge.proofs.Distinct.{calls_rise, return_differs_from_call, same_return}
 use Rattle.value_match.specs.declared.life.Life.{Life}
 use Rattle.value_match.specs.declared.life.TheConstants.{NEVER}
-use Rattle.value_match.specs.Lives.{IsLife, lives_of, life_from, call_or_never, return_or_never, enqueue_call, enqueue_return, dequeue_call, dequeue_return, entered_by, leaves_from}
+use Rattle.value_match.specs.Lives.{IsLife, lives_of, life_from, call_or_never, return_or_never, enqueue_call, enqueue_return, dequeue_call, dequeue_return, entered_by, leaves_from, dequeue_of, enqueue_of}
 use Rattle.value_match.specs.Violations.{IsClear}
 use Rattle.linearizer.specs.Values.{IsValueOrder}
 use Rattle.value_match.proofs.Lives.{life_of_contained, one_life_of_enqueue, one_life_of_dequeue}
@@ -25,7 +25,7 @@ pub record HaveDistinctTimes (x y : Life) : Type 0 where
 
 -- the operation is one of the life
 abbrev pub IsOf : Life → Operation → Type 0
-IsOf life o = (life.enqueue ≡ o) ⊎ (life.dequeue ≡ Some o)
+IsOf life o = (enqueue_of life ≡ o) ⊎ (dequeue_of life ≡ Some o)
 
 -- the operation of a life that returns, or is called, at a ticket
 pub record ReturnsAt (operations : List Operation) (life : Life) (ticket : ℕ) : Type 0 where
@@ -41,17 +41,17 @@ pub record CalledAt (operations : List Operation) (life : Life) (ticket : ℕ) :
   pub called : o.call ≡ ticket
 
 dequeue_returns : (operations : List Operation) (life : Life) → IsLife operations life → ReturnsAt operations life (dequeue_return life) ⊎ (dequeue_return life ≡ NEVER)
-dequeue_returns operations life is = go life.dequeue refl is.2
+dequeue_returns operations life is = go (dequeue_of life) refl is.2
   where
-    go : (dequeue : Option Operation) → life.dequeue ≡ dequeue → MatchOption dequeue (NoneDid operations (Deq is.0)) (λ d. Did operations d (Deq is.0))
+    go : (dequeue : Option Operation) → dequeue_of life ≡ dequeue → MatchOption dequeue (NoneDid operations (Deq is.0)) (λ d. Did operations d (Deq is.0))
         → ReturnsAt operations life (return_or_never dequeue) ⊎ (return_or_never dequeue ≡ NEVER)
     go None same none = inr refl
     go (Some d) same did = inl (record { o = d; among = did.0; is_of = inr same; returns = refl })
 
 dequeue_called : (operations : List Operation) (life : Life) → IsLife operations life → CalledAt operations life (dequeue_call life) ⊎ (dequeue_call life ≡ NEVER)
-dequeue_called operations life is = go life.dequeue refl is.2
+dequeue_called operations life is = go (dequeue_of life) refl is.2
   where
-    go : (dequeue : Option Operation) → life.dequeue ≡ dequeue → MatchOption dequeue (NoneDid operations (Deq is.0)) (λ d. Did operations d (Deq is.0))
+    go : (dequeue : Option Operation) → dequeue_of life ≡ dequeue → MatchOption dequeue (NoneDid operations (Deq is.0)) (λ d. Did operations d (Deq is.0))
         → CalledAt operations life (call_or_never dequeue) ⊎ (call_or_never dequeue ≡ NEVER)
     go None same none = inr refl
     go (Some d) same did = inl (record { o = d; among = did.0; is_of = inr same; called = refl })
@@ -61,7 +61,7 @@ entered_at_return operations life clear is =
     let times = times_of_life operations life clear is in
     let first : (entered_by life ≡ enqueue_return life) ⊎ ((entered_by life ≡ dequeue_return life) × (dequeue_return life < enqueue_return life)) = grind arith in
     elim first [
-      | inl enqueued ↦ record { o = life.enqueue; among = is.1.0; is_of = inl refl; returns = sym enqueued }
+      | inl enqueued ↦ record { o = enqueue_of life; among = is.1.0; is_of = inl refl; returns = sym enqueued }
       | inr dequeued ↦ elim (dequeue_returns operations life is) [
         | inl at ↦ record { o = at.o; among = at.among; is_of = at.is_of; returns = at.returns ∙ sym dequeued.0 }
         | inr never ↦ absurd (omega (arith, dequeued.1, times.enqueue_is_past))
@@ -73,7 +73,7 @@ leaves_at_call operations life clear is =
     let times = times_of_life operations life clear is in
     let last : (leaves_from life ≡ enqueue_call life) ⊎ ((leaves_from life ≡ dequeue_call life) × (enqueue_call life ≤ dequeue_call life)) = grind arith in
     elim last [
-      | inl enqueued ↦ inl (record { o = life.enqueue; among = is.1.0; is_of = inl refl; called = sym enqueued })
+      | inl enqueued ↦ inl (record { o = enqueue_of life; among = is.1.0; is_of = inl refl; called = sym enqueued })
       | inr dequeued ↦ elim (dequeue_called operations life is) [
         | inl at ↦ inl (record { o = at.o; among = at.among; is_of = at.is_of; called = at.called ∙ sym dequeued.0 })
         | inr never ↦ inr (dequeued.0 ∙ never)
@@ -81,7 +81,7 @@ leaves_at_call operations life clear is =
     ]
 
 -- the kind of an enqueue is not that of a dequeue
-pub not_both_kinds : (operations : List Operation) (x y : Life) (o : Operation) → IsLife operations x → IsLife operations y → x.enqueue ≡ o → y.dequeue ≡ Some o → ⊥
+pub not_both_kinds : (operations : List Operation) (x y : Life) (o : Operation) → IsLife operations x → IsLife operations y → enqueue_of x ≡ o → dequeue_of y ≡ Some o → ⊥
 not_both_kinds operations x y o is_x is_y enqueues dequeues =
     let did_y : Did operations o (Deq is_y.0) = subst (λ e. MatchOption e (NoneDid operations (Deq is_y.0)) (λ d. Did operations d (Deq is_y.0))) dequeues is_y.2 in
     let clash : Enq is_x.0 ≡ Deq is_y.0 = sym is_x.1.1 ∙ ap (λ o. o.kind) enqueues ∙ did_y.1 in
@@ -117,7 +117,7 @@ one_life_of_dequeue_return operations x y clear is_x is_y same =
 pub enters_at_no_call : (operations : List Operation) (x y : Life) → IsClear operations → IsLife operations x → IsLife operations y → entered_by x ≢ enqueue_call y
 enters_at_no_call operations x y clear is_x is_y same =
     let at = entered_at_return operations x clear is_x in
-    return_differs_from_call operations at.o y.enqueue clear.complete at.among is_y.1.0 (at.returns ∙ same)
+    return_differs_from_call operations at.o (enqueue_of y) clear.complete at.among is_y.1.0 (at.returns ∙ same)
 
 pub returns_at_no_leave : (operations : List Operation) (x y : Life) → IsClear operations → IsLife operations x → IsLife operations y → dequeue_return x ≡ leaves_from y → leaves_from y ≡ NEVER
 returns_at_no_leave operations x y clear is_x is_y same =
@@ -138,7 +138,7 @@ different_times operations x y clear is_x is_y differ = record {
 }
 
 enqueues_itself : (operations : List Operation) (o : Operation) (k : OpKind) (life : Life) → life_from operations o k ≡ Some life → enqueue_call life ≡ o.call
-enqueues_itself operations o (Enq v) life same = let made : ◌≡◌ {A = Life} _ life = injective same in sym (ap (λ l. l.enqueue.call) made)
+enqueues_itself operations o (Enq v) life same = let made : ◌≡◌ {A = Life} _ life = injective same in sym (ap (λ l. (enqueue_of l).call) made)
   where
     injective : {a b : Life} → ◌≡◌ {A = Option Life} (Some a) (Some b) → a ≡ b
     injective e = cc

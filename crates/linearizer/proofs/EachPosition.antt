@@ -7,16 +7,16 @@ use Rattle.history_merge.specs.declared.operation.OpKind.TheVariants.{Enq, Deq, 
 use Rattle.history_merge.specs.Operations.{IsInWindow, Did, NoneDid}
 use Rattle.history_merge.proofs.Distinct.{contains_cons, not_in_none, place_of, one_at, same_call}
 use Rattle.value_match.specs.declared.life.Life.{Life}
-use Rattle.value_match.specs.Lives.{IsLife, IsLeastFreeGap, AreLeastFreeGaps, is_dequeue_of, is_empty_answer}
+use Rattle.value_match.specs.Lives.{IsLife, IsLeastFreeGap, AreLeastFreeGaps, is_dequeue_of, is_empty_answer, dequeue_of, enqueue_of}
 use Rattle.value_match.specs.Violations.{IsClear, NoOrderViolation}
 use Rattle.linearizer.specs.Values.{IsValueOrder, enqueue_gap, dequeue_gap}
 use Rattle.linearizer.specs.Order.{Position, IsPositionFor, IsPositionOf, enqueue_position, dequeue_position, idle_position, idle_answers}
 use Rattle.value_match.proofs.Lives.{found_dequeue, same_dequeue}
 use Rattle.linearizer.proofs.Opposites.{stands_in_order, one_deeper}
-use Rattle.linearizer.proofs.NoneTwice.{passes_filter}
 use Rattle.linearizer.proofs.Rising.{enqueue_is_no_dequeue, idle_is_no_enqueue, idle_is_no_dequeue}
 use Rattle.linearizer.proofs.Positions.{are_gaps, beside}
 use Rattle.linearizer.proofs.LegalOrder.{position_of_enqueue, position_of_dequeue, position_in_window}
+use Rattle.value_match.proofs.Lists.{passes_filter}
 
 same_number : (v w : ℕ) → (v ≡ w) ⊎ ¬ (v ≡ w)
 same_number v w =
@@ -79,10 +79,10 @@ enqueue_of_dequeued operations o v clear did = elim (one_did (Enq v) (λ k. is_e
   ]
 ]
 
-pub life_of_enqueue : (operations : List Operation) (e : Operation) (v : ℕ) → Did operations e (Enq v) → (life : Life) × IsLife operations life × (life.enqueue ≡ e)
+pub life_of_enqueue : (operations : List Operation) (e : Operation) (v : ℕ) → Did operations e (Enq v) → (life : Life) × IsLife operations life × (enqueue_of life ≡ e)
 life_of_enqueue operations e v did = (record { enqueue = e; dequeue = find (is_dequeue_of v) operations }, (v, did, found_dequeue operations v (find (is_dequeue_of v) operations) refl), refl)
 
-pub life_of_dequeue : (operations : List Operation) (o : Operation) (v : ℕ) → IsClear operations → Did operations o (Deq v) → (life : Life) × IsLife operations life × (life.dequeue ≡ Some o)
+pub life_of_dequeue : (operations : List Operation) (o : Operation) (v : ℕ) → IsClear operations → Did operations o (Deq v) → (life : Life) × IsLife operations life × (dequeue_of life ≡ Some o)
 life_of_dequeue operations o v clear did =
     let e = enqueue_of_dequeued operations o v clear did in
     let found = found_dequeue operations v (find (is_dequeue_of v) operations) refl in
@@ -143,8 +143,8 @@ idle_at_gap o c p is = record { class = ap (λ r. r.class) is; rank = ap (λ r. 
 
 -- the operation is an enqueue, a dequeue, or changes nothing, and its position tells which
 data Stands (lives : List Life) (o : Operation) (p : Position) : Type 0 where
-  enters : (i : ℕ) (life : Life) → slice_get lives i ≡ Some life → life.enqueue ≡ o → p ≡ enqueue_position lives i → Stands lives o p
-  leaves : (i : ℕ) (life : Life) → slice_get lives i ≡ Some life → life.dequeue ≡ Some o → p ≡ dequeue_position lives i → Stands lives o p
+  enters : (i : ℕ) (life : Life) → slice_get lives i ≡ Some life → enqueue_of life ≡ o → p ≡ enqueue_position lives i → Stands lives o p
+  leaves : (i : ℕ) (life : Life) → slice_get lives i ≡ Some life → dequeue_of life ≡ Some o → p ≡ dequeue_position lives i → Stands lives o p
   idles : IsIdleAt o p → Stands lives o p
 
 stands_as : (operations : List Operation) (lives : List Life) (o : Operation) (k : OpKind) (p : Position) → IsPositionFor operations lives o k p → Stands lives o p
@@ -153,14 +153,14 @@ stands_as operations lives o (Deq v) p at = leaves at.0 at.1 at.2 at.3 at.4
 stands_as operations lives o Empty p at = idles (idle_at_gap o at.0 p at.2)
 stands_as operations lives o (Not v) p at = idles (idle_at_gap o o.call p at)
 
-some_injective : {x y : Operation} → ◌≡◌ {A = Option Operation} (Some x) (Some y) → x ≡ y
+pub some_injective : {x y : Operation} → ◌≡◌ {A = Option Operation} (Some x) (Some y) → x ≡ y
 some_injective e = cc
 
 one_operation_at : (operations : List Operation) (lives : List Life) (x y : Operation) (p : Position) → IsClear operations → Contains operations x → Contains operations y → Stands lives x p → Stands lives y p → x ≡ y
 one_operation_at operations lives x y p clear in_x in_y (enters i a at_a of_a is_a) (enters j b at_b of_b is_b) =
     let places : i ≡ j = ap (λ r. r.rank) (sym is_a ∙ is_b) in
     let one = one_at lives j a b (subst (λ k. slice_get lives k ≡ Some a) places at_a) at_b in
-    sym of_a ∙ ap (λ l. l.enqueue) one ∙ of_b
+    sym of_a ∙ ap enqueue_of one ∙ of_b
 one_operation_at operations lives x y p clear in_x in_y (enters i a at_a of_a is_a) (leaves j b at_b of_b is_b) =
     absurd (enqueue_is_no_dequeue (length lives) (enqueue_gap lives) (dequeue_gap lives) (are_gaps lives) i j (sym is_a ∙ is_b))
 one_operation_at operations lives x y p clear in_x in_y (enters i a at_a of_a is_a) (idles idle) =
@@ -170,7 +170,7 @@ one_operation_at operations lives x y p clear in_x in_y (leaves i a at_a of_a is
 one_operation_at operations lives x y p clear in_x in_y (leaves i a at_a of_a is_a) (leaves j b at_b of_b is_b) =
     let places : i ≡ j = ap (λ r. r.rank) (sym is_a ∙ is_b) in
     let one = one_at lives j a b (subst (λ k. slice_get lives k ≡ Some a) places at_a) at_b in
-    some_injective (sym of_a ∙ ap (λ l. l.dequeue) one ∙ of_b)
+    some_injective (sym of_a ∙ ap dequeue_of one ∙ of_b)
 one_operation_at operations lives x y p clear in_x in_y (leaves i a at_a of_a is_a) (idles idle) =
     absurd (idle_is_no_dequeue (length lives) (enqueue_gap lives) (dequeue_gap lives) (are_gaps lives) p i idle.class is_a)
 one_operation_at operations lives x y p clear in_x in_y (idles idle) (enters j b at_b of_b is_b) =

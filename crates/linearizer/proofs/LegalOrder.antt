@@ -21,12 +21,13 @@ use Rattle.linearizer.proofs.Windows.{enqueue_gap_in_window, dequeue_gap_in_wind
 use Rattle.linearizer.proofs.Rising.{Among}
 use Rattle.linearizer.proofs.Runs.{run_is_accepted}
 use Rattle.linearizer.proofs.Positions.{HoldsValue, IsDequeued, are_gaps, one_value, dequeued_first, items_of, beside, among_at, rises, life_at}
+use Rattle.value_match.specs.Lives.{dequeue_of, enqueue_of}
 
 -- an operation has no other position
 pub position_of_enqueue : (operations : List Operation) (lives : List Life) (i : ℕ) (life : Life) (k : OpKind) (v : ℕ) (p : Position) → IsClear operations → IsValueOrder operations lives → slice_get lives i ≡ Some life
-    → k ≡ Enq v → IsPositionFor operations lives life.enqueue k p → p ≡ enqueue_position lives i
+    → k ≡ Enq v → IsPositionFor operations lives (enqueue_of life) k p → p ≡ enqueue_position lives i
 position_of_enqueue operations lives i life k v p clear order at is stands =
-    let found : IsPositionFor operations lives life.enqueue (Enq v) p = subst (λ k. IsPositionFor operations lives life.enqueue k p) is stands in
+    let found : IsPositionFor operations lives (enqueue_of life) (Enq v) p = subst (λ k. IsPositionFor operations lives (enqueue_of life) k p) is stands in
     let is_x = is_life operations lives order life (contains_at lives i life at) in
     let is_y = is_life operations lives order found.1 (contains_at lives found.0 found.1 found.2) in
     let one = one_life_of_enqueue operations found.1 life clear is_y is_x found.3 in
@@ -34,7 +35,7 @@ position_of_enqueue operations lives i life k v p clear order at is stands =
     found.4 ∙ ap (enqueue_position lives) place
 
 pub position_of_dequeue : (operations : List Operation) (lives : List Life) (i : ℕ) (life : Life) (d : Operation) (k : OpKind) (v : ℕ) (p : Position) → IsClear operations → IsValueOrder operations lives → slice_get lives i ≡ Some life
-    → life.dequeue ≡ Some d → k ≡ Deq v → IsPositionFor operations lives d k p → p ≡ dequeue_position lives i
+    → dequeue_of life ≡ Some d → k ≡ Deq v → IsPositionFor operations lives d k p → p ≡ dequeue_position lives i
 position_of_dequeue operations lives i life d k v p clear order at dequeues is stands =
     let found : IsPositionFor operations lives d (Deq v) p = subst (λ k. IsPositionFor operations lives d k p) is stands in
     let is_x = is_life operations lives order life (contains_at lives i life at) in
@@ -49,7 +50,7 @@ in_window_for : (operations : List Operation) (lives : List Life) → IsClear op
 in_window_for operations lives clear none order o among (Enq v) p stands =
     let window = enqueue_gap_in_window operations lives stands.0 stands.1 clear none order stands.2 in
     let gaps : p.gap ≡ enqueue_gap lives stands.0 = ap (λ p. p.gap) stands.4 in
-    subst (λ x. IsInWindow x p.gap) stands.3 (subst (λ c. IsInWindow stands.1.enqueue c) (sym gaps) window)
+    subst (λ x. IsInWindow x p.gap) stands.3 (subst (λ c. IsInWindow (enqueue_of stands.1) c) (sym gaps) window)
 in_window_for operations lives clear none order o among (Deq v) p stands =
     let window = dequeue_gap_in_window operations lives stands.0 stands.1 o clear none order stands.2 stands.3 in
     let gaps : p.gap ≡ dequeue_gap lives stands.0 = ap (λ p. p.gap) stands.4 in
@@ -78,8 +79,8 @@ module _ (operations order : List Operation) (clear : IsClear operations) (none 
   each_enqueue_stands i within =
       let x = life_at chosen.lives i within in
       let is = is_life operations chosen.lives chosen.values_in_order x.0 (contains_at chosen.lives i x.0 x.1) in
-      let found = position_beside x.0.enqueue is.1.0 in
-      let same = position_of_enqueue operations chosen.lives i x.0 x.0.enqueue.kind is.0 found.0 clear chosen.values_in_order x.1 is.1.1 found.2 in
+      let found = position_beside (enqueue_of x.0) is.1.0 in
+      let same = position_of_enqueue operations chosen.lives i x.0 (enqueue_of x.0).kind is.0 found.0 clear chosen.values_in_order x.1 is.1.1 found.2 in
       subst (λ p. Among p chosen.positions) same found.1
 
   each_dequeue_stands : (i : ℕ) → i < length chosen.lives → IsDequeued chosen.lives i → Among (dequeue_position chosen.lives i) chosen.positions

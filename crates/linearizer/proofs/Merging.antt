@@ -19,13 +19,11 @@ use Rattle.linearizer.proofs.OrderedPlaces.{lives_long}
 use Rattle.linearizer.proofs.PlacedValues.{all_placed, nothing_placed, one_more_among}
 use Rattle.linearizer.proofs.Positions.{are_gaps}
 use Rattle.linearizer.proofs.Rising.{dequeues_rise, enqueues_rise, not_both, not_itself}
+use Rattle.linearizer.proofs.OneOrder.{before_through}
 
 -- what does not stand before q does not stand before r, where r does not stand after q
 pub through : (p q r : Position) → ¬ (StandsBefore p q) → ¬ (StandsBefore q r) → ¬ (StandsBefore p r)
 through p q r first second both = grind arith
-
-both : (p q r : Position) → StandsBefore p q → StandsBefore q r → StandsBefore p r
-both p q r first second = grind arith
 
 -- of the enqueues and of the dequeues the next stands first
 pub next_enqueue : (lives : List Life) (i : ℕ) (p : Position) → i < length lives → IsEnqueueFrom lives i p → ¬ (StandsBefore p (enqueue_position lives i))
@@ -187,7 +185,7 @@ stands_after (Some q) x told tells is = tells.0 is
 -- none is below the limit where none stands before an operation that stands after it
 pub below_limit : (Is : Position → Type 0) (limit : Option Stored) (x : Position) → ((p : Position) → Is p → ¬ (StandsBefore p x)) → IsSomeAnd limit (λ q. StandsBefore (position_of q) x) → NoneBelow Is limit
 below_limit Is None x none after = λ p is. absurd after
-below_limit Is (Some q) x none after = λ p is before. none p is (both p (position_of q) x before after)
+below_limit Is (Some q) x none after = λ p is before. none p is (before_through p (position_of q) x before after)
 
 -- where all idle operations are merged
 pub no_idle : (idles : List Placed) (k : ℕ) (limit : Option Stored) → length idles ≤ k → NoneBelow (IsIdleFrom idles k) limit

@@ -1,10 +1,11 @@
 -- Lists in which no element stands twice.
-use Rattle.std.proofs.Common.{◌≡◌, ℕ, zero, suc, ◌⊎◌, Bool, true, false, cond, List, [], ◌∷◌, ◌++◌, Some, refl, sym, ◌∙◌, ap, subst, inl, inr, arith}
+use Rattle.std.proofs.Common.{◌≡◌, ℕ, zero, suc, Bool, true, false, cond, List, [], ◌∷◌, ◌++◌, Some, refl, sym, subst, inl, inr, arith}
 use Rattle.std.specs.Prelude.{Contains, IsPermutation, filter, flat_map, slice_get, ⊤}
 use Rattle.std.proofs.lemmas.List.Elements.{Contains-append_cases, Contains-append_left, Contains-append_right}
 use Rattle.std.proofs.lemmas.List.Sorted.{Contains-permutation, IsPermutation-cons, IsPermutation-middle, IsPermutation-refl, IsPermutation-sym, IsPermutation-trans}
 use Rattle.history_merge.proofs.Distinct.{contains_cons, not_in_none, place_of}
 use Rattle.linearizer.proofs.Opposites.{one_deeper}
+use Rattle.value_match.proofs.Lists.{passed_filter}
 
 abbrev pub NoneTwice : {X : Type 0} → List X → Type 0
 NoneTwice [] = ⊤
@@ -72,28 +73,6 @@ none_twice-append (x ∷ xs) ys none_x none_y apart = (
   λ among. elim (Contains-append_cases xs ys x among) [ inl here ↦ none_x.0 here | inr there ↦ apart x (zero, omega arith, refl) there ],
   none_twice-append xs ys none_x.1 none_y (λ z among. apart z (one_deeper x xs z among)),
 )
-
--- what a filter passes stands in the list, and what stands there and passes is kept
-pub passed_filter : {X : Type 0} (p : X → Bool) (xs : List X) (x : X) → Contains (filter p xs) x → Contains xs x × (p x ≡ true)
-passed_filter p [] x among = absurd (not_in_none x among)
-passed_filter {X} p (z ∷ xs) x among = pick (passed_filter p xs x) (p z) refl among
-  where
-    pick : (Contains (filter p xs) x → Contains xs x × (p x ≡ true)) → (b : Bool) → p z ≡ b → Contains (cond b (z ∷ filter p xs) (filter p xs)) x → Contains (z ∷ xs) x × (p x ≡ true)
-    pick rest true passes among' = elim (contains_cons z (filter p xs) x among') [
-      | inl same ↦ ((zero, omega arith, same), sym (ap p same) ∙ passes)
-      | inr later ↦ let more = rest later in (one_deeper z xs x more.0, more.1)
-    ]
-    pick rest false fails among' = let more = rest among' in (one_deeper z xs x more.0, more.1)
-
-pub passes_filter : {X : Type 0} (p : X → Bool) (xs : List X) (x : X) → p x ≡ true → Contains xs x → Contains (filter p xs) x
-passes_filter p [] x is among = absurd (not_in_none x among)
-passes_filter {X} p (z ∷ xs) x is among = pick (passes_filter p xs x is) (p z) refl (contains_cons z xs x among)
-  where
-    pick : (Contains xs x → Contains (filter p xs) x) → (b : Bool) → p z ≡ b → (z ≡ x) ⊎ Contains xs x → Contains (cond b (z ∷ filter p xs) (filter p xs)) x
-    pick rest true passes (inl here) = (zero, omega arith, here)
-    pick rest true passes (inr later) = one_deeper z (filter p xs) x (rest later)
-    pick rest false fails (inl here) = let clash : false ≡ true = sym fails ∙ ap p here ∙ is in cc
-    pick rest false fails (inr later) = rest later
 
 pub none_twice-filter : {X : Type 0} (p : X → Bool) (xs : List X) → NoneTwice xs → NoneTwice (filter p xs)
 none_twice-filter p [] none = tt

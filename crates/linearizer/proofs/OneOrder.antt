@@ -41,7 +41,7 @@ compared p q =
       ]
     ]
 
-before_through : (p q r : Position) → StandsBefore p q → StandsBefore q r → StandsBefore p r
+pub before_through : (p q r : Position) → StandsBefore p q → StandsBefore q r → StandsBefore p r
 before_through p q r first second = grind arith
 
 all_through : (p q : Position) (ps : List Position) → StandsBefore p q → BeforeAll q ps → BeforeAll p ps

@@ -5,7 +5,7 @@ use Rattle.std.proofs.lemmas.List.Elements.{Contains-get_or}
 use Rattle.std.proofs.lemmas.List.Sorted.{Contains-permutation, IsPermutation-sym}
 use Rattle.history_merge.specs.declared.operation.Operation.{Operation}
 use Rattle.value_match.specs.declared.life.Life.{Life}
-use Rattle.value_match.specs.Lives.{IsLife, lives_of, call_or_never, return_or_never, enqueue_call, enqueue_return, dequeue_call, dequeue_return, entered_by, leaves_from}
+use Rattle.value_match.specs.Lives.{IsLife, lives_of, call_or_never, return_or_never, enqueue_call, enqueue_return, dequeue_call, dequeue_return, entered_by, leaves_from, dequeue_of, enqueue_of}
 use Rattle.value_match.specs.Violations.{IsClear, NoOrderViolation}
 use Rattle.linearizer.specs.Values.{EachIsChoice, IsValueOrder, IsChoice}
 use Rattle.value_match.proofs.Lives.{life_of_contained, life_is_contained}
@@ -23,15 +23,15 @@ IsOpposite x y = (entered_by x < enqueue_call y) × (dequeue_return y < leaves_f
 -- values enqueued in one order and dequeued in the other are an order violation
 order_violated : (operations : List Operation) (x y : Life) → NoOrderViolation operations → IsLife operations x → IsLife operations y
     → enqueue_return x < enqueue_call y → dequeue_return y < dequeue_call x → dequeue_return y < NEVER → ⊥
-order_violated operations x y none is_x is_y first later before_never = go x.dequeue y.dequeue is_x.2 is_y.2 later before_never
+order_violated operations x y none is_x is_y first later before_never = go (dequeue_of x) (dequeue_of y) is_x.2 is_y.2 later before_never
   where
     go : (dx dy : Option Operation) → MatchOption dx (NoneDid operations (Deq is_x.0)) (λ d. Did operations d (Deq is_x.0)) → MatchOption dy (NoneDid operations (Deq is_y.0)) (λ d. Did operations d (Deq is_y.0))
         → return_or_never dy < call_or_never dx → return_or_never dy < NEVER → ⊥
     go dx None did_x did_y less bound = omega arith
     go None (Some d) did_x did_y less bound =
-        none x.enqueue y.enqueue d None (record { a = is_x.0; b = is_y.0; enqueues_a = is_x.1; enqueues_b = is_y.1; dequeues_b = did_y; enqueued_first = first; dequeued_later = did_x })
+        none (enqueue_of x) (enqueue_of y) d None (record { a = is_x.0; b = is_y.0; enqueues_a = is_x.1; enqueues_b = is_y.1; dequeues_b = did_y; enqueued_first = first; dequeued_later = did_x })
     go (Some c) (Some d) did_x did_y less bound =
-        none x.enqueue y.enqueue d (Some c) (record { a = is_x.0; b = is_y.0; enqueues_a = is_x.1; enqueues_b = is_y.1; dequeues_b = did_y; enqueued_first = first; dequeued_later = (did_x, less) })
+        none (enqueue_of x) (enqueue_of y) d (Some c) (record { a = is_x.0; b = is_y.0; enqueues_a = is_x.1; enqueues_b = is_y.1; dequeues_b = did_y; enqueued_first = first; dequeued_later = (did_x, less) })
 
 -- no two lives stand in opposite orders, from what is known of their tickets
 pub unopposed_from_times : (operations : List Operation) (x y : Life) → NoOrderViolation operations → HasLifeTimes x → HasLifeTimes y → dequeue_return x ≤ NEVER → dequeue_return y ≤ NEVER

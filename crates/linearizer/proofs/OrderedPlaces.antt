@@ -9,8 +9,8 @@ use Rattle.std.proofs.lemmas.Option.{get_or_from_slice_get, slice_get-get_or, sl
 use Rattle.history_merge.specs.declared.operation.Operation.{Operation}
 use Rattle.history_merge.proofs.Distinct.{contains_at}
 use Rattle.value_match.specs.declared.life.MatchedValue.{MatchedValue}
-use Rattle.value_match.specs.Lives.{HoldsLives, lives_of}
-use Rattle.linearizer.specs.Placement.{HasPlaces, IsOrderOfPlaces, elements_at, lives_at, lives_in}
+use Rattle.value_match.specs.Lives.{HoldsLives, lives_of, HasPlaces}
+use Rattle.linearizer.specs.Placement.{IsOrderOfPlaces, elements_at, lives_at, lives_in}
 
 pub elements_push : {X : Type 0} (xs : List X) (places : List ℕ) (p : ℕ) (x : X) → slice_get xs p ≡ Some x → elements_at xs (places ++ p ∷ []) ≡ elements_at xs places ++ x ∷ []
 elements_push xs places p x at = filter_map-append (slice_get xs) places (p ∷ []) ∙ ap (λ o. elements_at xs places ++ cons_option o []) at

@@ -9,7 +9,7 @@ use Rattle.history_merge.specs.declared.operation.OpKind.TheVariants.{Enq, Deq, 
 use Rattle.history_merge.specs.Operations.{Did, NoneDid}
 use Rattle.history_merge.proofs.Distinct.{contains_cons, not_in_none}
 use Rattle.value_match.specs.declared.life.Life.{Life}
-use Rattle.value_match.specs.Lives.{IsLife, is_empty_answer, is_empty_kind, is_refused, is_refused_kind}
+use Rattle.value_match.specs.Lives.{IsLife, is_empty_answer, is_empty_kind, is_refused, is_refused_kind, dequeue_of, enqueue_of, operations_of_life}
 use Rattle.value_match.specs.Violations.{IsClear}
 use Rattle.linearizer.specs.Values.{IsValueOrder}
 use Rattle.linearizer.specs.Placement.{dequeues_of, enqueues_of}
@@ -17,23 +17,20 @@ use Rattle.linearizer.proofs.Keys.{one_place}
 use Rattle.linearizer.proofs.Opposites.{is_life, one_deeper, stands_in_order}
 use Rattle.linearizer.proofs.DifferentTimes.{IsOf, not_both_kinds, one_life_of_operation, one_place_of_life}
 use Rattle.linearizer.proofs.EachPosition.{life_of_dequeue, life_of_enqueue}
-use Rattle.linearizer.proofs.NoneTwice.{NoneTwice, from_flat_map, into_flat_map, none_twice-append, none_twice-filter, none_twice_from_places, passed_filter, passes_filter, same_elements_permute}
-
--- the enqueue, and the dequeue if there is one
-abbrev operations_in : Life → List Operation
-operations_in life = life.enqueue ∷ option_to_list life.dequeue
+use Rattle.linearizer.proofs.NoneTwice.{NoneTwice, from_flat_map, into_flat_map, none_twice-append, none_twice-filter, none_twice_from_places, same_elements_permute}
+use Rattle.value_match.proofs.Lists.{passed_filter, passes_filter}
 
 -- the enqueues, and then the dequeues
-by_class : (lives : List Life) → IsPermutation (flat_map operations_in lives) (enqueues_of lives ++ dequeues_of lives)
+by_class : (lives : List Life) → IsPermutation (flat_map operations_of_life lives) (enqueues_of lives ++ dequeues_of lives)
 by_class [] = IsPermutation-refl []
 by_class (life ∷ lives) =
-    IsPermutation-cons life.enqueue (option_to_list life.dequeue ++ flat_map operations_in lives) (enqueues_of lives ++ cons_option life.dequeue (dequeues_of lives)) (step life.dequeue (by_class lives))
+    IsPermutation-cons (enqueue_of life) (option_to_list (dequeue_of life) ++ flat_map operations_of_life lives) (enqueues_of lives ++ cons_option (dequeue_of life) (dequeues_of lives)) (step (dequeue_of life) (by_class lives))
   where
-    step : (o : Option Operation) → IsPermutation (flat_map operations_in lives) (enqueues_of lives ++ dequeues_of lives) → IsPermutation (option_to_list o ++ flat_map operations_in lives) (enqueues_of lives ++ cons_option o (dequeues_of lives))
+    step : (o : Option Operation) → IsPermutation (flat_map operations_of_life lives) (enqueues_of lives ++ dequeues_of lives) → IsPermutation (option_to_list o ++ flat_map operations_of_life lives) (enqueues_of lives ++ cons_option o (dequeues_of lives))
     step None more = more
     step (Some d) more =
-        IsPermutation-trans (d ∷ flat_map operations_in lives) (d ∷ (enqueues_of lives ++ dequeues_of lives)) (enqueues_of lives ++ d ∷ dequeues_of lives)
-        (IsPermutation-cons d (flat_map operations_in lives) (enqueues_of lives ++ dequeues_of lives) more)
+        IsPermutation-trans (d ∷ flat_map operations_of_life lives) (d ∷ (enqueues_of lives ++ dequeues_of lives)) (enqueues_of lives ++ d ∷ dequeues_of lives)
+        (IsPermutation-cons d (flat_map operations_of_life lives) (enqueues_of lives ++ dequeues_of lives) more)
         (IsPermutation-sym (enqueues_of lives ++ d ∷ dequeues_of lives) (d ∷ (enqueues_of lives ++ dequeues_of lives)) (IsPermutation-middle (enqueues_of lives) d (dequeues_of lives)))
 
 abbrev moves_kind : OpKind → Bool
@@ -67,61 +64,61 @@ none_twice_by_calls operations rise =
     none_twice_from_places operations (λ i j x y at_x at_y same. one_place (λ o. o.call) operations operations i j x y rise (IsPermutation-refl operations) at_x at_y (ap (λ o. o.call) same))
 
 -- the operations in a life are those of it
-of_life : (life : Life) (o : Operation) → Contains (operations_in life) o → IsOf life o
-of_life life o among = elim (contains_cons life.enqueue (option_to_list life.dequeue) o among) [ inl enqueues ↦ inl enqueues | inr there ↦ inr (dequeues life.dequeue there) ]
+of_life : (life : Life) (o : Operation) → Contains (operations_of_life life) o → IsOf life o
+of_life life o among = elim (contains_cons (enqueue_of life) (option_to_list (dequeue_of life)) o among) [ inl enqueues ↦ inl enqueues | inr there ↦ inr (dequeues (dequeue_of life) there) ]
   where
     dequeues : (dequeue : Option Operation) → Contains (option_to_list dequeue) o → dequeue ≡ Some o
     dequeues None there = absurd (not_in_none o there)
     dequeues (Some d) there = elim (contains_cons d [] o there) [ inl same ↦ ap (λ x. Some x) same | inr nowhere ↦ absurd (not_in_none o nowhere) ]
 
-in_life : (life : Life) (o : Operation) → IsOf life o → Contains (operations_in life) o
+in_life : (life : Life) (o : Operation) → IsOf life o → Contains (operations_of_life life) o
 in_life life o (inl enqueues) = (zero, omega arith, enqueues)
-in_life life o (inr dequeues) = one_deeper life.enqueue (option_to_list life.dequeue) o (subst (λ d. Contains (option_to_list d) o) (sym dequeues) (zero, omega arith, refl))
+in_life life o (inr dequeues) = one_deeper (enqueue_of life) (option_to_list (dequeue_of life)) o (subst (λ d. Contains (option_to_list d) o) (sym dequeues) (zero, omega arith, refl))
 
 module _ (operations : List Operation) (clear : IsClear operations) where
-  none_twice_in_life : (life : Life) → IsLife operations life → NoneTwice (operations_in life)
+  none_twice_in_life : (life : Life) → IsLife operations life → NoneTwice (operations_of_life life)
   none_twice_in_life life is = (
-    λ among. elim (apart life.dequeue refl among) [ ],
-    alone life.dequeue,
+    λ among. elim (apart (dequeue_of life) refl among) [ ],
+    alone (dequeue_of life),
   )
     where
-      apart : (dequeue : Option Operation) → life.dequeue ≡ dequeue → Contains (option_to_list dequeue) life.enqueue → ⊥
-      apart None same there = not_in_none life.enqueue there
-      apart (Some d) same there = elim (contains_cons d [] life.enqueue there) [
-        | inl here ↦ not_both_kinds operations life life life.enqueue is is refl (same ∙ ap (λ x. Some x) here)
-        | inr nowhere ↦ not_in_none life.enqueue nowhere
+      apart : (dequeue : Option Operation) → dequeue_of life ≡ dequeue → Contains (option_to_list dequeue) (enqueue_of life) → ⊥
+      apart None same there = not_in_none (enqueue_of life) there
+      apart (Some d) same there = elim (contains_cons d [] (enqueue_of life) there) [
+        | inl here ↦ not_both_kinds operations life life (enqueue_of life) is is refl (same ∙ ap (λ x. Some x) here)
+        | inr nowhere ↦ not_in_none (enqueue_of life) nowhere
       ]
 
       alone : (dequeue : Option Operation) → NoneTwice (option_to_list dequeue)
       alone None = tt
       alone (Some d) = (not_in_none d, tt)
 
-  none_twice_in_lives : (lives : List Life) → NoneTwice lives → ((x : Life) → Contains lives x → IsLife operations x) → NoneTwice (flat_map operations_in lives)
+  none_twice_in_lives : (lives : List Life) → NoneTwice lives → ((x : Life) → Contains lives x → IsLife operations x) → NoneTwice (flat_map operations_of_life lives)
   none_twice_in_lives [] none are = tt
   none_twice_in_lives (life ∷ lives) none are =
-      none_twice-append (operations_in life) (flat_map operations_in lives) (none_twice_in_life life (are life (zero, omega arith, refl))) (none_twice_in_lives lives none.1 (λ x among. are x (one_deeper life lives x among)))
-      (λ o here there. shared o (of_life life o here) (from_flat_map operations_in lives o there))
+      none_twice-append (operations_of_life life) (flat_map operations_of_life lives) (none_twice_in_life life (are life (zero, omega arith, refl))) (none_twice_in_lives lives none.1 (λ x among. are x (one_deeper life lives x among)))
+      (λ o here there. shared o (of_life life o here) (from_flat_map operations_of_life lives o there))
     where
-      shared : (o : Operation) → IsOf life o → (x : Life) × Contains lives x × Contains (operations_in x) o → ⊥
+      shared : (o : Operation) → IsOf life o → (x : Life) × Contains lives x × Contains (operations_of_life x) o → ⊥
       shared o of (x, among, at) =
           let one = one_life_of_operation operations life x o clear (are life (zero, omega arith, refl)) (are x (one_deeper life lives x among)) of (of_life x o at) in
           none.0 (subst (Contains lives) (sym one) among)
 
   module _ (lives : List Life) (order : IsValueOrder operations lives) where
-    into_lives : (o : Operation) → Contains (filter moves_value operations) o → Contains (flat_map operations_in lives) o
+    into_lives : (o : Operation) → Contains (filter moves_value operations) o → Contains (flat_map operations_of_life lives) o
     into_lives o among = let passed = passed_filter moves_value operations o among in by_kind passed.0 o.kind refl passed.1
       where
-        stands : (life : Life) → IsLife operations life → IsOf life o → Contains (flat_map operations_in lives) o
-        stands life is of = into_flat_map operations_in lives life o (stands_in_order operations lives clear order life is) (in_life life o of)
+        stands : (life : Life) → IsLife operations life → IsOf life o → Contains (flat_map operations_of_life lives) o
+        stands life is of = into_flat_map operations_of_life lives life o (stands_in_order operations lives clear order life is) (in_life life o of)
 
-        by_kind : Contains operations o → (k : OpKind) → o.kind ≡ k → moves_kind k ≡ true → Contains (flat_map operations_in lives) o
+        by_kind : Contains operations o → (k : OpKind) → o.kind ≡ k → moves_kind k ≡ true → Contains (flat_map operations_of_life lives) o
         by_kind in_o (Enq v) is moves = let life = life_of_enqueue operations o v (in_o, is) in stands life.0 life.1 (inl life.2)
         by_kind in_o (Deq v) is moves = let life = life_of_dequeue operations o v clear (in_o, is) in stands life.0 life.1 (inr life.2)
         by_kind in_o Empty is moves = cc
         by_kind in_o (Not v) is moves = cc
 
-    from_lives : (o : Operation) → Contains (flat_map operations_in lives) o → Contains (filter moves_value operations) o
-    from_lives o among = let found = from_flat_map operations_in lives o among in moved found.0 (is_life operations lives order found.0 found.1) (of_life found.0 o found.2)
+    from_lives : (o : Operation) → Contains (flat_map operations_of_life lives) o → Contains (filter moves_value operations) o
+    from_lives o among = let found = from_flat_map operations_of_life lives o among in moved found.0 (is_life operations lives order found.0 found.1) (of_life found.0 o found.2)
       where
         moved : (life : Life) → IsLife operations life → IsOf life o → Contains (filter moves_value operations) o
         moved life is (inl enqueues) =
@@ -135,7 +132,7 @@ module _ (operations : List Operation) (clear : IsClear operations) where
     pub each_once : AllPairs (λ x y. x.call < y.call) operations → IsPermutation operations (enqueues_of lives ++ dequeues_of lives ++ filter is_empty_answer operations ++ filter is_refused operations)
     each_once rise =
         let here = filter moves_value operations in
-        let by_value = flat_map operations_in lives in
+        let by_value = flat_map operations_of_life lives in
         let there = enqueues_of lives ++ dequeues_of lives in
         let lives_once = none_twice_from_places lives (λ i j x y at_x at_y same. one_place_of_life operations lives i j x y clear order at_x at_y same) in
         let moved = same_elements_permute here by_value (none_twice-filter moves_value operations (none_twice_by_calls operations rise)) (none_twice_in_lives lives lives_once (is_life operations lives order)) into_lives from_lives in

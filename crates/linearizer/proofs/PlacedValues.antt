@@ -13,11 +13,11 @@ use Rattle.history_merge.specs.Operations.{Did, IsAt, NoneDid}
 use Rattle.history_merge.proofs.Distinct.{contains_at}
 use Rattle.value_match.specs.declared.life.Life.{Life}
 use Rattle.value_match.specs.declared.life.MatchedValue.{MatchedValue}
-use Rattle.value_match.specs.Lives.{HoldsLives, IsLife, IsMaybeAt, leaves_from}
+use Rattle.value_match.specs.Lives.{HoldsLives, IsLife, IsMaybeAt, leaves_from, dequeue_of, enqueue_of, HasPlaces}
 use Rattle.linearizer.specs.declared.position.Placed.{Placed}
 use Rattle.linearizer.specs.Values.{IsValueOrder, dequeue_gap, enqueue_gap, greatest_leaves_from}
 use Rattle.linearizer.specs.Order.{IsPositionFor, dequeue_position, earlier_dequeues, enqueues, other_dequeues}
-use Rattle.linearizer.specs.Placement.{AreEnqueueGaps, HasPlaces, HoldsUpTo, HoldsValues, IsOrderOfPlaces, IsPlaced, dequeues_of, enqueues_of, lives_at, position_of}
+use Rattle.linearizer.specs.Placement.{AreEnqueueGaps, HoldsUpTo, HoldsValues, IsOrderOfPlaces, IsPlaced, dequeues_of, enqueues_of, lives_at, position_of}
 use Rattle.linearizer.proofs.OrderedPlaces.{IsValueAt, lives_long, value_at}
 use Rattle.linearizer.proofs.Opposites.{is_life}
 
@@ -59,26 +59,26 @@ module _ (operations : List Operation) (lives : List Life) (order : IsValueOrder
   greatest_more =
       ap greatest_leaves_from longer ∙ ap (fold max 0) (map-append leaves_from (take i lives) (life ∷ [])) ∙ fold_max-append 0 (map leaves_from (take i lives)) (leaves_from life ∷ [])
 
-  enqueues_more : enqueues_of (take (i + 1) lives) ≡ enqueues_of (take i lives) ++ life.enqueue ∷ []
-  enqueues_more = ap enqueues_of longer ∙ map-append (λ life. life.enqueue) (take i lives) (life ∷ [])
+  enqueues_more : enqueues_of (take (i + 1) lives) ≡ enqueues_of (take i lives) ++ enqueue_of life ∷ []
+  enqueues_more = ap enqueues_of longer ∙ map-append enqueue_of (take i lives) (life ∷ [])
 
-  dequeues_more : dequeues_of (take (i + 1) lives) ≡ dequeues_of (take i lives) ++ option_to_list life.dequeue
-  dequeues_more = ap dequeues_of longer ∙ filter_map-append (λ life. life.dequeue) (take i lives) (life ∷ []) ∙ ap (λ os. dequeues_of (take i lives) ++ os) (alone life.dequeue)
+  dequeues_more : dequeues_of (take (i + 1) lives) ≡ dequeues_of (take i lives) ++ option_to_list (dequeue_of life)
+  dequeues_more = ap dequeues_of longer ∙ filter_map-append dequeue_of (take i lives) (life ∷ []) ∙ ap (λ os. dequeues_of (take i lives) ++ os) (alone (dequeue_of life))
     where
       alone : (o : Option Operation) → cons_option o [] ≡ option_to_list o
       alone None = refl
       alone (Some d) = refl
 
-  enqueue_placed : (gap : ℕ) (placed : Placed) → gap ≡ enqueue_gap lives i → IsAt operations placed.operation life.enqueue → position_of placed.position ≡ record { gap = gap; class = enqueues; rank = i }
-      → IsPlaced operations lives life.enqueue placed
-  enqueue_placed gap placed gap_is names stands = (names, stands_for life.enqueue.kind is.1.1)
+  enqueue_placed : (gap : ℕ) (placed : Placed) → gap ≡ enqueue_gap lives i → IsAt operations placed.operation (enqueue_of life) → position_of placed.position ≡ record { gap = gap; class = enqueues; rank = i }
+      → IsPlaced operations lives (enqueue_of life) placed
+  enqueue_placed gap placed gap_is names stands = (names, stands_for (enqueue_of life).kind is.1.1)
     where
-      stands_for : (k : OpKind) → k ≡ Enq is.0 → IsPositionFor operations lives life.enqueue k (position_of placed.position)
+      stands_for : (k : OpKind) → k ≡ Enq is.0 → IsPositionFor operations lives (enqueue_of life) k (position_of placed.position)
       stands_for k same =
-          subst (λ k. IsPositionFor operations lives life.enqueue k (position_of placed.position)) (sym same)
+          subst (λ k. IsPositionFor operations lives (enqueue_of life) k (position_of placed.position)) (sym same)
           (i, life, at, refl, stands ∙ ap (λ g. record { gap = g; class = enqueues; rank = i }) gap_is)
 
-  dequeue_placed : (gap left later : ℕ) (d : Operation) (placed : Placed) → gap ≡ enqueue_gap lives i → left ≡ greatest_leaves_from (take (i + 1) lives) → later ≡ max left gap → life.dequeue ≡ Some d
+  dequeue_placed : (gap left later : ℕ) (d : Operation) (placed : Placed) → gap ≡ enqueue_gap lives i → left ≡ greatest_leaves_from (take (i + 1) lives) → later ≡ max left gap → dequeue_of life ≡ Some d
       → IsAt operations placed.operation d → position_of placed.position ≡ record { gap = later; class = (if nat_lt gap later then earlier_dequeues else other_dequeues); rank = i } → IsPlaced operations lives d placed
   dequeue_placed gap left later d placed gap_is left_is later_is dequeues names stands = (names, stands_for d.kind did.1)
     where
@@ -149,11 +149,11 @@ module _ (operations : List Operation) (lives : List Life) (i : ℕ) (m : Matche
       → HoldsUpTo operations lives (i + 1) j left (placed ++ first ∷ [])
   enqueue_more j left placed first so_far names stands = record {
     left_is = so_far.left_is;
-    listed = so_far.listed ++ m.life.enqueue ∷ [];
-    each_once = subst (λ os. IsPermutation (os ++ dequeues_of (take j lives)) (so_far.listed ++ m.life.enqueue ∷ [])) (sym (enqueues_more operations lives turn.order i m.life turn.at))
-        (one_more_among (enqueues_of (take i lives)) (dequeues_of (take j lives)) so_far.listed m.life.enqueue so_far.each_once);
-    each_placed = zip_joined (IsPlaced operations lives) so_far.listed (m.life.enqueue ∷ []) placed (first ∷ []) so_far.each_placed
-        (enqueue_placed operations lives turn.order i m.life turn.at gap first turn.gap_is (subst (λ p. IsAt operations p m.life.enqueue) (sym names) turn.places.0) stands, tt);
+    listed = so_far.listed ++ enqueue_of m.life ∷ [];
+    each_once = subst (λ os. IsPermutation (os ++ dequeues_of (take j lives)) (so_far.listed ++ enqueue_of m.life ∷ [])) (sym (enqueues_more operations lives turn.order i m.life turn.at))
+        (one_more_among (enqueues_of (take i lives)) (dequeues_of (take j lives)) so_far.listed (enqueue_of m.life) so_far.each_once);
+    each_placed = zip_joined (IsPlaced operations lives) so_far.listed (enqueue_of m.life ∷ []) placed (first ∷ []) so_far.each_placed
+        (enqueue_placed operations lives turn.order i m.life turn.at gap first turn.gap_is (subst (λ p. IsAt operations p (enqueue_of m.life)) (sym names) turn.places.0) stands, tt);
   }
 
 -- the turn of the next dequeue
@@ -161,18 +161,18 @@ module _ (operations : List Operation) (lives : List Life) (j : ℕ) (m : Matche
   pub left_more : left' ≡ greatest_leaves_from (take (j + 1) lives)
   left_more = let more = greatest_more operations lives turn.order j m.life turn.at in omega (arith, more, left_is, so_far.left_is)
 
-  with_rest : (rest : List Placed) → AllZip (IsPlaced operations lives) (option_to_list m.life.dequeue) rest → HoldsUpTo operations lives i (j + 1) left' (placed ++ rest)
+  with_rest : (rest : List Placed) → AllZip (IsPlaced operations lives) (option_to_list (dequeue_of m.life)) rest → HoldsUpTo operations lives i (j + 1) left' (placed ++ rest)
   with_rest rest zip = record {
     left_is = left_more;
-    listed = so_far.listed ++ option_to_list m.life.dequeue;
-    each_once = subst (λ os. IsPermutation os (so_far.listed ++ option_to_list m.life.dequeue))
-        (append_assoc (enqueues_of (take i lives)) (dequeues_of (take j lives)) (option_to_list m.life.dequeue) ∙ ap (λ os. enqueues_of (take i lives) ++ os) (sym (dequeues_more operations lives turn.order j m.life turn.at)))
-        (IsPermutation-append_left (option_to_list m.life.dequeue) (enqueues_of (take i lives) ++ dequeues_of (take j lives)) so_far.listed so_far.each_once);
-    each_placed = zip_joined (IsPlaced operations lives) so_far.listed (option_to_list m.life.dequeue) placed rest so_far.each_placed zip;
+    listed = so_far.listed ++ option_to_list (dequeue_of m.life);
+    each_once = subst (λ os. IsPermutation os (so_far.listed ++ option_to_list (dequeue_of m.life)))
+        (append_assoc (enqueues_of (take i lives)) (dequeues_of (take j lives)) (option_to_list (dequeue_of m.life)) ∙ ap (λ os. enqueues_of (take i lives) ++ os) (sym (dequeues_more operations lives turn.order j m.life turn.at)))
+        (IsPermutation-append_left (option_to_list (dequeue_of m.life)) (enqueues_of (take i lives) ++ dequeues_of (take j lives)) so_far.listed so_far.each_once);
+    each_placed = zip_joined (IsPlaced operations lives) so_far.listed (option_to_list (dequeue_of m.life)) placed rest so_far.each_placed zip;
   }
 
   pub turn_alone : m.dequeue ≡ None → HoldsUpTo operations lives i (j + 1) left' placed
-  turn_alone none = subst (HoldsUpTo operations lives i (j + 1) left') (append-nil placed) (with_rest [] (nothing m.dequeue m.life.dequeue none turn.places.1))
+  turn_alone none = subst (HoldsUpTo operations lives i (j + 1) left') (append-nil placed) (with_rest [] (nothing m.dequeue (dequeue_of m.life) none turn.places.1))
     where
       nothing : (place : Option ℕ) (dequeue : Option Operation) → place ≡ None → IsMaybeAt operations place dequeue → AllZip (IsPlaced operations lives) (option_to_list dequeue) []
       nothing None None same places = tt
@@ -181,9 +181,9 @@ module _ (operations : List Operation) (lives : List Life) (j : ℕ) (m : Matche
 
   pub turn_with_dequeue : (p later : ℕ) (second : Placed) → m.dequeue ≡ Some p → later ≡ max left' gap → second.operation ≡ p
       → position_of second.position ≡ record { gap = later; class = (if nat_lt gap later then earlier_dequeues else other_dequeues); rank = j } → HoldsUpTo operations lives i (j + 1) left' (placed ++ second ∷ [])
-  turn_with_dequeue p later second same later_is names stands = with_rest (second ∷ []) (one m.dequeue m.life.dequeue same turn.places.1 refl)
+  turn_with_dequeue p later second same later_is names stands = with_rest (second ∷ []) (one m.dequeue (dequeue_of m.life) same turn.places.1 refl)
     where
-      one : (place : Option ℕ) (dequeue : Option Operation) → place ≡ Some p → IsMaybeAt operations place dequeue → m.life.dequeue ≡ dequeue → AllZip (IsPlaced operations lives) (option_to_list dequeue) (second ∷ [])
+      one : (place : Option ℕ) (dequeue : Option Operation) → place ≡ Some p → IsMaybeAt operations place dequeue → dequeue_of m.life ≡ dequeue → AllZip (IsPlaced operations lives) (option_to_list dequeue) (second ∷ [])
       one None dequeue same places is = cc
       one (Some q) None same places is = absurd places
       one (Some q) (Some d) same places is = (dequeue_placed operations lives turn.order j m.life turn.at gap left' later d second turn.gap_is left_more later_is is at_second stands, tt)

@@ -1,5 +1,5 @@
 -- What the positions of the operations tell.
-use Rattle.std.proofs.Common.{◌≡◌, ℕ, zero, suc, ◌<◌, ◌≤◌, ◌⊎◌, min, List, [], ◌∷◌, length, map, drop, Option, Some, None, refl, sym, ◌∙◌, ap, subst, inl, inr, arith, rules}
+use Rattle.std.proofs.Common.{◌≡◌, ℕ, zero, suc, ◌<◌, ◌≤◌, ◌⊎◌, min, List, [], ◌∷◌, length, map, drop, Some, refl, sym, ◌∙◌, ap, subst, inl, inr, arith, rules}
 use Rattle.std.specs.Prelude.{Contains, AllPairs, slice_get, fold, MatchOption}
 use Rattle.std.specs.List.{AllZip}
 use Rattle.std.proofs.lemmas.Option.{slice_get_within}
@@ -10,7 +10,7 @@ use Rattle.history_merge.specs.Operations.{Did, NoneDid}
 use Rattle.history_merge.proofs.Distinct.{contains_at, pairs_at, return_in_range, one_at}
 use Rattle.value_match.specs.declared.life.Life.{Life}
 use Rattle.value_match.specs.declared.life.TheConstants.{NEVER}
-use Rattle.value_match.specs.Lives.{IsLife, IsFreeGap, return_or_never, call_or_never, dequeue_call, dequeue_return, entered_by, leaves_from}
+use Rattle.value_match.specs.Lives.{IsLife, IsFreeGap, return_or_never, dequeue_call, dequeue_return, entered_by, leaves_from, dequeue_of, enqueue_of}
 use Rattle.value_match.specs.Violations.{IsClear, NoOrderViolation}
 use Rattle.linearizer.specs.Values.{IsValueOrder, enqueue_gap, dequeue_gap, least_entered_by}
 use Rattle.linearizer.specs.Order.{Position, StandsBefore, IsPositionFor, IsPositionOf}
@@ -20,13 +20,14 @@ use Rattle.linearizer.proofs.FreeGaps.{left_before_entered}
 use Rattle.linearizer.proofs.Windows.{below_greatest}
 use Rattle.linearizer.proofs.Rising.{AreGaps, Among, BeforeAll, Rises}
 use Rattle.linearizer.proofs.Runs.{IsItem}
+use Rattle.value_match.proofs.Lives.{dequeued_if_called}
 
 -- the value at a place of the order of values, and that it is dequeued
 abbrev pub HoldsValue : List Life → ℕ → ℕ → Type 0
-HoldsValue lives i v = (life : Life) × (slice_get lives i ≡ Some life) × (life.enqueue.kind ≡ Enq v)
+HoldsValue lives i v = (life : Life) × (slice_get lives i ≡ Some life) × ((enqueue_of life).kind ≡ Enq v)
 
 abbrev pub IsDequeued : List Life → ℕ → Type 0
-IsDequeued lives i = (life : Life) × (d : Operation) × (slice_get lives i ≡ Some life) × (life.dequeue ≡ Some d)
+IsDequeued lives i = (life : Life) × (d : Operation) × (slice_get lives i ≡ Some life) × (dequeue_of life ≡ Some d)
 
 abbrev pub IsItemOf : List Life → OpKind → Position → Type 0
 IsItemOf lives = IsItem (length lives) (enqueue_gap lives) (dequeue_gap lives) (HoldsValue lives) (IsDequeued lives)
@@ -41,7 +42,7 @@ are_gaps lives = record {
 pub one_value : (lives : List Life) (i v w : ℕ) → HoldsValue lives i v → HoldsValue lives i w → v ≡ w
 one_value lives i v w x y =
     let one = one_at lives i x.0 y.0 x.1 y.1 in
-    let kinds : Enq v ≡ Enq w = sym x.2 ∙ ap (λ l. l.enqueue.kind) one ∙ y.2 in
+    let kinds : Enq v ≡ Enq w = sym x.2 ∙ ap (λ l. (enqueue_of l).kind) one ∙ y.2 in
     cc
 
 pub life_at : (lives : List Life) (i : ℕ) → i < length lives → (life : Life) × (slice_get lives i ≡ Some life)
@@ -49,15 +50,8 @@ life_at [] i within = absurd (omega arith)
 life_at (x ∷ lives) zero within = (x, refl)
 life_at (x ∷ lives) (suc i) within = life_at lives i (omega arith)
 
--- what is called, or returns, before the last ticket is over is there
-pub dequeued_if_called : (life : Life) → dequeue_call life < NEVER → (d : Operation) × (life.dequeue ≡ Some d)
-dequeued_if_called life less = go life.dequeue refl less
-  where
-    go : (o : Option Operation) → life.dequeue ≡ o → call_or_never o < NEVER → (d : Operation) × (life.dequeue ≡ Some d)
-    go None same less = absurd (omega arith)
-    go (Some d) same less = (d, same)
-
-pub returned_in_time : (operations : List Operation) (life : Life) (d : Operation) → IsClear operations → IsLife operations life → life.dequeue ≡ Some d → dequeue_return life < NEVER
+-- what returns before the last ticket is over is there
+pub returned_in_time : (operations : List Operation) (life : Life) (d : Operation) → IsClear operations → IsLife operations life → dequeue_of life ≡ Some d → dequeue_return life < NEVER
 returned_in_time operations life d clear is dequeues =
     let did = subst (λ e. MatchOption e (NoneDid operations (Deq is.0)) (λ d. Did operations d (Deq is.0))) dequeues is.2 in
     let range = return_in_range operations d clear.complete did.0 in

@@ -7,7 +7,7 @@ use Rattle.history_merge.specs.Operations.{Did, NoneDid}
 use Rattle.history_merge.proofs.Distinct.{return_differs_from_call, return_in_range, call_before_return}
 use Rattle.value_match.specs.declared.life.Life.{Life}
 use Rattle.value_match.specs.declared.life.TheConstants.{NEVER}
-use Rattle.value_match.specs.Lives.{IsLife, call_or_never, return_or_never, enqueue_call, dequeue_return, leaves_from, enqueue_return, dequeue_call, entered_by}
+use Rattle.value_match.specs.Lives.{IsLife, call_or_never, return_or_never, enqueue_call, dequeue_return, leaves_from, enqueue_return, dequeue_call, entered_by, dequeue_of, enqueue_of}
 use Rattle.value_match.specs.Violations.{IsClear}
 
 -- a number that is neither below another nor equal to it is above
@@ -52,9 +52,9 @@ module _ (operations : List Operation) (clear : IsClear operations) where
 
   life_times : (life : Life) → IsLife operations life → HasLifeTimes life
   life_times life is =
-      let range = return_in_range operations life.enqueue clear.complete is.1.0 in
-      let order : enqueue_call life ≤ enqueue_return life = omega (arith, call_before_return operations life.enqueue clear.complete is.1.0) in
-      let times = dequeue_times is.0 life.enqueue life.dequeue is.1 is.2 in
+      let range = return_in_range operations (enqueue_of life) clear.complete is.1.0 in
+      let order : enqueue_call life ≤ enqueue_return life = omega (arith, call_before_return operations (enqueue_of life) clear.complete is.1.0) in
+      let times = dequeue_times is.0 (enqueue_of life) (dequeue_of life) is.1 is.2 in
       let after : enqueue_call life < dequeue_return life = times.after_enqueue in
       record {
         enqueue_takes_time = omega arith;
@@ -65,7 +65,7 @@ module _ (operations : List Operation) (clear : IsClear operations) where
       }
 
   returns_in_time : (life : Life) → IsLife operations life → dequeue_return life ≤ NEVER
-  returns_in_time life is = let times = dequeue_times is.0 life.enqueue life.dequeue is.1 is.2 in times.in_range
+  returns_in_time life is = let times = dequeue_times is.0 (enqueue_of life) (dequeue_of life) is.1 is.2 in times.in_range
 
 pub times_of_life : (operations : List Operation) (life : Life) → IsClear operations → IsLife operations life → HasLifeTimes life
 times_of_life operations life clear is = life_times operations clear life is

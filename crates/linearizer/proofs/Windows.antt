@@ -7,7 +7,7 @@ use Rattle.history_merge.specs.declared.operation.OpKind.TheVariants.{Deq}
 use Rattle.history_merge.proofs.Distinct.{contains_at, pairs_at, call_before_return, return_in_range, one_at}
 use Rattle.value_match.specs.declared.life.Life.{Life}
 use Rattle.value_match.specs.declared.life.TheConstants.{NEVER}
-use Rattle.value_match.specs.Lives.{IsLife, return_or_never, call_or_never, enqueue_call, enqueue_return, dequeue_call, dequeue_return, entered_by, leaves_from}
+use Rattle.value_match.specs.Lives.{IsLife, return_or_never, call_or_never, enqueue_call, enqueue_return, dequeue_call, dequeue_return, entered_by, leaves_from, dequeue_of, enqueue_of}
 use Rattle.value_match.specs.Violations.{IsClear, NoOrderViolation}
 use Rattle.linearizer.specs.Values.{IsValueOrder, enqueue_gap, dequeue_gap, least_entered_by, greatest_leaves_from}
 use Rattle.linearizer.proofs.Opposites.{MayStandBefore, is_life, each_may_stand_before}
@@ -77,12 +77,12 @@ called_before_entered operations lives i j x y clear none order le at_x at_y =
           above (enqueue_call x) (entered_by y) (λ less. omega arith) differs
     ]
 
-pub enqueue_gap_in_window : (operations : List Operation) (lives : List Life) (i : ℕ) (life : Life) → IsClear operations → NoOrderViolation operations → IsValueOrder operations lives → slice_get lives i ≡ Some life → IsInWindow life.enqueue (enqueue_gap lives i)
+pub enqueue_gap_in_window : (operations : List Operation) (lives : List Life) (i : ℕ) (life : Life) → IsClear operations → NoOrderViolation operations → IsValueOrder operations lives → slice_get lives i ≡ Some life → IsInWindow (enqueue_of life) (enqueue_gap lives i)
 enqueue_gap_in_window operations lives i life clear none order at =
     let is = is_life operations lives order life (contains_at lives i life at) in
     let times = times_of_life operations life clear is in
     let past : enqueue_return life < NEVER = times.enqueue_is_past in
-    let takes_time : enqueue_call life < enqueue_return life = call_before_return operations life.enqueue clear.complete is.1.0 in
+    let takes_time : enqueue_call life < enqueue_return life = call_before_return operations (enqueue_of life) clear.complete is.1.0 in
     let bound : enqueue_call life + 1 ≤ least_entered_by (drop i lives) = at_most_least lives i (enqueue_call life + 1) (omega arith)
     (λ j y le at_y. let before = called_before_entered operations lives i j life y clear none order le at at_y in omega arith) in
     let least = least_of_later lives i i life (omega arith) at in
@@ -116,7 +116,7 @@ dequeue_gap_before_return operations lives i life clear none order at returned =
     let entered : entered_by life ≤ dequeue_return life = omega arith in
     omega arith
 
-pub dequeue_gap_in_window : (operations : List Operation) (lives : List Life) (i : ℕ) (life : Life) (d : Operation) → IsClear operations → NoOrderViolation operations → IsValueOrder operations lives → slice_get lives i ≡ Some life → life.dequeue ≡ Some d → IsInWindow d (dequeue_gap lives i)
+pub dequeue_gap_in_window : (operations : List Operation) (lives : List Life) (i : ℕ) (life : Life) (d : Operation) → IsClear operations → NoOrderViolation operations → IsValueOrder operations lives → slice_get lives i ≡ Some life → dequeue_of life ≡ Some d → IsInWindow d (dequeue_gap lives i)
 dequeue_gap_in_window operations lives i life d clear none order at dequeues =
     let calls : dequeue_call life ≡ d.call = ap call_or_never dequeues in
     let returns : dequeue_return life ≡ d.ret = ap return_or_never dequeues in

@@ -6,7 +6,7 @@ use Rattle.history_merge.specs.declared.operation.OpKind.{OpKind}
 use Rattle.history_merge.specs.declared.operation.OpKind.TheVariants.{Enq, Deq, Empty, Not}
 use Rattle.history_merge.specs.Legal.{IsLegalOrder, ArePlacesOf}
 use Rattle.value_match.specs.declared.life.Life.{Life}
-use Rattle.value_match.specs.Lives.{IsLeastFreeGap}
+use Rattle.value_match.specs.Lives.{IsLeastFreeGap, dequeue_of, enqueue_of}
 use Rattle.linearizer.specs.Values.{IsValueOrder, enqueue_gap, dequeue_gap}
 
 -- where an operation stands: its gap, its class within the gap, and its rank within the class
@@ -47,9 +47,9 @@ idle_position o c = record { gap = c; class = idle_answers; rank = o.call }
 -- where the operation stands, by what it did
 abbrev pub IsPositionFor : List Operation → List Life → Operation → OpKind → Position → Type 0
 IsPositionFor operations lives o (Enq v) position =
-    (i : ℕ) × (life : Life) × (slice_get lives i ≡ Some life) × (life.enqueue ≡ o) × (position ≡ enqueue_position lives i)
+    (i : ℕ) × (life : Life) × (slice_get lives i ≡ Some life) × (enqueue_of life ≡ o) × (position ≡ enqueue_position lives i)
 IsPositionFor operations lives o (Deq v) position =
-    (i : ℕ) × (life : Life) × (slice_get lives i ≡ Some life) × (life.dequeue ≡ Some o) × (position ≡ dequeue_position lives i)
+    (i : ℕ) × (life : Life) × (slice_get lives i ≡ Some life) × (dequeue_of life ≡ Some o) × (position ≡ dequeue_position lives i)
 IsPositionFor operations lives o Empty position = (c : ℕ) × IsLeastFreeGap operations o c × (position ≡ idle_position o c)
 IsPositionFor operations lives o (Not v) position = position ≡ idle_position o o.call
 

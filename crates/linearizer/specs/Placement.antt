@@ -5,7 +5,7 @@ use Rattle.history_merge.specs.declared.operation.Operation.{Operation}
 use Rattle.history_merge.specs.Operations.{IsAt}
 use Rattle.value_match.specs.declared.life.Life.{Life}
 use Rattle.value_match.specs.declared.life.MatchedValue.{MatchedValue}
-use Rattle.value_match.specs.Lives.{IsMaybeAt, is_empty_answer, is_refused, lives_of}
+use Rattle.value_match.specs.Lives.{is_empty_answer, is_refused, lives_of, dequeue_of, enqueue_of}
 use Rattle.linearizer.specs.declared.position.Class.{Class}
 use Rattle.linearizer.specs.declared.position.Class.TheVariants.{EarlierDequeue, Idle, Enqueue, OtherDequeue}
 use Rattle.linearizer.specs.declared.position.Position.{Position as Stored}
@@ -30,10 +30,6 @@ pub record IsOrderOfPlaces (operations : List Operation) (places : List ℕ) : T
   pub within : All (λ place. place < length (lives_of operations)) places
   pub in_order : IsValueOrder operations (lives_at operations places)
 
--- the places of the value are those of its operations
-abbrev pub HasPlaces : List Operation → MatchedValue → Type 0
-HasPlaces operations m = IsAt operations m.enqueue m.life.enqueue × IsMaybeAt operations m.dequeue m.life.dequeue
-
 -- the gaps are those of the enqueues of the values, one by one
 pub record AreEnqueueGaps (lives : List Life) (gaps : List ℕ) : Type 0 where
   pub one_each : length gaps ≡ length lives
@@ -56,11 +52,11 @@ IsPlaced operations lives o placed = IsAt operations placed.operation o × IsPos
 
 -- the enqueues of the values
 abbrev pub enqueues_of : List Life → List Operation
-enqueues_of lives = map (λ life. life.enqueue) lives
+enqueues_of lives = map enqueue_of lives
 
 -- the dequeues of those that are dequeued
 abbrev pub dequeues_of : List Life → List Operation
-dequeues_of lives = filter_map (λ life. life.dequeue) lives
+dequeues_of lives = filter_map dequeue_of lives
 
 -- the enqueues of the first i values and the dequeues of the first j, each once and at its position, and the time from
 -- which these j can have left

@@ -10,7 +10,7 @@ use Rattle.history_merge.proofs.Distinct.{return_in_range, call_before_return}
 use Rattle.value_match.specs.declared.life.Life.{Life}
 use Rattle.value_match.specs.declared.life.MatchedValue.{MatchedValue}
 use Rattle.value_match.specs.declared.life.TheConstants.{NEVER}
-use Rattle.value_match.specs.Lives.{IsLife, HoldsLives, IsMaybeAt, call_or_never, return_or_never, dequeue_call, dequeue_return}
+use Rattle.value_match.specs.Lives.{IsLife, HoldsLives, IsMaybeAt, call_or_never, return_or_never, dequeue_call, dequeue_return, dequeue_of, enqueue_of}
 use Rattle.value_match.specs.Violations.{IsClear, IsOrderViolation, NoOrderViolation}
 use Rattle.value_match.specs.Choice.{StaysAtLeast}
 use Rattle.value_match.specs.Longest.{NonePasses, IsLongestOf}
@@ -24,14 +24,14 @@ call_in_range operations v (Some d) complete did =
     let range = return_in_range operations d complete did.0 in let order = call_before_return operations d complete did.0 in omega arith
 
 -- a value that overtakes another is dequeued
-dequeued : (operations : List Operation) (a b : Life) → IsClear operations → IsLife operations a → Overtakes b a → (d : Operation) × (b.dequeue ≡ Some d)
-dequeued operations a b clear is_a overtakes = go b.dequeue refl
+dequeued : (operations : List Operation) (a b : Life) → IsClear operations → IsLife operations a → Overtakes b a → (d : Operation) × (dequeue_of b ≡ Some d)
+dequeued operations a b clear is_a overtakes = go (dequeue_of b) refl
   where
-    go : (dequeue : Option Operation) → b.dequeue ≡ dequeue → (d : Operation) × (b.dequeue ≡ Some d)
+    go : (dequeue : Option Operation) → dequeue_of b ≡ dequeue → (d : Operation) × (dequeue_of b ≡ Some d)
     go (Some d) same = (d, same)
     go None same =
         let never : dequeue_return b ≡ NEVER = rw same refl in
-        let range = call_in_range operations is_a.0 a.dequeue clear.complete is_a.2 in
+        let range = call_in_range operations is_a.0 (dequeue_of a) clear.complete is_a.2 in
         absurd (omega (arith, overtakes.1))
 
 dequeued_later : (operations : List Operation) (v : ℕ) (deq_b : Operation) (dequeue : Option Operation) → MatchOption dequeue (NoneDid operations (Deq v)) (λ d. Did operations d (Deq v)) → deq_b.ret < call_or_never dequeue
@@ -40,7 +40,7 @@ dequeued_later operations v deq_b None none later = none
 dequeued_later operations v deq_b (Some d) did later = (did, later)
 
 -- b is dequeued before a, which was enqueued before b
-overtaking_violates : (operations : List Operation) (a b : Life) (deq_b : Operation) → IsLife operations a → IsLife operations b → b.dequeue ≡ Some deq_b → Overtakes b a → IsOrderViolation operations a.enqueue b.enqueue deq_b a.dequeue
+overtaking_violates : (operations : List Operation) (a b : Life) (deq_b : Operation) → IsLife operations a → IsLife operations b → dequeue_of b ≡ Some deq_b → Overtakes b a → IsOrderViolation operations (enqueue_of a) (enqueue_of b) deq_b (dequeue_of a)
 overtaking_violates operations a b deq_b is_a is_b dequeues overtakes = record {
   a = is_a.0;
   b = is_b.0;
@@ -48,7 +48,7 @@ overtaking_violates operations a b deq_b is_a is_b dequeues overtakes = record {
   enqueues_b = is_b.1;
   dequeues_b = subst (λ dequeue. MatchOption dequeue (NoneDid operations (Deq is_b.0)) (λ d. Did operations d (Deq is_b.0))) dequeues is_b.2;
   enqueued_first = overtakes.0;
-  dequeued_later = dequeued_later operations is_a.0 deq_b a.dequeue is_a.2 (subst (λ dequeue. return_or_never dequeue < dequeue_call a) dequeues overtakes.1);
+  dequeued_later = dequeued_later operations is_a.0 deq_b (dequeue_of a) is_a.2 (subst (λ dequeue. return_or_never dequeue < dequeue_call a) dequeues overtakes.1);
 }
 
 -- the lives of an order violation
@@ -114,7 +114,7 @@ place_missing operations (Some q) o d at is missing = cc
 
 module _ (operations : List Operation) (values : List MatchedValue) (clear : IsClear operations) (holds : HoldsLives operations values) (a b : MatchedValue)
     (first : IsFirstOvertaking values values b) (longest : IsLongestOf (Overtakes b.life) values a) where
-  dequeue_of_b : (d : Operation) × (b.life.dequeue ≡ Some d)
+  dequeue_of_b : (d : Operation) × (dequeue_of b.life ≡ Some d)
   dequeue_of_b = dequeued operations a.life b.life clear (value_is_life operations values a holds longest.among) longest.passes
 
   comes_first : (enq_a' enq_b' deq_b' : Operation) (deq_a' : Option Operation) → IsOrderViolation operations enq_a' enq_b' deq_b' deq_a' → dequeue_of_b.0.ret ≤ deq_b'.ret
@@ -126,10 +126,10 @@ module _ (operations : List Operation) (values : List MatchedValue) (clear : IsC
       let there : dequeue_return found.b.life ≡ deq_b'.ret = ap dequeue_return found.is_b in
       omega arith
 
-  stays_longest : (enq_a' : Operation) (deq_a' : Option Operation) → IsOrderViolation operations enq_a' b.life.enqueue dequeue_of_b.0 deq_a' → StaysAtLeast a.life (record { enqueue = enq_a'; dequeue = deq_a' })
+  stays_longest : (enq_a' : Operation) (deq_a' : Option Operation) → IsOrderViolation operations enq_a' (enqueue_of b.life) dequeue_of_b.0 deq_a' → StaysAtLeast a.life (record { enqueue = enq_a'; dequeue = deq_a' })
   stays_longest enq_a' deq_a' violation =
-      let found = values_of operations values enq_a' b.life.enqueue dequeue_of_b.0 deq_a' clear holds violation in
-      let same : found.b.life ≡ b.life = found.is_b ∙ (λ i. record { enqueue = b.life.enqueue; dequeue = sym dequeue_of_b.1 i }) in
+      let found = values_of operations values enq_a' (enqueue_of b.life) dequeue_of_b.0 deq_a' clear holds violation in
+      let same : found.b.life ≡ b.life = found.is_b ∙ (λ i. record { enqueue = enqueue_of b.life; dequeue = sym dequeue_of_b.1 i }) in
       subst (StaysAtLeast a.life) found.is_a
       (All-contains (λ other. Overtakes b.life other.life → StaysAtLeast a.life other.life) values found.a longest.longest found.among_a (subst (λ l. Overtakes l found.a.life) same found.overtakes))
 
@@ -141,13 +141,13 @@ module _ (operations : List Operation) (values : List MatchedValue) (clear : IsC
       let at_a = places_of_value operations values a holds longest.among in
       let at_b = places_of_value operations values b holds first.among in
       record {
-        enq_a = a.life.enqueue;
-        enq_b = b.life.enqueue;
+        enq_a = enqueue_of a.life;
+        enq_b = enqueue_of b.life;
         deq_b = dequeue_of_b.0;
-        deq_a = a.life.dequeue;
+        deq_a = dequeue_of a.life;
         at_a = at_a.0;
         at_b = at_b.0;
-        dequeued_b = place_named operations b.dequeue b.life.dequeue dequeue_of_b.0 p at_b.1 dequeue_of_b.1 named;
+        dequeued_b = place_named operations b.dequeue (dequeue_of b.life) dequeue_of_b.0 p at_b.1 dequeue_of_b.1 named;
         dequeued_a = at_a.1;
         is_chosen = record {
           violates = overtaking_violates operations a.life b.life dequeue_of_b.0 is_a is_b dequeue_of_b.1 longest.passes;
@@ -158,4 +158,4 @@ module _ (operations : List Operation) (values : List MatchedValue) (clear : IsC
 
   -- its dequeue has a place
   pub dequeue_is_named : b.dequeue ≡ None → ⊥
-  dequeue_is_named missing = place_missing operations b.dequeue b.life.dequeue dequeue_of_b.0 (places_of_value operations values b holds first.among).1 dequeue_of_b.1 missing
+  dequeue_is_named missing = place_missing operations b.dequeue (dequeue_of b.life) dequeue_of_b.0 (places_of_value operations values b holds first.among).1 dequeue_of_b.1 missing

@@ -8,7 +8,8 @@ use Rattle.std.proofs.lemmas.List.Concat.{flat_map-append}
 use Rattle.std.proofs.lemmas.List.FromFn.{map-range_with_len_more}
 use Rattle.std.proofs.lemmas.List.Sorted.{IsPermutation-refl, IsPermutation-trans, IsPermutation-append_left, IsPermutation-append_right, IsPermutation-append_comm, sum_by-IsPermutation}
 use Rattle.std.proofs.lemmas.List.Sums.{sum_by-cons}
-use Rattle.recorder_core.proofs.Members.{contains_cons, none_in_nil, pairs_cons}
+use Rattle.recorder_core.proofs.Members.{none_in_nil, pairs_cons}
+use Rattle.history_merge.proofs.Distinct.{contains_cons}
 
 -- ---- blocks
 

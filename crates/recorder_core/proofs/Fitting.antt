@@ -8,28 +8,22 @@ use Rattle.std.proofs.lemmas.List.Sorted.{length_permutation, IsNonDecreasingBy-
 use Rattle.std.proofs.lemmas.Option.{slice_get_within, slice_get_read, same_Some}
 use Rattle.event_records.specs.declared.event.Event.{Event}
 use Rattle.event_records.specs.declared.event.What.{What}
-use Rattle.event_records.specs.declared.event.What.TheVariants.{CallEnq, RetEnq, RetNot, CallDeq, RetDeq, RetEmpty}
+use Rattle.event_records.specs.declared.event.What.TheVariants.{CallEnq}
 use Rattle.event_records.specs.declared.limits.TheConstants.{MAX_EVENTS, MAX_OPERATIONS}
 use Rattle.event_records.specs.Projection.{projection}
 use Rattle.event_records.specs.Question.{value_name}
-use Rattle.event_records.specs.Turns.{TakesTurns, TicketsRise, is_call, answers}
+use Rattle.event_records.specs.Turns.{TakesTurns, TicketsRise, is_call}
 use Rattle.history_merge.specs.Complete.{IsCompleteHistory, called_value}
 use Rattle.history_merge.specs.Merge.{IsMerged}
 use Rattle.recorder_core.specs.declared.limits.TheConstants.{MAX_THREADS}
 use Rattle.recorder_core.specs.Replay.{IsListOf, AreRecorded}
 use Rattle.recorder_core.proofs.Members.{Below, contains_filter, filter_contains, contains_joined, joined_contains, contains_map, contains_range, nil_from_none, pairs_filter, pairs_filter_map, rising_unique}
 use Rattle.recorder_core.proofs.Blocks.{Once, once_apart, once_permutation, once_map, once_range}
+use Rattle.history_merge.proofs.Turns.{answer_is_return}
 
 -- the number of a member's place, and its place
 pub place_in : {X : Type 0} (xs : List X) (x : X) → Contains xs x → (k : ℕ) × (slice_get xs k ≡ Some x)
 place_in xs x among = (among.0, slice_get_read xs (length xs) among.0 x refl among.1 (sym among.2))
-
-pub no_call : (call answer : What) → answers call answer ≡ true → is_call answer ≡ false
-no_call (CallEnq v) RetEnq e = refl
-no_call (CallEnq v) RetNot e = refl
-no_call CallDeq (RetDeq v) e = refl
-no_call CallDeq RetEmpty e = refl
-no_call _ _ e = cc
 
 -- where calls and returns take turns, calls stand at even places
 pub call_at_even : (events : List Event) (k : ℕ) (e : Event) → TakesTurns events → slice_get events k ≡ Some e → is_call e.what ≡ true → (n : ℕ) × (k ≡ 2 * n)
@@ -38,7 +32,7 @@ call_at_even (call ∷ []) k e turns at calls = absurd turns
 call_at_even (call ∷ answer ∷ rest) zero e turns at calls = (zero, refl)
 call_at_even (call ∷ answer ∷ rest) (suc zero) e turns at calls =
     let same : answer ≡ e = cc in
-    let returns = no_call call.what answer.what turns.0 in
+    let returns = answer_is_return call.what answer.what turns.0 in
     let clash : true ≡ false = sym calls ∙ ap (λ (z : Event). is_call z.what) (sym same) ∙ returns in
     cc
 call_at_even (call ∷ answer ∷ rest) (suc (suc k)) e turns at calls = let more = call_at_even rest k e turns.1 at calls in (suc more.0, omega (arith, more.1))

@@ -6,6 +6,7 @@ use Rattle.std.specs.List.{range_with_len, cons_option}
 use Rattle.std.proofs.lemmas.List.Elements.{Contains-append_left, Contains-append_right, Contains-append_cases, Contains-get_or}
 use Rattle.event_records.specs.declared.event.Event.{Event}
 use Rattle.event_records.specs.Turns.{TicketsRise}
+use Rattle.history_merge.proofs.Distinct.{contains_cons}
 
 -- ---- membership
 
@@ -14,10 +15,6 @@ contains_head x xs = (zero, omega arith, refl)
 
 pub contains_tail : {X : Type 0} (x : X) (xs : List X) (y : X) → Contains xs y → Contains (x ∷ xs) y
 contains_tail x xs y (k, below, same) = (suc k, omega arith, same)
-
-pub contains_cons : {X : Type 0} (x : X) (xs : List X) (y : X) → Contains (x ∷ xs) y → (x ≡ y) ⊎ Contains xs y
-contains_cons x xs y (zero, below, same) = inl same
-contains_cons x xs y (suc k, below, same) = inr (k, omega arith, same)
 
 pub none_in_nil : {X : Type 0} (x : X) → Contains [] x → ⊥
 none_in_nil x among = let below = among.1 in omega arith

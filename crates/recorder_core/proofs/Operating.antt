@@ -16,7 +16,7 @@ use Rattle.recorder_core.specs.Replay.{operation_in}
 use Rattle.recorder_core.proofs.Runs.{same_number}
 use Rattle.recorder_core.proofs.Members.{contains_head, contains_tail}
 use Rattle.recorder_core.proofs.Blocks.{blocks, no_blocks, blocks_lead, same_permutation}
-use Rattle.recorder_core.proofs.Fitting.{no_call}
+use Rattle.history_merge.proofs.Turns.{answer_is_return}
 
 option_cons : {X : Type 0} (o : Option X) (xs : List X) → cons_option o xs ≡ option_to_list o ++ xs
 option_cons None xs = refl
@@ -90,5 +90,5 @@ operations_in_turn t (call ∷ answer ∷ rest) (suc h) turns own long =
     let threads : answer.thread ≡ call.thread = All-head (λ (e : Event). e.thread ≡ t) answer rest own' ∙ sym (All-head (λ (e : Event). e.thread ≡ t) call (answer ∷ rest) own) in
     let found : nat_eq answer.thread call.thread ≡ true = eq-eqb answer.thread call.thread threads in
     let more = operations_in_turn t rest h turns.1 (All-tail (λ (e : Event). e.thread ≡ t) answer rest own') (omega arith) in
-    rw (found, no_operation answer (find (λ r. nat_eq r.thread answer.thread) rest) (no_call call.what answer.what turns.0))
+    rw (found, no_operation answer (find (λ r. nat_eq r.thread answer.thread) rest) (answer_is_return call.what answer.what turns.0))
     (ap (cons_option (operation_of call (Some answer))) (more ∙ sym (later_numbers call answer rest 0 h)))

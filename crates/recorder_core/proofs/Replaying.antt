@@ -22,11 +22,12 @@ use Rattle.recorder_core.specs.Schedule.{asks, answers, returns, tickets, questi
 use Rattle.recorder_core.specs.Replay.{is_effect}
 use Rattle.recorder_core.proofs.Runs.{same_number, MayAsk}
 use Rattle.recorder_core.proofs.Totals.{total, total_doubled_less}
-use Rattle.recorder_core.proofs.Members.{Below, pairs_first, pairs_suffix, contains_cons, contains_joined, joined_contains, map_contains, in_range, all_from_members, none_in_nil}
+use Rattle.recorder_core.proofs.Members.{Below, pairs_first, pairs_suffix, contains_joined, joined_contains, map_contains, in_range, all_from_members, none_in_nil}
 use Rattle.recorder_core.proofs.Blocks.{once_same, joined_blocks, blocks}
 use Rattle.recorder_core.proofs.Fitting.{ticket_of, AreFit, once_joined}
 use Rattle.recorder_core.proofs.Granted.{AllGranted, one_granted, granted_recorded, granted_added, ask_granted, say_granted, return_granted, IsOnTurn, collect_one, collected_own, collected_other, collected_granted, ask_other, answer_other}
 use Rattle.recorder_core.proofs.Turns.{turns_split, turns_from_call, turns_even, first_is_call, answer_in, pending_is_answered}
+use Rattle.history_merge.proofs.Distinct.{contains_cons}
 
 -- no step is an effect
 abbrev pub without_effects : List Step → Bool

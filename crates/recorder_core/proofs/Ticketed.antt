@@ -17,8 +17,9 @@ use Rattle.recorder_core.specs.Setting.{Setting}
 use Rattle.recorder_core.specs.Schedule.{Attempt, accepted, events}
 use Rattle.recorder_core.specs.Laws.{collected_in, collected_lists, operation_call, operation_return, call_what, return_what, ReturnsBeforeAsk}
 use Rattle.recorder_core.proofs.Collecting.{list_at}
-use Rattle.recorder_core.proofs.Members.{contains_cons, contains_head, contains_tail, none_in_nil, joined_contains}
+use Rattle.recorder_core.proofs.Members.{contains_head, contains_tail, none_in_nil, joined_contains}
 use Rattle.recorder_core.proofs.Precedence.{place_of, lower_stands_before, stands_before_is_lower, collected_is_event}
+use Rattle.history_merge.proofs.Distinct.{contains_cons}
 
 found_among : {X : Type 0} (p : X → Bool) (xs : List X) (x : X) → find p xs ≡ Some x → Contains xs x × (p x ≡ true)
 found_among p [] x is = cc

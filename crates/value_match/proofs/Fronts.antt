@@ -14,7 +14,7 @@ use Rattle.value_match.specs.declared.table.Front.{Front}
 use Rattle.value_match.specs.Lives.{enqueue_return}
 use Rattle.value_match.specs.Choice.{StaysAtLeast}
 use Rattle.value_match.specs.Longest.{EntersBefore, IsLongerOf, IsLongestOf, NonePasses, FindsLongest}
-use Rattle.value_match.specs.Fronts.{IsEntryOf, values_at, AreEntriesOf, IsByReturn, Any, IsFrontAt, HasFronts, IsTableOf}
+use Rattle.value_match.specs.Fronts.{IsEntryOf, values_at, AreEntriesOf, Any, IsFrontAt, HasFronts, IsTableOf}
 use Rattle.value_match.proofs.Longest.{longest_changes}
 
 -- where there is no value, and no front

@@ -6,12 +6,12 @@ use Rattle.std.proofs.lemmas.List.Elements.{All-contains}
 use Rattle.history_merge.specs.declared.operation.Operation.{Operation}
 use Rattle.history_merge.specs.declared.operation.OpKind.{OpKind}
 use Rattle.history_merge.specs.declared.operation.OpKind.TheVariants.{Enq, Deq, Empty, Not}
-use Rattle.history_merge.specs.Operations.{Did, NoneDid, IsAt}
+use Rattle.history_merge.specs.Operations.{Did, NoneDid}
 use Rattle.history_merge.proofs.Distinct.{contains_cons, not_in_none, contains_at, found_first, same_return, same_enqueue}
 use Rattle.value_match.specs.declared.life.Life.{Life}
 use Rattle.value_match.specs.declared.life.MatchedValue.{MatchedValue}
 use Rattle.value_match.specs.declared.life.TheConstants.{NEVER}
-use Rattle.value_match.specs.Lives.{call_or_never, dequeue_call, IsLife, life_from, is_dequeue_of, dequeues_kind, lives_of, HoldsLives, IsMaybeAt}
+use Rattle.value_match.specs.Lives.{call_or_never, dequeue_call, IsLife, life_from, is_dequeue_of, dequeues_kind, lives_of, HoldsLives, HasPlaces, dequeue_of, enqueue_of}
 use Rattle.value_match.specs.Violations.{IsClear}
 use Rattle.value_match.proofs.Lists.{kept, keeps, mapped_from, mapped_to}
 
@@ -73,35 +73,35 @@ same_found operations enq v (Some d) (Some e) clear did x y = ap (λ o. Some o) 
 pub life_is_contained : (operations : List Operation) (life : Life) → IsClear operations → IsLife operations life → Contains (lives_of operations) life
 life_is_contained operations life clear is =
     let v = is.0 in
-    let dequeue = same_found operations life.enqueue v (find (is_dequeue_of v) operations) life.dequeue clear is.1 (found_dequeue operations v (find (is_dequeue_of v) operations) refl) is.2 in
-    keeps (λ o. life_from operations o o.kind) operations life.enqueue life is.1.0 (begins dequeue)
+    let dequeue = same_found operations (enqueue_of life) v (find (is_dequeue_of v) operations) (dequeue_of life) clear is.1 (found_dequeue operations v (find (is_dequeue_of v) operations) refl) is.2 in
+    keeps (λ o. life_from operations o o.kind) operations (enqueue_of life) life is.1.0 (begins dequeue)
   where
-    begins : find (is_dequeue_of is.0) operations ≡ life.dequeue → life_from operations life.enqueue life.enqueue.kind ≡ Some life
-    begins same = subst (λ k. life_from operations life.enqueue k ≡ Some life) (sym is.1.1) (ap (λ d. Some (record { enqueue = life.enqueue; dequeue = d })) same)
+    begins : find (is_dequeue_of is.0) operations ≡ dequeue_of life → life_from operations (enqueue_of life) (enqueue_of life).kind ≡ Some life
+    begins same = subst (λ k. life_from operations (enqueue_of life) k ≡ Some life) (sym is.1.1) (ap (λ d. Some (record { enqueue = enqueue_of life; dequeue = d })) same)
 
 -- lives of one enqueue are one, and so are lives of one dequeue
-pub one_life_of_enqueue : (operations : List Operation) (x y : Life) → IsClear operations → IsLife operations x → IsLife operations y → x.enqueue ≡ y.enqueue → x ≡ y
+pub one_life_of_enqueue : (operations : List Operation) (x y : Life) → IsClear operations → IsLife operations x → IsLife operations y → enqueue_of x ≡ enqueue_of y → x ≡ y
 one_life_of_enqueue operations x y clear is_x is_y same =
     let kinds : Enq is_x.0 ≡ Enq is_y.0 = sym is_x.1.1 ∙ ap (λ o. o.kind) same ∙ is_y.1.1 in
     let values : is_x.0 ≡ is_y.0 = cc in
-    let y_dequeue = subst (λ v. MatchOption y.dequeue (NoneDid operations (Deq v)) (λ d. Did operations d (Deq v))) (sym values) is_y.2 in
-    let dequeues = same_found operations x.enqueue is_x.0 x.dequeue y.dequeue clear is_x.1 is_x.2 y_dequeue in
+    let y_dequeue = subst (λ v. MatchOption (dequeue_of y) (NoneDid operations (Deq v)) (λ d. Did operations d (Deq v))) (sym values) is_y.2 in
+    let dequeues = same_found operations (enqueue_of x) is_x.0 (dequeue_of x) (dequeue_of y) clear is_x.1 is_x.2 y_dequeue in
     λ i. record { enqueue = same i; dequeue = dequeues i }
 
-pub one_life_of_dequeue : (operations : List Operation) (x y : Life) (d : Operation) → IsClear operations → IsLife operations x → IsLife operations y → x.dequeue ≡ Some d → y.dequeue ≡ Some d → x ≡ y
+pub one_life_of_dequeue : (operations : List Operation) (x y : Life) (d : Operation) → IsClear operations → IsLife operations x → IsLife operations y → dequeue_of x ≡ Some d → dequeue_of y ≡ Some d → x ≡ y
 one_life_of_dequeue operations x y d clear is_x is_y same_x same_y =
     let did_x : Did operations d (Deq is_x.0) = subst (λ e. MatchOption e (NoneDid operations (Deq is_x.0)) (λ d. Did operations d (Deq is_x.0))) same_x is_x.2 in
     let did_y : Did operations d (Deq is_y.0) = subst (λ e. MatchOption e (NoneDid operations (Deq is_y.0)) (λ d. Did operations d (Deq is_y.0))) same_y is_y.2 in
     let kinds : Deq is_x.0 ≡ Deq is_y.0 = sym did_x.1 ∙ did_y.1 in
     let values : is_x.0 ≡ is_y.0 = cc in
-    let enq_y : Did operations y.enqueue (Enq is_x.0) = subst (λ v. Did operations y.enqueue (Enq v)) (sym values) is_y.1 in
-    one_life_of_enqueue operations x y clear is_x is_y (same_enqueue operations x.enqueue y.enqueue is_x.0 clear.complete is_x.1 enq_y)
+    let enq_y : Did operations (enqueue_of y) (Enq is_x.0) = subst (λ v. Did operations (enqueue_of y) (Enq v)) (sym values) is_y.1 in
+    one_life_of_enqueue operations x y clear is_x is_y (same_enqueue operations (enqueue_of x) (enqueue_of y) is_x.0 clear.complete is_x.1 enq_y)
 
 -- a value that is called for before the last ticket is over is dequeued
-pub dequeued_if_called : (life : Life) → dequeue_call life < NEVER → (d : Operation) × (life.dequeue ≡ Some d)
-dequeued_if_called life less = go life.dequeue refl less
+pub dequeued_if_called : (life : Life) → dequeue_call life < NEVER → (d : Operation) × (dequeue_of life ≡ Some d)
+dequeued_if_called life less = go (dequeue_of life) refl less
   where
-    go : (o : Option Operation) → life.dequeue ≡ o → call_or_never o < NEVER → (d : Operation) × (life.dequeue ≡ Some d)
+    go : (o : Option Operation) → dequeue_of life ≡ o → call_or_never o < NEVER → (d : Operation) × (dequeue_of life ≡ Some d)
     go None same less = absurd (omega arith)
     go (Some d) same less = (d, same)
 
@@ -116,6 +116,6 @@ value_of_life operations values life clear holds is =
 
 -- its places are those of its operations
 pub places_of_value : (operations : List Operation) (values : List MatchedValue) (value : MatchedValue) → HoldsLives operations values → Contains values value
-    → IsAt operations value.enqueue value.life.enqueue × IsMaybeAt operations value.dequeue value.life.dequeue
+    → HasPlaces operations value
 places_of_value operations values value holds among =
-    All-contains (λ m. IsAt operations m.enqueue m.life.enqueue × IsMaybeAt operations m.dequeue m.life.dequeue) values value holds.1 among
+    All-contains (HasPlaces operations) values value holds.1 among

@@ -11,8 +11,8 @@ use Rattle.history_merge.specs.Operations.{IsAt}
 use Rattle.history_merge.proofs.Distinct.{contains_at, one_at}
 use Rattle.value_match.specs.declared.life.Life.{Life}
 use Rattle.value_match.specs.declared.life.MatchedValue.{MatchedValue}
-use Rattle.value_match.specs.Lives.{IsMaybeAt, HoldsLives, HoldsPlaces, life_from, is_dequeue_of, is_empty_answer, is_refused}
-use Rattle.value_match.specs.Accepted.{HasPlaces, value_at, operation_at, maybe_operation_at}
+use Rattle.value_match.specs.Lives.{IsMaybeAt, HoldsLives, HoldsPlaces, life_from, is_dequeue_of, is_empty_answer, is_refused, dequeue_of, enqueue_of, HasPlaces}
+use Rattle.value_match.specs.Accepted.{value_at, operation_at, maybe_operation_at}
 use Rattle.value_match.specs.declared.accepted.Pair.{Pair}
 use Rattle.value_match.specs.Violations.{IsClear}
 use Rattle.value_match.specs.Sources.{IsDequeuePlace}
@@ -57,22 +57,22 @@ lives_same : (operations : List Operation) (i : ℕ) (o : Operation) (lives : Li
 lives_same operations i o lives here is known = sym (append-nil lives) ∙ lives_more operations i o None lives here is known
 
 module _ (operations : List Operation) (i : ℕ) (o : Operation) (values : List MatchedValue) (empties refused : List ℕ) (here : IsAt operations i o) (known : IsSortedOut operations i values empties refused) where
-  pub sorted_enqueue : (v : ℕ) (m : MatchedValue) (place : Option ℕ) → o.kind ≡ Enq v → IsAt operations i m.life.enqueue → IsMaybeAt operations place m.life.dequeue → (m.enqueue ≡ i) × (m.dequeue ≡ place)
+  pub sorted_enqueue : (v : ℕ) (m : MatchedValue) (place : Option ℕ) → o.kind ≡ Enq v → IsAt operations i (enqueue_of m.life) → IsMaybeAt operations place (dequeue_of m.life) → (m.enqueue ≡ i) × (m.dequeue ≡ place)
       → IsClear operations → IsDequeuePlace operations v place → IsSortedOut operations (i + 1) (values ++ m ∷ []) empties refused
   sorted_enqueue v m place is enqueue dequeue named clear from = record {
     lives = map-append (λ m. m.life) values (m ∷ []) ∙ lives_more operations i o (Some m.life) (map (λ m. m.life) values) here life known.lives;
     places = All-push (HasPlaces operations) values m known.places
-        (subst (λ p. IsAt operations p m.life.enqueue) (sym named.0) enqueue, subst (λ p. IsMaybeAt operations p m.life.dequeue) (sym named.1) dequeue);
+        (subst (λ p. IsAt operations p (enqueue_of m.life)) (sym named.0) enqueue, subst (λ p. IsMaybeAt operations p (dequeue_of m.life)) (sym named.1) dequeue);
     empty_answers = places_same operations is_empty_answer i o empties here (rw is refl) known.empty_answers;
     refused_enqueues = places_same operations is_refused i o refused here (rw is refl) known.refused_enqueues;
   }
     where
-      found : m.life.dequeue ≡ find (is_dequeue_of v) operations
-      found = found_at_place operations o v place m.life.dequeue clear (contains_at operations i o here, is) from dequeue
+      found : dequeue_of m.life ≡ find (is_dequeue_of v) operations
+      found = found_at_place operations o v place (dequeue_of m.life) clear (contains_at operations i o here, is) from dequeue
 
       life : life_from operations o o.kind ≡ Some m.life
       life =
-          let same : o ≡ m.life.enqueue = one_at operations i o m.life.enqueue here enqueue in
+          let same : o ≡ enqueue_of m.life = one_at operations i o (enqueue_of m.life) here enqueue in
           let made : ◌≡◌ {A = Life} (record { enqueue = o; dequeue = find (is_dequeue_of v) operations }) m.life = λ t. record { enqueue = same t; dequeue = sym found t } in
           subst (λ kind. life_from operations o kind ≡ Some m.life) (sym is) (ap (λ l. Some l) made)
 

@@ -2,10 +2,8 @@
 use Rattle.std.specs.Prelude.{ℕ, List, Option, Some, None, slice_index_or}
 use Rattle.history_merge.specs.declared.operation.Operation.{Operation}
 use Rattle.history_merge.specs.declared.operation.OpKind.TheVariants.{Enq}
-use Rattle.history_merge.specs.Operations.{IsAt}
 use Rattle.value_match.specs.declared.life.MatchedValue.{MatchedValue}
 use Rattle.value_match.specs.declared.accepted.Pair.{Pair}
-use Rattle.value_match.specs.Lives.{IsMaybeAt}
 
 -- the operation at the place; out of range any
 abbrev pub operation_at : List Operation → ℕ → Operation
@@ -23,7 +21,3 @@ value_at operations pair = record {
   enqueue = pair.enqueue;
   dequeue = pair.dequeue;
 }
-
--- the value's places are those of its operations
-abbrev pub HasPlaces : List Operation → MatchedValue → Type 0
-HasPlaces operations m = IsAt operations m.enqueue m.life.enqueue × IsMaybeAt operations m.dequeue m.life.dequeue

@@ -9,13 +9,13 @@ use Rattle.value_match.specs.declared.violation.Violation.{Violation}
 use Rattle.value_match.specs.declared.violation.Violation.TheVariants.{Fresh, Repeat, Order, Witness}
 use Rattle.value_match.specs.declared.matching.Matched.{Matched}
 use Rattle.value_match.specs.declared.matching.Matched.TheVariants as matched
-use Rattle.value_match.specs.Lives.{IsMaybeAt}
+use Rattle.value_match.specs.Lives.{IsMaybeAt, dequeue_of, enqueue_of}
 use Rattle.value_match.specs.Violations.{Breach, fresh, repeat, order, witness, IsClear}
 use Rattle.value_match.specs.Choice.{IsChosenBreach}
 
 -- the steps name these lives, one by one
 abbrev pub NamesCover : List Operation → List CoverStep → List Life → Type 0
-NamesCover operations steps cover = AllZip (λ step life. IsAt operations step.enqueue life.enqueue × IsMaybeAt operations step.dequeue life.dequeue) steps cover
+NamesCover operations steps cover = AllZip (λ step life. IsAt operations step.enqueue (enqueue_of life) × IsMaybeAt operations step.dequeue (dequeue_of life)) steps cover
 
 -- the places of the violation are those of the operations that show it
 abbrev pub Names : List Operation → Violation → Breach → Type 0

@@ -1,5 +1,6 @@
 ghost use Rattle.std.specs.Prelude.{◌≡◌, ◌<◌, ◌≤◌, All, IfSome, drop, length, map, slice_index_or, take};
-ghost use Rattle.value_match.specs.Accepted.{HasPlaces, maybe_operation_at, value_at};
+ghost use Rattle.value_match.specs.Accepted.{maybe_operation_at, value_at};
+ghost use Rattle.value_match.specs.Lives.{HasPlaces};
 
 use crate::life::{Life, MatchedValue};
 use crate::maybe_place::MaybePlace;
@@ -25,7 +26,8 @@ pub struct Values<'a> {
 impl<'a> Model for Values<'a> {
     ghost use Rattle.std.specs.Prelude.{List, All, map};
     ghost use Rattle.value_match.specs.declared.life.MatchedValue.{MatchedValue};
-    ghost use Rattle.value_match.specs.Accepted.{HasPlaces, value_at};
+    ghost use Rattle.value_match.specs.Accepted.{value_at};
+    ghost use Rattle.value_match.specs.Lives.{HasPlaces};
 
     ghost Value = { List MatchedValue };
 

@@ -7,7 +7,7 @@ use Rattle.history_merge.specs.Operations.{Did, NoneDid, Precedes}
 use Rattle.history_merge.specs.Complete.{AreComplete}
 use Rattle.history_merge.proofs.Distinct.{same_call, same_return, same_value_call, same_enqueue, CallsFor}
 use Rattle.value_match.specs.declared.life.Life.{Life}
-use Rattle.value_match.specs.Lives.{call_or_never, dequeue_call, enqueue_return}
+use Rattle.value_match.specs.Lives.{call_or_never, dequeue_call, enqueue_return, enqueue_of}
 use Rattle.value_match.specs.Violations.{Breach, fresh, repeat, order, witness, IsBreachOf, IsClear, NoFreshViolation, NoRepeatViolation, IsFreshViolation, IsNeverEnqueued, IsEnqueuedTooLate, IsOrderViolation}
 use Rattle.value_match.specs.Choice.{IsChosenBreach, IsChosenFresh, IsChosenRepeat, IsChosenOrderViolation, IsChosenWitness, IsChosenCoverFrom, IsNextOfCover, StaysAtLeast}
 use Rattle.value_match.proofs.Lives.{one_life_of_enqueue}
@@ -122,7 +122,7 @@ one_order operations enq_a enq_b deq_b enq_a' enq_b' deq_b' deq_a deq_a' complet
 one_next : (operations : List Operation) (frontier : ℕ) (x y : Life) → IsClear operations → IsNextOfCover operations frontier x → IsNextOfCover operations frontier y → x ≡ y
 one_next operations frontier x y clear next_x next_y =
     let both = both_stay x y (next_x.longest y next_y.is_life next_y.before_frontier) (next_y.longest x next_x.is_life next_x.before_frontier) in
-    let enqs = same_return operations x.enqueue y.enqueue clear.complete next_x.is_life.1.0 next_y.is_life.1.0 both.1 in
+    let enqs = same_return operations (enqueue_of x) (enqueue_of y) clear.complete next_x.is_life.1.0 next_y.is_life.1.0 both.1 in
     one_life_of_enqueue operations x y clear next_x.is_life next_y.is_life enqs
 
 pub one_cover : (operations : List Operation) (empty : Operation) (frontier : ℕ) (xs ys : List Life) → IsClear operations → IsChosenCoverFrom operations empty frontier xs → IsChosenCoverFrom operations empty frontier ys → xs ≡ ys

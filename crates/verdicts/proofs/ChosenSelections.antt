@@ -9,7 +9,7 @@ use Rattle.value_match.specs.declared.life.Life.{Life}
 use Rattle.value_match.specs.declared.violation.CoverStep.{CoverStep}
 use Rattle.value_match.specs.declared.violation.Violation.{Violation}
 use Rattle.value_match.specs.declared.violation.Violation.TheVariants as violation
-use Rattle.value_match.specs.Lives.{IsLife, IsCovered, IsMaybeAt, dequeue_call}
+use Rattle.value_match.specs.Lives.{IsLife, IsCovered, IsMaybeAt, dequeue_call, dequeue_of, enqueue_of}
 use Rattle.value_match.specs.Violations.{Breach, fresh, repeat, order, witness, IsBreachOf, IsClear, lines_of}
 use Rattle.value_match.specs.Choice.{IsChosenBreach, IsChosenCoverFrom}
 use Rattle.value_match.specs.Outcome.{Names, NamesCover, IsChosenViolation}
@@ -38,8 +38,8 @@ one_cover operations [] (x ∷ xs) ys names_x names_y = absurd names_x
 one_cover operations (step ∷ steps) [] ys names_x names_y = absurd names_x
 one_cover operations (step ∷ steps) (x ∷ xs) [] names_x names_y = absurd names_y
 one_cover operations (step ∷ steps) (x ∷ xs) (y ∷ ys) names_x names_y =
-    let enqueues = one_at operations step.enqueue x.enqueue y.enqueue names_x.0.0 names_y.0.0 in
-    let dequeues = one_maybe_at operations step.dequeue x.dequeue y.dequeue names_x.0.1 names_y.0.1 in
+    let enqueues = one_at operations step.enqueue (enqueue_of x) (enqueue_of y) names_x.0.0 names_y.0.0 in
+    let dequeues = one_maybe_at operations step.dequeue (dequeue_of x) (dequeue_of y) names_x.0.1 names_y.0.1 in
     let lives : x ≡ y = λ i. record { enqueue = enqueues i; dequeue = dequeues i } in
     let rest = one_cover operations steps xs ys names_x.1 names_y.1 in
     cc
@@ -128,7 +128,7 @@ module _ (operations : List Operation) (complete : AreComplete operations) (valu
       first = λ empty' did covered. chosen.3.first empty' (did_in_whole operations values calls empty' Empty did) (covered_in_whole empty' covered);
       cover_is_chosen = cover_stays empty cover empty.call chosen.3.cover_is_chosen
           (λ life among. life_in_selected operations values calls life (chosen_are_lives operations empty cover empty.call life chosen.3.cover_is_chosen among)
-          (lines_are_selected (lines_of (witness empty cover)) values calls named life.enqueue (line_of_life empty cover life among)));
+          (lines_are_selected (lines_of (witness empty cover)) values calls named (enqueue_of life) (line_of_life empty cover life among)));
     },
   )
 

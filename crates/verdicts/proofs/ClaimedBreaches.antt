@@ -1,10 +1,10 @@
 -- Which lines show a violation of each kind.
 use Rattle.std.proofs.Common.{◌≡◌, ℕ, ◌<◌, ◌≤◌, ◌↔◌, List, [], ◌∷◌, length, get_or, drop, Option, Some, None, refl, sym, ◌∙◌, ap, subst, arith}
-use Rattle.std.specs.Prelude.{MatchOption, flat_map, option_to_list}
+use Rattle.std.specs.Prelude.{MatchOption, flat_map}
 use Rattle.history_merge.specs.declared.operation.Operation.{Operation}
 use Rattle.history_merge.specs.declared.operation.OpKind.TheVariants.{Enq, Deq, Empty, Not}
 use Rattle.history_merge.specs.Operations.{Did, NoneDid, Precedes}
-use Rattle.value_match.specs.Lives.{IsLife}
+use Rattle.value_match.specs.Lives.{IsLife, operations_of_life}
 use Rattle.value_match.specs.Violations.{fresh, repeat, order, witness, IsNeverEnqueued, IsEnqueuedTooLate, IsRepeatViolation, IsOrderViolation, CoversFrom}
 use Rattle.verdicts.specs.declared.verifying.ViolationKind.TheVariants.{VFresh, VRepeat, VOrd, VWit}
 use Rattle.verdicts.specs.Claims.{ShowsViolation, ShowsCover}
@@ -152,7 +152,7 @@ lines_of_witness operations empty lines = (λ (did, (cover, same, covers)). (wit
     back (order a b o c, kind, same, is) = cc
     back (witness o cover, kind, same, is) =
         let one : o ≡ empty = cc in
-        let rest : flat_map (λ life. life.enqueue ∷ option_to_list life.dequeue) cover ≡ lines = cc in
+        let rest : flat_map operations_of_life cover ≡ lines = cc in
         (subst (λ x. Did operations x Empty) one is.answers_empty, (cover, rest, subst (λ x. CoversFrom operations x x cover) one is.covers))
 
 pub lines_of_witness_at : (operations lines : List Operation) (d : Operation) → 1 ≤ length lines

@@ -4,7 +4,7 @@ use Rattle.std.specs.Prelude.{MatchOption, flat_map, option_to_list, ⊤}
 use Rattle.history_merge.specs.declared.operation.Operation.{Operation}
 use Rattle.history_merge.specs.Operations.{Precedes}
 use Rattle.value_match.specs.declared.life.Life.{Life}
-use Rattle.value_match.specs.Lives.{IsLife}
+use Rattle.value_match.specs.Lives.{IsLife, dequeue_of, enqueue_of, operations_of_life}
 use Rattle.value_match.specs.Violations.{CoversFrom}
 use Rattle.verdicts.specs.Claims.{ShowsCover}
 
@@ -12,13 +12,13 @@ abbrev life_of : Operation → Option Operation → Life
 life_of enqueue dequeue = record { enqueue = enqueue; dequeue = dequeue }
 
 abbrev lines_of_cover : List Life → List Operation
-lines_of_cover cover = flat_map (λ life. life.enqueue ∷ option_to_list life.dequeue) cover
+lines_of_cover cover = flat_map operations_of_life cover
 
 -- a life that begins before an operation
 abbrev BeginsBefore : List Operation → Operation → Life → Type 0
-BeginsBefore operations before life = IsLife operations life × Precedes life.enqueue before
+BeginsBefore operations before life = IsLife operations life × Precedes (enqueue_of life) before
 
-begins_as : (operations : List Operation) (before e : Operation) (life : Life) (d : Option Operation) → life.enqueue ≡ e → life.dequeue ≡ d → BeginsBefore operations before life → BeginsBefore operations before (life_of e d)
+begins_as : (operations : List Operation) (before e : Operation) (life : Life) (d : Option Operation) → enqueue_of life ≡ e → dequeue_of life ≡ d → BeginsBefore operations before life → BeginsBefore operations before (life_of e d)
 begins_as operations before e life d first second begins = let same : life ≡ life_of e d = λ i. record { enqueue = first i; dequeue = second i } in subst (BeginsBefore operations before) same begins
 
 module _ (operations : List Operation) (empty before : Operation) where
@@ -29,34 +29,34 @@ module _ (operations : List Operation) (empty before : Operation) where
   one_line : (e : Operation) → BeginsBefore operations before (life_of e None) ↔ ShowsCover operations empty before (e ∷ [])
   one_line e = (λ begins. (life_of e None ∷ [], refl, (begins.0, begins.1, tt)), back)
     where
-      go : (life : Life) (dequeue : Option Operation) (more : List Operation) → life.dequeue ≡ dequeue → life.enqueue ∷ (option_to_list dequeue ++ more) ≡ e ∷ [] → BeginsBefore operations before life → BeginsBefore operations before (life_of e None)
+      go : (life : Life) (dequeue : Option Operation) (more : List Operation) → dequeue_of life ≡ dequeue → enqueue_of life ∷ (option_to_list dequeue ++ more) ≡ e ∷ [] → BeginsBefore operations before life → BeginsBefore operations before (life_of e None)
       go life None more is same begins = begins_as operations before e life None (cc) is begins
       go life (Some d) more is same begins = cc
 
       back : ShowsCover operations empty before (e ∷ []) → BeginsBefore operations before (life_of e None)
       back ([], same, covers) = absurd covers
-      back (life ∷ [], same, covers) = go life life.dequeue [] refl same (covers.0, covers.1)
-      back (life ∷ next ∷ cover, same, covers) = go life life.dequeue (lines_of_cover (next ∷ cover)) refl same (covers.0, covers.1)
+      back (life ∷ [], same, covers) = go life (dequeue_of life) [] refl same (covers.0, covers.1)
+      back (life ∷ next ∷ cover, same, covers) = go life (dequeue_of life) (lines_of_cover (next ∷ cover)) refl same (covers.0, covers.1)
 
   two_lines : (e d : Operation) → (BeginsBefore operations before (life_of e (Some d)) × Precedes empty d) ↔ ShowsCover operations empty before (e ∷ d ∷ [])
   two_lines e d = (λ (begins, past). (life_of e (Some d) ∷ [], refl, (begins.0, begins.1, past)), back)
     where
-      go : (life : Life) (dequeue : Option Operation) → life.dequeue ≡ dequeue → life.enqueue ∷ (option_to_list dequeue ++ []) ≡ e ∷ d ∷ [] → BeginsBefore operations before life → MatchOption dequeue ⊤ (λ d. Precedes empty d)
+      go : (life : Life) (dequeue : Option Operation) → dequeue_of life ≡ dequeue → enqueue_of life ∷ (option_to_list dequeue ++ []) ≡ e ∷ d ∷ [] → BeginsBefore operations before life → MatchOption dequeue ⊤ (λ d. Precedes empty d)
           → BeginsBefore operations before (life_of e (Some d)) × Precedes empty d
       go life None is same begins past = cc
       go life (Some d') is same begins past =
           let one : d' ≡ d = cc in
-          let dequeues : life.dequeue ≡ Some d = cc in
+          let dequeues : dequeue_of life ≡ Some d = cc in
           (begins_as operations before e life (Some d) (cc) dequeues begins, subst (Precedes empty) one past)
 
-      longer : (life next : Life) (cover : List Life) (dequeue : Option Operation) → life.enqueue ∷ (option_to_list dequeue ++ lines_of_cover (next ∷ cover)) ≡ e ∷ d ∷ [] → MatchOption dequeue ⊥ (λ d. CoversFrom operations empty d (next ∷ cover)) → ⊥
+      longer : (life next : Life) (cover : List Life) (dequeue : Option Operation) → enqueue_of life ∷ (option_to_list dequeue ++ lines_of_cover (next ∷ cover)) ≡ e ∷ d ∷ [] → MatchOption dequeue ⊥ (λ d. CoversFrom operations empty d (next ∷ cover)) → ⊥
       longer life next cover None same further = further
       longer life next cover (Some d') same further = cc
 
       back : ShowsCover operations empty before (e ∷ d ∷ []) → BeginsBefore operations before (life_of e (Some d)) × Precedes empty d
       back ([], same, covers) = absurd covers
-      back (life ∷ [], same, covers) = go life life.dequeue refl same (covers.0, covers.1) covers.2
-      back (life ∷ next ∷ cover, same, covers) = absurd (longer life next cover life.dequeue same covers.2)
+      back (life ∷ [], same, covers) = go life (dequeue_of life) refl same (covers.0, covers.1) covers.2
+      back (life ∷ next ∷ cover, same, covers) = absurd (longer life next cover (dequeue_of life) same covers.2)
 
   more_lines : (e d x : Operation) (lines : List Operation) → (BeginsBefore operations before (life_of e (Some d)) × ShowsCover operations empty d (x ∷ lines)) ↔ ShowsCover operations empty before (e ∷ d ∷ x ∷ lines)
   more_lines e d x lines = (λ (begins, shown). forth begins shown, back)
@@ -65,23 +65,23 @@ module _ (operations : List Operation) (empty before : Operation) where
       forth begins ([], same, covers) = absurd covers
       forth begins (next ∷ cover, same, covers) = (life_of e (Some d) ∷ next ∷ cover, ap (λ xs. e ∷ d ∷ xs) same, (begins.0, begins.1, covers))
 
-      shorter : (life : Life) (dequeue : Option Operation) → life.enqueue ∷ (option_to_list dequeue ++ []) ≡ e ∷ d ∷ x ∷ lines → ⊥
+      shorter : (life : Life) (dequeue : Option Operation) → enqueue_of life ∷ (option_to_list dequeue ++ []) ≡ e ∷ d ∷ x ∷ lines → ⊥
       shorter life None same = cc
       shorter life (Some d') same = cc
 
-      go : (life next : Life) (cover : List Life) (dequeue : Option Operation) → life.dequeue ≡ dequeue → life.enqueue ∷ (option_to_list dequeue ++ lines_of_cover (next ∷ cover)) ≡ e ∷ d ∷ x ∷ lines → BeginsBefore operations before life
+      go : (life next : Life) (cover : List Life) (dequeue : Option Operation) → dequeue_of life ≡ dequeue → enqueue_of life ∷ (option_to_list dequeue ++ lines_of_cover (next ∷ cover)) ≡ e ∷ d ∷ x ∷ lines → BeginsBefore operations before life
           → MatchOption dequeue ⊥ (λ d. CoversFrom operations empty d (next ∷ cover)) → BeginsBefore operations before (life_of e (Some d)) × ShowsCover operations empty d (x ∷ lines)
       go life next cover None is same begins further = absurd further
       go life next cover (Some d') is same begins further =
           let one : d' ≡ d = cc in
-          let dequeues : life.dequeue ≡ Some d = cc in
+          let dequeues : dequeue_of life ≡ Some d = cc in
           let rest : lines_of_cover (next ∷ cover) ≡ x ∷ lines = cc in
           (begins_as operations before e life (Some d) (cc) dequeues begins, (next ∷ cover, rest, subst (λ o. CoversFrom operations empty o (next ∷ cover)) one further))
 
       back : ShowsCover operations empty before (e ∷ d ∷ x ∷ lines) → BeginsBefore operations before (life_of e (Some d)) × ShowsCover operations empty d (x ∷ lines)
       back ([], same, covers) = absurd covers
-      back (life ∷ [], same, covers) = absurd (shorter life life.dequeue same)
-      back (life ∷ next ∷ cover, same, covers) = go life next cover life.dequeue refl same (covers.0, covers.1) covers.2
+      back (life ∷ [], same, covers) = absurd (shorter life (dequeue_of life) same)
+      back (life ∷ next ∷ cover, same, covers) = go life next cover (dequeue_of life) refl same (covers.0, covers.1) covers.2
 
   -- ---- the same, of lines by their places
 

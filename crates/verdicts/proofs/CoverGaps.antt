@@ -7,7 +7,7 @@ use Rattle.history_merge.specs.declared.operation.OpKind.TheVariants.{Deq, Empty
 use Rattle.history_merge.specs.Operations.{Did, NoneDid}
 use Rattle.history_merge.proofs.Distinct.{contains_cons, not_in_none, return_differs_from_call, return_in_range}
 use Rattle.value_match.specs.declared.life.Life.{Life}
-use Rattle.value_match.specs.Lives.{IsLife, Covers, IsCovered, call_or_never, enqueue_return, dequeue_call}
+use Rattle.value_match.specs.Lives.{IsLife, Covers, IsCovered, call_or_never, enqueue_return, dequeue_call, enqueue_of}
 use Rattle.value_match.specs.Violations.{IsClear}
 use Rattle.value_match.specs.Choice.{IsNextOfCover, IsChosenCoverFrom}
 use Rattle.value_match.proofs.Lives.{dequeued_if_called}
@@ -39,7 +39,7 @@ module _ (operations : List Operation) (empty : Operation) where
 
     enters_before : (before : Operation) (life : Life) → IsCalledInside before → IsLife operations life → Covers life before.call → enqueue_return life < before.call
     enters_before before life inside is covers =
-        below_if_not_same (enqueue_return life) before.call covers.0 (return_differs_from_call operations life.enqueue before clear.complete is.1.0 inside.among)
+        below_if_not_same (enqueue_return life) before.call covers.0 (return_differs_from_call operations (enqueue_of life) before clear.complete is.1.0 inside.among)
 
     next_stays : (before : Operation) (life : Life) → IsCalledInside before → IsNextOfCover operations before.call life → before.call < dequeue_call life
     next_stays before life inside next =

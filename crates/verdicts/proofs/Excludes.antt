@@ -17,6 +17,8 @@ use Rattle.history_merge.proofs.Completeness.{called_once, returns_after_call, c
 use Rattle.value_match.specs.declared.life.Life.{Life}
 use Rattle.value_match.specs.Violations.{Breach, fresh, repeat, order, witness, IsBreachOf, IsNeverEnqueued, IsEnqueuedTooLate, IsRepeatViolation, IsOrderViolation, CoversFrom}
 use Rattle.verdicts.specs.Laws.{BreachExcludesOrder}
+use Rattle.value_match.specs.Lives.{dequeue_of, enqueue_of}
+use Rattle.linearizer.proofs.EachPosition.{some_injective}
 
 kind_at : (xs : List Operation) (i : ℕ) (o : Operation) → slice_get xs i ≡ Some o → slice_get (map (λ o. o.kind) xs) i ≡ Some o.kind
 kind_at [] i o at = cc
@@ -45,9 +47,6 @@ empty_queue (front ∷ rest) next e = cc
 
 one : (v : ℕ) → calls_of_kind v (Enq v) ≡ 1
 one v = rw (eq-eqb v v refl)
-
-some_injective : {x y : Operation} → ◌≡◌ {A = Option Operation} (Some x) (Some y) → x ≡ y
-some_injective e = cc
 
 abbrev kinds_of : List Operation → List OpKind
 kinds_of listed = map (λ o. o.kind) listed
@@ -240,18 +239,18 @@ module _ (operations listed : List Operation) (complete : AreComplete operations
   excludes_cover j empty at is [] p prior at_p near covers = covers
   excludes_cover j empty at is (life ∷ []) p prior at_p near covers =
       let v = covers.0.0 in
-      let enq = place_of life.enqueue covers.0.1.0 in
-      let below = enqueues_differ enq.0 p life.enqueue prior enq.1 at_p covers.1 in
-      let stands = gone_at_empty j v empty at is enq.0 life.enqueue enq.1 covers.0.1.1 (omega arith) in
+      let enq = place_of (enqueue_of life) covers.0.1.0 in
+      let below = enqueues_differ enq.0 p (enqueue_of life) prior enq.1 at_p covers.1 in
+      let stands = gone_at_empty j v empty at is enq.0 (enqueue_of life) enq.1 covers.0.1.1 (omega arith) in
       let found = operation_at listed stands.0 (Deq v) stands.2 in
-      not_dequeued_after v j empty at life.dequeue covers.0.2 covers.2 stands.0 found.0 stands.1 found.1 found.2
+      not_dequeued_after v j empty at (dequeue_of life) covers.0.2 covers.2 stands.0 found.0 stands.1 found.1 found.2
   excludes_cover j empty at is (life ∷ next ∷ rest) p prior at_p near covers =
       let v = covers.0.0 in
-      let enq = place_of life.enqueue covers.0.1.0 in
-      let below = enqueues_differ enq.0 p life.enqueue prior enq.1 at_p covers.1 in
-      let stands = gone_at_empty j v empty at is enq.0 life.enqueue enq.1 covers.0.1.1 (omega arith) in
+      let enq = place_of (enqueue_of life) covers.0.1.0 in
+      let below = enqueues_differ enq.0 p (enqueue_of life) prior enq.1 at_p covers.1 in
+      let stands = gone_at_empty j v empty at is enq.0 (enqueue_of life) enq.1 covers.0.1.1 (omega arith) in
       let found = operation_at listed stands.0 (Deq v) stands.2 in
-      step life.dequeue covers.0.2 covers.2 stands.0 found.0 stands.1 found.1 found.2 (excludes_cover j empty at is (next ∷ rest))
+      step (dequeue_of life) covers.0.2 covers.2 stands.0 found.0 stands.1 found.1 found.2 (excludes_cover j empty at is (next ∷ rest))
     where
       step : (dequeue : Option Operation) → MatchOption dequeue (NoneDid operations (Deq covers.0.0)) (λ d. Did operations d (Deq covers.0.0)) → MatchOption dequeue ⊥ (λ d. CoversFrom operations empty d (next ∷ rest))
           → (i : ℕ) (o : Operation) → i < j → slice_get listed i ≡ Some o → o.kind ≡ Deq covers.0.0

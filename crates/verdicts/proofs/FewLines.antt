@@ -16,7 +16,7 @@ use Rattle.history_merge.specs.Legal.{ArePlacesOf}
 use Rattle.history_merge.specs.Operations.{Did, NoneDid, operations_of}
 use Rattle.history_merge.proofs.Distinct.{contains_cons, not_in_none, place_of, contains_at, pairs_at, traced, same_call, same_return, return_differs_from_call, call_before_return}
 use Rattle.value_match.specs.declared.life.Life.{Life}
-use Rattle.value_match.specs.Lives.{IsLife, IsCovered, dequeue_call, call_or_never}
+use Rattle.value_match.specs.Lives.{IsLife, IsCovered, dequeue_call, call_or_never, dequeue_of, enqueue_of, operations_of_life}
 use Rattle.value_match.specs.Violations.{Breach, fresh, repeat, order, witness, IsClear, lines_of}
 use Rattle.value_match.specs.Choice.{IsChosenBreach, IsChosenCoverFrom}
 use Rattle.value_match.proofs.Lists.{one_deeper, mapped_to}
@@ -123,10 +123,6 @@ apart_from_rise (o ∷ rest) rise = (
 
 -- ---- covers
 
--- the operations of a life
-abbrev lines_of_life : Life → List Operation
-lines_of_life life = life.enqueue ∷ option_to_list life.dequeue
-
 lines_from : (e : Operation) (d : Option Operation) (rest : List Operation) (o : Operation) → Contains ((e ∷ option_to_list d) ++ rest) o → (e ≡ o) ⊎ ((d ≡ Some o) ⊎ Contains rest o)
 lines_from e None rest o among = elim (contains_cons e rest o among) [ inl here ↦ inl here | inr later ↦ inr (inr later) ]
 lines_from e (Some d) rest o among = elim (contains_cons e (d ∷ rest) o among) [
@@ -135,9 +131,9 @@ lines_from e (Some d) rest o among = elim (contains_cons e (d ∷ rest) o among)
 ]
 
 -- a line of a cover is the enqueue or the dequeue of one of its values
-line_from : (cover : List Life) (o : Operation) → Contains (flat_map lines_of_life cover) o → (life : Life) × Contains cover life × ((life.enqueue ≡ o) ⊎ (life.dequeue ≡ Some o))
+line_from : (cover : List Life) (o : Operation) → Contains (flat_map operations_of_life cover) o → (life : Life) × Contains cover life × ((enqueue_of life ≡ o) ⊎ (dequeue_of life ≡ Some o))
 line_from [] o among = absurd (not_in_none o among)
-line_from (life ∷ rest) o among = elim (lines_from life.enqueue life.dequeue (flat_map lines_of_life rest) o among) [
+line_from (life ∷ rest) o among = elim (lines_from (enqueue_of life) (dequeue_of life) (flat_map operations_of_life rest) o among) [
   | inl here ↦ (life, (zero, omega arith, refl), inl here)
   | inr (inl here) ↦ (life, (zero, omega arith, refl), inr here)
   | inr (inr later) ↦ let found = line_from rest o later in (found.0, one_deeper life rest found.0 found.1, found.2)
@@ -151,10 +147,10 @@ apart_life e (Some d) rest no_e no_d apart = (
 )
 
 -- the kinds of a life's operations
-life_enqueues : (operations : List Operation) (life : Life) (o : Operation) → IsLife operations life → life.enqueue ≡ o → (v : ℕ) × (o.kind ≡ Enq v)
+life_enqueues : (operations : List Operation) (life : Life) (o : Operation) → IsLife operations life → enqueue_of life ≡ o → (v : ℕ) × (o.kind ≡ Enq v)
 life_enqueues operations life o is same = (is.0, ap (λ x. x.kind) (sym same) ∙ is.1.1)
 
-life_dequeues : (operations : List Operation) (life : Life) (o : Operation) → IsLife operations life → life.dequeue ≡ Some o → (v : ℕ) × Did operations o (Deq v)
+life_dequeues : (operations : List Operation) (life : Life) (o : Operation) → IsLife operations life → dequeue_of life ≡ Some o → (v : ℕ) × Did operations o (Deq v)
 life_dequeues operations life o is same = (is.0, subst (λ d. MatchOption d (NoneDid operations (Deq is.0)) (λ x. Did operations x (Deq is.0))) same is.2)
 
 differ : (o : Operation) (v w : ℕ) → o.kind ≡ Enq v → o.kind ≡ Deq w → ⊥
@@ -163,30 +159,30 @@ differ o v w enqueues dequeues = let kinds : Enq v ≡ Deq w = sym enqueues ∙ 
 module _ (operations : List Operation) (empty : Operation) (clear : IsClear operations) (did : Did operations empty Empty) (covered : IsCovered operations empty) where
   -- the lines of the first value of a cover are none of the others'
   first_apart : (life : Life) (rest : List Life) → IsLife operations life → ((y : Life) → Contains rest y → IsLife operations y) → ((y : Life) → Contains rest y → dequeue_call life < dequeue_call y)
-      → Apart (flat_map lines_of_life rest) → Apart (flat_map lines_of_life (life ∷ rest))
-  first_apart life rest is are later apart = apart_life life.enqueue life.dequeue (flat_map lines_of_life rest) no_enqueue no_dequeue apart
+      → Apart (flat_map operations_of_life rest) → Apart (flat_map operations_of_life (life ∷ rest))
+  first_apart life rest is are later apart = apart_life (enqueue_of life) (dequeue_of life) (flat_map operations_of_life rest) no_enqueue no_dequeue apart
     where
-      by_enqueue : (y : Life) × Contains rest y × ((y.enqueue ≡ life.enqueue) ⊎ (y.dequeue ≡ Some life.enqueue)) → ⊥
+      by_enqueue : (y : Life) × Contains rest y × ((enqueue_of y ≡ enqueue_of life) ⊎ (dequeue_of y ≡ Some (enqueue_of life))) → ⊥
       by_enqueue (y, among, inl same) =
           let one = one_life_of_enqueue operations y life clear (are y among) is same in
           let calls = ap dequeue_call one in let less = later y among in omega arith
-      by_enqueue (y, among, inr same) = let dequeues = life_dequeues operations y life.enqueue (are y among) same in differ life.enqueue is.0 dequeues.0 is.1.1 dequeues.1.1
+      by_enqueue (y, among, inr same) = let dequeues = life_dequeues operations y (enqueue_of life) (are y among) same in differ (enqueue_of life) is.0 dequeues.0 is.1.1 dequeues.1.1
 
-      no_enqueue : Contains (flat_map lines_of_life rest) life.enqueue → ⊥
-      no_enqueue among = by_enqueue (line_from rest life.enqueue among)
+      no_enqueue : Contains (flat_map operations_of_life rest) (enqueue_of life) → ⊥
+      no_enqueue among = by_enqueue (line_from rest (enqueue_of life) among)
 
-      by_dequeue : (o : Operation) → life.dequeue ≡ Some o → (y : Life) × Contains rest y × ((y.enqueue ≡ o) ⊎ (y.dequeue ≡ Some o)) → ⊥
+      by_dequeue : (o : Operation) → dequeue_of life ≡ Some o → (y : Life) × Contains rest y × ((enqueue_of y ≡ o) ⊎ (dequeue_of y ≡ Some o)) → ⊥
       by_dequeue o at (y, among, inl same) =
           let enqueues = life_enqueues operations y o (are y among) same in let dequeues = life_dequeues operations life o is at in differ o enqueues.0 dequeues.0 enqueues.1 dequeues.1.1
       by_dequeue o at (y, among, inr same) = let calls = ap call_or_never (at ∙ sym same) in let less = later y among in omega arith
 
-      no_dequeue : (o : Operation) → life.dequeue ≡ Some o → (o ≡ life.enqueue → ⊥) × (Contains (flat_map lines_of_life rest) o → ⊥)
+      no_dequeue : (o : Operation) → dequeue_of life ≡ Some o → (o ≡ enqueue_of life → ⊥) × (Contains (flat_map operations_of_life rest) o → ⊥)
       no_dequeue o at = (
         λ same. let dequeues = life_dequeues operations life o is at in differ o is.0 dequeues.0 (ap (λ x. x.kind) same ∙ is.1.1) dequeues.1.1,
         λ among. by_dequeue o at (line_from rest o among),
       )
 
-  cover_apart : (cover : List Life) (before : Operation) → IsCalledInside operations empty clear did covered before → IsChosenCoverFrom operations empty before.call cover → Apart (flat_map lines_of_life cover)
+  cover_apart : (cover : List Life) (before : Operation) → IsCalledInside operations empty clear did covered before → IsChosenCoverFrom operations empty before.call cover → Apart (flat_map operations_of_life cover)
   cover_apart [] before inside chosen = absurd chosen
   cover_apart (life ∷ []) before inside chosen = first_apart life [] chosen.0.is_life (λ y among. absurd (not_in_none y among)) (λ y among. absurd (not_in_none y among)) tt
   cover_apart (life ∷ next ∷ rest) before inside chosen =
@@ -196,10 +192,10 @@ module _ (operations : List Operation) (empty : Operation) (clear : IsClear oper
       (λ y among. let stays = all_stay operations empty clear did covered (next ∷ rest) after.0 y after.1.inside after.1.further among in omega (arith, after.1.calls))
       (cover_apart (next ∷ rest) after.0 after.1.inside after.1.further)
 
-  among_lines : (cover : List Life) → ((y : Life) → Contains cover y → IsLife operations y) → (o : Operation) → Contains (flat_map lines_of_life cover) o → Contains operations o × ((o.kind ≡ Empty) → ⊥)
+  among_lines : (cover : List Life) → ((y : Life) → Contains cover y → IsLife operations y) → (o : Operation) → Contains (flat_map operations_of_life cover) o → Contains operations o × ((o.kind ≡ Empty) → ⊥)
   among_lines cover are o among = by_line (line_from cover o among)
     where
-      by_line : (y : Life) × Contains cover y × ((y.enqueue ≡ o) ⊎ (y.dequeue ≡ Some o)) → Contains operations o × ((o.kind ≡ Empty) → ⊥)
+      by_line : (y : Life) × Contains cover y × ((enqueue_of y ≡ o) ⊎ (dequeue_of y ≡ Some o)) → Contains operations o × ((o.kind ≡ Empty) → ⊥)
       by_line (y, in_cover, inl same) =
           let is = are y in_cover in
           (subst (Contains operations) same is.1.0, λ none. let kinds : Enq is.0 ≡ Empty = sym (ap (λ x. x.kind) (sym same) ∙ is.1.1) ∙ none in cc)
@@ -223,7 +219,7 @@ module _ (events : List Event) (complete : IsCompleteHistory events) where
       let are = λ (y : Life) (among : Contains cover y). chosen_are_lives operations empty cover empty.call y chosen.3.cover_is_chosen among in
       let lines = among_lines operations empty clear did covered cover are in
       few_apart events (lines_of (witness empty cover)) complete
-      (λ o among. elim (contains_cons empty (flat_map lines_of_life cover) o among) [ inl same ↦ subst (Contains operations) same did.0 | inr later ↦ (lines o later).0 ])
+      (λ o among. elim (contains_cons empty (flat_map operations_of_life cover) o among) [ inl same ↦ subst (Contains operations) same did.0 | inr later ↦ (lines o later).0 ])
       (λ among. (lines empty among).1 did.1, apart)
 
   few_chosen : (breach : Breach) → length events ≤ MAX_EVENTS → IsChosenBreach (operations_of events) breach → length (lines_of breach) ≤ MAX_OPERATIONS

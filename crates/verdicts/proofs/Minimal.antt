@@ -1,6 +1,6 @@
 -- The selection by the lines of the chosen violation is minimal.
 use Rattle.std.proofs.Common.{◌≡◌, ℕ, zero, ◌⊎◌, Bool, true, false, cond, List, [], ◌∷◌, Option, Some, None, refl, sym, ◌∙◌, ap, subst, inl, inr, arith}
-use Rattle.std.specs.Prelude.{Contains, filter, flat_map, option_to_list}
+use Rattle.std.specs.Prelude.{Contains, filter, flat_map}
 use Rattle.history_merge.specs.declared.operation.Operation.{Operation}
 use Rattle.history_merge.specs.declared.operation.OpKind.TheVariants.{Enq, Empty}
 use Rattle.history_merge.specs.Operations.{Did}
@@ -8,7 +8,7 @@ use Rattle.history_merge.specs.Complete.{AreComplete}
 use Rattle.history_merge.specs.Legal.{IsLinearizable}
 use Rattle.history_merge.proofs.Distinct.{contains_cons, call_before_return, same_enqueue}
 use Rattle.value_match.specs.declared.life.Life.{Life}
-use Rattle.value_match.specs.Lives.{IsCovered, Covers}
+use Rattle.value_match.specs.Lives.{IsCovered, Covers, enqueue_of, operations_of_life}
 use Rattle.value_match.specs.Violations.{Breach, fresh, repeat, order, witness, IsBreachOf, IsOrderViolation, IsWitnessViolation, IsClear, lines_of}
 use Rattle.value_match.specs.Choice.{IsChosenBreach, IsChosenWitness}
 use Rattle.value_match.proofs.Lists.{one_deeper, passed_filter}
@@ -42,8 +42,8 @@ alone_at : (x y z : Life) (c : ℕ) → z ≡ y → Covers z c → (Covers y c �
 alone_at x y z c one covers only = one ∙ only (subst (λ life. Covers life c) one covers)
 
 -- and has its value
-of_same_life : (z x : Life) (v : ℕ) → z ≡ x → x.enqueue.kind ≡ Enq v → HasValue z.enqueue v
-of_same_life z x v same is = ap (λ life. value_of life.enqueue.kind) same ∙ ap value_of is
+of_same_life : (z x : Life) (v : ℕ) → z ≡ x → (enqueue_of x).kind ≡ Enq v → HasValue (enqueue_of z) v
+of_same_life z x v same is = ap (λ life. value_of (enqueue_of life).kind) same ∙ ap value_of is
 
 -- a violation is shown by some operation
 some_operation : (operations : List Operation) (breach : Breach) → IsBreachOf operations breach → (o : Operation) × Contains operations o
@@ -128,7 +128,7 @@ module _ (operations : List Operation) (complete : AreComplete operations) (valu
 
     module _ (empty : Operation) (cover : List Life) (clear : IsClear operations) (chosen : IsChosenWitness operations empty cover) (named : SelectsNamed (lines_of (witness empty cover)) values calls) where
       line_is : (l : Operation) → Contains (lines_of (witness empty cover)) l → (empty ≡ l) ⊎ IsOpOfLife operations cover l
-      line_is l at = elim (contains_cons empty (flat_map (λ life. life.enqueue ∷ option_to_list life.dequeue) cover) l at) [
+      line_is l at = elim (contains_cons empty (flat_map operations_of_life cover) l at) [
         | inl same ↦ inl same
         | inr later ↦ inr (cover_lines operations cover (λ life among. chosen_are_lives operations empty cover empty.call life chosen.cover_is_chosen among) l later)
       ]
@@ -147,7 +147,7 @@ module _ (operations : List Operation) (complete : AreComplete operations) (valu
           ]
 
       -- the others have values of the cover
-      has_value_of_cover : (o : Operation) (v : ℕ) → Contains small o → HasValue o v → (life : Life) × Contains cover life × Did operations life.enqueue (Enq v)
+      has_value_of_cover : (o : Operation) (v : ℕ) → Contains small o → HasValue o v → (life : Life) × Contains cover life × Did operations (enqueue_of life) (Enq v)
       has_value_of_cover o v among is =
           let line = selected_for (lines_of (witness empty cover)) values calls named operations o complete are_lines among in
           elim (line_is line.0 line.1.among) [
@@ -155,7 +155,7 @@ module _ (operations : List Operation) (complete : AreComplete operations) (valu
             | inr of_life ↦
                 let both : Some of_life.is_life.0 ≡ Some v = sym of_life.is_of.1 ∙ line.1.same_value ∙ is in
                 let values_same : of_life.is_life.0 ≡ v = cc in
-                (of_life.life, of_life.among, subst (λ w. Did operations of_life.life.enqueue (Enq w)) values_same of_life.is_life.1)
+                (of_life.life, of_life.among, subst (λ w. Did operations (enqueue_of of_life.life) (Enq w)) values_same of_life.is_life.1)
           ]
 
       smaller_is_clear : IsClear smaller
@@ -173,12 +173,12 @@ module _ (operations : List Operation) (complete : AreComplete operations) (valu
           let gap = gap_without operations empty clear chosen.answers_empty chosen.is_covered cover x.0 window chosen.cover_is_chosen x.1 in
           let z = subst (IsCovered smaller) same covered gap.0 (gap.1, gap.2) in
           let is_z = life_in_whole operations values calls z.0 (life_in_whole small values' calls' z.0 z.1) in
-          let y = has_value_of_cover z.0.enqueue is_z.0 (in_small z.0.enqueue z.1.1.0).0 (enqueued_value z.0.enqueue is_z.0 is_z.1.1) in
-          let enqueues = same_enqueue operations z.0.enqueue y.0.enqueue is_z.0 complete is_z.1 y.2 in
+          let y = has_value_of_cover (enqueue_of z.0) is_z.0 (in_small (enqueue_of z.0) z.1.1.0).0 (enqueued_value (enqueue_of z.0) is_z.0 is_z.1.1) in
+          let enqueues = same_enqueue operations (enqueue_of z.0) (enqueue_of y.0) is_z.0 complete is_z.1 y.2 in
           let one = one_life_of_enqueue operations z.0 y.0 clear is_z (chosen_are_lives operations empty cover empty.call y.0 chosen.cover_is_chosen y.1) enqueues in
           let only = alone_at x.0 y.0 z.0 gap.0 one z.2 (gap.3 y.0 y.1) in
           let has_v = of_same_life z.0 x.0 v only x.2.1 in
-          none_of_its_value z.0.enqueue v is_missing has_v z.1.1.0
+          none_of_its_value (enqueue_of z.0) v is_missing has_v z.1.1.0
 
       no_cover : (empty' : Operation) (cover' : List Life) → IsWitnessViolation smaller empty' cover' → ⊥
       no_cover empty' cover' is = by_value (value_of missing.kind) refl

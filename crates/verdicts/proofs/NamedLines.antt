@@ -9,7 +9,7 @@ use Rattle.history_merge.specs.Operations.{Did, NoneDid, Precedes}
 use Rattle.history_merge.specs.Complete.{AreComplete}
 use Rattle.history_merge.proofs.Distinct.{contains_cons, not_in_none, same_call}
 use Rattle.value_match.specs.declared.life.Life.{Life}
-use Rattle.value_match.specs.Lives.{IsLife}
+use Rattle.value_match.specs.Lives.{IsLife, dequeue_of, enqueue_of, operations_of_life}
 use Rattle.value_match.specs.Violations.{Breach, fresh, repeat, order, witness, IsFreshViolation, IsRepeatViolation, IsOrderViolation, IsBreachOf, lines_of}
 use Rattle.value_match.specs.Choice.{IsChosenBreach}
 use Rattle.value_match.proofs.Lists.{kept, keeps, mapped_from, mapped_to, passed_filter}
@@ -75,9 +75,9 @@ pub record IsOpOfLife (operations : List Operation) (cover : List Life) (o : Ope
   pub is_of : IsOpOf operations is_life.0 o
 
 pub cover_lines : (operations : List Operation) (cover : List Life) → ((life : Life) → Contains cover life → IsLife operations life)
-    → (o : Operation) → Contains (flat_map (λ life. life.enqueue ∷ option_to_list life.dequeue) cover) o → IsOpOfLife operations cover o
+    → (o : Operation) → Contains (flat_map operations_of_life cover) o → IsOpOfLife operations cover o
 cover_lines operations cover lives o at =
-    let found = from_flat_map (λ life. life.enqueue ∷ option_to_list life.dequeue) cover o at in
+    let found = from_flat_map operations_of_life cover o at in
     let is = lives found.0 found.1 in
     record { life = found.0; among = found.1; is_life = is; is_of = of_life found.0 is found.2 }
   where
@@ -85,8 +85,8 @@ cover_lines operations cover lives o at =
     dequeue v None none = none_of (IsOpOf operations v)
     dequeue v (Some d) did = each_of (IsOpOf operations v) d [] (op_of operations d (Deq v) v did refl) (none_of (IsOpOf operations v))
 
-    of_life : (life : Life) (is : IsLife operations life) → Contains (life.enqueue ∷ option_to_list life.dequeue) o → IsOpOf operations is.0 o
-    of_life life is at' = each_of (IsOpOf operations is.0) life.enqueue (option_to_list life.dequeue) (op_of operations life.enqueue (Enq is.0) is.0 is.1 refl) (dequeue is.0 life.dequeue is.2) o at'
+    of_life : (life : Life) (is : IsLife operations life) → Contains (operations_of_life life) o → IsOpOf operations is.0 o
+    of_life life is at' = each_of (IsOpOf operations is.0) (enqueue_of life) (option_to_list (dequeue_of life)) (op_of operations (enqueue_of life) (Enq is.0) is.0 is.1 refl) (dequeue is.0 (dequeue_of life) is.2) o at'
 
 -- the lines of a chosen violation are operations
 pub lines_are_operations : (operations : List Operation) (breach : Breach) → IsBreachOf operations breach → IsChosenBreach operations breach → (o : Operation) → Contains (lines_of breach) o → Contains operations o
@@ -94,7 +94,7 @@ lines_are_operations operations (fresh deq enq) is chosen o at = ((fresh_lines o
 lines_are_operations operations (repeat enq first second) is chosen o at = (repeat_lines operations enq first second is o at).0
 lines_are_operations operations (order enq_a enq_b deq_b deq_a) is chosen o at = elim (order_lines operations enq_a enq_b deq_b deq_a is o at) [ inl of_a ↦ of_a.0 | inr of_b ↦ of_b.0 ]
 lines_are_operations operations (witness empty cover) is chosen o at =
-    elim (contains_cons empty (flat_map (λ life. life.enqueue ∷ option_to_list life.dequeue) cover) o at) [
+    elim (contains_cons empty (flat_map operations_of_life cover) o at) [
       | inl same ↦ subst (Contains operations) same is.answers_empty.0
       | inr later ↦ (cover_lines operations cover (λ life among. chosen_are_lives operations empty cover empty.call life chosen.3.cover_is_chosen among) o later).is_of.0
     ]

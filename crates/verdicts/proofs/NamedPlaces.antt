@@ -9,7 +9,7 @@ use Rattle.value_match.specs.declared.life.Life.{Life}
 use Rattle.value_match.specs.declared.violation.CoverStep.{CoverStep}
 use Rattle.value_match.specs.declared.violation.Violation.{Violation}
 use Rattle.value_match.specs.declared.violation.Violation.TheVariants as violation
-use Rattle.value_match.specs.Lives.{IsMaybeAt}
+use Rattle.value_match.specs.Lives.{IsMaybeAt, dequeue_of, enqueue_of, operations_of_life}
 use Rattle.value_match.specs.Outcome.{Names, NamesCover}
 use Rattle.value_match.specs.Violations.{Breach, fresh, repeat, order, witness, lines_of}
 use Rattle.value_match.proofs.Lists.{one_more}
@@ -42,13 +42,13 @@ places_more operations places listed i place read d within is same in_range so_f
     subst (λ ps. ArePlacesOf operations ps (listed ++ get_or operations place d ∷ [])) (sym (one_more places i place within is'))
     (places-append operations (take i places) (place ∷ []) listed (get_or operations place d ∷ []) so_far here)
 
-cover_places : (operations : List Operation) (steps : List CoverStep) (cover : List Life) → NamesCover operations steps cover → ArePlacesOf operations (flat_map places_of_step steps) (flat_map (λ life. life.enqueue ∷ option_to_list life.dequeue) cover)
+cover_places : (operations : List Operation) (steps : List CoverStep) (cover : List Life) → NamesCover operations steps cover → ArePlacesOf operations (flat_map places_of_step steps) (flat_map operations_of_life cover)
 cover_places operations [] [] names = refl
 cover_places operations [] (life ∷ cover) names = absurd names
 cover_places operations (step ∷ steps) [] names = absurd names
 cover_places operations (step ∷ steps) (life ∷ cover) names =
-    places-append operations (places_of_step step) (flat_map places_of_step steps) (life.enqueue ∷ option_to_list life.dequeue) (flat_map (λ life. life.enqueue ∷ option_to_list life.dequeue) cover)
-    (places-append operations (step.enqueue ∷ []) (option_to_list step.dequeue) (life.enqueue ∷ []) (option_to_list life.dequeue) (ap (λ x. x ∷ []) names.0.0) (maybe_places operations step.dequeue life.dequeue names.0.1))
+    places-append operations (places_of_step step) (flat_map places_of_step steps) (operations_of_life life) (flat_map operations_of_life cover)
+    (places-append operations (step.enqueue ∷ []) (option_to_list step.dequeue) (enqueue_of life ∷ []) (option_to_list (dequeue_of life)) (ap (λ x. x ∷ []) names.0.0) (maybe_places operations step.dequeue (dequeue_of life) names.0.1))
     (cover_places operations steps cover names.1)
 
 -- the places are those of the lines, one by one
@@ -64,7 +64,7 @@ places_of_lines operations (violation.Order enq_a enq_b deq_b deq_a) (order a b 
     places-append operations (enq_a ∷ enq_b ∷ deq_b ∷ []) (option_to_list deq_a) (a ∷ b ∷ d ∷ []) (option_to_list e) three (maybe_places operations deq_a e names.3)
 places_of_lines operations (violation.Order enq_a enq_b deq_b deq_a) _ names = absurd names
 places_of_lines operations (violation.Witness empty cover) (witness o lives) names =
-    places-append operations (empty ∷ []) (flat_map places_of_step cover) (o ∷ []) (flat_map (λ life. life.enqueue ∷ option_to_list life.dequeue) lives) (ap (λ x. x ∷ []) names.0) (cover_places operations cover lives names.1)
+    places-append operations (empty ∷ []) (flat_map places_of_step cover) (o ∷ []) (flat_map operations_of_life lives) (ap (λ x. x ∷ []) names.0) (cover_places operations cover lives names.1)
 places_of_lines operations (violation.Witness empty cover) _ names = absurd names
 
 -- such places are in the list

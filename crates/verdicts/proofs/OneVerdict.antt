@@ -14,7 +14,7 @@ use Rattle.value_match.specs.declared.matching.Matched.TheVariants as matched
 use Rattle.value_match.specs.declared.violation.CoverStep.{CoverStep}
 use Rattle.value_match.specs.declared.violation.Violation.{Violation}
 use Rattle.value_match.specs.declared.violation.Violation.TheVariants as violation
-use Rattle.value_match.specs.Lives.{IsMaybeAt, IsLeastFreeGap, IsCovered, is_empty_answer}
+use Rattle.value_match.specs.Lives.{IsMaybeAt, IsLeastFreeGap, IsCovered, is_empty_answer, dequeue_of, enqueue_of}
 use Rattle.value_match.specs.Choice.{IsChosenCover}
 use Rattle.value_match.specs.Outcome.{Names, NamesCover, IsMatchedOf, IsChosenViolation}
 use Rattle.value_match.specs.Violations.{Breach, fresh, repeat, order, witness, IsBreachOf, IsClear}
@@ -63,10 +63,10 @@ one_list_of_places operations (p ∷ ps) (q ∷ qs) (o ∷ listed) complete at_p
     ap₂ (λ (x : ℕ) (xs : List ℕ). x ∷ xs) (one_place_at operations p q o complete here_p here_q) (one_list_of_places operations ps qs listed complete later_p later_q)
 
 one_step : (operations : List Operation) (p q : CoverStep) (life : Life) → AreComplete operations
-    → IsAt operations p.enqueue life.enqueue × IsMaybeAt operations p.dequeue life.dequeue → IsAt operations q.enqueue life.enqueue × IsMaybeAt operations q.dequeue life.dequeue → p ≡ q
+    → IsAt operations p.enqueue (enqueue_of life) × IsMaybeAt operations p.dequeue (dequeue_of life) → IsAt operations q.enqueue (enqueue_of life) × IsMaybeAt operations q.dequeue (dequeue_of life) → p ≡ q
 one_step operations p q life complete at_p at_q =
     let step : ℕ → Option ℕ → CoverStep = λ e d. record { enqueue = e; dequeue = d } in
-    ap₂ step (one_place_at operations p.enqueue q.enqueue life.enqueue complete at_p.0 at_q.0) (maybe_one_place operations p.dequeue q.dequeue life.dequeue complete at_p.1 at_q.1)
+    ap₂ step (one_place_at operations p.enqueue q.enqueue (enqueue_of life) complete at_p.0 at_q.0) (maybe_one_place operations p.dequeue q.dequeue (dequeue_of life) complete at_p.1 at_q.1)
 
 one_named_cover : (operations : List Operation) (ps qs : List CoverStep) (lives : List Life) → AreComplete operations → NamesCover operations ps lives → NamesCover operations qs lives → ps ≡ qs
 one_named_cover operations [] [] lives complete names_p names_q = refl

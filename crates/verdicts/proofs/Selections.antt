@@ -7,7 +7,7 @@ use Rattle.history_merge.specs.declared.operation.OpKind.{OpKind}
 use Rattle.history_merge.specs.declared.operation.OpKind.TheVariants.{Enq, Deq, Empty, Not}
 use Rattle.history_merge.specs.Operations.{Did, NoneDid, Precedes}
 use Rattle.value_match.specs.declared.life.Life.{Life}
-use Rattle.value_match.specs.Lives.{IsLife}
+use Rattle.value_match.specs.Lives.{IsLife, dequeue_of, enqueue_of, operations_of_life}
 use Rattle.value_match.specs.Violations.{Breach, fresh, repeat, order, witness, IsBreachOf, IsNeverEnqueued, IsEnqueuedTooLate, CoversFrom, lines_of}
 use Rattle.value_match.proofs.Lists.{passes_filter, passed_filter, one_deeper}
 use Rattle.linearizer.proofs.NoneTwice.{into_flat_map}
@@ -17,10 +17,10 @@ first_line : (o : Operation) (lines : List Operation) → Contains (o ∷ lines)
 first_line o lines = (zero, omega arith, refl)
 
 -- the enqueue of each value of a cover is a line
-pub line_of_life : (empty : Operation) (cover : List Life) (life : Life) → Contains cover life → Contains (empty ∷ flat_map (λ life. life.enqueue ∷ option_to_list life.dequeue) cover) life.enqueue
+pub line_of_life : (empty : Operation) (cover : List Life) (life : Life) → Contains cover life → Contains (empty ∷ flat_map operations_of_life cover) (enqueue_of life)
 line_of_life empty cover life among =
-    let lines = flat_map (λ life. life.enqueue ∷ option_to_list life.dequeue) cover in
-    one_deeper empty lines life.enqueue (into_flat_map (λ life. life.enqueue ∷ option_to_list life.dequeue) cover life life.enqueue among (first_line life.enqueue (option_to_list life.dequeue)))
+    let lines = flat_map operations_of_life cover in
+    one_deeper empty lines (enqueue_of life) (into_flat_map operations_of_life cover life (enqueue_of life) among (first_line (enqueue_of life) (option_to_list (dequeue_of life))))
 
 module _ (operations : List Operation) (values empties : ℕ → Bool) where
   abbrev selected : List Operation
@@ -56,30 +56,30 @@ module _ (operations : List Operation) (values empties : ℕ → Bool) where
 
   pub life_in_whole : (life : Life) → IsLife selected life → IsLife operations life
   life_in_whole life is =
-      (is.0, did_in_whole life.enqueue (Enq is.0) is.1, dequeue_in_whole is.0 life.dequeue (value_is_selected life.enqueue is.0 (Enq is.0) is.1 refl) is.2)
+      (is.0, did_in_whole (enqueue_of life) (Enq is.0) is.1, dequeue_in_whole is.0 (dequeue_of life) (value_is_selected (enqueue_of life) is.0 (Enq is.0) is.1 refl) is.2)
 
-  pub life_in_selected : (life : Life) → IsLife operations life → selects values empties life.enqueue ≡ true → IsLife selected life
+  pub life_in_selected : (life : Life) → IsLife operations life → selects values empties (enqueue_of life) ≡ true → IsLife selected life
   life_in_selected life is selects_it =
-      let value = sym (selects_by_value life.enqueue is.0 (Enq is.0) is.1.1 refl) ∙ selects_it in
-      (is.0, did_in_selected life.enqueue (Enq is.0) is.1 selects_it, dequeue_in_selected is.0 life.dequeue value is.2)
+      let value = sym (selects_by_value (enqueue_of life) is.0 (Enq is.0) is.1.1 refl) ∙ selects_it in
+      (is.0, did_in_selected (enqueue_of life) (Enq is.0) is.1 selects_it, dequeue_in_selected is.0 (dequeue_of life) value is.2)
 
   cover_in_whole : (empty before : Operation) (cover : List Life) → CoversFrom selected empty before cover → CoversFrom operations empty before cover
   cover_in_whole empty before [] covers = covers
   cover_in_whole empty before (life ∷ []) covers = (life_in_whole life covers.0, covers.1, covers.2)
-  cover_in_whole empty before (life ∷ next ∷ rest) covers = (life_in_whole life covers.0, covers.1, further life.dequeue covers.2 (λ d. cover_in_whole empty d (next ∷ rest)))
+  cover_in_whole empty before (life ∷ next ∷ rest) covers = (life_in_whole life covers.0, covers.1, further (dequeue_of life) covers.2 (λ d. cover_in_whole empty d (next ∷ rest)))
     where
       further : (dequeue : Option Operation) → MatchOption dequeue ⊥ (λ d. CoversFrom selected empty d (next ∷ rest)) → ((d : Operation) → CoversFrom selected empty d (next ∷ rest) → CoversFrom operations empty d (next ∷ rest))
           → MatchOption dequeue ⊥ (λ d. CoversFrom operations empty d (next ∷ rest))
       further None covers' more = covers'
       further (Some d) covers' more = more d covers'
 
-  cover_in_selected : (empty before : Operation) (cover : List Life) → CoversFrom operations empty before cover → ((life : Life) → Contains cover life → selects values empties life.enqueue ≡ true) → CoversFrom selected empty before cover
+  cover_in_selected : (empty before : Operation) (cover : List Life) → CoversFrom operations empty before cover → ((life : Life) → Contains cover life → selects values empties (enqueue_of life) ≡ true) → CoversFrom selected empty before cover
   cover_in_selected empty before [] covers each = covers
   cover_in_selected empty before (life ∷ []) covers each = (life_in_selected life covers.0 (each life (zero, omega arith, refl)), covers.1, covers.2)
   cover_in_selected empty before (life ∷ next ∷ rest) covers each = (
     life_in_selected life covers.0 (each life (zero, omega arith, refl)),
     covers.1,
-    further life.dequeue covers.2 (λ d covers'. cover_in_selected empty d (next ∷ rest) covers' (λ x among. each x (one_deeper life (next ∷ rest) x among))),
+    further (dequeue_of life) covers.2 (λ d covers'. cover_in_selected empty d (next ∷ rest) covers' (λ x among. each x (one_deeper life (next ∷ rest) x among))),
   )
     where
       further : (dequeue : Option Operation) → MatchOption dequeue ⊥ (λ d. CoversFrom operations empty d (next ∷ rest)) → ((d : Operation) → CoversFrom operations empty d (next ∷ rest) → CoversFrom selected empty d (next ∷ rest))
@@ -175,5 +175,5 @@ module _ (operations : List Operation) (values empties : ℕ → Bool) where
       later (Some d) did = (did_in_selected d (Deq is.a) did.0 (selects_by_value d is.a (Deq is.a) did.0.1 refl ∙ value_a), did.1)
   breach_in_selected (witness empty cover) is each = record {
     answers_empty = did_in_selected empty Empty is.answers_empty (each empty (zero, omega arith, refl));
-    covers = cover_in_selected empty empty cover is.covers (λ life among. each life.enqueue (line_of_life empty cover life among));
+    covers = cover_in_selected empty empty cover is.covers (λ life among. each (enqueue_of life) (line_of_life empty cover life among));
   }

@@ -2,8 +2,9 @@ use Rattle.std.proofs.Common.{◌≡◌, subst, sym, ap, ◌∙◌, drop}
 use Rattle.std.specs.Prelude.{All, map}
 use Rattle.std.proofs.lemmas.List.{drop-map}
 use Rattle.std.proofs.lemmas.List.Elements.{All-drop}
-use Rattle.value_match.specs.Accepted.{HasPlaces, value_at}
+use Rattle.value_match.specs.Accepted.{value_at}
 use Rattle.value_match.proofs.accepted.Values.split_at.Goals as goal
+use Rattle.value_match.specs.Lives.{HasPlaces}
 
 pub new-requires-2 : goal.new-requires-2
 new-requires-2 c =
