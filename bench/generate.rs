@@ -3,8 +3,10 @@
 //!
 //!     generate KIND EVENTS THREADS SEED
 //!
-//! KIND is `yes`; `names`, a yes with values in no order and with gaps between tickets; or a fault near the end: `fresh`,
-//! `repeat`, `order`, `witness`; or `long`, an empty answer over nearly the whole history.
+//! KIND is `yes`; or a yes of another shape: `names`, with values in no order and gaps between tickets; `wide`, where each of 64
+//! threads has an operation under way nearly all the time; `never`, enqueues alone; `refused`, enqueues that aren't taken;
+//! `empty`, dequeues that find nothing; or a fault near the end: `fresh`, `repeat`, `order`, `witness`; or `long`, an empty answer
+//! over nearly the whole history.
 
 use std::collections::{HashMap, VecDeque};
 use std::env;
@@ -34,6 +36,7 @@ impl Random {
 #[derive(Clone, Copy, PartialEq, Eq)]
 enum Answer {
     Taken(u64),
+    NotTaken,
     Got(u64),
     Empty,
 }
@@ -54,8 +57,28 @@ struct History {
     events: Vec<Event>,
 }
 
+/// What the threads do: how many they are, how many of a hundred operations are enqueues, and whether these are taken.
+struct Plan {
+    threads: usize,
+    percent: usize,
+    takes: bool,
+}
+
+impl Plan {
+    fn of(kind: &str, threads: usize) -> Plan {
+        let percent = match kind {
+            "long" => 53,
+            "never" | "refused" => 100,
+            "empty" => 0,
+            _ => 50,
+        };
+        Plan { threads: if kind == "wide" { 64 } else { threads }, percent, takes: kind != "refused" }
+    }
+}
+
 /// Calls of threads under way, in turns that chance gives: a call begins, takes effect, or returns.
-fn play(events: usize, threads: usize, percent: usize, random: &mut Random) -> History {
+fn play(events: usize, plan: &Plan, random: &mut Random) -> History {
+    let &Plan { threads, percent, takes } = plan;
     let total = events / 2;
     let mut history = History { operations: Vec::with_capacity(total), events: Vec::with_capacity(2 * total) };
     let mut queue = VecDeque::new();
@@ -85,6 +108,8 @@ fn play(events: usize, threads: usize, percent: usize, random: &mut Random) -> H
             under_way.swap_remove(at);
             idle.push(operation.thread);
             history.events.push((place, true));
+        } else if operation.is_enqueue && !takes {
+            operation.answer = Some(Answer::NotTaken);
         } else if operation.is_enqueue {
             queue.push_back(operation.value);
             operation.answer = Some(Answer::Taken(operation.value));
@@ -196,8 +221,9 @@ fn write(history: &History, has_gaps: bool, random: &mut Random) -> io::Result<(
         let operation = &history.operations[place];
         write!(to, "{ticket} {} ", operation.thread)?;
         match (operation.answer, is_return) {
-            (Some(Answer::Taken(value)), false) => writeln!(to, "call-enq {}", name(value))?,
+            (_, false) if operation.is_enqueue => writeln!(to, "call-enq {}", name(operation.value))?,
             (Some(Answer::Taken(_)), true) => writeln!(to, "ret-enq")?,
+            (Some(Answer::NotTaken), true) => writeln!(to, "ret-not")?,
             (_, false) => writeln!(to, "call-deq")?,
             (Some(Answer::Got(value)), true) => writeln!(to, "ret-deq {}", name(value))?,
             (_, true) => writeln!(to, "ret-empty")?,
@@ -219,7 +245,7 @@ fn main() -> io::Result<()> {
     let is_long = kind == "long";
     let is_witness = is_long || kind == "witness";
     let played = events - if is_witness { 2 } else { 0 };
-    let mut history = play(played, *threads, if is_long { 53 } else { 50 }, &mut random);
+    let mut history = play(played, &Plan::of(kind, *threads), &mut random);
     spoil(&mut history, kind);
     if is_witness {
         add_empty_answer(&mut history, *threads, is_long);

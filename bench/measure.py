@@ -13,7 +13,7 @@ import sys
 
 FOLDER, PROGRAM = sys.argv[1:3]
 SIZES = [int(word) for word in os.environ.get("BENCH_SIZES", "20000 200000 2000000").split()]
-KINDS = os.environ.get("BENCH_KINDS", "yes names fresh repeat order witness long").split()
+KINDS = os.environ.get("BENCH_KINDS", "yes names wide never refused empty fresh repeat order witness long").split()
 ROUNDS = int(os.environ.get("BENCH_ROUNDS", 9))
 THREADS, SEED = 4, 1
 
@@ -83,8 +83,7 @@ def ratios():
                 kind, size, first_line(at("fifobench")), times["fifobench", kind, size],
                 times["plain", kind, size], ratio, *memory, memory[0] / memory[1]))
             sys.stdout.flush()
-            if (kind, size) != ("yes", SIZES[-1]):
-                os.unlink(source)
+            os.unlink(source)
     return times
 
 
@@ -103,21 +102,26 @@ def stages():
     """Reading, deciding and writing, told from outside: a text that is refused at its last line is read and no more; where
     the first write is refused (/dev/full) nothing is written."""
     size = SIZES[-1]
-    source = generated("yes", size)
-    with open(source, "rb") as text:
-        lines = text.read()
-    with open(at("refused"), "wb") as text:
-        text.write(lines[:lines.rindex(b"end ")] + b"end 1\n")
-    read, decided, written = rounds(at("refused")), rounds(source, "/dev/full"), rounds(source, at("answer"))
-    print("\nstages of the yes of %d events (%.1f MB), in ms and in ns for each event" % (size, len(lines) / 1e6))
-    for who in PROGRAMS:
-        statuses = [runs[who][0].status for runs in (read, decided, written)]
-        if statuses != [2, 3, 0]:
-            sys.exit("%s: statuses %s" % (who, statuses))
-        until = [median(run.time for run in runs[who]) for runs in (read, decided, written)]
-        parts = [until[0], until[1] - until[0], until[2] - until[1]]
-        print("%-10s %s" % (who, ", ".join("%s %.1f ms (%.0f ns)" % (stage, part, part * 1e6 / size) for stage, part in zip(
-            ("reading", "deciding", "writing"), parts))))
+    print("\nstages at %d events, in ms and in ns for each event" % size)
+    print("%-8s %-10s  %18s %18s %18s" % ("kind", "", "reading", "deciding", "writing"))
+    for kind in KINDS:
+        source = generated(kind, size)
+        with open(source, "rb") as text:
+            lines = text.read()
+        with open(at("refused"), "wb") as text:
+            text.write(lines[:lines.rindex(b"end ")] + b"end 1\n")
+        del lines
+        read, decided, written = rounds(at("refused")), rounds(source, "/dev/full"), rounds(source, at("answer"))
+        for who in PROGRAMS:
+            statuses = [runs[who][0].status for runs in (read, decided, written)]
+            if statuses not in ([2, 3, 0], [2, 3, 1]):
+                sys.exit("%s, %s: statuses %s" % (kind, who, statuses))
+            until = [median(run.time for run in runs[who]) for runs in (read, decided, written)]
+            parts = [until[0], until[1] - until[0], until[2] - until[1]]
+            print("%-8s %-10s  %s" % (kind, who, " ".join(
+                "%8.1f ms (%3.0f ns)" % (part, part * 1e6 / size) for part in parts)))
+        sys.stdout.flush()
+        os.unlink(source)
 
 
 def cpu_times():

@@ -7,8 +7,9 @@ use order_violation::find_order;
 use std::alloc::{AllocError, Global};
 use std::process::Abort;
 use std::test::Fail;
+use std::thread::Threads;
 use value_match::{Cover, Matched, Matching, Violation, match_values};
-use verdicts::{Verdict, decide};
+use verdicts::{Verdict, decide, decide_par};
 
 /// An operation of a row: its thread, what it did, and the tickets of its call and its return.
 pub(crate) type Row = (u8, OpKind, u64, u64);
@@ -177,12 +178,11 @@ fn push_violation(violation: &Violation, places: &mut Vec<usize>) -> Result<Kind
     }
 }
 
-/// The kind of the verdict on the operations, with the places of the operations that it lists.
-fn decided(rt: &impl Abort, alloc: Global, rows: &[Row]) -> Result<(Kind, Vec<usize>), Fail> {
-    let history = history_of(rt, alloc, rows)?;
+/// The kind of the verdict, with the places of the operations that it lists.
+fn listed(alloc: Global, verdict: &Verdict) -> Result<(Kind, Vec<usize>), AllocError> {
     let mut places = Vec::new(alloc);
-    let kind = match decide(alloc, &history)? {
-        Verdict::No(violation) => push_violation(&violation, &mut places)?,
+    let kind = match verdict {
+        Verdict::No(violation) => push_violation(violation, &mut places)?,
         Verdict::Yes(order) => {
             for id in order.as_slice() {
                 places.push(id.place())?;
@@ -193,16 +193,23 @@ fn decided(rt: &impl Abort, alloc: Global, rows: &[Row]) -> Result<(Kind, Vec<us
     Ok((kind, places))
 }
 
-fn check(
-    rt: &impl Abort,
+/// Asserts the verdict on the operations, of the plain call and of that in 1, 2 and 64 pieces.
+fn check<R: Abort + Threads + Sync>(
+    rt: &R,
     alloc: Global,
     rows: &[Row],
     kind: Kind,
     places: &[usize],
 ) -> Result<(), Fail> {
-    let (decided, listed) = decided(rt, alloc, rows)?;
+    let history = history_of(rt, alloc, rows)?;
+    let (decided, found) = listed(alloc, &decide(alloc, &history)?)?;
     assert_eq!(rt; decided, kind);
-    assert_eq!(rt; listed.as_slice(), places);
+    assert_eq!(rt; found.as_slice(), places);
+    for pieces in [1, 2, 64] {
+        let (decided, found) = listed(alloc, &decide_par(rt, alloc, &history, pieces)?)?;
+        assert_eq!(rt; decided, kind);
+        assert_eq!(rt; found.as_slice(), places);
+    }
     Ok(())
 }
 

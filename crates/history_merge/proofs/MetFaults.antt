@@ -10,7 +10,11 @@ use Rattle.history_merge.specs.declared.fault.HistoryFault.{HistoryFault}
 use Rattle.history_merge.specs.declared.builder.HistoryBuilder.{HistoryBuilder}
 use Rattle.history_merge.specs.Faults.{fault_at, NoFaultBefore, IsFirstFault}
 use Rattle.history_merge.specs.Gathering.{HasGathered, HasMetFault, IsForming}
-use Rattle.history_merge.proofs.ExactFaults.{first_fault_at}
+use Rattle.history_merge.specs.Complete.{IsCompleteHistory}
+use Rattle.history_merge.specs.declared.fault.HistoryFault.TheVariants.{Memory, Pending}
+use Rattle.history_merge.specs.Faults.{IsLeastPending}
+use Rattle.history_merge.specs.Progress.{HasTracked}
+use Rattle.history_merge.proofs.ExactFaults.{complete_has_no_fault, first_fault_at}
 
 slice_get-append_left : (xs ys : List Event) (i : ℕ) → i < length xs → slice_get (xs ++ ys) i ≡ slice_get xs i
 slice_get-append_left [] ys i below = absurd (omega arith)
@@ -75,3 +79,17 @@ gathered_without_fault events builder none known = join builder.fault none
     join : (fault : Option HistoryFault) → false ≡ is_some fault → MatchOption fault (IsForming events builder) (HasMetFault events)
     join None h = known
     join (Some fault) h = cc
+
+-- where no fault is kept, the events have none so far
+pub still_forming : (events : List Event) (builder : HistoryBuilder) → builder.fault ≡ None → HasGathered events builder → IsForming events builder
+still_forming events builder none gathered = subst (λ fault. MatchOption fault (IsForming events builder) (HasMetFault events)) none gathered
+
+-- a fault that is kept was met
+pub kept_is_met : (events : List Event) (builder : HistoryBuilder) (fault : HistoryFault) → builder.fault ≡ Some fault → HasGathered events builder → HasMetFault events fault
+kept_is_met events builder fault kept gathered = subst (λ kept. MatchOption kept (IsForming events builder) (HasMetFault events)) kept gathered
+
+-- in a complete history nothing is left pending
+pub none_left_pending : {builder : HistoryBuilder} {ticket : ℕ} (events : List Event) → IsForming events builder
+    → ((before : List Event) → HasTracked before builder.progress → IsLeastPending before ticket) → IsCompleteHistory events → Pending ticket ≡ Memory
+none_left_pending {builder} {ticket} events known least complete =
+    complete_has_no_fault events (Pending ticket) (known.no_fault, least events known.tracked) complete
