@@ -1,5 +1,6 @@
 -- The empty answers by their places, and one more of them in a scan.
-use Rattle.std.proofs.Common.{◌≡◌, ℕ, zero, suc, ◌+◌, ◌<◌, ◌≤◌, true, false, List, [], ◌∷◌, ◌++◌, length, get_or, take, drop, map, Option, Some, None, refl, sym, subst, inl, inr, arith}
+use Rattle.std.proofs.Common.{◌≡◌, ℕ, zero, suc, ◌+◌, ◌<◌, ◌≤◌, true, false, List, [], ◌∷◌, ◌++◌, length, get_or, take, drop, map, Option, Some, None}
+use Rattle.std.proofs.Common.{refl, sym, subst, inl, inr, arith}
 use Rattle.std.specs.Prelude.{All, Contains, filter, slice_get, MatchOption, is_none}
 use Rattle.history_merge.proofs.Distinct.{one_at}
 use Rattle.std.specs.List.{AllZip}
@@ -19,11 +20,13 @@ use Rattle.empty_witness.specs.Answers.{IsEmptyAnswerAt, AreGapsAt}
 use Rattle.empty_witness.specs.Covered.{IsSoonerOf, IsFirstCovered}
 
 -- the operation that a place of a list of places names
-pub listed_at : (operations : List Operation) (places : List ℕ) (listed : List Operation) (i p : ℕ) → ArePlacesOf operations places listed → i < length places → p ≡ get_or places i p
+pub listed_at : (operations : List Operation) (places : List ℕ) (listed : List Operation) (i p : ℕ) → ArePlacesOf operations places listed
+    → i < length places → p ≡ get_or places i p
     → (o : Operation) × IsAt operations p o × (i < length listed) × (o ≡ get_or listed i o)
 listed_at operations [] listed i p named within is = absurd (omega arith)
 listed_at operations (q ∷ places) [] i p named within is = cc
-listed_at operations (q ∷ places) (o ∷ listed) zero p named within is = let at : slice_get operations q ≡ Some o = cc in (o, subst (λ r. IsAt operations r o) (sym is) at, omega arith, refl)
+listed_at operations (q ∷ places) (o ∷ listed) zero p named within is = let at : slice_get operations q ≡ Some o = cc in
+    (o, subst (λ r. IsAt operations r o) (sym is) at, omega arith, refl)
 listed_at operations (q ∷ places) (o ∷ listed) (suc i) p named within is =
     let rest : map (slice_get operations) places ≡ map (λ o. Some o) listed = cc in
     let more = listed_at operations places listed i p rest (omega arith) is in
@@ -47,19 +50,25 @@ places_are_empty operations places named = All-from_get_or (IsEmptyAnswerAt oper
   where
     at : (i : ℕ) → i < length places → IsEmptyAnswerAt operations (get_or places i 0)
     at i within =
-        let found = listed_at operations places (filter is_empty_answer operations) i (get_or places i 0) named within (get_or_default places i 0 (get_or places i 0) within) in
-        let among = subst (Contains (filter is_empty_answer operations)) (sym found.3) (Contains-get_or (filter is_empty_answer operations) i found.0 found.2) in
+        let found = listed_at operations places (filter is_empty_answer operations) i (get_or places i 0) named within
+            (get_or_default places i 0 (get_or places i 0) within) in
+        let among = subst (Contains (filter is_empty_answer operations)) (sym found.3)
+            (Contains-get_or (filter is_empty_answer operations) i found.0 found.2) in
         (found.0, found.1, (is_empty_did operations found.0 among).1)
 
-pub answer_is_empty : (operations : List Operation) (places : List ℕ) (i place : ℕ) → All (IsEmptyAnswerAt operations) places → i < length places → place ≡ get_or places i place → IsEmptyAnswerAt operations place
-answer_is_empty operations places i place empty within is = subst (IsEmptyAnswerAt operations) (sym is) (All-get_or (IsEmptyAnswerAt operations) places i place within empty)
+pub answer_is_empty : (operations : List Operation) (places : List ℕ) (i place : ℕ) → All (IsEmptyAnswerAt operations) places → i < length places
+    → place ≡ get_or places i place → IsEmptyAnswerAt operations place
+answer_is_empty operations places i place empty within is = subst (IsEmptyAnswerAt operations) (sym is)
+    (All-get_or (IsEmptyAnswerAt operations) places i place within empty)
 
 -- what is listed has a place
-place_listed : (operations : List Operation) (places : List ℕ) (listed : List Operation) (i : ℕ) (o : Operation) → ArePlacesOf operations places listed → i < length listed → get_or listed i o ≡ o
+place_listed : (operations : List Operation) (places : List ℕ) (listed : List Operation) (i : ℕ) (o : Operation)
+    → ArePlacesOf operations places listed → i < length listed → get_or listed i o ≡ o
     → (p : ℕ) × Contains places p × IsAt operations p o
 place_listed operations places [] i o named within is = absurd (omega arith)
 place_listed operations [] (x ∷ listed) i o named within is = cc
-place_listed operations (p ∷ places) (x ∷ listed) zero o named within is = let at : slice_get operations p ≡ Some x = cc in (p, (zero, omega arith, refl), subst (IsAt operations p) is at)
+place_listed operations (p ∷ places) (x ∷ listed) zero o named within is = let at : slice_get operations p ≡ Some x = cc in
+    (p, (zero, omega arith, refl), subst (IsAt operations p) is at)
 place_listed operations (p ∷ places) (x ∷ listed) (suc i) o named within is =
     let rest : map (slice_get operations) places ≡ map (λ o. Some o) listed = cc in
     let more = place_listed operations places listed i o rest (omega arith) is in
@@ -70,11 +79,13 @@ pub free_is_not_covered : (operations : List Operation) (o : Operation) (c : ℕ
 free_is_not_covered operations o c is covered = let life = covered c is.in_window in is.is_free life.0 life.1 life.2
 
 -- what the search for the least free gap tells of the window
-pub covered_if_none : (operations : List Operation) (o : Operation) (found : Option ℕ) → MatchOption found (IsCovered operations o) (λ c. IsLeastFreeGap operations o c) → is_none found ≡ true → IsCovered operations o
+pub covered_if_none : (operations : List Operation) (o : Operation) (found : Option ℕ)
+    → MatchOption found (IsCovered operations o) (λ c. IsLeastFreeGap operations o c) → is_none found ≡ true → IsCovered operations o
 covered_if_none operations o None covered none = covered
 covered_if_none operations o (Some c) is none = cc
 
-pub gap_if_some : (operations : List Operation) (o : Operation) (found : Option ℕ) → MatchOption found (IsCovered operations o) (λ c. IsLeastFreeGap operations o c) → is_none found ≡ false → (c : ℕ) × IsLeastFreeGap operations o c
+pub gap_if_some : (operations : List Operation) (o : Operation) (found : Option ℕ)
+    → MatchOption found (IsCovered operations o) (λ c. IsLeastFreeGap operations o c) → is_none found ≡ false → (c : ℕ) × IsLeastFreeGap operations o c
 gap_if_some operations o None covered some = cc
 gap_if_some operations o (Some c) is some = (c, is)
 
@@ -103,83 +114,106 @@ module _ (operations : List Operation) where
 
   -- where each has a gap none is covered
   gap_is_free : (place c : ℕ) → HasGap place c → IsFree place
-  gap_is_free place c has o at = free_is_not_covered operations o c (subst (λ x. IsLeastFreeGap operations x c) (one_at operations place has.0 o has.1 at) has.2)
+  gap_is_free place c has o at = free_is_not_covered operations o c
+      (subst (λ x. IsLeastFreeGap operations x c) (one_at operations place has.0 o has.1 at) has.2)
 
   gaps_are_free : (places gaps : List ℕ) → AreGapsAt operations places gaps → All IsFree places
   gaps_are_free [] gaps zip = All-nil IsFree
   gaps_are_free (place ∷ places) [] zip = absurd zip
-  gaps_are_free (place ∷ places) (c ∷ gaps) zip = All-append IsFree (place ∷ []) places (All-push IsFree [] place (All-nil IsFree) (gap_is_free place c zip.0)) (gaps_are_free places gaps zip.1)
+  gaps_are_free (place ∷ places) (c ∷ gaps) zip = All-append IsFree (place ∷ []) places
+      (All-push IsFree [] place (All-nil IsFree) (gap_is_free place c zip.0)) (gaps_are_free places gaps zip.1)
 
   later_than_free : (answer : EmptyAnswer) (places : List ℕ) → All IsFree places → All (ReturnsLater answer) places
   later_than_free answer places free = All-weaker IsFree (ReturnsLater answer) (λ place not o at covered. absurd (not o at covered)) places free
 
   later_than_later : (a r : EmptyAnswer) (places : List ℕ) → r.operation.ret ≤ a.operation.ret → All (ReturnsLater a) places → All (ReturnsLater r) places
-  later_than_later a r places le later = All-weaker (ReturnsLater a) (ReturnsLater r) (λ place before o at covered. further place o (before o at covered)) places later
+  later_than_later a r places le later = All-weaker (ReturnsLater a) (ReturnsLater r)
+      (λ place before o at covered. further place o (before o at covered)) places later
     where
       further : (place : ℕ) (o : Operation) → a.operation.ret ≤ o.ret → r.operation.ret ≤ o.ret
       further place o far = omega (arith, le, far)
 
   -- of the first of some places and the first of others, the sooner is the first of both
-  pub sooner_is_first : (low high : List ℕ) (a b r : EmptyAnswer) → IsFirstCovered operations low a → IsFirstCovered operations high b → IsSoonerOf a b r → IsFirstCovered operations (low ++ high) r
+  pub sooner_is_first : (low high : List ℕ) (a b r : EmptyAnswer) → IsFirstCovered operations low a → IsFirstCovered operations high b
+      → IsSoonerOf a b r → IsFirstCovered operations (low ++ high) r
   sooner_is_first low high a b r is_a is_b sooner =
       first_of (low ++ high) r
-      (elim sooner.is_one [ inl same ↦ subst IsCoveredAnswer (sym same) (covered_of low a is_a) | inr same ↦ subst IsCoveredAnswer (sym same) (covered_of high b is_b) ])
-      (All-append (ReturnsLater r) low high (later_than_later a r low sooner.before_first is_a.first) (later_than_later b r high sooner.before_second is_b.first))
+      (elim sooner.is_one [ inl same ↦ subst IsCoveredAnswer (sym same) (covered_of low a is_a) | inr same ↦
+          subst IsCoveredAnswer (sym same) (covered_of high b is_b) ])
+      (All-append (ReturnsLater r) low high (later_than_later a r low sooner.before_first is_a.first)
+          (later_than_later b r high sooner.before_second is_b.first))
 
   -- where each of the others has a gap, the first is the first of all
-  pub low_is_first : (low high gaps : List ℕ) (a : EmptyAnswer) → IsFirstCovered operations low a → AreGapsAt operations high gaps → IsFirstCovered operations (low ++ high) a
-  low_is_first low high gaps a is zip = first_of (low ++ high) a (covered_of low a is) (All-append (ReturnsLater a) low high is.first (later_than_free a high (gaps_are_free high gaps zip)))
+  pub low_is_first : (low high gaps : List ℕ) (a : EmptyAnswer) → IsFirstCovered operations low a → AreGapsAt operations high gaps
+      → IsFirstCovered operations (low ++ high) a
+  low_is_first low high gaps a is zip = first_of (low ++ high) a (covered_of low a is)
+      (All-append (ReturnsLater a) low high is.first (later_than_free a high (gaps_are_free high gaps zip)))
 
-  pub high_is_first : (low high gaps : List ℕ) (b : EmptyAnswer) → AreGapsAt operations low gaps → IsFirstCovered operations high b → IsFirstCovered operations (low ++ high) b
-  high_is_first low high gaps b zip is = first_of (low ++ high) b (covered_of high b is) (All-append (ReturnsLater b) low high (later_than_free b low (gaps_are_free low gaps zip)) is.first)
+  pub high_is_first : (low high gaps : List ℕ) (b : EmptyAnswer) → AreGapsAt operations low gaps → IsFirstCovered operations high b
+      → IsFirstCovered operations (low ++ high) b
+  high_is_first low high gaps b zip is = first_of (low ++ high) b (covered_of high b is)
+      (All-append (ReturnsLater b) low high (later_than_free b low (gaps_are_free low gaps zip)) is.first)
 
   -- it is the first of its own place
   pub first_of_one : (x : EmptyAnswer) → IsCoveredAnswer x → IsFirstCovered operations (x.place ∷ []) x
-  first_of_one x is = first_of (x.place ∷ []) x is (All-push (ReturnsLater x) [] x.place (All-nil (ReturnsLater x)) (λ o at covered. later o (one_at operations x.place x.operation o is.at at)))
+  first_of_one x is = first_of (x.place ∷ []) x is (All-push (ReturnsLater x) [] x.place (All-nil (ReturnsLater x))
+      (λ o at covered. later o (one_at operations x.place x.operation o is.at at)))
     where
       later : (o : Operation) → x.operation ≡ o → x.operation.ret ≤ o.ret
       later o same = rw same (omega arith)
 
   -- past the gaps of the first places comes an answer whose window is covered, and then what is found of the others
-  pub from_the_first : (places gaps others : List ℕ) (i : ℕ) (x r : EmptyAnswer) → i < length places → x.place ≡ get_or places i x.place → AreGapsAt operations (take i places) gaps → IsCoveredAnswer x → others ≡ drop (i + 1) places
+  pub from_the_first : (places gaps others : List ℕ) (i : ℕ) (x r : EmptyAnswer) → i < length places → x.place ≡ get_or places i x.place
+      → AreGapsAt operations (take i places) gaps → IsCoveredAnswer x → others ≡ drop (i + 1) places
       → ((seen : List ℕ) → IsFirstCovered operations seen x → IsFirstCovered operations (seen ++ others) r) → IsFirstCovered operations places r
   from_the_first places gaps others i x r within is zip covered rest goes_on =
       let here = high_is_first (take i places) (x.place ∷ []) gaps x zip (first_of_one x covered) in
       let seen = subst (λ ps. IsFirstCovered operations ps x) (sym (one_more places i x.place within is)) here in
-      subst (λ ps. IsFirstCovered operations ps r) (take-append-drop (i + 1) places) (subst (λ ps. IsFirstCovered operations (take (i + 1) places ++ ps) r) rest (goes_on (take (i + 1) places) seen))
+      subst (λ ps. IsFirstCovered operations ps r) (take-append-drop (i + 1) places)
+          (subst (λ ps. IsFirstCovered operations (take (i + 1) places ++ ps) r) rest (goes_on (take (i + 1) places) seen))
 
-  one_further : (seen others : List ℕ) (i place : ℕ) (r : EmptyAnswer) → i < length others → place ≡ get_or others i place → IsFirstCovered operations ((seen ++ take i others) ++ place ∷ []) r → IsFirstCovered operations (seen ++ take (i + 1) others) r
+  one_further : (seen others : List ℕ) (i place : ℕ) (r : EmptyAnswer) → i < length others → place ≡ get_or others i place
+      → IsFirstCovered operations ((seen ++ take i others) ++ place ∷ []) r → IsFirstCovered operations (seen ++ take (i + 1) others) r
   one_further seen others i place r within is first =
-      subst (λ ps. IsFirstCovered operations (seen ++ ps) r) (sym (one_more others i place within is)) (subst (λ ps. IsFirstCovered operations ps r) (append_assoc seen (take i others) (place ∷ [])) first)
+      subst (λ ps. IsFirstCovered operations (seen ++ ps) r) (sym (one_more others i place within is))
+          (subst (λ ps. IsFirstCovered operations ps r) (append_assoc seen (take i others) (place ∷ [])) first)
 
   -- the window of one more of the others is covered
-  pub one_more_covered : (seen others : List ℕ) (i : ℕ) (first x r : EmptyAnswer) → i < length others → x.place ≡ get_or others i x.place → IsFirstCovered operations (seen ++ take i others) first → IsCoveredAnswer x → IsSoonerOf first x r
+  pub one_more_covered : (seen others : List ℕ) (i : ℕ) (first x r : EmptyAnswer) → i < length others → x.place ≡ get_or others i x.place
+      → IsFirstCovered operations (seen ++ take i others) first → IsCoveredAnswer x → IsSoonerOf first x r
       → IsFirstCovered operations (seen ++ take (i + 1) others) r
   one_more_covered seen others i first x r within is so_far covered sooner =
       one_further seen others i x.place r within is (sooner_is_first (seen ++ take i others) (x.place ∷ []) first x r so_far (first_of_one x covered) sooner)
 
   -- the window of one more has a gap
-  pub one_more_free : (seen others : List ℕ) (i place c : ℕ) (o : Operation) (first : EmptyAnswer) → i < length others → place ≡ get_or others i place → IsFirstCovered operations (seen ++ take i others) first → IsAt operations place o
+  pub one_more_free : (seen others : List ℕ) (i place c : ℕ) (o : Operation) (first : EmptyAnswer) → i < length others → place ≡ get_or others i place
+      → IsFirstCovered operations (seen ++ take i others) first → IsAt operations place o
       → IsLeastFreeGap operations o c → IsFirstCovered operations (seen ++ take (i + 1) others) first
-  one_more_free seen others i place c o first within is so_far at free = one_further seen others i place first within is (low_is_first (seen ++ take i others) (place ∷ []) (c ∷ []) first so_far ((o, at, free), tt))
+  one_more_free seen others i place c o first within is so_far at free =
+      one_further seen others i place first within is (low_is_first (seen ++ take i others) (place ∷ []) (c ∷ []) first so_far ((o, at, free), tt))
 
-  pub one_more_gap : (places gaps : List ℕ) (i place c : ℕ) (o : Operation) → i < length places → place ≡ get_or places i place → AreGapsAt operations (take i places) gaps → IsAt operations place o → IsLeastFreeGap operations o c
+  pub one_more_gap : (places gaps : List ℕ) (i place c : ℕ) (o : Operation) → i < length places → place ≡ get_or places i place
+      → AreGapsAt operations (take i places) gaps → IsAt operations place o → IsLeastFreeGap operations o c
       → AreGapsAt operations (take (i + 1) places) (gaps ++ c ∷ [])
   one_more_gap places gaps i place c o within is zip at free =
-      subst (λ seen. AreGapsAt operations seen (gaps ++ c ∷ [])) (sym (one_more places i place within is)) (one_more_zipped HasGap (take i places) gaps place c zip (o, at, free))
+      subst (λ seen. AreGapsAt operations seen (gaps ++ c ∷ [])) (sym (one_more places i place within is))
+          (one_more_zipped HasGap (take i places) gaps place c zip (o, at, free))
 
   -- the gaps of two lists of places
-  pub gaps_together : (low high gaps more : List ℕ) → AreGapsAt operations low gaps → AreGapsAt operations high more → AreGapsAt operations (low ++ high) (gaps ++ more)
+  pub gaps_together : (low high gaps more : List ℕ) → AreGapsAt operations low gaps → AreGapsAt operations high more
+      → AreGapsAt operations (low ++ high) (gaps ++ more)
   gaps_together [] high [] more zip zip' = zip'
   gaps_together [] high (c ∷ gaps) more zip zip' = absurd zip
   gaps_together (place ∷ low) high [] more zip zip' = absurd zip
   gaps_together (place ∷ low) high (c ∷ gaps) more zip zip' = (zip.0, gaps_together low high gaps more zip.1 zip')
 
   -- the gaps at the places of all empty answers are theirs
-  pub gaps_are_all : (places gaps : List ℕ) → HoldsPlaces operations is_empty_answer places → AreGapsAt operations places gaps → AreLeastFreeGaps operations gaps
+  pub gaps_are_all : (places gaps : List ℕ) → HoldsPlaces operations is_empty_answer places → AreGapsAt operations places gaps
+      → AreLeastFreeGaps operations gaps
   gaps_are_all places gaps named zip = gaps_listed places (filter is_empty_answer operations) gaps named zip
     where
-      gaps_listed : (places : List ℕ) (listed : List Operation) (gaps : List ℕ) → ArePlacesOf operations places listed → AreGapsAt operations places gaps → AllZip (λ o c. IsLeastFreeGap operations o c) listed gaps
+      gaps_listed : (places : List ℕ) (listed : List Operation) (gaps : List ℕ) → ArePlacesOf operations places listed
+          → AreGapsAt operations places gaps → AllZip (λ o c. IsLeastFreeGap operations o c) listed gaps
       gaps_listed [] [] [] named zip = tt
       gaps_listed [] [] (c ∷ gaps) named zip = absurd zip
       gaps_listed [] (o ∷ listed) gaps named zip = cc
@@ -191,7 +225,8 @@ module _ (operations : List Operation) where
           (subst (λ x. IsLeastFreeGap operations x c) (one_at operations p zip.0.0 o zip.0.1 at) zip.0.2, gaps_listed places listed gaps rest zip.1)
 
   -- the first of all empty answers whose window is covered is the chosen one
-  pub first_is_chosen : (places : List ℕ) (first : EmptyAnswer) (cover : List Life) → HoldsPlaces operations is_empty_answer places → IsFirstCovered operations places first → IsChosenCover operations first.operation cover
+  pub first_is_chosen : (places : List ℕ) (first : EmptyAnswer) (cover : List Life) → HoldsPlaces operations is_empty_answer places
+      → IsFirstCovered operations places first → IsChosenCover operations first.operation cover
       → IsChosenWitness operations first.operation cover
   first_is_chosen places first cover named is chosen = record {
     answers_empty = is.is_empty;

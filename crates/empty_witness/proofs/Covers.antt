@@ -1,5 +1,6 @@
 -- A covered window has its chosen cover, which is as short as any.
-use Rattle.std.proofs.Common.{◌≡◌, ℕ, zero, suc, ◌+◌, ◌<◌, ◌≤◌, ◌⊎◌, Bool, true, false, List, [], ◌∷◌, length, Option, Some, None, refl, sym, ap, subst, inl, inr, arith, rules}
+use Rattle.std.proofs.Common.{◌≡◌, ℕ, zero, suc, ◌+◌, ◌<◌, ◌≤◌, ◌⊎◌, Bool, true, false, List, [], ◌∷◌, length, Option, Some, None, refl, sym, ap}
+use Rattle.std.proofs.Common.{subst, inl, inr, arith, rules}
 use Rattle.std.specs.Prelude.{Contains, MatchOption, MatchBool, nat_lt, ⊤}
 use Rattle.std.proofs.lemmas.Bool.{lt-ltb, le-ltb, ltb-true, ltb-false}
 use Rattle.history_merge.specs.declared.operation.Operation.{Operation}
@@ -30,7 +31,8 @@ record IsLongestOf (lives : List Life) (frontier : ℕ) (life : Life) : Type 0 w
   before_frontier : enqueue_return life < frontier
   longest : (other : Life) → Contains lives other → enqueue_return other < frontier → StaysAtLeast life other
 
-longest_of : (lives : List Life) (frontier : ℕ) → ((life : Life) × IsLongestOf lives frontier life) ⊎ ((other : Life) → Contains lives other → frontier ≤ enqueue_return other)
+longest_of : (lives : List Life) (frontier : ℕ) → ((life : Life) × IsLongestOf lives frontier life)
+    ⊎ ((other : Life) → Contains lives other → frontier ≤ enqueue_return other)
 longest_of [] frontier = inr (λ other among. absurd (not_in_none other among))
 longest_of (x ∷ lives) frontier = join (longest_of lives frontier) side
   where
@@ -50,7 +52,8 @@ longest_of (x ∷ lives) frontier = join (longest_of lives frontier) side
       ];
     }
 
-    taken : enqueue_return x < frontier → ((other : Life) → Contains lives other → enqueue_return other < frontier → StaysAtLeast x other) → IsLongestOf (x ∷ lives) frontier x
+    taken : enqueue_return x < frontier → ((other : Life) → Contains lives other → enqueue_return other < frontier → StaysAtLeast x other)
+        → IsLongestOf (x ∷ lives) frontier x
     taken before beats = record {
       among = (zero, omega arith, refl);
       before_frontier = before;
@@ -75,7 +78,8 @@ longest_of (x ∷ lives) frontier = join (longest_of lives frontier) side
     ])
 
 -- where some value was enqueued before the frontier, one of them is next in the cover
-next_of_cover : (operations : List Operation) (frontier : ℕ) (some : Life) → IsClear operations → IsLife operations some → enqueue_return some < frontier → (life : Life) × IsNextOfCover operations frontier life
+next_of_cover : (operations : List Operation) (frontier : ℕ) (some : Life) → IsClear operations → IsLife operations some
+    → enqueue_return some < frontier → (life : Life) × IsNextOfCover operations frontier life
 next_of_cover operations frontier some clear is before = elim (longest_of (lives_of operations) frontier) [
   | inl found ↦ (
     found.0,
@@ -89,7 +93,8 @@ next_of_cover operations frontier some clear is before = elim (longest_of (lives
 ]
 
 -- a cover that begins with one value and goes on from its dequeue
-go_on : (operations : List Operation) (empty before d : Operation) (life : Life) (rest : List Life) → IsLife operations life → Precedes (enqueue_of life) before → dequeue_of life ≡ Some d → CoversFrom operations empty d rest
+go_on : (operations : List Operation) (empty before d : Operation) (life : Life) (rest : List Life) → IsLife operations life
+    → Precedes (enqueue_of life) before → dequeue_of life ≡ Some d → CoversFrom operations empty d rest
     → CoversFrom operations empty before (life ∷ rest)
 go_on operations empty before d life [] is precedes dequeues covers = absurd covers
 go_on operations empty before d life (next ∷ rest) is precedes dequeues covers =
@@ -100,8 +105,10 @@ stays_past empty None past = search rules
 stays_past empty (Some d) past = past
 
 -- the chosen cover from an operation on, at most this many tickets before the empty answer returns
-cover_from : (left : ℕ) (operations : List Operation) (empty before : Operation) → IsClear operations → Did operations empty Empty → IsCovered operations empty → Contains operations before
-    → empty.call ≤ before.call → before.call < empty.ret → empty.ret ≤ before.call + left → (cover : List Life) × IsChosenCoverFrom operations empty before.call cover × CoversFrom operations empty before cover
+cover_from : (left : ℕ) (operations : List Operation) (empty before : Operation) → IsClear operations → Did operations empty Empty
+    → IsCovered operations empty → Contains operations before
+    → empty.call ≤ before.call → before.call < empty.ret → empty.ret ≤ before.call + left
+        → (cover : List Life) × IsChosenCoverFrom operations empty before.call cover × CoversFrom operations empty before cover
 cover_from zero operations empty before clear did covered among above below left = absurd (omega arith)
 cover_from (suc left) operations empty before clear did covered among above below near =
     let z = covered before.call (above, below) in
@@ -116,18 +123,21 @@ cover_from (suc left) operations empty before clear did covered among above belo
     strictly m n le differs = let cases : (m < n) ⊎ (m ≡ n) = grind arith in elim cases [ inl less ↦ less | inr same ↦ absurd (differs same) ]
 
     step : (life : Life) → IsNextOfCover operations before.call life → before.call < dequeue_call life
-        → ((d : Operation) → Contains operations d → empty.call ≤ d.call → d.call < empty.ret → empty.ret ≤ d.call + left → (cover : List Life) × IsChosenCoverFrom operations empty d.call cover × CoversFrom operations empty d cover)
+        → ((d : Operation) → Contains operations d → empty.call ≤ d.call → d.call < empty.ret → empty.ret ≤ d.call + left
+            → (cover : List Life) × IsChosenCoverFrom operations empty d.call cover × CoversFrom operations empty d cover)
         → (cover : List Life) × IsChosenCoverFrom operations empty before.call cover × CoversFrom operations empty before cover
     step life next past more =
         let range = return_in_range operations empty clear.complete did.0 in
         let cases : (empty.ret < dequeue_call life) ⊎ (dequeue_call life ≤ empty.ret) = grind arith in
         elim cases [
-          | inl stays ↦ (life ∷ [], (next, rw (lt-ltb empty.ret (dequeue_call life) stays) refl), (next.is_life, next.before_frontier, stays_past empty (dequeue_of life) stays))
+          | inl stays ↦ (life ∷ [], (next, rw (lt-ltb empty.ret (dequeue_call life) stays) refl),
+              (next.is_life, next.before_frontier, stays_past empty (dequeue_of life) stays))
           | inr leaves ↦
               let found = dequeued_if_called life (omega arith) in
               let d = found.0 in
               let calls : dequeue_call life ≡ d.call = ap call_or_never found.1 in
-              let did_d = subst (λ o. MatchOption o (NoneDid operations (Deq next.is_life.0)) (λ d. Did operations d (Deq next.is_life.0))) found.1 next.is_life.2 in
+              let did_d = subst (λ o. MatchOption o (NoneDid operations (Deq next.is_life.0)) (λ d. Did operations d (Deq next.is_life.0))) found.1
+                  next.is_life.2 in
               let differs = return_differs_from_call operations empty d clear.complete did.0 did_d.0 in
               let below' : d.call < empty.ret = strictly d.call empty.ret (omega arith) (λ same. differs (sym same)) in
               let rest = more d did_d.0 (omega arith) below' (omega arith) in (
@@ -137,14 +147,16 @@ cover_from (suc left) operations empty before clear did covered among above belo
               )
         ]
 
-pub chosen_cover : (operations : List Operation) (empty : Operation) → IsClear operations → Did operations empty Empty → IsCovered operations empty → (cover : List Life) × IsChosenCover operations empty cover × IsWitnessViolation operations empty cover
+pub chosen_cover : (operations : List Operation) (empty : Operation) → IsClear operations → Did operations empty Empty → IsCovered operations empty
+    → (cover : List Life) × IsChosenCover operations empty cover × IsWitnessViolation operations empty cover
 chosen_cover operations empty clear did covered =
     let less = call_before_return operations empty clear.complete did.0 in
     let cover = cover_from empty.ret operations empty empty clear did covered did.0 (omega arith) less (omega arith) in
     (cover.0, cover.1, record { answers_empty = did; covers = cover.2 })
 
 -- at each gap from an operation's call to the empty answer's return, some value of the cover surely is in the queue
-covered_by : (operations : List Operation) (empty before : Operation) (cover : List Life) (c : ℕ) → CoversFrom operations empty before cover → before.call ≤ c → c < empty.ret → c < NEVER → (life : Life) × IsLife operations life × Covers life c
+covered_by : (operations : List Operation) (empty before : Operation) (cover : List Life) (c : ℕ) → CoversFrom operations empty before cover
+    → before.call ≤ c → c < empty.ret → c < NEVER → (life : Life) × IsLife operations life × Covers life c
 covered_by operations empty before [] c covers above below in_range = absurd covers
 covered_by operations empty before (life ∷ []) c covers above below in_range =
     (life, covers.0, (omega (arith, covers.1), past (dequeue_of life) covers.2))
@@ -156,7 +168,8 @@ covered_by operations empty before (life ∷ next ∷ rest) c covers above below
     go (dequeue_of life) refl covers.2 (λ d further above'. covered_by operations empty d (next ∷ rest) c further above' below in_range)
   where
     go : (dequeue : Option Operation) → dequeue_of life ≡ dequeue → MatchOption dequeue ⊥ (λ d. CoversFrom operations empty d (next ∷ rest))
-        → ((d : Operation) → CoversFrom operations empty d (next ∷ rest) → d.call ≤ c → (life : Life) × IsLife operations life × Covers life c) → (life : Life) × IsLife operations life × Covers life c
+        → ((d : Operation) → CoversFrom operations empty d (next ∷ rest) → d.call ≤ c → (life : Life) × IsLife operations life × Covers life c)
+            → (life : Life) × IsLife operations life × Covers life c
     go None same further more = absurd further
     go (Some d) same further more =
         let calls : dequeue_call life ≡ d.call = ap call_or_never same in
@@ -166,13 +179,15 @@ covered_by operations empty before (life ∷ next ∷ rest) c covers above below
           | inr later ↦ more d further later
         ]
 
-pub violation_covers : (operations : List Operation) (empty : Operation) (cover : List Life) → IsClear operations → IsWitnessViolation operations empty cover → IsCovered operations empty
+pub violation_covers : (operations : List Operation) (empty : Operation) (cover : List Life) → IsClear operations
+    → IsWitnessViolation operations empty cover → IsCovered operations empty
 violation_covers operations empty cover clear violation c window =
     let range = return_in_range operations empty clear.complete violation.answers_empty.0 in
     covered_by operations empty empty cover c violation.covers window.0 window.1 (omega (arith, window.1))
 
 -- a cover that begins no later than the chosen one has no fewer values
-no_shorter : (operations : List Operation) (empty before : Operation) (frontier : ℕ) (cover other : List Life) → empty.ret < NEVER → IsChosenCoverFrom operations empty frontier cover → CoversFrom operations empty before other
+no_shorter : (operations : List Operation) (empty before : Operation) (frontier : ℕ) (cover other : List Life) → empty.ret < NEVER
+    → IsChosenCoverFrom operations empty frontier cover → CoversFrom operations empty before other
     → before.call ≤ frontier → length cover ≤ length other
 no_shorter operations empty before frontier [] other in_range chosen covers le = absurd chosen
 no_shorter operations empty before frontier (x ∷ xs) [] in_range chosen covers le = absurd covers
@@ -187,15 +202,19 @@ no_shorter operations empty before frontier (x ∷ xs) (y ∷ []) in_range chose
     after None none = in_range
     after (Some d) past = past
 
-    last : nat_lt empty.ret (dequeue_call x) ≡ true → MatchBool (nat_lt empty.ret (dequeue_call x)) (xs ≡ []) (IsChosenCoverFrom operations empty (dequeue_call x) xs) → xs ≡ []
+    last : nat_lt empty.ret (dequeue_call x) ≡ true → MatchBool (nat_lt empty.ret (dequeue_call x)) (xs ≡ [])
+        (IsChosenCoverFrom operations empty (dequeue_call x) xs) → xs ≡ []
     last test chosen' = subst (λ b. MatchBool b (xs ≡ []) (IsChosenCoverFrom operations empty (dequeue_call x) xs)) test chosen'
 no_shorter operations empty before frontier (x ∷ xs) (y ∷ next ∷ ys) in_range chosen covers le =
     let stays = chosen.0.longest y covers.0 (omega (arith, covers.1)) in
-    go (dequeue_of y) refl covers.2 stays.0 (nat_lt empty.ret (dequeue_call x)) refl chosen.1 (λ d more further le'. no_shorter operations empty d (dequeue_call x) xs (next ∷ ys) in_range more further le')
+    go (dequeue_of y) refl covers.2 stays.0 (nat_lt empty.ret (dequeue_call x)) refl chosen.1
+        (λ d more further le'. no_shorter operations empty d (dequeue_call x) xs (next ∷ ys) in_range more further le')
   where
-    go : (dequeue : Option Operation) → dequeue_of y ≡ dequeue → MatchOption dequeue ⊥ (λ d. CoversFrom operations empty d (next ∷ ys)) → dequeue_call y ≤ dequeue_call x
+    go : (dequeue : Option Operation) → dequeue_of y ≡ dequeue → MatchOption dequeue ⊥ (λ d. CoversFrom operations empty d (next ∷ ys))
+        → dequeue_call y ≤ dequeue_call x
         → (b : Bool) → nat_lt empty.ret (dequeue_call x) ≡ b → MatchBool b (xs ≡ []) (IsChosenCoverFrom operations empty (dequeue_call x) xs)
-        → ((d : Operation) → IsChosenCoverFrom operations empty (dequeue_call x) xs → CoversFrom operations empty d (next ∷ ys) → d.call ≤ dequeue_call x → length xs ≤ length (next ∷ ys))
+        → ((d : Operation) → IsChosenCoverFrom operations empty (dequeue_call x) xs → CoversFrom operations empty d (next ∷ ys)
+            → d.call ≤ dequeue_call x → length xs ≤ length (next ∷ ys))
         → length (x ∷ xs) ≤ length (y ∷ next ∷ ys)
     go None same further stays b test chosen' more = absurd further
     go (Some d) same further stays true test chosen' more = let long : length xs ≡ 0 = ap length chosen' in omega arith
@@ -204,34 +223,41 @@ no_shorter operations empty before frontier (x ∷ xs) (y ∷ next ∷ ys) in_ra
         let rest = more d chosen' further (omega arith) in
         omega arith
 
-pub chosen_cover_is_shortest : (operations : List Operation) (empty : Operation) (cover other : List Life) → IsClear operations → IsChosenCover operations empty cover → IsWitnessViolation operations empty other → length cover ≤ length other
+pub chosen_cover_is_shortest : (operations : List Operation) (empty : Operation) (cover other : List Life) → IsClear operations
+    → IsChosenCover operations empty cover → IsWitnessViolation operations empty other → length cover ≤ length other
 chosen_cover_is_shortest operations empty cover other clear chosen violation =
     let range = return_in_range operations empty clear.complete violation.answers_empty.0 in
     no_shorter operations empty empty empty.call cover other (omega arith) chosen violation.covers (omega arith)
 
 -- the chosen cover is a violation
-chosen_covers : (operations : List Operation) (empty before : Operation) (frontier : ℕ) (cover : List Life) → empty.ret < NEVER → before.call ≡ frontier → IsChosenCoverFrom operations empty frontier cover → CoversFrom operations empty before cover
+chosen_covers : (operations : List Operation) (empty before : Operation) (frontier : ℕ) (cover : List Life) → empty.ret < NEVER
+    → before.call ≡ frontier → IsChosenCoverFrom operations empty frontier cover → CoversFrom operations empty before cover
 chosen_covers operations empty before frontier [] in_range same chosen = absurd chosen
 chosen_covers operations empty before frontier (life ∷ rest) in_range same chosen =
-    go (nat_lt empty.ret (dequeue_call life)) refl chosen.1 (λ d calls further. chosen_covers operations empty d (dequeue_call life) rest in_range calls further)
+    go (nat_lt empty.ret (dequeue_call life)) refl chosen.1 (λ d calls further. chosen_covers operations empty d
+        (dequeue_call life) rest in_range calls further)
   where
     go : (b : Bool) → nat_lt empty.ret (dequeue_call life) ≡ b → MatchBool b (rest ≡ []) (IsChosenCoverFrom operations empty (dequeue_call life) rest)
-        → ((d : Operation) → d.call ≡ dequeue_call life → IsChosenCoverFrom operations empty (dequeue_call life) rest → CoversFrom operations empty d rest) → CoversFrom operations empty before (life ∷ rest)
+        → ((d : Operation) → d.call ≡ dequeue_call life → IsChosenCoverFrom operations empty (dequeue_call life) rest
+            → CoversFrom operations empty d rest) → CoversFrom operations empty before (life ∷ rest)
     go true test ends more =
         let past = ltb-true empty.ret (dequeue_call life) test in
-        subst (λ r. CoversFrom operations empty before (life ∷ r)) (sym ends) (chosen.0.is_life, before_call chosen.0.before_frontier, stays_past empty (dequeue_of life) past)
+        subst (λ r. CoversFrom operations empty before (life ∷ r)) (sym ends)
+            (chosen.0.is_life, before_call chosen.0.before_frontier, stays_past empty (dequeue_of life) past)
       where
         before_call : enqueue_return life < frontier → Precedes (enqueue_of life) before
         before_call less = omega (arith, same)
     go false test further more =
         let leaves = ltb-false empty.ret (dequeue_call life) test in
         let found = dequeued_if_called life (omega arith) in
-        go_on operations empty before found.0 life rest chosen.0.is_life (before_call chosen.0.before_frontier) found.1 (more found.0 (sym (ap call_or_never found.1)) further)
+        go_on operations empty before found.0 life rest chosen.0.is_life (before_call chosen.0.before_frontier) found.1
+            (more found.0 (sym (ap call_or_never found.1)) further)
       where
         before_call : enqueue_return life < frontier → Precedes (enqueue_of life) before
         before_call less = omega (arith, same)
 
-pub chosen_cover_violates : (operations : List Operation) (empty : Operation) (cover : List Life) → IsClear operations → Did operations empty Empty → IsChosenCover operations empty cover → IsWitnessViolation operations empty cover
+pub chosen_cover_violates : (operations : List Operation) (empty : Operation) (cover : List Life) → IsClear operations → Did operations empty Empty
+    → IsChosenCover operations empty cover → IsWitnessViolation operations empty cover
 chosen_cover_violates operations empty cover clear did chosen =
     let range = return_in_range operations empty clear.complete did.0 in
     record { answers_empty = did; covers = chosen_covers operations empty empty empty.call cover (omega arith) refl chosen }

@@ -30,12 +30,14 @@ covering (x ∷ lives) c =
     not_here (inr late) covers = omega (arith, covers.1)
 
 -- from a gap on below which the window is covered: the least free gap, or the whole window is covered
-free_from : (left c : ℕ) (operations : List Operation) (o : Operation) → IsClear operations → ((b : ℕ) → o.call ≤ b → b < c → (life : Life) × IsLife operations life × Covers life b) → o.call ≤ c → c + left ≡ o.ret
+free_from : (left c : ℕ) (operations : List Operation) (o : Operation) → IsClear operations
+    → ((b : ℕ) → o.call ≤ b → b < c → (life : Life) × IsLife operations life × Covers life b) → o.call ≤ c → c + left ≡ o.ret
     → ((g : ℕ) × IsLeastFreeGap operations o g) ⊎ IsCovered operations o
 free_from zero c operations o clear below above long = inr (λ b window. below b window.0 (omega (arith, window.1)))
 free_from (suc left) c operations o clear below above long =
     elim (covering (lives_of operations) c) [
-      | inl found ↦ free_from left (suc c) operations o clear (further found.0 (life_of_contained operations found.0 found.1) found.2) (omega arith) (omega arith)
+      | inl found ↦ free_from left (suc c) operations o clear (further found.0 (life_of_contained operations found.0 found.1) found.2) (omega arith)
+          (omega arith)
       | inr none ↦ inl (
         c,
         record {
@@ -57,7 +59,8 @@ free_from (suc left) c operations o clear below above long =
         elim cases [ inl le ↦ le | inr less ↦ let covered = below other above' less in absurd (free covered.0 covered.1 covered.2) ]
 
 -- the window of an operation has a least free gap, or is covered
-pub free_gap_or_covered : (operations : List Operation) (o : Operation) → IsClear operations → Contains operations o → ((g : ℕ) × IsLeastFreeGap operations o g) ⊎ IsCovered operations o
+pub free_gap_or_covered : (operations : List Operation) (o : Operation) → IsClear operations → Contains operations o
+    → ((g : ℕ) × IsLeastFreeGap operations o g) ⊎ IsCovered operations o
 free_gap_or_covered operations o clear among =
     let less = call_before_return operations o clear.complete among in
     free_from (o.ret - o.call) o.call operations o clear (λ b above below. absurd (omega arith)) (omega arith) (omega arith)

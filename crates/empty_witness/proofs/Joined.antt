@@ -1,5 +1,6 @@
 -- The spans of values, joined where they touch or overlap.
-use Rattle.std.proofs.Common.{◌≡◌, ℕ, suc, ◌+◌, ◌<◌, ◌≤◌, ◌⊎◌, max, List, [], ◌∷◌, ◌++◌, length, get_or, take, refl, sym, ◌∙◌, ap, subst, inl, inr, arith, add-one}
+use Rattle.std.proofs.Common.{◌≡◌, ℕ, suc, ◌+◌, ◌<◌, ◌≤◌, ◌⊎◌, max, List, [], ◌∷◌, ◌++◌, length, get_or, take, refl, sym, ◌∙◌, ap, subst, inl, inr}
+use Rattle.std.proofs.Common.{arith, add-one}
 use Rattle.std.specs.Prelude.{All}
 use Rattle.std.specs.List.{AllWithin}
 use Rattle.std.specs.List.Sorted.{IsNonDecreasingBy}
@@ -42,7 +43,8 @@ one_seen first some = record {
 }
 
 -- a stay that begins within the last span, or where it ends
-pub joins : (seen spans : List Span) (last stay grown : Span) → IsJoinedSoFar seen spans last → last.start ≤ stay.start → stay.start ≤ last.end → stay.start < stay.end
+pub joins : (seen spans : List Span) (last stay grown : Span) → IsJoinedSoFar seen spans last → last.start ≤ stay.start → stay.start ≤ last.end
+    → stay.start < stay.end
     → grown.start ≡ last.start → grown.end ≡ max last.end stay.end → IsJoinedSoFar (seen ++ stay ∷ []) spans grown
 joins seen spans last stay grown so_far rises touches some starts ends = record {
   apart = so_far.apart;
@@ -72,18 +74,21 @@ joins seen spans last stay grown so_far rises touches some starts ends = record 
           | inr late ↦ lies_last seen stay c (omega arith, omega (arith, holds.1))
         ]
 
-spans_push : (spans : List Span) (last : Span) → AreApart spans → All (λ span. span.end < last.start) spans → last.start < last.end → AreApart (spans ++ last ∷ [])
+spans_push : (spans : List Span) (last : Span) → AreApart spans → All (λ span. span.end < last.start) spans → last.start < last.end
+    → AreApart (spans ++ last ∷ [])
 spans_push spans last are below some = record {
   hold_some = All-push (λ span. span.start < span.end) spans last are.hold_some some;
   apart = all_pairs_push (λ x y. x.end < y.start) spans last are.apart (λ k d within. below k d within);
 }
 
 -- a stay that begins after the end of the last span
-pub begins_anew : (seen spans : List Span) (last stay : Span) → IsJoinedSoFar seen spans last → last.end < stay.start → stay.start < stay.end → IsJoinedSoFar (seen ++ stay ∷ []) (spans ++ last ∷ []) stay
+pub begins_anew : (seen spans : List Span) (last stay : Span) → IsJoinedSoFar seen spans last → last.end < stay.start → stay.start < stay.end
+    → IsJoinedSoFar (seen ++ stay ∷ []) (spans ++ last ∷ []) stay
 begins_anew seen spans last stay so_far after some = record {
   apart = spans_push spans last so_far.apart so_far.below so_far.holds_some;
   below = All-push (λ span. span.end < stay.start) spans last
-      (All-weaker (λ span. span.end < last.start) (λ span. span.end < stay.start) (λ span less. let before = so_far.holds_some in omega arith) spans so_far.below) after;
+      (All-weaker (λ span. span.end < last.start) (λ span. span.end < stay.start)
+          (λ span less. let before = so_far.holds_some in omega arith) spans so_far.below) after;
   holds_some = some;
   lies = λ c lies. elim (lies_cases seen stay c lies) [
     | inl before ↦ elim (so_far.lies c before) [ inl done ↦ inl (lies_left spans last c done) | inr here ↦ inl (lies_last spans last c here) ]
@@ -114,7 +119,8 @@ module _ (stays rest : List Span) (first : Span) (same : stays ≡ first ∷ res
 
   -- before the loop
   pub starts : All (λ stay. stay.start < stay.end) stays → IsJoinedSoFar (take 1 stays) [] first
-  starts some = subst (λ seen. IsJoinedSoFar seen [] first) (sym (seen_is 0)) (one_seen first (All-head (λ stay. stay.start < stay.end) first rest (subst (All (λ stay. stay.start < stay.end)) same some)))
+  starts some = subst (λ seen. IsJoinedSoFar seen [] first) (sym (seen_is 0))
+      (one_seen first (All-head (λ stay. stay.start < stay.end) first rest (subst (All (λ stay. stay.start < stay.end)) same some)))
 
   rest_rises : IsNonDecreasingBy (λ stay. stay.start) stays → IsNonDecreasingBy (λ stay. stay.start) (first ∷ rest)
   rest_rises rises = subst (IsNonDecreasingBy (λ stay. stay.start)) same rises
@@ -134,9 +140,11 @@ module _ (stays rest : List Span) (first : Span) (same : stays ≡ first ∷ res
     comes_later last rise = subst (λ s. last.start ≤ s.start) (sym is) (rise i stay (omega arith) within)
 
     pub stay_holds_some : All (λ stay. stay.start < stay.end) stays → stay.start < stay.end
-    stay_holds_some some = subst (λ s. s.start < s.end) (sym is) (All-tail (λ stay. stay.start < stay.end) first rest (subst (All (λ stay. stay.start < stay.end)) same some) i stay within)
+    stay_holds_some some = subst (λ s. s.start < s.end) (sym is) (All-tail (λ stay. stay.start < stay.end) first rest
+        (subst (All (λ stay. stay.start < stay.end)) same some) i stay within)
 
-    pub with_next : (spans : List Span) (last : Span) → IsJoinedSoFar (take (i + 1) stays ++ stay ∷ []) spans last → IsJoinedSoFar (take (i + 1 + 1) stays) spans last
+    pub with_next : (spans : List Span) (last : Span) → IsJoinedSoFar (take (i + 1) stays ++ stay ∷ []) spans last
+        → IsJoinedSoFar (take (i + 1 + 1) stays) spans last
     with_next spans last so_far = subst (λ seen. IsJoinedSoFar seen spans last) (sym (one_more_seen i stay within is)) so_far
 
   -- past the rest all stays have been seen

@@ -1,5 +1,6 @@
 -- The least gap outside of spans, and what it tells of a window.
-use Rattle.std.proofs.Common.{◌≡◌, ◌≢◌, ℕ, ◌-◌, ◌<◌, ◌≤◌, ◌⊎◌, max, Bool, true, false, List, length, get_or, Option, refl, sym, ap, subst, inl, inr, arith, leb, ltb}
+use Rattle.std.proofs.Common.{◌≡◌, ◌≢◌, ℕ, ◌-◌, ◌<◌, ◌≤◌, ◌⊎◌, max, Bool, true, false, List, length, get_or, Option, refl, sym, ap, subst, inl, inr}
+use Rattle.std.proofs.Common.{arith, leb, ltb}
 use Rattle.std.specs.Prelude.{MatchOption}
 use Rattle.std.specs.Bool.{then_some}
 use Rattle.std.specs.List.Sorted.{IsNonDecreasingBy, IsPartitionPoint}
@@ -23,7 +24,8 @@ starts_rise spans are i j d le within =
       | inr same ↦ subst (λ k. (get_or spans i d).start ≤ (get_or spans k d).start) same (omega arith)
     ]
 
-module _ (spans : List Span) (from begun : ℕ) (point : IsPartitionPoint (λ span. leb span.start from ≡ true) (λ span. leb span.start from ≡ false) spans begun) where
+module _ (spans : List Span) (from begun : ℕ) (point : IsPartitionPoint (λ span. leb span.start from ≡ true)
+    (λ span. leb span.start from ≡ false) spans begun) where
   has_begun : (k : ℕ) (d : Span) → k < begun → (get_or spans k d).start ≤ from
   has_begun k d before = leb-true _ _ (point.0 k d (omega arith) before)
 
@@ -42,7 +44,8 @@ module _ (spans : List Span) (from begun : ℕ) (point : IsPartitionPoint (λ sp
   }
 
   -- by the last span that has begun
-  pub after_last_begun : (d : Span) (c : ℕ) → AreApart spans → begun ≢ 0 → begun ≤ length spans → c ≡ max (get_or spans (begun - 1) d).end from → IsFirstOutside spans from c
+  pub after_last_begun : (d : Span) (c : ℕ) → AreApart spans → begun ≢ 0 → begun ≤ length spans → c ≡ max (get_or spans (begun - 1) d).end from
+      → IsFirstOutside spans from c
   after_last_begun d c are some inside is = record {
     no_less = omega arith;
     outside = λ lies. not_at lies.1.0 lies.0 lies.1.1 (subst (λ s. Holds s c) (sym lies.1.2) lies.2);
@@ -66,7 +69,8 @@ module _ (spans : List Span) (from begun : ℕ) (point : IsPartitionPoint (λ sp
                 omega (arith, holds.0)
           ]
 
-module _ (operations : List Operation) (spans : List Span) (o : Operation) (gap : ℕ) (are : AreSpansOf operations spans) (is : IsFirstOutside spans o.call gap) where
+module _ (operations : List Operation) (spans : List Span) (o : Operation) (gap : ℕ) (are : AreSpansOf operations spans)
+    (is : IsFirstOutside spans o.call gap) where
   -- inside of the window it is the least free gap
   free_in_window : gap < o.ret → IsLeastFreeGap operations o gap
   free_in_window below = record {
@@ -84,9 +88,12 @@ module _ (operations : List Operation) (spans : List Span) (o : Operation) (gap 
   covered_to : o.ret ≤ gap → IsCovered operations o
   covered_to past c window = (are.cover c).0 (is.least c window.0 (omega (arith, window.1)))
 
-  pub gap_of_window : (found : Option ℕ) → found ≡ then_some (ltb gap o.ret) gap → MatchOption found (IsCovered operations o) (λ c. IsLeastFreeGap operations o c)
-  gap_of_window found same = subst (λ found. MatchOption found (IsCovered operations o) (λ c. IsLeastFreeGap operations o c)) (sym same) (go (ltb gap o.ret) (λ yes. ltb-true gap o.ret yes) (λ no. ltb-false gap o.ret no))
+  pub gap_of_window : (found : Option ℕ) → found ≡ then_some (ltb gap o.ret) gap
+      → MatchOption found (IsCovered operations o) (λ c. IsLeastFreeGap operations o c)
+  gap_of_window found same = subst (λ found. MatchOption found (IsCovered operations o) (λ c. IsLeastFreeGap operations o c)) (sym same)
+      (go (ltb gap o.ret) (λ yes. ltb-true gap o.ret yes) (λ no. ltb-false gap o.ret no))
     where
-      go : (b : Bool) → (b ≡ true → gap < o.ret) → (b ≡ false → o.ret ≤ gap) → MatchOption (then_some b gap) (IsCovered operations o) (λ c. IsLeastFreeGap operations o c)
+      go : (b : Bool) → (b ≡ true → gap < o.ret) → (b ≡ false → o.ret ≤ gap)
+          → MatchOption (then_some b gap) (IsCovered operations o) (λ c. IsLeastFreeGap operations o c)
       go true below past = free_in_window (below refl)
       go false below past = covered_to (past refl)

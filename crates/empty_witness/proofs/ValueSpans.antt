@@ -18,11 +18,13 @@ use Rattle.empty_witness.specs.Spans.{holds_some, LiesIn, AreJoined, stay_of, Ar
 abbrev pub stays_of : List MatchedValue → List Span
 stays_of values = filter holds_some (map (λ value. stay_of value.life) values)
 
-pub stays_hold_some : (values : List MatchedValue) (stays sorted : List Span) → stays ≡ stays_of values → IsPermutation stays sorted → All (λ stay. stay.start < stay.end) sorted
+pub stays_hold_some : (values : List MatchedValue) (stays sorted : List Span) → stays ≡ stays_of values → IsPermutation stays sorted
+    → All (λ stay. stay.start < stay.end) sorted
 stays_hold_some values stays sorted are moved =
     All-permutation (λ stay. stay.start < stay.end) stays sorted moved
     (subst (All (λ stay. stay.start < stay.end)) (sym are)
-    (All-weaker (λ stay. holds_some stay ≡ true) (λ stay. stay.start < stay.end) (λ stay yes. ltb-true stay.start stay.end yes) (stays_of values) (filter_passes holds_some (map (λ value. stay_of value.life) values))))
+    (All-weaker (λ stay. holds_some stay ≡ true) (λ stay. stay.start < stay.end) (λ stay yes. ltb-true stay.start stay.end yes) (stays_of values)
+        (filter_passes holds_some (map (λ value. stay_of value.life) values))))
 
 module _ (operations : List Operation) (values : List MatchedValue) (clear : IsClear operations) (holds : HoldsLives operations values) where
   -- a gap lies in the span of a value exactly where a value covers it
@@ -39,7 +41,8 @@ module _ (operations : List Operation) (values : List MatchedValue) (clear : IsC
       let at = subst (λ l. Covers l c) (sym value.2) covered.2 in
       let some : (stay_of value.0.life).start < (stay_of value.0.life).end = omega (arith, at.0, at.1) in (
         stay_of value.0.life,
-        passes_filter holds_some (map (λ value. stay_of value.life) values) (stay_of value.0.life) (lt-ltb _ _ some) (mapped_to (λ value. stay_of value.life) values value.0 value.1),
+        passes_filter holds_some (map (λ value. stay_of value.life) values) (stay_of value.0.life) (lt-ltb _ _ some)
+            (mapped_to (λ value. stay_of value.life) values value.0 value.1),
         at,
       )
 
@@ -59,7 +62,8 @@ module _ (operations : List Operation) (values : List MatchedValue) (clear : IsC
   }
 
 -- the stays of the first n values, with the next one
-pub stays_more : (values : List MatchedValue) (n : ℕ) (m : MatchedValue) (kept : Bool) → n < length values → m ≡ get_or values n m → holds_some (stay_of m.life) ≡ kept
+pub stays_more : (values : List MatchedValue) (n : ℕ) (m : MatchedValue) (kept : Bool) → n < length values → m ≡ get_or values n m
+    → holds_some (stay_of m.life) ≡ kept
     → stays_of (take (n + 1) values) ≡ stays_of (take n values) ++ cond kept (stay_of m.life ∷ []) []
 stays_more values n m kept below is test =
     ap stays_of (take_more values n m below ∙ ap (λ x. take n values ++ x ∷ []) (sym is))

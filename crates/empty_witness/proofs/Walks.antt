@@ -31,12 +31,14 @@ pub record IsCoverSoFar (operations : List Operation) (o : Operation) (steps : L
   pub ends : o.ret < frontier → IsChosenCover operations o lives
 
 -- no operation returns when a value's dequeue is called, or at the ticket that stands for never
-no_return_at : (operations : List Operation) (v : ℕ) (dequeue : Option Operation) → AreComplete operations → MatchOption dequeue (NoneDid operations (Deq v)) (λ d. Did operations d (Deq v))
+no_return_at : (operations : List Operation) (v : ℕ) (dequeue : Option Operation) → AreComplete operations
+    → MatchOption dequeue (NoneDid operations (Deq v)) (λ d. Did operations d (Deq v))
     → (x : Operation) → Contains operations x → x.ret ≢ call_or_never dequeue
 no_return_at operations v None complete none x among same = let range = return_in_range operations x complete among in omega arith
 no_return_at operations v (Some d) complete did x among same = return_differs_from_call operations x d complete among did.0 same
 
-module _ (operations : List Operation) (values : List MatchedValue) (o : Operation) (clear : IsClear operations) (holds : HoldsLives operations values) (is_empty : Did operations o Empty) (covered : IsCovered operations o) where
+module _ (operations : List Operation) (values : List MatchedValue) (o : Operation) (clear : IsClear operations)
+    (holds : HoldsLives operations values) (is_empty : Did operations o Empty) (covered : IsCovered operations o) where
   -- before the first step
   pub no_steps_yet : IsCoverSoFar operations o [] o.call
   no_steps_yet = record {
@@ -49,7 +51,8 @@ module _ (operations : List Operation) (values : List MatchedValue) (o : Operati
   }
 
   -- a value that covers the gap at the frontier was enqueued before it
-  entered_before : (steps : List CoverStep) (frontier : ℕ) → IsCoverSoFar operations o steps frontier → frontier < o.ret → (value : MatchedValue) × Contains values value × EntersBefore frontier value.life × (frontier < dequeue_call value.life)
+  entered_before : (steps : List CoverStep) (frontier : ℕ) → IsCoverSoFar operations o steps frontier → frontier < o.ret
+      → (value : MatchedValue) × Contains values value × EntersBefore frontier value.life × (frontier < dequeue_call value.life)
   entered_before steps frontier so_far below =
       let life = covered frontier (so_far.past_call, below) in
       let value = value_of_life operations values life.0 clear holds life.1 in
@@ -61,7 +64,8 @@ module _ (operations : List Operation) (values : List MatchedValue) (o : Operati
       strictly m le differs = let cases : (m < frontier) ⊎ (m ≡ frontier) = grind arith in elim cases [ inl less ↦ less | inr same ↦ absurd (differs same) ]
 
   -- so a next value is found
-  pub next_is_found : (steps : List CoverStep) (frontier : ℕ) (found : Option MatchedValue) → IsCoverSoFar operations o steps frontier → frontier < o.ret → FindsLongest (EntersBefore frontier) values found → IsSome found
+  pub next_is_found : (steps : List CoverStep) (frontier : ℕ) (found : Option MatchedValue) → IsCoverSoFar operations o steps frontier
+      → frontier < o.ret → FindsLongest (EntersBefore frontier) values found → IsSome found
   next_is_found steps frontier None so_far below none =
       let value = entered_before steps frontier so_far below in
       absurd (All-contains (λ value. ¬ (EntersBefore frontier value.life)) values value.0 none value.1 value.2)
@@ -74,22 +78,26 @@ module _ (operations : List Operation) (values : List MatchedValue) (o : Operati
     longest = λ other is_other before.
         let held = value_of_life operations values other clear holds is_other in
         subst (StaysAtLeast value.life) held.2
-        (All-contains (λ other. EntersBefore frontier other.life → StaysAtLeast value.life other.life) values held.0 is.longest held.1 (subst (EntersBefore frontier) (sym held.2) before));
+        (All-contains (λ other. EntersBefore frontier other.life → StaysAtLeast value.life other.life) values held.0 is.longest held.1
+            (subst (EntersBefore frontier) (sym held.2) before));
   }
 
   -- it stays past the frontier
-  pub frontier_rises : (steps : List CoverStep) (frontier : ℕ) (value : MatchedValue) → IsCoverSoFar operations o steps frontier → frontier < o.ret → IsLongestOf (EntersBefore frontier) values value → frontier < dequeue_call value.life
+  pub frontier_rises : (steps : List CoverStep) (frontier : ℕ) (value : MatchedValue) → IsCoverSoFar operations o steps frontier → frontier < o.ret
+      → IsLongestOf (EntersBefore frontier) values value → frontier < dequeue_call value.life
   frontier_rises steps frontier value so_far below is =
       let other = entered_before steps frontier so_far below in
       let stays = All-contains (λ other. EntersBefore frontier other.life → StaysAtLeast value.life other.life) values other.0 is.longest other.1 other.2 in
       omega (arith, stays.0, other.3)
 
   -- with the next value
-  pub one_more_step : (steps : List CoverStep) (frontier : ℕ) (value : MatchedValue) → IsCoverSoFar operations o steps frontier → frontier < o.ret → IsLongestOf (EntersBefore frontier) values value
+  pub one_more_step : (steps : List CoverStep) (frontier : ℕ) (value : MatchedValue) → IsCoverSoFar operations o steps frontier → frontier < o.ret
+      → IsLongestOf (EntersBefore frontier) values value
       → IsCoverSoFar operations o (steps ++ (record { enqueue = value.enqueue; dequeue = value.dequeue }) ∷ []) (dequeue_call value.life)
   one_more_step steps frontier value so_far below is = record {
     lives = so_far.lives ++ value.life ∷ [];
-    named = one_more_zipped (λ step life. IsAt operations step.enqueue (enqueue_of life) × IsMaybeAt operations step.dequeue (dequeue_of life)) steps so_far.lives (record { enqueue = value.enqueue; dequeue = value.dequeue }) value.life
+    named = one_more_zipped (λ step life. IsAt operations step.enqueue (enqueue_of life) × IsMaybeAt operations step.dequeue (dequeue_of life)) steps
+        so_far.lives (record { enqueue = value.enqueue; dequeue = value.dequeue }) value.life
         so_far.named (places_of_value operations values value holds is.among);
     past_call = let rises = frontier_rises steps frontier value so_far below is in omega (arith, so_far.past_call);
     no_return = no_return_at operations is_life.0 (dequeue_of value.life) clear.complete is_life.2;
@@ -109,11 +117,13 @@ module _ (operations : List Operation) (values : List MatchedValue) (o : Operati
           → MatchBool (nat_lt o.ret (dequeue_call value.life)) (rest ≡ []) (IsChosenCoverFrom operations o (dequeue_call value.life) rest)
       further below' rest chosen = rw (le-ltb o.ret (dequeue_call value.life) (omega arith)) chosen
 
-      last : o.ret < dequeue_call value.life → MatchBool (nat_lt o.ret (dequeue_call value.life)) (◌≡◌ {A = List Life} [] []) (IsChosenCoverFrom operations o (dequeue_call value.life) [])
+      last : o.ret < dequeue_call value.life → MatchBool (nat_lt o.ret (dequeue_call value.life)) (◌≡◌ {A = List Life} [] [])
+          (IsChosenCoverFrom operations o (dequeue_call value.life) [])
       last past = rw (lt-ltb o.ret (dequeue_call value.life) past) refl
 
   -- past the return the cover is whole
-  pub cover_is_whole : (steps : List CoverStep) (frontier : ℕ) → IsCoverSoFar operations o steps frontier → o.ret ≤ frontier → NamesChosenCover operations o steps
+  pub cover_is_whole : (steps : List CoverStep) (frontier : ℕ) → IsCoverSoFar operations o steps frontier → o.ret ≤ frontier
+      → NamesChosenCover operations o steps
   cover_is_whole steps frontier so_far past =
       let cases : (o.ret < frontier) ⊎ (o.ret ≡ frontier) = grind arith in
       elim cases [
@@ -122,6 +132,7 @@ module _ (operations : List Operation) (values : List MatchedValue) (o : Operati
       ]
 
 -- the value that was found is the longest of those enqueued before the frontier
-pub found_longest : (values : List MatchedValue) (frontier : ℕ) (found : Option MatchedValue) (value : MatchedValue) → FindsLongest (EntersBefore frontier) values found → found ≡ Some value → IsLongestOf (EntersBefore frontier) values value
+pub found_longest : (values : List MatchedValue) (frontier : ℕ) (found : Option MatchedValue) (value : MatchedValue)
+    → FindsLongest (EntersBefore frontier) values found → found ≡ Some value → IsLongestOf (EntersBefore frontier) values value
 found_longest values frontier None value finds same = cc
 found_longest values frontier (Some other) value finds same = let one : other ≡ value = cc in subst (IsLongestOf (EntersBefore frontier) values) one finds

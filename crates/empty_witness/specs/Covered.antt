@@ -16,7 +16,8 @@ use Rattle.empty_witness.specs.Answers.{AreGapsAt}
 
 -- the steps name the chosen cover of the operation's window, which is a violation
 abbrev pub NamesChosenCover : List Operation → Operation → List CoverStep → Type 0
-NamesChosenCover operations o steps = (lives : List Life) × NamesCover operations steps lives × IsChosenCover operations o lives × IsWitnessViolation operations o lives
+NamesChosenCover operations o steps = (lives : List Life) × NamesCover operations steps lives × IsChosenCover operations o lives
+    × IsWitnessViolation operations o lives
 
 -- one of the two answers, which returned no later than each
 pub record IsSoonerOf (first second sooner : EmptyAnswer) : Type 0 where

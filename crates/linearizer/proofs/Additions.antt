@@ -1,5 +1,6 @@
 -- Operations are added one by one, each at its position.
-use Rattle.std.proofs.Common.{◌≡◌, ℕ, zero, suc, ◌+◌, ◌<◌, Bool, true, List, [], ◌∷◌, ◌++◌, length, get_or, map, min, take, Some, refl, sym, ◌∙◌, ap, subst, arith}
+use Rattle.std.proofs.Common.{◌≡◌, ℕ, zero, suc, ◌+◌, ◌<◌, Bool, true, List, [], ◌∷◌, ◌++◌, length, get_or, map, min, take, Some, refl, sym, ◌∙◌, ap}
+use Rattle.std.proofs.Common.{subst, arith}
 use Rattle.std.specs.Prelude.{filter, slice_get}
 use Rattle.std.specs.List.{AllZip}
 use Rattle.std.proofs.lemmas.List.{append-nil, append_assoc, length-map, take_all, take_more}
@@ -21,12 +22,14 @@ use Rattle.linearizer.proofs.Positions.{beside}
 pub adds_none : (operations : List Operation) (old : List Placed) → Adds operations [] old old
 adds_none operations old = record { added = []; after = sym (append-nil old); each_placed = λ lives. tt }
 
-pub adds_more : (operations listed : List Operation) (k : ℕ) (o : Operation) (old new : List Placed) (placed : Placed) → Adds operations (take k listed) old new → slice_get listed k ≡ Some o
+pub adds_more : (operations listed : List Operation) (k : ℕ) (o : Operation) (old new : List Placed) (placed : Placed)
+    → Adds operations (take k listed) old new → slice_get listed k ≡ Some o
     → ((lives : List Life) → IsPlaced operations lives o placed) → Adds operations (take (k + 1) listed) old (new ++ placed ∷ [])
 adds_more operations listed k o old new placed adds at is = record {
   added = adds.added ++ placed ∷ [];
   after = ap (λ items. items ++ placed ∷ []) adds.after ∙ append_assoc old adds.added (placed ∷ []);
-  each_placed = λ lives. subst (λ xs. AllZip (IsPlaced operations lives) xs (adds.added ++ placed ∷ [])) (sym longer) (all_zipped_more (IsPlaced operations lives) (take k listed) adds.added o placed (adds.each_placed lives) (is lives));
+  each_placed = λ lives. subst (λ xs. AllZip (IsPlaced operations lives) xs (adds.added ++ placed ∷ [])) (sym longer)
+      (all_zipped_more (IsPlaced operations lives) (take k listed) adds.added o placed (adds.each_placed lives) (is lives));
 }
   where
     longer : take (k + 1) listed ≡ take k listed ++ o ∷ []
@@ -38,7 +41,8 @@ pub record IsNamed (operations listed : List Operation) (k p : ℕ) : Type 0 whe
   pub is_listed : slice_get listed k ≡ Some o
   pub at : IsAt operations p o
 
-pub named : (operations listed : List Operation) (places : List ℕ) (k p : ℕ) → ArePlacesOf operations places listed → slice_get places k ≡ Some p → IsNamed operations listed k p
+pub named : (operations listed : List Operation) (places : List ℕ) (k p : ℕ) → ArePlacesOf operations places listed → slice_get places k ≡ Some p
+    → IsNamed operations listed k p
 named operations listed [] k p are at = cc
 named operations [] (q ∷ places) k p are at = cc
 named operations (o ∷ listed) (q ∷ places) zero p are at =
@@ -65,52 +69,62 @@ passes_at p xs k x at =
     subst (λ y. p y ≡ true) (get_or_from_slice_get (filter p xs) k x x at)
     (All-get_or (λ y. p y ≡ true) (filter p xs) k x (slice_get_within (filter p xs) k x at) (filter_passes p xs))
 
-stands_empty : (operations : List Operation) (lives : List Life) (o : Operation) (gap : ℕ) (k : OpKind) → is_empty_kind k ≡ true → IsLeastFreeGap operations o gap → IsPositionFor operations lives o k (idle_position o gap)
+stands_empty : (operations : List Operation) (lives : List Life) (o : Operation) (gap : ℕ) (k : OpKind) → is_empty_kind k ≡ true
+    → IsLeastFreeGap operations o gap → IsPositionFor operations lives o k (idle_position o gap)
 stands_empty operations lives o gap Empty is free = (gap, free, refl)
 stands_empty operations lives o gap (Enq v) is free = cc
 stands_empty operations lives o gap (Deq v) is free = cc
 stands_empty operations lives o gap (Not v) is free = cc
 
-stands_refused : (operations : List Operation) (lives : List Life) (o : Operation) (k : OpKind) → is_refused_kind k ≡ true → IsPositionFor operations lives o k (idle_position o o.call)
+stands_refused : (operations : List Operation) (lives : List Life) (o : Operation) (k : OpKind) → is_refused_kind k ≡ true
+    → IsPositionFor operations lives o k (idle_position o o.call)
 stands_refused operations lives o (Not v) is = refl
 stands_refused operations lives o (Enq v) is = cc
 stands_refused operations lives o (Deq v) is = cc
 stands_refused operations lives o Empty is = cc
 
 -- an empty answer at its least free gap, and a refused enqueue at its call, by the ticket read
-pub adds_empty : (operations read : List Operation) (k p gap : ℕ) (d : Operation) (old new : List Placed) (placed : Placed) (is : IsNamed operations (filter is_empty_answer operations) k p)
+pub adds_empty : (operations read : List Operation) (k p gap : ℕ) (d : Operation) (old new : List Placed) (placed : Placed)
+    (is : IsNamed operations (filter is_empty_answer operations) k p)
     → Adds operations (take k (filter is_empty_answer operations)) old new → read ≡ operations → IsLeastFreeGap operations is.o gap → placed.operation ≡ p
-    → position_of placed.position ≡ record { gap = gap; class = idle_answers; rank = (get_or read p d).call } → Adds operations (take (k + 1) (filter is_empty_answer operations)) old (new ++ placed ∷ [])
+    → position_of placed.position ≡ record { gap = gap; class = idle_answers; rank = (get_or read p d).call }
+        → Adds operations (take (k + 1) (filter is_empty_answer operations)) old (new ++ placed ∷ [])
 adds_empty operations read k p gap d old new placed is adds reads free names stands =
     adds_more operations (filter is_empty_answer operations) k is.o old new placed adds is.is_listed
     (λ lives. (
       subst (λ q. IsAt operations q is.o) (sym names) is.at,
-      subst (IsPositionFor operations lives is.o is.o.kind) (sym here) (stands_empty operations lives is.o gap is.o.kind (passes_at is_empty_answer operations k is.o is.is_listed) free),
+      subst (IsPositionFor operations lives is.o is.o.kind) (sym here)
+          (stands_empty operations lives is.o gap is.o.kind (passes_at is_empty_answer operations k is.o is.is_listed) free),
     ))
   where
     here : position_of placed.position ≡ idle_position is.o gap
     here = stands ∙ ap (λ c. record { gap = gap; class = idle_answers; rank = c }) (call_read operations read p is.o d is.at reads)
 
-pub adds_refused : (operations read : List Operation) (k p : ℕ) (d : Operation) (old new : List Placed) (placed : Placed) → IsNamed operations (filter is_refused operations) k p
+pub adds_refused : (operations read : List Operation) (k p : ℕ) (d : Operation) (old new : List Placed) (placed : Placed)
+    → IsNamed operations (filter is_refused operations) k p
     → Adds operations (take k (filter is_refused operations)) old new → read ≡ operations → placed.operation ≡ p
-    → position_of placed.position ≡ record { gap = (get_or read p d).call; class = idle_answers; rank = (get_or read p d).call } → Adds operations (take (k + 1) (filter is_refused operations)) old (new ++ placed ∷ [])
+    → position_of placed.position ≡ record { gap = (get_or read p d).call; class = idle_answers; rank = (get_or read p d).call }
+        → Adds operations (take (k + 1) (filter is_refused operations)) old (new ++ placed ∷ [])
 adds_refused operations read k p d old new placed is adds reads names stands =
     adds_more operations (filter is_refused operations) k is.o old new placed adds is.is_listed
     (λ lives. (
       subst (λ q. IsAt operations q is.o) (sym names) is.at,
-      subst (IsPositionFor operations lives is.o is.o.kind) (sym here) (stands_refused operations lives is.o is.o.kind (passes_at is_refused operations k is.o is.is_listed)),
+      subst (IsPositionFor operations lives is.o is.o.kind) (sym here)
+          (stands_refused operations lives is.o is.o.kind (passes_at is_refused operations k is.o is.is_listed)),
     ))
   where
     here : position_of placed.position ≡ idle_position is.o is.o.call
     here = stands ∙ ap (λ c. record { gap = c; class = idle_answers; rank = c }) (call_read operations read p is.o d is.at reads)
 
 -- the gap beside an answer, and how many there are of both
-pub gap_beside : (operations listed : List Operation) (gaps : List ℕ) (k gap d : ℕ) (o : Operation) → AllZip (λ o c. IsLeastFreeGap operations o c) listed gaps → slice_get listed k ≡ Some o → gap ≡ get_or gaps k d → IsLeastFreeGap operations o gap
+pub gap_beside : (operations listed : List Operation) (gaps : List ℕ) (k gap d : ℕ) (o : Operation)
+    → AllZip (λ o c. IsLeastFreeGap operations o c) listed gaps → slice_get listed k ≡ Some o → gap ≡ get_or gaps k d → IsLeastFreeGap operations o gap
 gap_beside operations listed gaps k gap d o free at is =
     let found = beside (λ o c. IsLeastFreeGap operations o c) listed gaps k o free at in
     subst (IsLeastFreeGap operations o) (sym (get_or_from_slice_get gaps k found.0 d found.1) ∙ sym is) found.2
 
-pub adds_all : (operations listed : List Operation) (places gaps : List ℕ) (n : ℕ) (old new : List Placed) → ArePlacesOf operations places listed → AllZip (λ o c. IsLeastFreeGap operations o c) listed gaps → n ≡ min (length places) (length gaps)
+pub adds_all : (operations listed : List Operation) (places gaps : List ℕ) (n : ℕ) (old new : List Placed) → ArePlacesOf operations places listed
+    → AllZip (λ o c. IsLeastFreeGap operations o c) listed gaps → n ≡ min (length places) (length gaps)
     → Adds operations (take n listed) old new → Adds operations listed old new
 adds_all operations listed places gaps n old new are free long adds =
     let places_long : length places ≡ length listed = sym (length-map places (slice_get operations)) ∙ ap length are ∙ length-map listed Some in

@@ -32,13 +32,15 @@ operation_of operations p = get_or operations p.operation nothing_done
 nowhere : Placed
 nowhere = record { operation = 0; position = record { gap = 0; class = Idle; rank = 0 } }
 
-well_placed : (operations : List Operation) (lives : List Life) (o : Operation) (p : Placed) → IsPlaced operations lives o p → (operation_of operations p ≡ o) × IsPlaced operations lives (operation_of operations p) p
+well_placed : (operations : List Operation) (lives : List Life) (o : Operation) (p : Placed) → IsPlaced operations lives o p
+    → (operation_of operations p ≡ o) × IsPlaced operations lives (operation_of operations p) p
 well_placed operations lives o p is =
     let same = get_or_from_slice_get operations p.operation o nothing_done is.0 in
     (same, subst (λ x. IsPlaced operations lives x p) (sym same) is)
 
 -- the operations listed are those of the places, and each place is right
-listed_are : (operations : List Operation) (lives : List Life) (listed : List Operation) (placed : List Placed) → AllZip (IsPlaced operations lives) listed placed → listed ≡ map (operation_of operations) placed
+listed_are : (operations : List Operation) (lives : List Life) (listed : List Operation) (placed : List Placed)
+    → AllZip (IsPlaced operations lives) listed placed → listed ≡ map (operation_of operations) placed
 listed_are operations lives [] [] zip = refl
 listed_are operations lives [] (p ∷ placed) zip = absurd zip
 listed_are operations lives (o ∷ listed) [] zip = absurd zip
@@ -47,14 +49,17 @@ listed_are operations lives (o ∷ listed) (p ∷ placed) zip =
     let here = sym (well_placed operations lives o p zip.0).0 in
     cc
 
-all_well_placed : (operations : List Operation) (lives : List Life) (listed : List Operation) (placed : List Placed) → AllZip (IsPlaced operations lives) listed placed → All (λ p. IsPlaced operations lives (operation_of operations p) p) placed
+all_well_placed : (operations : List Operation) (lives : List Life) (listed : List Operation) (placed : List Placed)
+    → AllZip (IsPlaced operations lives) listed placed → All (λ p. IsPlaced operations lives (operation_of operations p) p) placed
 all_well_placed operations lives [] [] zip = All-nil (λ p. IsPlaced operations lives (operation_of operations p) p)
 all_well_placed operations lives [] (p ∷ placed) zip = absurd zip
 all_well_placed operations lives (o ∷ listed) [] zip = absurd zip
 all_well_placed operations lives (o ∷ listed) (p ∷ placed) zip =
-    All-cons (λ p. IsPlaced operations lives (operation_of operations p) p) p placed (well_placed operations lives o p zip.0).1 (all_well_placed operations lives listed placed zip.1)
+    All-cons (λ p. IsPlaced operations lives (operation_of operations p) p) p placed (well_placed operations lives o p zip.0).1
+        (all_well_placed operations lives listed placed zip.1)
 
-places_named : (operations : List Operation) (lives : List Life) (placed : List Placed) → All (λ p. IsPlaced operations lives (operation_of operations p) p) placed
+places_named : (operations : List Operation) (lives : List Life) (placed : List Placed)
+    → All (λ p. IsPlaced operations lives (operation_of operations p) p) placed
     → ArePlacesOf operations (map (λ p. p.operation) placed) (map (operation_of operations) placed)
 places_named operations lives [] all = refl
 places_named operations lives (p ∷ placed) all =
@@ -62,7 +67,8 @@ places_named operations lives (p ∷ placed) all =
     let here = (All-head (λ p. IsPlaced operations lives (operation_of operations p) p) p placed all).0 in
     cc
 
-positions_named : (operations : List Operation) (lives : List Life) (placed : List Placed) → All (λ p. IsPlaced operations lives (operation_of operations p) p) placed
+positions_named : (operations : List Operation) (lives : List Life) (placed : List Placed)
+    → All (λ p. IsPlaced operations lives (operation_of operations p) p) placed
     → AllZip (λ o position. IsPositionOf operations lives o position) (map (operation_of operations) placed) (map (λ p. position_of p.position) placed)
 positions_named operations lives [] all = tt
 positions_named operations lives (p ∷ placed) all = (
@@ -70,25 +76,31 @@ positions_named operations lives (p ∷ placed) all = (
   positions_named operations lives placed (All-tail (λ p. IsPlaced operations lives (operation_of operations p) p) p placed all),
 )
 
-positions_never_fall : (placed : List Placed) → AllPairs (λ p q. ¬ (StandsBefore (position_of q.position) (position_of p.position))) placed → AllPairs (λ p q. ¬ (StandsBefore q p)) (map (λ p. position_of p.position) placed)
+positions_never_fall : (placed : List Placed) → AllPairs (λ p q. ¬ (StandsBefore (position_of q.position) (position_of p.position))) placed
+    → AllPairs (λ p q. ¬ (StandsBefore q p)) (map (λ p. position_of p.position) placed)
 positions_never_fall placed never i j d below within =
     let long = length-map placed (λ p. position_of p.position) in
     let inside : j < length placed = omega arith in
-    rw (get_or-map (λ p. position_of p.position) placed i nowhere d (omega arith), get_or-map (λ p. position_of p.position) placed j nowhere d inside) (never i j nowhere below inside)
+    rw (get_or-map (λ p. position_of p.position) placed i nowhere d (omega arith), get_or-map (λ p. position_of p.position) placed j nowhere d inside)
+        (never i j nowhere below inside)
 
 -- what is added to no operations, and sorted
-pub idles_held : (operations : List Operation) (empties all idles : List Placed) → Adds operations (filter is_empty_answer operations) [] empties → Adds operations (filter is_refused operations) empties all → IsPermutation all idles → NeverFall idles
+pub idles_held : (operations : List Operation) (empties all idles : List Placed) → Adds operations (filter is_empty_answer operations) [] empties
+    → Adds operations (filter is_refused operations) empties all → IsPermutation all idles → NeverFall idles
     → HoldsIdles operations idles
 idles_held operations empties all idles first second moved never = record {
   added = all;
-  each_placed = λ lives. subst (AllZip (IsPlaced operations lives) (filter is_empty_answer operations ++ filter is_refused operations)) (sym (second.after ∙ ap (λ xs. xs ++ second.added) first.after))
-      (zip_joined (IsPlaced operations lives) (filter is_empty_answer operations) (filter is_refused operations) first.added second.added (first.each_placed lives) (second.each_placed lives));
+  each_placed = λ lives. subst (AllZip (IsPlaced operations lives) (filter is_empty_answer operations ++ filter is_refused operations))
+      (sym (second.after ∙ ap (λ xs. xs ++ second.added) first.after))
+      (zip_joined (IsPlaced operations lives) (filter is_empty_answer operations) (filter is_refused operations) first.added second.added
+          (first.each_placed lives) (second.each_placed lives));
   each_once = moved;
   never_fall = never;
 }
 
 -- all operations stand at their positions, and are merged by them
-pub chosen_and_legal : (operations : List Operation) (idles : List Placed) (places : List ℕ) → IsClear operations → NoOrderViolation operations → HoldsIdles operations idles → IsMerge operations idles places → AreChosenAndLegal operations places
+pub chosen_and_legal : (operations : List Operation) (idles : List Placed) (places : List ℕ) → IsClear operations → NoOrderViolation operations
+    → HoldsIdles operations idles → IsMerge operations idles places → AreChosenAndLegal operations places
 chosen_and_legal operations idles places clear none idle merged =
     let lives = held.lives in
     let same = listed_are operations lives listed all zipped in
@@ -96,11 +108,14 @@ chosen_and_legal operations idles places clear none idle merged =
     IsPermutation-trans operations (map (operation_of operations) all) (map (operation_of operations) sorted.sorted)
     (subst (IsPermutation operations) same listed_once)
     (IsPermutation-map (operation_of operations) all sorted.sorted all_sorted) in
-    let well = All-permutation (λ p. IsPlaced operations lives (operation_of operations p) p) all sorted.sorted all_sorted (all_well_placed operations lives listed all zipped) in
-    let chosen = sorted_is_chosen operations (map (operation_of operations) sorted.sorted) lives (map (λ p. position_of p.position) sorted.sorted) clear held.in_order moved
+    let well = All-permutation (λ p. IsPlaced operations lives (operation_of operations p) p) all sorted.sorted all_sorted
+        (all_well_placed operations lives listed all zipped) in
+    let chosen = sorted_is_chosen operations (map (operation_of operations) sorted.sorted) lives
+        (map (λ p. position_of p.position) sorted.sorted) clear held.in_order moved
     (positions_named operations lives sorted.sorted well) (positions_never_fall sorted.sorted sorted.never_falls) in (
       map (operation_of operations) sorted.sorted,
-      subst (λ ps. ArePlacesOf operations ps (map (operation_of operations) sorted.sorted)) (sym sorted.places_are) (places_named operations lives sorted.sorted well),
+      subst (λ ps. ArePlacesOf operations ps (map (operation_of operations) sorted.sorted)) (sym sorted.places_are)
+          (places_named operations lives sorted.sorted well),
       chosen,
       chosen_order_is_legal operations (map (operation_of operations) sorted.sorted) clear none chosen,
     )
@@ -124,7 +139,8 @@ chosen_and_legal operations idles places clear none idle merged =
     all = values ++ idle.added
 
     all_sorted : IsPermutation all sorted.sorted
-    all_sorted = IsPermutation-trans all (values ++ idles) sorted.sorted (IsPermutation-append_right values idle.added idles idle.each_once) sorted.holds_each_once
+    all_sorted = IsPermutation-trans all (values ++ idles) sorted.sorted
+        (IsPermutation-append_right values idle.added idles idle.each_once) sorted.holds_each_once
 
     values_listed : List Operation
     values_listed = enqueues_of held.lives ++ dequeues_of held.lives
@@ -132,7 +148,8 @@ chosen_and_legal operations idles places clear none idle merged =
     listed_once : IsPermutation operations listed
     listed_once =
         IsPermutation-trans operations (values_listed ++ idle_listed) listed
-        (subst (IsPermutation operations) (append_assoc values_listed (filter is_empty_answer operations) (filter is_refused operations)) (each_once operations clear held.lives held.in_order (operations_rise operations clear.complete)))
+        (subst (IsPermutation operations) (append_assoc values_listed (filter is_empty_answer operations) (filter is_refused operations))
+            (each_once operations clear held.lives held.in_order (operations_rise operations clear.complete)))
         (IsPermutation-append_left idle_listed values_listed held.listed held.each_once)
 
     zipped : AllZip (IsPlaced operations held.lives) listed all

@@ -10,7 +10,8 @@ use Rattle.history_merge.specs.Complete.{AreComplete}
 use Rattle.history_merge.proofs.Distinct.{calls_rise, return_differs_from_call, same_return}
 use Rattle.value_match.specs.declared.life.Life.{Life}
 use Rattle.value_match.specs.declared.life.TheConstants.{NEVER}
-use Rattle.value_match.specs.Lives.{IsLife, lives_of, life_from, call_or_never, return_or_never, enqueue_call, enqueue_return, dequeue_call, dequeue_return, entered_by, leaves_from, dequeue_of, enqueue_of}
+use Rattle.value_match.specs.Lives.{IsLife, lives_of, life_from, call_or_never, return_or_never, enqueue_call, enqueue_return, dequeue_call}
+use Rattle.value_match.specs.Lives.{dequeue_return, entered_by, leaves_from, dequeue_of, enqueue_of}
 use Rattle.value_match.specs.Violations.{IsClear}
 use Rattle.linearizer.specs.Values.{IsValueOrder}
 use Rattle.value_match.proofs.Lives.{life_of_contained, one_life_of_enqueue, one_life_of_dequeue}
@@ -40,7 +41,8 @@ pub record CalledAt (operations : List Operation) (life : Life) (ticket : ℕ) :
   pub is_of : IsOf life o
   pub called : o.call ≡ ticket
 
-dequeue_returns : (operations : List Operation) (life : Life) → IsLife operations life → ReturnsAt operations life (dequeue_return life) ⊎ (dequeue_return life ≡ NEVER)
+dequeue_returns : (operations : List Operation) (life : Life) → IsLife operations life
+    → ReturnsAt operations life (dequeue_return life) ⊎ (dequeue_return life ≡ NEVER)
 dequeue_returns operations life is = go (dequeue_of life) refl is.2
   where
     go : (dequeue : Option Operation) → dequeue_of life ≡ dequeue → MatchOption dequeue (NoneDid operations (Deq is.0)) (λ d. Did operations d (Deq is.0))
@@ -48,7 +50,8 @@ dequeue_returns operations life is = go (dequeue_of life) refl is.2
     go None same none = inr refl
     go (Some d) same did = inl (record { o = d; among = did.0; is_of = inr same; returns = refl })
 
-dequeue_called : (operations : List Operation) (life : Life) → IsLife operations life → CalledAt operations life (dequeue_call life) ⊎ (dequeue_call life ≡ NEVER)
+dequeue_called : (operations : List Operation) (life : Life) → IsLife operations life
+    → CalledAt operations life (dequeue_call life) ⊎ (dequeue_call life ≡ NEVER)
 dequeue_called operations life is = go (dequeue_of life) refl is.2
   where
     go : (dequeue : Option Operation) → dequeue_of life ≡ dequeue → MatchOption dequeue (NoneDid operations (Deq is.0)) (λ d. Did operations d (Deq is.0))
@@ -59,7 +62,8 @@ dequeue_called operations life is = go (dequeue_of life) refl is.2
 pub entered_at_return : (operations : List Operation) (life : Life) → IsClear operations → IsLife operations life → ReturnsAt operations life (entered_by life)
 entered_at_return operations life clear is =
     let times = times_of_life operations life clear is in
-    let first : (entered_by life ≡ enqueue_return life) ⊎ ((entered_by life ≡ dequeue_return life) × (dequeue_return life < enqueue_return life)) = grind arith in
+    let first : (entered_by life ≡ enqueue_return life) ⊎ ((entered_by life ≡ dequeue_return life) × (dequeue_return life < enqueue_return life)) =
+        grind arith in
     elim first [
       | inl enqueued ↦ record { o = enqueue_of life; among = is.1.0; is_of = inl refl; returns = sym enqueued }
       | inr dequeued ↦ elim (dequeue_returns operations life is) [
@@ -68,7 +72,8 @@ entered_at_return operations life clear is =
       ]
     ]
 
-pub leaves_at_call : (operations : List Operation) (life : Life) → IsClear operations → IsLife operations life → CalledAt operations life (leaves_from life) ⊎ (leaves_from life ≡ NEVER)
+pub leaves_at_call : (operations : List Operation) (life : Life) → IsClear operations → IsLife operations life
+    → CalledAt operations life (leaves_from life) ⊎ (leaves_from life ≡ NEVER)
 leaves_at_call operations life clear is =
     let times = times_of_life operations life clear is in
     let last : (leaves_from life ≡ enqueue_call life) ⊎ ((leaves_from life ≡ dequeue_call life) × (enqueue_call life ≤ dequeue_call life)) = grind arith in
@@ -81,30 +86,37 @@ leaves_at_call operations life clear is =
     ]
 
 -- the kind of an enqueue is not that of a dequeue
-pub not_both_kinds : (operations : List Operation) (x y : Life) (o : Operation) → IsLife operations x → IsLife operations y → enqueue_of x ≡ o → dequeue_of y ≡ Some o → ⊥
+pub not_both_kinds : (operations : List Operation) (x y : Life) (o : Operation) → IsLife operations x → IsLife operations y → enqueue_of x ≡ o
+    → dequeue_of y ≡ Some o → ⊥
 not_both_kinds operations x y o is_x is_y enqueues dequeues =
-    let did_y : Did operations o (Deq is_y.0) = subst (λ e. MatchOption e (NoneDid operations (Deq is_y.0)) (λ d. Did operations d (Deq is_y.0))) dequeues is_y.2 in
+    let did_y : Did operations o (Deq is_y.0) = subst (λ e. MatchOption e (NoneDid operations (Deq is_y.0)) (λ d. Did operations d (Deq is_y.0)))
+        dequeues is_y.2 in
     let clash : Enq is_x.0 ≡ Deq is_y.0 = sym is_x.1.1 ∙ ap (λ o. o.kind) enqueues ∙ did_y.1 in
     cc
 
 -- lives that share an operation are one
-pub one_life_of_operation : (operations : List Operation) (x y : Life) (o : Operation) → IsClear operations → IsLife operations x → IsLife operations y → IsOf x o → IsOf y o → x ≡ y
+pub one_life_of_operation : (operations : List Operation) (x y : Life) (o : Operation) → IsClear operations → IsLife operations x
+    → IsLife operations y → IsOf x o → IsOf y o → x ≡ y
 one_life_of_operation operations x y o clear is_x is_y (inl e) (inl f) = one_life_of_enqueue operations x y clear is_x is_y (e ∙ sym f)
 one_life_of_operation operations x y o clear is_x is_y (inl e) (inr f) = absurd (not_both_kinds operations x y o is_x is_y e f)
 one_life_of_operation operations x y o clear is_x is_y (inr e) (inl f) = absurd (not_both_kinds operations y x o is_y is_x f e)
 one_life_of_operation operations x y o clear is_x is_y (inr e) (inr f) = one_life_of_dequeue operations x y o clear is_x is_y e f
 
 -- lives of which operations return at one ticket are one
-one_life_of_return : (operations : List Operation) (x y : Life) (s t : ℕ) → IsClear operations → IsLife operations x → IsLife operations y → ReturnsAt operations x s → ReturnsAt operations y t → s ≡ t → x ≡ y
+one_life_of_return : (operations : List Operation) (x y : Life) (s t : ℕ) → IsClear operations → IsLife operations x → IsLife operations y
+    → ReturnsAt operations x s → ReturnsAt operations y t → s ≡ t → x ≡ y
 one_life_of_return operations x y s t clear is_x is_y at_x at_y same =
     let one = same_return operations at_x.o at_y.o clear.complete at_x.among at_y.among (at_x.returns ∙ same ∙ sym at_y.returns) in
     one_life_of_operation operations x y at_y.o clear is_x is_y (subst (λ o. IsOf x o) one at_x.is_of) at_y.is_of
 
-pub one_life_of_entering : (operations : List Operation) (x y : Life) → IsClear operations → IsLife operations x → IsLife operations y → entered_by x ≡ entered_by y → x ≡ y
+pub one_life_of_entering : (operations : List Operation) (x y : Life) → IsClear operations → IsLife operations x → IsLife operations y
+    → entered_by x ≡ entered_by y → x ≡ y
 one_life_of_entering operations x y clear is_x is_y same =
-    one_life_of_return operations x y (entered_by x) (entered_by y) clear is_x is_y (entered_at_return operations x clear is_x) (entered_at_return operations y clear is_y) same
+    one_life_of_return operations x y (entered_by x) (entered_by y) clear is_x is_y (entered_at_return operations x clear is_x)
+        (entered_at_return operations y clear is_y) same
 
-pub one_life_of_dequeue_return : (operations : List Operation) (x y : Life) → IsClear operations → IsLife operations x → IsLife operations y → dequeue_return x ≡ dequeue_return y → (x ≡ y) ⊎ (dequeue_return x ≡ NEVER)
+pub one_life_of_dequeue_return : (operations : List Operation) (x y : Life) → IsClear operations → IsLife operations x → IsLife operations y
+    → dequeue_return x ≡ dequeue_return y → (x ≡ y) ⊎ (dequeue_return x ≡ NEVER)
 one_life_of_dequeue_return operations x y clear is_x is_y same =
     elim (dequeue_returns operations x is_x) [
       | inr never ↦ inr never
@@ -114,12 +126,14 @@ one_life_of_dequeue_return operations x y clear is_x is_y same =
       ]
     ]
 
-pub enters_at_no_call : (operations : List Operation) (x y : Life) → IsClear operations → IsLife operations x → IsLife operations y → entered_by x ≢ enqueue_call y
+pub enters_at_no_call : (operations : List Operation) (x y : Life) → IsClear operations → IsLife operations x → IsLife operations y
+    → entered_by x ≢ enqueue_call y
 enters_at_no_call operations x y clear is_x is_y same =
     let at = entered_at_return operations x clear is_x in
     return_differs_from_call operations at.o (enqueue_of y) clear.complete at.among is_y.1.0 (at.returns ∙ same)
 
-pub returns_at_no_leave : (operations : List Operation) (x y : Life) → IsClear operations → IsLife operations x → IsLife operations y → dequeue_return x ≡ leaves_from y → leaves_from y ≡ NEVER
+pub returns_at_no_leave : (operations : List Operation) (x y : Life) → IsClear operations → IsLife operations x → IsLife operations y
+    → dequeue_return x ≡ leaves_from y → leaves_from y ≡ NEVER
 returns_at_no_leave operations x y clear is_x is_y same =
     elim (leaves_at_call operations y clear is_y) [
       | inr never ↦ never
@@ -129,7 +143,8 @@ returns_at_no_leave operations x y clear is_x is_y same =
       ]
     ]
 
-different_times : (operations : List Operation) (x y : Life) → IsClear operations → IsLife operations x → IsLife operations y → ¬ (x ≡ y) → HaveDistinctTimes x y
+different_times : (operations : List Operation) (x y : Life) → IsClear operations → IsLife operations x → IsLife operations y → ¬ (x ≡ y)
+    → HaveDistinctTimes x y
 different_times operations x y clear is_x is_y differ = record {
   entered = λ same. differ (one_life_of_entering operations x y clear is_x is_y same);
   returned = λ same. elim (one_life_of_dequeue_return operations x y clear is_x is_y same) [ inl one ↦ absurd (differ one) | inr never ↦ never ];
@@ -153,16 +168,20 @@ lives_rise operations complete =
     kept_rises (λ o. life_from operations o o.kind) (λ o. o.call) enqueue_call operations (λ o life same. enqueues_itself operations o o.kind life same) rise
 
 -- a life stands at one place of the order of values
-pub one_place_of_life : (operations : List Operation) (lives : List Life) (i j : ℕ) (x y : Life) → IsClear operations → IsValueOrder operations lives → slice_get lives i ≡ Some x → slice_get lives j ≡ Some y → x ≡ y → i ≡ j
+pub one_place_of_life : (operations : List Operation) (lives : List Life) (i j : ℕ) (x y : Life) → IsClear operations → IsValueOrder operations lives
+    → slice_get lives i ≡ Some x → slice_get lives j ≡ Some y → x ≡ y → i ≡ j
 one_place_of_life operations lives i j x y clear order at_x at_y same =
     one_place enqueue_call (lives_of operations) lives i j x y (lives_rise operations clear.complete) order.holds_each_once at_x at_y (ap enqueue_call same)
 
-pub lives_have_distinct_times : (operations : List Operation) → IsClear operations → AllPairs (λ x y. HaveDistinctTimes x y × HaveDistinctTimes y x) (lives_of operations)
+pub lives_have_distinct_times : (operations : List Operation) → IsClear operations
+    → AllPairs (λ x y. HaveDistinctTimes x y × HaveDistinctTimes y x) (lives_of operations)
 lives_have_distinct_times operations clear i j d below within =
-    pair (get_or (lives_of operations) i d) (get_or (lives_of operations) j d) (Contains-get_or (lives_of operations) i d (omega arith)) (Contains-get_or (lives_of operations) j d within)
+    pair (get_or (lives_of operations) i d) (get_or (lives_of operations) j d) (Contains-get_or (lives_of operations) i d (omega arith))
+        (Contains-get_or (lives_of operations) j d within)
     (lives_rise operations clear.complete i j d below within)
   where
-    pair : (x y : Life) → Contains (lives_of operations) x → Contains (lives_of operations) y → enqueue_call x < enqueue_call y → HaveDistinctTimes x y × HaveDistinctTimes y x
+    pair : (x y : Life) → Contains (lives_of operations) x → Contains (lives_of operations) y → enqueue_call x < enqueue_call y
+        → HaveDistinctTimes x y × HaveDistinctTimes y x
     pair x y in_x in_y less =
         let differ : ¬ (x ≡ y) = λ same. let calls : enqueue_call x ≡ enqueue_call y = ap enqueue_call same in omega arith in
         let is_x = life_of_contained operations x in_x in

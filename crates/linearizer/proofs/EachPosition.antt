@@ -59,7 +59,8 @@ is_refusal (Enq w) v = inr (λ e. clash e)
     clash : Enq w ≡ Not v → ⊥
     clash e = cc
 
-one_did : (kind : OpKind) → ((k : OpKind) → (k ≡ kind) ⊎ ¬ (k ≡ kind)) → (operations : List Operation) → ((o : Operation) × Did operations o kind) ⊎ NoneDid operations kind
+one_did : (kind : OpKind) → ((k : OpKind) → (k ≡ kind) ⊎ ¬ (k ≡ kind)) → (operations : List Operation)
+    → ((o : Operation) × Did operations o kind) ⊎ NoneDid operations kind
 one_did kind decide [] = inr (λ o among. absurd (not_in_none o among))
 one_did kind decide (x ∷ operations) = elim (decide x.kind) [
   | inl is ↦ inl (x, ((zero, omega arith, refl), is))
@@ -70,7 +71,8 @@ one_did kind decide (x ∷ operations) = elim (decide x.kind) [
 ]
 
 -- what is dequeued was enqueued
-enqueue_of_dequeued : (operations : List Operation) (o : Operation) (v : ℕ) → IsClear operations → Did operations o (Deq v) → (e : Operation) × Did operations e (Enq v)
+enqueue_of_dequeued : (operations : List Operation) (o : Operation) (v : ℕ) → IsClear operations → Did operations o (Deq v)
+    → (e : Operation) × Did operations e (Enq v)
 enqueue_of_dequeued operations o v clear did = elim (one_did (Enq v) (λ k. is_enqueue k v) operations) [
   | inl found ↦ found
   | inr none ↦ elim (one_did (Not v) (λ k. is_refusal k v) operations) [
@@ -79,20 +81,25 @@ enqueue_of_dequeued operations o v clear did = elim (one_did (Enq v) (λ k. is_e
   ]
 ]
 
-pub life_of_enqueue : (operations : List Operation) (e : Operation) (v : ℕ) → Did operations e (Enq v) → (life : Life) × IsLife operations life × (enqueue_of life ≡ e)
-life_of_enqueue operations e v did = (record { enqueue = e; dequeue = find (is_dequeue_of v) operations }, (v, did, found_dequeue operations v (find (is_dequeue_of v) operations) refl), refl)
+pub life_of_enqueue : (operations : List Operation) (e : Operation) (v : ℕ) → Did operations e (Enq v)
+    → (life : Life) × IsLife operations life × (enqueue_of life ≡ e)
+life_of_enqueue operations e v did = (record { enqueue = e; dequeue = find (is_dequeue_of v) operations },
+    (v, did, found_dequeue operations v (find (is_dequeue_of v) operations) refl), refl)
 
-pub life_of_dequeue : (operations : List Operation) (o : Operation) (v : ℕ) → IsClear operations → Did operations o (Deq v) → (life : Life) × IsLife operations life × (dequeue_of life ≡ Some o)
+pub life_of_dequeue : (operations : List Operation) (o : Operation) (v : ℕ) → IsClear operations → Did operations o (Deq v)
+    → (life : Life) × IsLife operations life × (dequeue_of life ≡ Some o)
 life_of_dequeue operations o v clear did =
     let e = enqueue_of_dequeued operations o v clear did in
     let found = found_dequeue operations v (find (is_dequeue_of v) operations) refl in
     (record { enqueue = e.0; dequeue = find (is_dequeue_of v) operations }, (v, e.1, found), one e.0 e.1 (find (is_dequeue_of v) operations) found)
   where
-    one : (e : Operation) → Did operations e (Enq v) → (dequeue : Option Operation) → MatchOption dequeue (NoneDid operations (Deq v)) (λ d. Did operations d (Deq v)) → dequeue ≡ Some o
+    one : (e : Operation) → Did operations e (Enq v) → (dequeue : Option Operation)
+        → MatchOption dequeue (NoneDid operations (Deq v)) (λ d. Did operations d (Deq v)) → dequeue ≡ Some o
     one e did_e None none = absurd (none o did.0 did.1)
     one e did_e (Some d) did_d = ap (λ x. Some x) (same_dequeue operations e d o v clear did_e did_d did)
 
-has_position : (operations : List Operation) (lives : List Life) (gaps : List ℕ) → IsClear operations → IsValueOrder operations lives → AreLeastFreeGaps operations gaps → (o : Operation) → Contains operations o
+has_position : (operations : List Operation) (lives : List Life) (gaps : List ℕ) → IsClear operations → IsValueOrder operations lives
+    → AreLeastFreeGaps operations gaps → (o : Operation) → Contains operations o
     → (k : OpKind) → o.kind ≡ k → (position : Position) × IsPositionFor operations lives o k position
 has_position operations lives gaps clear order free o among (Enq v) is =
     let life = life_of_enqueue operations o v (among, is) in
@@ -109,16 +116,20 @@ has_position operations lives gaps clear order free o among Empty is =
     (idle_position o gap.0, (gap.0, gap.2, refl))
 has_position operations lives gaps clear order free o among (Not v) is = (idle_position o o.call, refl)
 
-pub each_has_position : (operations : List Operation) (lives : List Life) (gaps : List ℕ) (o : Operation) → IsClear operations → NoOrderViolation operations → IsValueOrder operations lives → AreLeastFreeGaps operations gaps → Contains operations o → (position : Position) × IsPositionOf operations lives o position × IsInWindow o position.gap
+pub each_has_position : (operations : List Operation) (lives : List Life) (gaps : List ℕ) (o : Operation) → IsClear operations
+    → NoOrderViolation operations → IsValueOrder operations lives → AreLeastFreeGaps operations gaps → Contains operations o
+    → (position : Position) × IsPositionOf operations lives o position × IsInWindow o position.gap
 each_has_position operations lives gaps o clear none order free among =
     let found = has_position operations lives gaps clear order free o among o.kind refl in
     (found.0, found.1, position_in_window operations lives o found.0 clear none order among found.1)
 
 -- an operation has no second position
-one_position_for : (operations : List Operation) (lives : List Life) → IsClear operations → IsValueOrder operations lives → (o : Operation) (k : OpKind) (p q : Position)
+one_position_for : (operations : List Operation) (lives : List Life) → IsClear operations → IsValueOrder operations lives
+    → (o : Operation) (k : OpKind) (p q : Position)
     → IsPositionFor operations lives o k p → IsPositionFor operations lives o k q → p ≡ q
 one_position_for operations lives clear order o (Enq v) p q at_p at_q =
-    let other = position_of_enqueue operations lives at_p.0 at_p.1 (Enq v) v q clear order at_p.2 refl (subst (λ x. IsPositionFor operations lives x (Enq v) q) (sym at_p.3) at_q) in
+    let other = position_of_enqueue operations lives at_p.0 at_p.1 (Enq v) v q clear order at_p.2 refl
+        (subst (λ x. IsPositionFor operations lives x (Enq v) q) (sym at_p.3) at_q) in
     at_p.4 ∙ sym other
 one_position_for operations lives clear order o (Deq v) p q at_p at_q =
     let other = position_of_dequeue operations lives at_p.0 at_p.1 o (Deq v) v q clear order at_p.2 at_p.3 refl at_q in
@@ -130,7 +141,8 @@ one_position_for operations lives clear order o Empty p q at_p at_q =
     at_p.2 ∙ ap (idle_position o) gaps ∙ sym at_q.2
 one_position_for operations lives clear order o (Not v) p q at_p at_q = at_p ∙ sym at_q
 
-pub one_position : (operations : List Operation) (lives : List Life) (o : Operation) (p q : Position) → IsClear operations → IsValueOrder operations lives → IsPositionOf operations lives o p → IsPositionOf operations lives o q → p ≡ q
+pub one_position : (operations : List Operation) (lives : List Life) (o : Operation) (p q : Position) → IsClear operations
+    → IsValueOrder operations lives → IsPositionOf operations lives o p → IsPositionOf operations lives o q → p ≡ q
 one_position operations lives o p q clear order at_p at_q = one_position_for operations lives clear order o o.kind p q at_p at_q
 
 -- an answer that changes nothing stands in its class, by its call
@@ -147,7 +159,8 @@ data Stands (lives : List Life) (o : Operation) (p : Position) : Type 0 where
   leaves : (i : ℕ) (life : Life) → slice_get lives i ≡ Some life → dequeue_of life ≡ Some o → p ≡ dequeue_position lives i → Stands lives o p
   idles : IsIdleAt o p → Stands lives o p
 
-stands_as : (operations : List Operation) (lives : List Life) (o : Operation) (k : OpKind) (p : Position) → IsPositionFor operations lives o k p → Stands lives o p
+stands_as : (operations : List Operation) (lives : List Life) (o : Operation) (k : OpKind) (p : Position) → IsPositionFor operations lives o k p
+    → Stands lives o p
 stands_as operations lives o (Enq v) p at = enters at.0 at.1 at.2 at.3 at.4
 stands_as operations lives o (Deq v) p at = leaves at.0 at.1 at.2 at.3 at.4
 stands_as operations lives o Empty p at = idles (idle_at_gap o at.0 p at.2)
@@ -156,7 +169,8 @@ stands_as operations lives o (Not v) p at = idles (idle_at_gap o o.call p at)
 pub some_injective : {x y : Operation} → ◌≡◌ {A = Option Operation} (Some x) (Some y) → x ≡ y
 some_injective e = cc
 
-one_operation_at : (operations : List Operation) (lives : List Life) (x y : Operation) (p : Position) → IsClear operations → Contains operations x → Contains operations y → Stands lives x p → Stands lives y p → x ≡ y
+one_operation_at : (operations : List Operation) (lives : List Life) (x y : Operation) (p : Position) → IsClear operations → Contains operations x
+    → Contains operations y → Stands lives x p → Stands lives y p → x ≡ y
 one_operation_at operations lives x y p clear in_x in_y (enters i a at_a of_a is_a) (enters j b at_b of_b is_b) =
     let places : i ≡ j = ap (λ r. r.rank) (sym is_a ∙ is_b) in
     let one = one_at lives j a b (subst (λ k. slice_get lives k ≡ Some a) places at_a) at_b in
@@ -180,12 +194,15 @@ one_operation_at operations lives x y p clear in_x in_y (idles idle) (leaves j b
 one_operation_at operations lives x y p clear in_x in_y (idles idle_x) (idles idle_y) =
     same_call operations x y clear.complete in_x in_y (sym idle_x.rank ∙ idle_y.rank)
 
-pub one_operation : (operations : List Operation) (lives : List Life) (x y : Operation) (p : Position) → IsClear operations → Contains operations x → Contains operations y
+pub one_operation : (operations : List Operation) (lives : List Life) (x y : Operation) (p : Position) → IsClear operations → Contains operations x
+    → Contains operations y
     → IsPositionOf operations lives x p → IsPositionOf operations lives y p → x ≡ y
 one_operation operations lives x y p clear in_x in_y at_x at_y =
     one_operation_at operations lives x y p clear in_x in_y (stands_as operations lives x x.kind p at_x) (stands_as operations lives y y.kind p at_y)
 
-pub positions_are_distinct : (operations : List Operation) (lives : List Life) (x y : Operation) (p q : Position) → IsClear operations → IsValueOrder operations lives → Contains operations x → Contains operations y → IsPositionOf operations lives x p → IsPositionOf operations lives y q → (x ≡ y → p ≡ q) × (p ≡ q → x ≡ y)
+pub positions_are_distinct : (operations : List Operation) (lives : List Life) (x y : Operation) (p q : Position) → IsClear operations
+    → IsValueOrder operations lives → Contains operations x → Contains operations y → IsPositionOf operations lives x p
+    → IsPositionOf operations lives y q → (x ≡ y → p ≡ q) × (p ≡ q → x ≡ y)
 positions_are_distinct operations lives x y p q clear order in_x in_y at_p at_q = (
   λ same. one_position operations lives x p q clear order at_p (subst (λ o. IsPositionOf operations lives o q) (sym same) at_q),
   λ same. one_operation operations lives x y q clear in_x in_y (subst (λ r. IsPositionOf operations lives x r) same at_p) at_q,

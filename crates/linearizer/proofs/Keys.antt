@@ -1,5 +1,6 @@
 -- Elements with different keys stand at one place each, in any order of the list.
-use Rattle.std.proofs.Common.{◌≡◌, ℕ, zero, suc, ◌+◌, ◌<◌, ◌≤◌, ◌⊎◌, cond, List, [], ◌∷◌, get_or, Option, None, Some, refl, sym, ◌∙◌, ap, inl, inr, arith, nat_eq}
+use Rattle.std.proofs.Common.{◌≡◌, ℕ, zero, suc, ◌+◌, ◌<◌, ◌≤◌, ◌⊎◌, cond, List, [], ◌∷◌, get_or, Option, None, Some, refl, sym, ◌∙◌, ap, inl, inr}
+use Rattle.std.proofs.Common.{arith, nat_eq}
 use Rattle.std.specs.Prelude.{AllPairs, Contains, IsPermutation, slice_get, sum_by, filter_map}
 use Rattle.std.specs.List.{cons_option}
 use Rattle.std.proofs.lemmas.Bool.{eq-eqb}
@@ -42,7 +43,8 @@ one_with_key key k (x ∷ xs) rises =
     let more = one_with_key key k xs (AllPairs-tail (λ x y. key x < key y) x xs rises) in
     elim (eqb_tells (key x) k) [
       | inl h ↦
-          let none = none_with_key key k xs (λ i y at. let less = pairs_at (λ x y. key x < key y) (x ∷ xs) zero (suc i) x y rises (omega arith) refl at in omega (arith, h.1)) in
+          let none = none_with_key key k xs (λ i y at. let less = pairs_at (λ x y. key x < key y) (x ∷ xs) zero (suc i) x y rises
+              (omega arith) refl at in omega (arith, h.1)) in
           rw h.0 (omega arith)
       | inr h ↦ rw h.0 (omega arith)
     ]
@@ -52,13 +54,16 @@ counted_at f [] i x at = cc
 counted_at f (y ∷ xs) zero x at = let same : y ≡ x = cc in let counts = ap f same in omega arith
 counted_at f (y ∷ xs) (suc i) x at = let more = counted_at f xs i x at in omega arith
 
-counted_at_both : {X : Type 0} (f : X → ℕ) (xs : List X) (i j : ℕ) (x y : X) → i < j → slice_get xs i ≡ Some x → slice_get xs j ≡ Some y → f x + f y ≤ total f xs
+counted_at_both : {X : Type 0} (f : X → ℕ) (xs : List X) (i j : ℕ) (x y : X) → i < j → slice_get xs i ≡ Some x → slice_get xs j ≡ Some y
+    → f x + f y ≤ total f xs
 counted_at_both f [] i j x y below at_x at_y = cc
 counted_at_both f (z ∷ xs) i zero x y below at_x at_y = absurd (omega arith)
-counted_at_both f (z ∷ xs) zero (suc j) x y below at_x at_y = let same : z ≡ x = cc in let counts = ap f same in let more = counted_at f xs j y at_y in omega arith
+counted_at_both f (z ∷ xs) zero (suc j) x y below at_x at_y = let same : z ≡ x = cc in let counts = ap f same in let more =
+    counted_at f xs j y at_y in omega arith
 counted_at_both f (z ∷ xs) (suc i) (suc j) x y below at_x at_y = let more = counted_at_both f xs i j x y (omega arith) at_x at_y in omega arith
 
-not_at_both : {X : Type 0} (key : X → ℕ) (xs ys : List X) (i j : ℕ) (x y : X) → AllPairs (λ x y. key x < key y) xs → IsPermutation xs ys → i < j → slice_get ys i ≡ Some x → slice_get ys j ≡ Some y → key x ≡ key y → ⊥
+not_at_both : {X : Type 0} (key : X → ℕ) (xs ys : List X) (i j : ℕ) (x y : X) → AllPairs (λ x y. key x < key y) xs → IsPermutation xs ys → i < j
+    → slice_get ys i ≡ Some x → slice_get ys j ≡ Some y → key x ≡ key y → ⊥
 not_at_both key xs ys i j x y rises moved below at_x at_y same =
     let one = one_with_key key (key y) xs rises in
     let sums = total-IsPermutation (has_key key (key y)) xs ys moved in
@@ -68,7 +73,8 @@ not_at_both key xs ys i j x y rises moved below at_x at_y same =
     omega arith
 
 -- in a list that has the elements of one with rising keys, a key stands at one place
-pub one_place : {X : Type 0} (key : X → ℕ) (xs ys : List X) (i j : ℕ) (x y : X) → AllPairs (λ x y. key x < key y) xs → IsPermutation xs ys → slice_get ys i ≡ Some x → slice_get ys j ≡ Some y → key x ≡ key y → i ≡ j
+pub one_place : {X : Type 0} (key : X → ℕ) (xs ys : List X) (i j : ℕ) (x y : X) → AllPairs (λ x y. key x < key y) xs → IsPermutation xs ys
+    → slice_get ys i ≡ Some x → slice_get ys j ≡ Some y → key x ≡ key y → i ≡ j
 one_place key xs ys i j x y rises moved at_x at_y same =
     let order : (i < j) ⊎ ((i ≡ j) ⊎ (j < i)) = grind arith in
     elim order [
@@ -78,7 +84,8 @@ one_place key xs ys i j x y rises moved at_x at_y same =
     ]
 
 -- what is kept of a list with rising keys, where each keeps its key, has rising keys
-pub kept_rises : {X Y : Type 0} (h : X → Option Y) (key : X → ℕ) (key' : Y → ℕ) (xs : List X) → ((x : X) (y : Y) → h x ≡ Some y → key' y ≡ key x) → AllPairs (λ x y. key x < key y) xs → AllPairs (λ x y. key' x < key' y) (filter_map h xs)
+pub kept_rises : {X Y : Type 0} (h : X → Option Y) (key : X → ℕ) (key' : Y → ℕ) (xs : List X) → ((x : X) (y : Y) → h x ≡ Some y → key' y ≡ key x)
+    → AllPairs (λ x y. key x < key y) xs → AllPairs (λ x y. key' x < key' y) (filter_map h xs)
 kept_rises h key key' [] keeps rises = λ i j d below within. absurd (omega arith)
 kept_rises {X} {Y} h key key' (x ∷ xs) keeps rises = join (kept_rises h key key' xs keeps (AllPairs-tail (λ x y. key x < key y) x xs rises)) (h x) refl
   where

@@ -1,5 +1,6 @@
 -- The gaps of the enqueues are found from the last value to the first.
-use Rattle.std.proofs.Common.{◌≡◌, ℕ, ◌+◌, ◌-◌, ◌<◌, ◌≤◌, ◌⊎◌, min, List, [], ◌∷◌, length, get_or, set, map, drop, replicate, Some, refl, sym, ◌∙◌, ap, subst, inl, inr, arith}
+use Rattle.std.proofs.Common.{◌≡◌, ℕ, ◌+◌, ◌-◌, ◌<◌, ◌≤◌, ◌⊎◌, min, List, [], ◌∷◌, length, get_or, set, map, drop, replicate, Some, refl, sym, ◌∙◌}
+use Rattle.std.proofs.Common.{ap, subst, inl, inr, arith}
 use Rattle.std.specs.Prelude.{fold, slice_get}
 use Rattle.std.proofs.lemmas.List.{drop_all, drop_more, get_or-set_other, get_or-set_same, length-replicate, length-set}
 use Rattle.std.proofs.lemmas.Option.{get_or_from_slice_get, slice_get_within}
@@ -25,13 +26,15 @@ pub record AreGapsFrom (lives : List Life) (i least : ℕ) (gaps : List ℕ) : T
   pub at_each : (k : ℕ) → i ≤ k → k < length lives → get_or gaps k 0 ≡ enqueue_gap lives k
 
 -- one value more, by the numbers that the code computes
-pub gaps_from_before : (lives : List Life) (i j least entered least' gap : ℕ) (life : Life) (gaps : List ℕ) → AreGapsFrom lives j least gaps → j ≡ i + 1 → slice_get lives i ≡ Some life
+pub gaps_from_before : (lives : List Life) (i j least entered least' gap : ℕ) (life : Life) (gaps : List ℕ) → AreGapsFrom lives j least gaps
+    → j ≡ i + 1 → slice_get lives i ≡ Some life
     → entered ≡ entered_by life → least' ≡ min least entered → gap ≡ least' - 1 → AreGapsFrom lives i least' (set gaps i gap)
 gaps_from_before lives i j least entered least' gap life gaps so_far next at entered_is least'_is gap_is = record {
   one_each = length-set gaps i gap ∙ so_far.one_each;
   least_is = here;
   at_each = λ k above below. elim (cases k above) [
-    | inl same ↦ subst (λ k. get_or (set gaps i gap) k 0 ≡ enqueue_gap lives k) same (get_or-set_same gaps i gap 0 (omega (arith, so_far.one_each, within)) ∙ gap_is ∙ ap (λ n. n - 1) here)
+    | inl same ↦ subst (λ k. get_or (set gaps i gap) k 0 ≡ enqueue_gap lives k) same
+        (get_or-set_same gaps i gap 0 (omega (arith, so_far.one_each, within)) ∙ gap_is ∙ ap (λ n. n - 1) here)
     | inr more ↦ get_or-set_other gaps i k gap 0 (λ same. omega arith) ∙ so_far.at_each k (omega arith) below
   ];
 }
@@ -45,7 +48,8 @@ gaps_from_before lives i j least entered least' gap life gaps so_far next at ent
     here : least' ≡ least_entered_by (drop i lives)
     here =
         let later : least ≡ least_entered_by (drop (i + 1) lives) = so_far.least_is ∙ ap (λ k. least_entered_by (drop k lives)) next in
-        least'_is ∙ ap (min least) entered_is ∙ ap (λ n. min n (entered_by life)) later ∙ sym (ap least_entered_by rest ∙ least_of_more life (drop (i + 1) lives))
+        least'_is ∙ ap (min least) entered_is ∙ ap (λ n. min n (entered_by life)) later
+            ∙ sym (ap least_entered_by rest ∙ least_of_more life (drop (i + 1) lives))
 
     cases : (k : ℕ) → i ≤ k → (i ≡ k) ⊎ (i < k)
     cases k above = grind arith

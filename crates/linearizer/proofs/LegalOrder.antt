@@ -24,7 +24,8 @@ use Rattle.linearizer.proofs.Positions.{HoldsValue, IsDequeued, are_gaps, one_va
 use Rattle.value_match.specs.Lives.{dequeue_of, enqueue_of}
 
 -- an operation has no other position
-pub position_of_enqueue : (operations : List Operation) (lives : List Life) (i : ℕ) (life : Life) (k : OpKind) (v : ℕ) (p : Position) → IsClear operations → IsValueOrder operations lives → slice_get lives i ≡ Some life
+pub position_of_enqueue : (operations : List Operation) (lives : List Life) (i : ℕ) (life : Life) (k : OpKind) (v : ℕ) (p : Position)
+    → IsClear operations → IsValueOrder operations lives → slice_get lives i ≡ Some life
     → k ≡ Enq v → IsPositionFor operations lives (enqueue_of life) k p → p ≡ enqueue_position lives i
 position_of_enqueue operations lives i life k v p clear order at is stands =
     let found : IsPositionFor operations lives (enqueue_of life) (Enq v) p = subst (λ k. IsPositionFor operations lives (enqueue_of life) k p) is stands in
@@ -34,7 +35,8 @@ position_of_enqueue operations lives i life k v p clear order at is stands =
     let place = one_place_of_life operations lives found.0 i found.1 life clear order found.2 at one in
     found.4 ∙ ap (enqueue_position lives) place
 
-pub position_of_dequeue : (operations : List Operation) (lives : List Life) (i : ℕ) (life : Life) (d : Operation) (k : OpKind) (v : ℕ) (p : Position) → IsClear operations → IsValueOrder operations lives → slice_get lives i ≡ Some life
+pub position_of_dequeue : (operations : List Operation) (lives : List Life) (i : ℕ) (life : Life) (d : Operation) (k : OpKind) (v : ℕ) (p : Position)
+    → IsClear operations → IsValueOrder operations lives → slice_get lives i ≡ Some life
     → dequeue_of life ≡ Some d → k ≡ Deq v → IsPositionFor operations lives d k p → p ≡ dequeue_position lives i
 position_of_dequeue operations lives i life d k v p clear order at dequeues is stands =
     let found : IsPositionFor operations lives d (Deq v) p = subst (λ k. IsPositionFor operations lives d k p) is stands in
@@ -45,7 +47,8 @@ position_of_dequeue operations lives i life d k v p clear order at dequeues is s
     found.4 ∙ ap (dequeue_position lives) place
 
 -- a position lies in the window of its operation
-in_window_for : (operations : List Operation) (lives : List Life) → IsClear operations → NoOrderViolation operations → IsValueOrder operations lives → (o : Operation) → Contains operations o → (k : OpKind)
+in_window_for : (operations : List Operation) (lives : List Life) → IsClear operations → NoOrderViolation operations → IsValueOrder operations lives
+    → (o : Operation) → Contains operations o → (k : OpKind)
     → (p : Position) → IsPositionFor operations lives o k p → IsInWindow o p.gap
 in_window_for operations lives clear none order o among (Enq v) p stands =
     let window = enqueue_gap_in_window operations lives stands.0 stands.1 clear none order stands.2 in
@@ -61,7 +64,8 @@ in_window_for operations lives clear none order o among (Not v) p stands =
     let gaps : p.gap ≡ o.call = ap (λ p. p.gap) stands in
     (omega arith, omega arith)
 
-pub position_in_window : (operations : List Operation) (lives : List Life) (o : Operation) (p : Position) → IsClear operations → NoOrderViolation operations → IsValueOrder operations lives → Contains operations o
+pub position_in_window : (operations : List Operation) (lives : List Life) (o : Operation) (p : Position) → IsClear operations
+    → NoOrderViolation operations → IsValueOrder operations lives → Contains operations o
     → IsPositionOf operations lives o p → IsInWindow o p.gap
 position_in_window operations lives o p clear none order among stands = in_window_for operations lives clear none order o among o.kind p stands
 
@@ -93,7 +97,8 @@ module _ (operations order : List Operation) (clear : IsClear operations) (none 
 
   accepted : IsAccepted [] (map (λ o. o.kind) order)
   accepted =
-      run_is_accepted (length chosen.lives) (enqueue_gap chosen.lives) (dequeue_gap chosen.lives) (are_gaps chosen.lives) (HoldsValue chosen.lives) (one_value chosen.lives)
+      run_is_accepted (length chosen.lives) (enqueue_gap chosen.lives) (dequeue_gap chosen.lives) (are_gaps chosen.lives) (HoldsValue chosen.lives)
+          (one_value chosen.lives)
       (IsDequeued chosen.lives) (dequeued_first operations chosen.lives clear none chosen.values_in_order)
       (map (λ o. o.kind) order) chosen.positions
       (items_of operations chosen.lives clear chosen.values_in_order order chosen.positions is_operation chosen.each_has_position)
@@ -115,12 +120,15 @@ module _ (operations order : List Operation) (clear : IsClear operations) (none 
   legal : IsLegalOrder operations order
   legal = record {
     holds_each_once = chosen.holds_each_once;
-    extends_precedence = λ i j d below within. extends i j (get_or order i d) (get_or order j d) below (slice_get-get_or order i d (omega arith)) (slice_get-get_or order j d within);
+    extends_precedence = λ i j d below within. extends i j (get_or order i d) (get_or order j d) below (slice_get-get_or order i d (omega arith))
+        (slice_get-get_or order j d within);
     is_accepted = accepted;
   }
 
-pub chosen_order_is_accepted : (operations order : List Operation) → IsClear operations → NoOrderViolation operations → IsChosenOrder operations order → IsAccepted [] (map (λ o. o.kind) order)
+pub chosen_order_is_accepted : (operations order : List Operation) → IsClear operations → NoOrderViolation operations → IsChosenOrder operations order
+    → IsAccepted [] (map (λ o. o.kind) order)
 chosen_order_is_accepted operations order clear none chosen = accepted operations order clear none chosen
 
-pub chosen_order_is_legal : (operations order : List Operation) → IsClear operations → NoOrderViolation operations → IsChosenOrder operations order → IsLegalOrder operations order
+pub chosen_order_is_legal : (operations order : List Operation) → IsClear operations → NoOrderViolation operations → IsChosenOrder operations order
+    → IsLegalOrder operations order
 chosen_order_is_legal operations order clear none chosen = legal operations order clear none chosen

@@ -1,5 +1,6 @@
 -- Three lists that rise are merged by the positions of their operations.
-use Rattle.std.proofs.Common.{◌≡◌, ℕ, ◌+◌, ◌<◌, ◌≤◌, ◌⊎◌, Bool, true, false, List, [], ◌∷◌, ◌++◌, length, get_or, take, Option, None, Some, refl, sym, ◌∙◌, ap, subst, inl, inr, arith}
+use Rattle.std.proofs.Common.{◌≡◌, ℕ, ◌+◌, ◌<◌, ◌≤◌, ◌⊎◌, Bool, true, false, List, [], ◌∷◌, ◌++◌, length, get_or, take, Option, None, Some, refl, sym}
+use Rattle.std.proofs.Common.{◌∙◌, ap, subst, inl, inr, arith}
 use Rattle.std.specs.Prelude.{◌↔◌, IsPermutation, IsSomeAnd, IsTrue, MatchOption, slice_get}
 use Rattle.std.proofs.lemmas.List.{append_assoc, map-append, take_all, take_more}
 use Rattle.std.proofs.lemmas.List.Elements.{All-get_or, All-nil, All-push, All-weaker}
@@ -32,7 +33,8 @@ next_enqueue lives i p within from before =
     let there : StandsBefore (enqueue_position lives n) (enqueue_position lives i) = subst (λ p. StandsBefore p (enqueue_position lives i)) from.3 before in
     let order : (i < n) ⊎ (n ≡ i) = grind (arith, from.1) in
     elim order [
-      | inl later ↦ not_both (enqueue_position lives i) (enqueue_position lives n) (enqueues_rise (length lives) (enqueue_gap lives) (dequeue_gap lives) (are_gaps lives) i n later from.2) there
+      | inl later ↦ not_both (enqueue_position lives i) (enqueue_position lives n)
+          (enqueues_rise (length lives) (enqueue_gap lives) (dequeue_gap lives) (are_gaps lives) i n later from.2) there
       | inr same ↦ not_itself (enqueue_position lives i) (subst (λ k. StandsBefore (enqueue_position lives k) (enqueue_position lives i)) same there)
     ]
 
@@ -42,12 +44,14 @@ next_dequeue lives j p within from before =
     let there : StandsBefore (dequeue_position lives n) (dequeue_position lives j) = subst (λ p. StandsBefore p (dequeue_position lives j)) from.3 before in
     let order : (j < n) ⊎ (n ≡ j) = grind (arith, from.1) in
     elim order [
-      | inl later ↦ not_both (dequeue_position lives j) (dequeue_position lives n) (dequeues_rise (length lives) (enqueue_gap lives) (dequeue_gap lives) (are_gaps lives) j n later from.2) there
+      | inl later ↦ not_both (dequeue_position lives j) (dequeue_position lives n)
+          (dequeues_rise (length lives) (enqueue_gap lives) (dequeue_gap lives) (are_gaps lives) j n later from.2) there
       | inr same ↦ not_itself (dequeue_position lives j) (subst (λ k. StandsBefore (dequeue_position lives k) (dequeue_position lives j)) same there)
     ]
 
 -- of the idle operations too
-pub next_idle : (idles : List Placed) (k : ℕ) (x : Placed) (p : Position) → NeverFall idles → slice_get idles k ≡ Some x → IsIdleFrom idles k p → ¬ (StandsBefore p (position_of x.position))
+pub next_idle : (idles : List Placed) (k : ℕ) (x : Placed) (p : Position) → NeverFall idles → slice_get idles k ≡ Some x → IsIdleFrom idles k p
+    → ¬ (StandsBefore p (position_of x.position))
 next_idle idles k x p never at from before =
     let n = from.0 in
     let y = from.1 in
@@ -57,27 +61,34 @@ next_idle idles k x p never at from before =
     let order : (k < n) ⊎ (n ≡ k) = grind (arith, from.2) in
     elim order [
       | inl later ↦ never k n x later (slice_get_within idles n y from.3)
-          (subst (λ a. StandsBefore (position_of (get_or idles n x).position) (position_of a.position)) (sym here) (subst (λ b. StandsBefore (position_of b.position) (position_of x.position)) (sym that) there))
+          (subst (λ a. StandsBefore (position_of (get_or idles n x).position) (position_of a.position)) (sym here)
+              (subst (λ b. StandsBefore (position_of b.position) (position_of x.position)) (sym that) there))
       | inr same ↦
           let both : y ≡ x = sym that ∙ ap (λ m. get_or idles m x) same ∙ here in
           not_itself (position_of x.position) (subst (λ y. StandsBefore (position_of y.position) (position_of x.position)) both there)
     ]
 
 -- one operation more, than which none of those ahead stands before
-module _ (operations : List Operation) (lives : List Life) (idles : List Placed) (i j left k : ℕ) (places : List ℕ) (merged : IsMergedUpTo operations lives idles i j left k places) where
-  pub grown : (i' j' left' k' : ℕ) (x : Placed) (values' : List Placed) → HoldsUpTo operations lives i' j' left' values' → IsPermutation ((merged.values ++ take k idles) ++ x ∷ []) (values' ++ take k' idles)
-      → IsAhead lives idles i j k (position_of x.position) → ((p : Position) → IsAhead lives idles i' j' k' p → IsAhead lives idles i j k p) → NoneBelow (IsAhead lives idles i' j' k') (Some x.position)
+module _ (operations : List Operation) (lives : List Life) (idles : List Placed) (i j left k : ℕ) (places : List ℕ)
+    (merged : IsMergedUpTo operations lives idles i j left k places) where
+  pub grown : (i' j' left' k' : ℕ) (x : Placed) (values' : List Placed) → HoldsUpTo operations lives i' j' left' values'
+      → IsPermutation ((merged.values ++ take k idles) ++ x ∷ []) (values' ++ take k' idles)
+      → IsAhead lives idles i j k (position_of x.position) → ((p : Position) → IsAhead lives idles i' j' k' p → IsAhead lives idles i j k p)
+          → NoneBelow (IsAhead lives idles i' j' k') (Some x.position)
       → IsMergedUpTo operations lives idles i' j' left' k' (places ++ x.operation ∷ [])
   grown i' j' left' k' x values' held moved ahead still none = record {
     values = values';
     held = held;
     sorted = merged.sorted ++ x ∷ [];
-    each_once = IsPermutation-trans (values' ++ take k' idles) ((merged.values ++ take k idles) ++ x ∷ []) (merged.sorted ++ x ∷ []) (IsPermutation-sym ((merged.values ++ take k idles) ++ x ∷ []) (values' ++ take k' idles) moved)
+    each_once = IsPermutation-trans (values' ++ take k' idles) ((merged.values ++ take k idles) ++ x ∷ []) (merged.sorted ++ x ∷ [])
+        (IsPermutation-sym ((merged.values ++ take k idles) ++ x ∷ []) (values' ++ take k' idles) moved)
         (IsPermutation-append_left (x ∷ []) (merged.values ++ take k idles) merged.sorted merged.each_once);
     never_fall = all_pairs_push (λ p q. ¬ (StandsBefore (position_of q.position) (position_of p.position))) merged.sorted x merged.never_fall
-        (λ n d below. All-get_or (λ y. NoneBelow (IsAhead lives idles i j k) (Some y.position)) merged.sorted n d below merged.none_below (position_of x.position) ahead);
+        (λ n d below. All-get_or (λ y. NoneBelow (IsAhead lives idles i j k) (Some y.position)) merged.sorted n d below merged.none_below
+            (position_of x.position) ahead);
     none_below = All-push (λ y. NoneBelow (IsAhead lives idles i' j' k') (Some y.position)) merged.sorted x
-        (All-weaker (λ y. NoneBelow (IsAhead lives idles i j k) (Some y.position)) (λ y. NoneBelow (IsAhead lives idles i' j' k') (Some y.position)) (λ y none p is. none p (still p is)) merged.sorted merged.none_below) none;
+        (All-weaker (λ y. NoneBelow (IsAhead lives idles i j k) (Some y.position)) (λ y. NoneBelow (IsAhead lives idles i' j' k') (Some y.position))
+            (λ y none p is. none p (still p is)) merged.sorted merged.none_below) none;
     places_are = ap (λ ps. ps ++ x.operation ∷ []) merged.places_are ∙ sym (map-append (λ p. p.operation) merged.sorted (x ∷ []));
   }
 
@@ -89,7 +100,8 @@ module _ (operations : List Operation) (lives : List Life) (idles : List Placed)
     sorted = merged.sorted;
     each_once = merged.each_once;
     never_fall = merged.never_fall;
-    none_below = All-weaker (λ y. NoneBelow (IsAhead lives idles i j k) (Some y.position)) (λ y. NoneBelow (IsAhead lives idles i (j + 1) k) (Some y.position)) (λ y none p is. none p (later p is)) merged.sorted merged.none_below;
+    none_below = All-weaker (λ y. NoneBelow (IsAhead lives idles i j k) (Some y.position))
+        (λ y. NoneBelow (IsAhead lives idles i (j + 1) k) (Some y.position)) (λ y none p is. none p (later p is)) merged.sorted merged.none_below;
     places_are = merged.places_are;
   }
     where
@@ -99,11 +111,14 @@ module _ (operations : List Operation) (lives : List Life) (idles : List Placed)
       later p (inr idle) = inr idle
 
   -- the next dequeue, past the idle operations and the enqueues that are left
-  pub dequeue_added : (left' : ℕ) (x : Placed) → HoldsUpTo operations lives i (j + 1) left' (merged.values ++ x ∷ []) → j < length lives → position_of x.position ≡ dequeue_position lives j
-      → NoneBelow (IsEnqueueFrom lives i) (Some x.position) → NoneBelow (IsIdleFrom idles k) (Some x.position) → IsMergedUpTo operations lives idles i (j + 1) left' k (places ++ x.operation ∷ [])
+  pub dequeue_added : (left' : ℕ) (x : Placed) → HoldsUpTo operations lives i (j + 1) left' (merged.values ++ x ∷ []) → j < length lives
+      → position_of x.position ≡ dequeue_position lives j
+      → NoneBelow (IsEnqueueFrom lives i) (Some x.position) → NoneBelow (IsIdleFrom idles k) (Some x.position)
+          → IsMergedUpTo operations lives idles i (j + 1) left' k (places ++ x.operation ∷ [])
   dequeue_added left' x held within stands enqueues idle =
       grown i (j + 1) left' k x (merged.values ++ x ∷ []) held
-      (IsPermutation-sym ((merged.values ++ x ∷ []) ++ take k idles) ((merged.values ++ take k idles) ++ x ∷ []) (one_more_among merged.values (take k idles) (merged.values ++ take k idles) x (IsPermutation-refl (merged.values ++ take k idles))))
+      (IsPermutation-sym ((merged.values ++ x ∷ []) ++ take k idles) ((merged.values ++ take k idles) ++ x ∷ [])
+          (one_more_among merged.values (take k idles) (merged.values ++ take k idles) x (IsPermutation-refl (merged.values ++ take k idles))))
       (inl (inr (j, omega arith, within, stands))) later none
     where
       later : (p : Position) → IsAhead lives idles i (j + 1) k p → IsAhead lives idles i j k p
@@ -117,11 +132,14 @@ module _ (operations : List Operation) (lives : List Life) (idles : List Placed)
       none p (inr is) = idle p is
 
   -- the next enqueue, past the dequeues and the idle operations that are left
-  pub enqueue_added : (x : Placed) → HoldsUpTo operations lives (i + 1) j left (merged.values ++ x ∷ []) → i < length lives → position_of x.position ≡ enqueue_position lives i
-      → NoneBelow (IsDequeueFrom lives j) (Some x.position) → NoneBelow (IsIdleFrom idles k) (Some x.position) → IsMergedUpTo operations lives idles (i + 1) j left k (places ++ x.operation ∷ [])
+  pub enqueue_added : (x : Placed) → HoldsUpTo operations lives (i + 1) j left (merged.values ++ x ∷ []) → i < length lives
+      → position_of x.position ≡ enqueue_position lives i
+      → NoneBelow (IsDequeueFrom lives j) (Some x.position) → NoneBelow (IsIdleFrom idles k) (Some x.position)
+          → IsMergedUpTo operations lives idles (i + 1) j left k (places ++ x.operation ∷ [])
   enqueue_added x held within stands dequeues idle =
       grown (i + 1) j left k x (merged.values ++ x ∷ []) held
-      (IsPermutation-sym ((merged.values ++ x ∷ []) ++ take k idles) ((merged.values ++ take k idles) ++ x ∷ []) (one_more_among merged.values (take k idles) (merged.values ++ take k idles) x (IsPermutation-refl (merged.values ++ take k idles))))
+      (IsPermutation-sym ((merged.values ++ x ∷ []) ++ take k idles) ((merged.values ++ take k idles) ++ x ∷ [])
+          (one_more_among merged.values (take k idles) (merged.values ++ take k idles) x (IsPermutation-refl (merged.values ++ take k idles))))
       (inl (inl (i, omega arith, within, stands))) later none
     where
       later : (p : Position) → IsAhead lives idles (i + 1) j k p → IsAhead lives idles i j k p
@@ -135,10 +153,13 @@ module _ (operations : List Operation) (lives : List Life) (idles : List Placed)
       none p (inr is) = idle p is
 
   -- the next idle operation, past the values that are left
-  pub idle_added : (x : Placed) → NeverFall idles → slice_get idles k ≡ Some x → NoneBelow (IsValueFrom lives i j) (Some x.position) → IsMergedUpTo operations lives idles i j left (k + 1) (places ++ x.operation ∷ [])
+  pub idle_added : (x : Placed) → NeverFall idles → slice_get idles k ≡ Some x → NoneBelow (IsValueFrom lives i j) (Some x.position)
+      → IsMergedUpTo operations lives idles i j left (k + 1) (places ++ x.operation ∷ [])
   idle_added x never at values =
       grown i j left (k + 1) x merged.values merged.held
-      (subst (IsPermutation ((merged.values ++ take k idles) ++ x ∷ [])) (append_assoc merged.values (take k idles) (x ∷ []) ∙ ap (λ xs. merged.values ++ xs) (sym longer)) (IsPermutation-refl ((merged.values ++ take k idles) ++ x ∷ [])))
+      (subst (IsPermutation ((merged.values ++ take k idles) ++ x ∷ []))
+          (append_assoc merged.values (take k idles) (x ∷ []) ∙ ap (λ xs. merged.values ++ xs) (sym longer))
+          (IsPermutation-refl ((merged.values ++ take k idles) ++ x ∷ [])))
       (inr (k, x, omega arith, at, refl)) later none
     where
       longer : take (k + 1) idles ≡ take k idles ++ x ∷ []
@@ -164,12 +185,14 @@ nothing_merged operations lives idles = record {
 }
 
 -- what is not below the limit is not below an operation that does not stand after it
-pub below_next : (Is : Position → Type 0) (limit : Option Stored) (x : Placed) → NoneBelow Is limit → ((q : Stored) → limit ≡ Some q → ¬ (StandsBefore (position_of q) (position_of x.position))) → NoneBelow Is (Some x.position)
+pub below_next : (Is : Position → Type 0) (limit : Option Stored) (x : Placed) → NoneBelow Is limit
+    → ((q : Stored) → limit ≡ Some q → ¬ (StandsBefore (position_of q) (position_of x.position))) → NoneBelow Is (Some x.position)
 below_next Is None x none after p is = absurd (none p is)
 below_next Is (Some q) x none after p is = through p (position_of q) (position_of x.position) (none p is) (after q refl)
 
 -- what is told of an operation and the limit
-pub stands_not_after : (limit : Option Stored) (x : Placed) (told : Bool) → MatchOption limit (told ≡ false) (λ q. IsTrue told ↔ StandsBefore (position_of q) (position_of x.position)) → told ≡ false
+pub stands_not_after : (limit : Option Stored) (x : Placed) (told : Bool)
+    → MatchOption limit (told ≡ false) (λ q. IsTrue told ↔ StandsBefore (position_of q) (position_of x.position)) → told ≡ false
     → (q : Stored) → limit ≡ Some q → ¬ (StandsBefore (position_of q) (position_of x.position))
 stands_not_after None x told tells not q same before = cc
 stands_not_after (Some r) x told tells not q same before =
@@ -177,13 +200,15 @@ stands_not_after (Some r) x told tells not q same before =
     let is : told ≡ true = tells.1 (subst (λ s. StandsBefore (position_of s) (position_of x.position)) (sym r_is) before) in
     cc
 
-pub stands_after : (limit : Option Stored) (x : Placed) (told : Bool) → MatchOption limit (told ≡ false) (λ q. IsTrue told ↔ StandsBefore (position_of q) (position_of x.position)) → told ≡ true
+pub stands_after : (limit : Option Stored) (x : Placed) (told : Bool)
+    → MatchOption limit (told ≡ false) (λ q. IsTrue told ↔ StandsBefore (position_of q) (position_of x.position)) → told ≡ true
     → IsSomeAnd limit (λ q. StandsBefore (position_of q) (position_of x.position))
 stands_after None x told tells is = cc
 stands_after (Some q) x told tells is = tells.0 is
 
 -- none is below the limit where none stands before an operation that stands after it
-pub below_limit : (Is : Position → Type 0) (limit : Option Stored) (x : Position) → ((p : Position) → Is p → ¬ (StandsBefore p x)) → IsSomeAnd limit (λ q. StandsBefore (position_of q) x) → NoneBelow Is limit
+pub below_limit : (Is : Position → Type 0) (limit : Option Stored) (x : Position) → ((p : Position) → Is p → ¬ (StandsBefore p x))
+    → IsSomeAnd limit (λ q. StandsBefore (position_of q) x) → NoneBelow Is limit
 below_limit Is None x none after = λ p is. absurd after
 below_limit Is (Some q) x none after = λ p is before. none p is (before_through p (position_of q) x before after)
 
@@ -198,7 +223,8 @@ pub no_enqueue : (lives : List Life) (i : ℕ) (limit : Option Stored) → lengt
 no_enqueue lives i limit all p is = absurd (omega (arith, all, is.1, is.2))
 
 -- no value that is left stands before the next dequeue, if no enqueue does
-pub none_of_values : (lives : List Life) (i j : ℕ) (x : Placed) → j < length lives → position_of x.position ≡ dequeue_position lives j → NoneBelow (IsEnqueueFrom lives i) (Some x.position) → NoneBelow (IsValueFrom lives i j) (Some x.position)
+pub none_of_values : (lives : List Life) (i j : ℕ) (x : Placed) → j < length lives → position_of x.position ≡ dequeue_position lives j
+    → NoneBelow (IsEnqueueFrom lives i) (Some x.position) → NoneBelow (IsValueFrom lives i j) (Some x.position)
 none_of_values lives i j x within stands enqueues p (inl is) = enqueues p is
 none_of_values lives i j x within stands enqueues p (inr is) = subst (λ q. ¬ (StandsBefore p q)) (sym stands) (next_dequeue lives j p within is)
 
@@ -219,11 +245,13 @@ all_idle idles k none =
     elim order [ inl all ↦ all | inr more ↦ absurd (none (position_of x.position) (k, x, omega arith, slice_get-get_or idles k nowhere more, refl)) ]
 
 -- all are merged
-pub all_merged : (operations : List Operation) (order : List ℕ) (idles : List Placed) (i j left k : ℕ) (places : List ℕ) → IsOrderOfPlaces operations order → length order ≤ i → NoneBelow (IsDequeueFrom (lives_at operations order) j) None
+pub all_merged : (operations : List Operation) (order : List ℕ) (idles : List Placed) (i j left k : ℕ) (places : List ℕ)
+    → IsOrderOfPlaces operations order → length order ≤ i → NoneBelow (IsDequeueFrom (lives_at operations order) j) None
     → NoneBelow (IsIdleFrom idles k) None → IsMergedUpTo operations (lives_at operations order) idles i j left k places → IsMerge operations idles places
 all_merged operations order idles i j left k places is all_in all_out none merged = (
   merged.values,
-  all_placed operations order i j left merged.values is all_in (omega (arith, all_dequeued (lives_at operations order) j all_out, lives_long operations order is)) merged.held,
+  all_placed operations order i j left merged.values is all_in (omega
+      (arith, all_dequeued (lives_at operations order) j all_out, lives_long operations order is)) merged.held,
   record {
     sorted = merged.sorted;
     holds_each_once = subst (λ xs. IsPermutation (merged.values ++ xs) merged.sorted) (take_all k idles (all_idle idles k none)) merged.each_once;

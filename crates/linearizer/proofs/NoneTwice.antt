@@ -2,7 +2,8 @@
 use Rattle.std.proofs.Common.{◌≡◌, ℕ, zero, suc, Bool, true, false, cond, List, [], ◌∷◌, ◌++◌, Some, refl, sym, subst, inl, inr, arith}
 use Rattle.std.specs.Prelude.{Contains, IsPermutation, filter, flat_map, slice_get, ⊤}
 use Rattle.std.proofs.lemmas.List.Elements.{Contains-append_cases, Contains-append_left, Contains-append_right}
-use Rattle.std.proofs.lemmas.List.Sorted.{Contains-permutation, IsPermutation-cons, IsPermutation-middle, IsPermutation-refl, IsPermutation-sym, IsPermutation-trans}
+use Rattle.std.proofs.lemmas.List.Sorted.{Contains-permutation, IsPermutation-cons, IsPermutation-middle, IsPermutation-refl, IsPermutation-sym}
+use Rattle.std.proofs.lemmas.List.Sorted.{IsPermutation-trans}
 use Rattle.history_merge.proofs.Distinct.{contains_cons, not_in_none, place_of}
 use Rattle.linearizer.proofs.Opposites.{one_deeper}
 use Rattle.value_match.proofs.Lists.{passed_filter}
@@ -12,7 +13,8 @@ NoneTwice [] = ⊤
 NoneTwice (x ∷ xs) = ¬ (Contains xs x) × NoneTwice xs
 
 -- where equal elements stand at one place, none stands twice
-pub none_twice_from_places : {X : Type 0} (xs : List X) → ((i j : ℕ) (x y : X) → slice_get xs i ≡ Some x → slice_get xs j ≡ Some y → x ≡ y → i ≡ j) → NoneTwice xs
+pub none_twice_from_places : {X : Type 0} (xs : List X) → ((i j : ℕ) (x y : X) → slice_get xs i ≡ Some x → slice_get xs j ≡ Some y → x ≡ y → i ≡ j)
+    → NoneTwice xs
 none_twice_from_places [] one = tt
 none_twice_from_places (x ∷ xs) one = (
   λ among. let place = place_of xs x among in let same = one zero (suc place.0) x x refl place.1 refl in absurd (omega arith),
@@ -41,19 +43,23 @@ taken_out {X} (y ∷ xs) x none among = elim (contains_cons y xs x among) [
     further : IsTakenOut xs x → ¬ (y ≡ x) → IsTakenOut (y ∷ xs) x
     further out differs = record {
       rest = y ∷ out.rest;
-      moved = IsPermutation-trans (y ∷ xs) (y ∷ x ∷ out.rest) (x ∷ y ∷ out.rest) (IsPermutation-cons y xs (x ∷ out.rest) out.moved) (IsPermutation-middle (y ∷ []) x out.rest);
-      none_twice = (λ there. none.0 (Contains-permutation (x ∷ out.rest) xs y (IsPermutation-sym xs (x ∷ out.rest) out.moved) (one_deeper x out.rest y there)), out.none_twice);
+      moved = IsPermutation-trans (y ∷ xs) (y ∷ x ∷ out.rest) (x ∷ y ∷ out.rest) (IsPermutation-cons y xs (x ∷ out.rest) out.moved)
+          (IsPermutation-middle (y ∷ []) x out.rest);
+      none_twice = (λ there. none.0 (Contains-permutation (x ∷ out.rest) xs y (IsPermutation-sym xs (x ∷ out.rest) out.moved)
+          (one_deeper x out.rest y there)), out.none_twice);
       gone = λ there. elim (contains_cons y out.rest x there) [ inl same ↦ differs same | inr later ↦ out.gone later ];
     }
 
 -- lists without repetition that have the same elements are one another in another order
-pub same_elements_permute : {X : Type 0} (xs ys : List X) → NoneTwice xs → NoneTwice ys → ((x : X) → Contains xs x → Contains ys x) → ((x : X) → Contains ys x → Contains xs x) → IsPermutation xs ys
+pub same_elements_permute : {X : Type 0} (xs ys : List X) → NoneTwice xs → NoneTwice ys → ((x : X) → Contains xs x → Contains ys x)
+    → ((x : X) → Contains ys x → Contains xs x) → IsPermutation xs ys
 same_elements_permute [] [] none_x none_y into back = IsPermutation-refl []
 same_elements_permute [] (y ∷ ys) none_x none_y into back = absurd (not_in_none y (back y (zero, omega arith, refl)))
 same_elements_permute {X} (x ∷ xs) ys none_x none_y into back =
     join (taken_out ys x none_y (into x (zero, omega arith, refl))) (λ zs none_z into' back'. same_elements_permute xs zs none_x.1 none_z into' back')
   where
-    join : IsTakenOut ys x → ((zs : List X) → NoneTwice zs → ((z : X) → Contains xs z → Contains zs z) → ((z : X) → Contains zs z → Contains xs z) → IsPermutation xs zs) → IsPermutation (x ∷ xs) ys
+    join : IsTakenOut ys x → ((zs : List X) → NoneTwice zs → ((z : X) → Contains xs z → Contains zs z) → ((z : X) → Contains zs z → Contains xs z)
+        → IsPermutation xs zs) → IsPermutation (x ∷ xs) ys
     join out rec =
         IsPermutation-trans (x ∷ xs) (x ∷ out.rest) ys
         (IsPermutation-cons x xs out.rest (rec out.rest out.none_twice
@@ -61,7 +67,8 @@ same_elements_permute {X} (x ∷ xs) ys none_x none_y into back =
           | inl same ↦ absurd (none_x.0 (subst (Contains xs) (sym same) among))
           | inr there ↦ there
         ])
-        (λ z among. elim (contains_cons x xs z (back z (Contains-permutation (x ∷ out.rest) ys z (IsPermutation-sym ys (x ∷ out.rest) out.moved) (one_deeper x out.rest z among)))) [
+        (λ z among. elim (contains_cons x xs z (back z (Contains-permutation (x ∷ out.rest) ys z (IsPermutation-sym ys (x ∷ out.rest) out.moved)
+            (one_deeper x out.rest z among)))) [
           | inl same ↦ absurd (out.gone (subst (Contains out.rest) (sym same) among))
           | inr there ↦ there
         ])))

@@ -3,7 +3,8 @@ use Rattle.std.proofs.Common.{◌≡◌, ℕ, zero, suc, ◌<◌, ◌⊎◌, Lis
 use Rattle.std.specs.Prelude.{Contains, AllPairs, IsPermutation, slice_get}
 use Rattle.std.specs.List.{AllZip}
 use Rattle.std.proofs.lemmas.Option.{slice_get-get_or}
-use Rattle.std.proofs.lemmas.List.Sorted.{IsPermutation-refl, IsPermutation-sym, IsPermutation-cons, IsPermutation-trans, IsPermutation-middle, Contains-permutation}
+use Rattle.std.proofs.lemmas.List.Sorted.{IsPermutation-refl, IsPermutation-sym, IsPermutation-cons, IsPermutation-trans, IsPermutation-middle}
+use Rattle.std.proofs.lemmas.List.Sorted.{Contains-permutation}
 use Rattle.history_merge.specs.declared.operation.Operation.{Operation}
 use Rattle.history_merge.specs.Complete.{AreComplete}
 use Rattle.history_merge.proofs.Distinct.{contains_at, not_in_none, place_of, pairs_at, calls_rise}
@@ -67,7 +68,8 @@ record IsInserted (R : Operation → Position → Type 0) (o : Operation) (p : P
 swapped : (x y : Operation) (xs : List Operation) → IsPermutation (x ∷ y ∷ xs) (y ∷ x ∷ xs)
 swapped x y xs = IsPermutation-middle (x ∷ []) y xs
 
-inserted : (R : Operation → Position → Type 0) (o : Operation) (p : Position) (order : List Operation) (positions : List Position) → R o p → AllZip R order positions → Rises positions
+inserted : (R : Operation → Position → Type 0) (o : Operation) (p : Position) (order : List Operation) (positions : List Position) → R o p
+    → AllZip R order positions → Rises positions
     → ((q : Position) → Among q positions → ¬ (p ≡ q)) → IsInserted R o p order positions
 inserted R o p [] [] is zip rising differs = record {
   order' = o ∷ [];
@@ -102,14 +104,16 @@ inserted R o p (x ∷ xs) (q ∷ qs) is zip rising differs =
     }
 
 -- the operation beside a position
-beside_position : (R : Operation → Position → Type 0) (xs : List Operation) (ps : List Position) (p : Position) → AllZip R xs ps → Among p ps → (o : Operation) × Contains xs o × R o p
+beside_position : (R : Operation → Position → Type 0) (xs : List Operation) (ps : List Position) (p : Position) → AllZip R xs ps → Among p ps
+    → (o : Operation) × Contains xs o × R o p
 beside_position R [] [] p zip among = elim among [ ]
 beside_position R [] (q ∷ ps) p zip among = absurd zip
 beside_position R (x ∷ xs) [] p zip among = absurd zip
 beside_position R (x ∷ xs) (q ∷ ps) p zip (inl same) = (x, (zero, omega arith, refl), subst (R x) same zip.0)
 beside_position R (x ∷ xs) (q ∷ ps) p zip (inr later) = let more = beside_position R xs ps p zip.1 later in (more.0, one_deeper x xs more.0 more.1, more.2)
 
-sorted_by_position : (R : Operation → Position → Type 0) (xs : List Operation) → AllPairs (λ x y. x.call < y.call) xs → ((o : Operation) → Contains xs o → (p : Position) × R o p)
+sorted_by_position : (R : Operation → Position → Type 0) (xs : List Operation) → AllPairs (λ x y. x.call < y.call) xs
+    → ((o : Operation) → Contains xs o → (p : Position) × R o p)
     → ((x y : Operation) (p : Position) → Contains xs x → Contains xs y → R x p → R y p → x ≡ y) → AreSorted R xs
 sorted_by_position R [] rise each distinct = record { order = []; positions = []; moved = IsPermutation-refl []; zipped = search rules; rising = search rules }
 sorted_by_position R (x ∷ xs) rise each distinct =
@@ -158,7 +162,8 @@ pairs_rise (p ∷ ps) rising = pairs (pairs_rise ps rising.1)
 pub operations_rise : (operations : List Operation) → AreComplete operations → AllPairs (λ x y. x.call < y.call) operations
 operations_rise operations complete = rw complete.2 (calls_rise complete.0 complete.1.tickets_rise)
 
-pub chosen_order_exists : (operations : List Operation) (gaps : List ℕ) → IsClear operations → NoOrderViolation operations → AreLeastFreeGaps operations gaps → (order : List Operation) × IsChosenOrder operations order
+pub chosen_order_exists : (operations : List Operation) (gaps : List ℕ) → IsClear operations → NoOrderViolation operations
+    → AreLeastFreeGaps operations gaps → (order : List Operation) × IsChosenOrder operations order
 chosen_order_exists operations gaps clear none free =
     let values = values_have_order operations clear in
     let sorted = sorted_by_position (λ o p. IsPositionOf operations values.0 o p) operations (operations_rise operations clear.complete)
@@ -176,21 +181,25 @@ chosen_order_exists operations gaps clear none free =
     )
 
 -- sorted by positions that are theirs alone, operations have one order
-one_sorted : (R : Operation → Position → Type 0) (xs ys : List Operation) (ps qs : List Position) → AreSame xs ys → AllZip R xs ps → AllZip R ys qs → Rises ps → Rises qs
-    → ((o : Operation) (p q : Position) → R o p → R o q → p ≡ q) → ((x y : Operation) (p : Position) → Contains xs x → Contains xs y → R x p → R y p → x ≡ y) → xs ≡ ys
+one_sorted : (R : Operation → Position → Type 0) (xs ys : List Operation) (ps qs : List Position) → AreSame xs ys → AllZip R xs ps → AllZip R ys qs
+    → Rises ps → Rises qs
+    → ((o : Operation) (p q : Position) → R o p → R o q → p ≡ q) → ((x y : Operation) (p : Position) → Contains xs x → Contains xs y → R x p → R y p
+        → x ≡ y) → xs ≡ ys
 one_sorted R [] [] ps qs same zip_x zip_y rising_x rising_y one distinct = refl
 one_sorted R [] (y ∷ ys) ps qs same zip_x zip_y rising_x rising_y one distinct = absurd (not_in_none y (same.back y (zero, omega arith, refl)))
 one_sorted R (x ∷ xs) [] ps qs same zip_x zip_y rising_x rising_y one distinct = absurd (not_in_none x (same.into x (zero, omega arith, refl)))
 one_sorted R (x ∷ xs) (y ∷ ys) [] qs same zip_x zip_y rising_x rising_y one distinct = absurd zip_x
 one_sorted R (x ∷ xs) (y ∷ ys) (p ∷ ps) [] same zip_x zip_y rising_x rising_y one distinct = absurd zip_y
 one_sorted R (x ∷ xs) (y ∷ ys) (p ∷ ps) (q ∷ qs) same zip_x zip_y rising_x rising_y one distinct =
-    let heads = first_alike (among_other y ys q qs x p (same.into x (zero, omega arith, refl)) zip_y zip_x.0) (among_other x xs p ps y q (same.back y (zero, omega arith, refl)) zip_x zip_y.0) in
+    let heads = first_alike (among_other y ys q qs x p (same.into x (zero, omega arith, refl)) zip_y zip_x.0)
+        (among_other x xs p ps y q (same.back y (zero, omega arith, refl)) zip_x zip_y.0) in
     let rest = one_sorted R xs ys ps qs (rest_alike x y xs ys heads same) zip_x.1 zip_y.1 rising_x.1 rising_y.1 one
     (λ u v r in_u in_v at_u at_v. distinct u v r (one_deeper x xs u in_u) (one_deeper x xs v in_v) at_u at_v) in
     cc
   where
     -- the position of an operation of a list is among that list's positions
-    among_other : (z : Operation) (zs : List Operation) (r : Position) (rs : List Position) (o : Operation) (s : Position) → Contains (z ∷ zs) o → AllZip R (z ∷ zs) (r ∷ rs) → R o s → Among s (r ∷ rs)
+    among_other : (z : Operation) (zs : List Operation) (r : Position) (rs : List Position) (o : Operation) (s : Position) → Contains (z ∷ zs) o
+        → AllZip R (z ∷ zs) (r ∷ rs) → R o s → Among s (r ∷ rs)
     among_other z zs r rs o s among zip is =
         let place = place_of (z ∷ zs) o among in
         let found = beside R (z ∷ zs) (r ∷ rs) place.0 o zip place.1 in
@@ -198,15 +207,18 @@ one_sorted R (x ∷ xs) (y ∷ ys) (p ∷ ps) (q ∷ qs) same zip_x zip_y rising
 
     first_alike : Among p (q ∷ qs) → Among q (p ∷ ps) → x ≡ y
     first_alike (inl here) there = distinct x y p (zero, omega arith, refl) (same.back y (zero, omega arith, refl)) zip_x.0 (subst (R y) here zip_y.0)
-    first_alike (inr later) (inl here) = distinct x y p (zero, omega arith, refl) (same.back y (zero, omega arith, refl)) zip_x.0 (subst (R y) (sym here) zip_y.0)
+    first_alike (inr later) (inl here) = distinct x y p (zero, omega arith, refl) (same.back y (zero, omega arith, refl)) zip_x.0
+        (subst (R y) (sym here) zip_y.0)
     first_alike (inr later) (inr later') = absurd (not_both q p (before_one q p qs rising_y.0 later) (before_one p q ps rising_x.0 later'))
 
 same_elements : (operations xs ys : List Operation) → AreComplete operations → IsPermutation operations xs → IsPermutation operations ys → AreSame xs ys
 same_elements operations xs ys complete moved_x moved_y = record {
   into = λ o among. Contains-permutation operations ys o moved_y (Contains-permutation xs operations o (IsPermutation-sym operations xs moved_x) among);
   back = λ o among. Contains-permutation operations xs o moved_x (Contains-permutation ys operations o (IsPermutation-sym operations ys moved_y) among);
-  first_once = λ i j x y at_x at_y same. one_place (λ o. o.call) operations xs i j x y (operations_rise operations complete) moved_x at_x at_y (ap (λ o. o.call) same);
-  second_once = λ i j x y at_x at_y same. one_place (λ o. o.call) operations ys i j x y (operations_rise operations complete) moved_y at_x at_y (ap (λ o. o.call) same);
+  first_once = λ i j x y at_x at_y same. one_place (λ o. o.call) operations xs i j x y (operations_rise operations complete) moved_x at_x at_y
+      (ap (λ o. o.call) same);
+  second_once = λ i j x y at_x at_y same. one_place (λ o. o.call) operations ys i j x y (operations_rise operations complete) moved_y at_x at_y
+      (ap (λ o. o.call) same);
 }
 
 pub chosen_order_is_one : (operations xs ys : List Operation) → IsClear operations → IsChosenOrder operations xs → IsChosenOrder operations ys → xs ≡ ys
@@ -222,7 +234,8 @@ chosen_order_is_one operations xs ys clear first second =
     in_operations : (o : Operation) → Contains xs o → Contains operations o
     in_operations o among = Contains-permutation xs operations o (IsPermutation-sym operations xs first.holds_each_once) among
 
-beside_back : {A B : Type 0} (R : A → B → Type 0) (xs : List A) (ys : List B) (i : ℕ) (y : B) → AllZip R xs ys → slice_get ys i ≡ Some y → (x : A) × (slice_get xs i ≡ Some x) × R x y
+beside_back : {A B : Type 0} (R : A → B → Type 0) (xs : List A) (ys : List B) (i : ℕ) (y : B) → AllZip R xs ys → slice_get ys i ≡ Some y
+    → (x : A) × (slice_get xs i ≡ Some x) × R x y
 beside_back R [] [] i y zip at = cc
 beside_back R [] (z ∷ ys) i y zip at = absurd zip
 beside_back R (x ∷ xs) [] i y zip at = cc
@@ -230,15 +243,18 @@ beside_back R (x ∷ xs) (z ∷ ys) zero y zip at = let same : z ≡ y = cc in (
 beside_back R (x ∷ xs) (z ∷ ys) (suc i) y zip at = beside_back R xs ys i y zip.1 at
 
 -- operations whose positions never fall are in the chosen order
-pub sorted_is_chosen : (operations order : List Operation) (lives : List Life) (positions : List Position) → IsClear operations → IsValueOrder operations lives → IsPermutation operations order
-    → AllZip (λ o position. IsPositionOf operations lives o position) order positions → AllPairs (λ p q. ¬ (StandsBefore q p)) positions → IsChosenOrder operations order
+pub sorted_is_chosen : (operations order : List Operation) (lives : List Life) (positions : List Position) → IsClear operations
+    → IsValueOrder operations lives → IsPermutation operations order
+    → AllZip (λ o position. IsPositionOf operations lives o position) order positions → AllPairs (λ p q. ¬ (StandsBefore q p)) positions
+        → IsChosenOrder operations order
 sorted_is_chosen operations order lives positions clear values moved zip never_fall = record {
   lives = lives;
   positions = positions;
   values_in_order = values;
   holds_each_once = moved;
   each_has_position = zip;
-  positions_rise = λ i j d below within. rise i j (get_or positions i d) (get_or positions j d) below (slice_get-get_or positions i d (omega arith)) (slice_get-get_or positions j d within) (never_fall i j d below within);
+  positions_rise = λ i j d below within. rise i j (get_or positions i d) (get_or positions j d) below (slice_get-get_or positions i d (omega arith))
+      (slice_get-get_or positions j d within) (never_fall i j d below within);
 }
   where
     in_operations : (o : Operation) → Contains order o → Contains operations o
@@ -251,9 +267,11 @@ sorted_is_chosen operations order lives positions clear values moved zip never_f
         elim (compared p q) [
           | inl before ↦ before
           | inr (inl same) ↦
-              let one = one_operation operations lives x.0 y.0 q clear (in_operations x.0 (contains_at order i x.0 x.1)) (in_operations y.0 (contains_at order j y.0 y.1))
+              let one = one_operation operations lives x.0 y.0 q clear (in_operations x.0 (contains_at order i x.0 x.1))
+                  (in_operations y.0 (contains_at order j y.0 y.1))
               (subst (λ r. IsPositionOf operations lives x.0 r) same x.2) y.2 in
-              let places = one_place (λ o. o.call) operations order i j x.0 y.0 (operations_rise operations clear.complete) moved x.1 y.1 (ap (λ o. o.call) one) in
+              let places = one_place (λ o. o.call) operations order i j x.0 y.0 (operations_rise operations clear.complete) moved x.1 y.1
+                  (ap (λ o. o.call) one) in
               absurd (omega arith)
           | inr (inr after) ↦ absurd (not_after after)
         ]

@@ -5,7 +5,8 @@ use Rattle.std.proofs.lemmas.List.Elements.{Contains-get_or}
 use Rattle.std.proofs.lemmas.List.Sorted.{Contains-permutation, IsPermutation-sym}
 use Rattle.history_merge.specs.declared.operation.Operation.{Operation}
 use Rattle.value_match.specs.declared.life.Life.{Life}
-use Rattle.value_match.specs.Lives.{IsLife, lives_of, call_or_never, return_or_never, enqueue_call, enqueue_return, dequeue_call, dequeue_return, entered_by, leaves_from, dequeue_of, enqueue_of}
+use Rattle.value_match.specs.Lives.{IsLife, lives_of, call_or_never, return_or_never, enqueue_call, enqueue_return, dequeue_call, dequeue_return}
+use Rattle.value_match.specs.Lives.{entered_by, leaves_from, dequeue_of, enqueue_of}
 use Rattle.value_match.specs.Violations.{IsClear, NoOrderViolation}
 use Rattle.linearizer.specs.Values.{EachIsChoice, IsValueOrder, IsChoice}
 use Rattle.value_match.proofs.Lives.{life_of_contained, life_is_contained}
@@ -25,16 +26,20 @@ order_violated : (operations : List Operation) (x y : Life) → NoOrderViolation
     → enqueue_return x < enqueue_call y → dequeue_return y < dequeue_call x → dequeue_return y < NEVER → ⊥
 order_violated operations x y none is_x is_y first later before_never = go (dequeue_of x) (dequeue_of y) is_x.2 is_y.2 later before_never
   where
-    go : (dx dy : Option Operation) → MatchOption dx (NoneDid operations (Deq is_x.0)) (λ d. Did operations d (Deq is_x.0)) → MatchOption dy (NoneDid operations (Deq is_y.0)) (λ d. Did operations d (Deq is_y.0))
+    go : (dx dy : Option Operation) → MatchOption dx (NoneDid operations (Deq is_x.0)) (λ d. Did operations d (Deq is_x.0))
+        → MatchOption dy (NoneDid operations (Deq is_y.0)) (λ d. Did operations d (Deq is_y.0))
         → return_or_never dy < call_or_never dx → return_or_never dy < NEVER → ⊥
     go dx None did_x did_y less bound = omega arith
     go None (Some d) did_x did_y less bound =
-        none (enqueue_of x) (enqueue_of y) d None (record { a = is_x.0; b = is_y.0; enqueues_a = is_x.1; enqueues_b = is_y.1; dequeues_b = did_y; enqueued_first = first; dequeued_later = did_x })
+        none (enqueue_of x) (enqueue_of y) d None (record { a = is_x.0; b = is_y.0; enqueues_a = is_x.1; enqueues_b = is_y.1; dequeues_b =
+            did_y; enqueued_first = first; dequeued_later = did_x })
     go (Some c) (Some d) did_x did_y less bound =
-        none (enqueue_of x) (enqueue_of y) d (Some c) (record { a = is_x.0; b = is_y.0; enqueues_a = is_x.1; enqueues_b = is_y.1; dequeues_b = did_y; enqueued_first = first; dequeued_later = (did_x, less) })
+        none (enqueue_of x) (enqueue_of y) d (Some c) (record { a = is_x.0; b = is_y.0; enqueues_a = is_x.1; enqueues_b = is_y.1; dequeues_b =
+            did_y; enqueued_first = first; dequeued_later = (did_x, less) })
 
 -- no two lives stand in opposite orders, from what is known of their tickets
-pub unopposed_from_times : (operations : List Operation) (x y : Life) → NoOrderViolation operations → HasLifeTimes x → HasLifeTimes y → dequeue_return x ≤ NEVER → dequeue_return y ≤ NEVER
+pub unopposed_from_times : (operations : List Operation) (x y : Life) → NoOrderViolation operations → HasLifeTimes x → HasLifeTimes y
+    → dequeue_return x ≤ NEVER → dequeue_return y ≤ NEVER
     → IsLife operations x → IsLife operations y → ¬ (IsOpposite x y)
 unopposed_from_times operations x y none times_x times_y bound_x bound_y is_x is_y opposite =
     let e1_x : enqueue_call x ≤ enqueue_return x = times_x.enqueue_takes_time in
@@ -75,7 +80,9 @@ above_entered a y least early after = omega arith
 above_left : (a b y : Life) → dequeue_return b ≤ dequeue_return y → dequeue_return y < leaves_from a → leaves_from a ≤ dequeue_return b → ⊥
 above_left a b y least early more = omega arith
 
-pub choice_may_stand_before : (remaining : List Life) (choice other : Life) → ((x : Life) → Contains remaining x → HasLifeTimes x) → ((x y : Life) → Contains remaining x → Contains remaining y → ¬ (IsOpposite x y)) → ((x : Life) → Contains remaining x → dequeue_return x ≤ NEVER) → IsChoice remaining choice → Contains remaining other → MayStandBefore choice other
+pub choice_may_stand_before : (remaining : List Life) (choice other : Life) → ((x : Life) → Contains remaining x → HasLifeTimes x)
+    → ((x y : Life) → Contains remaining x → Contains remaining y → ¬ (IsOpposite x y))
+    → ((x : Life) → Contains remaining x → dequeue_return x ≤ NEVER) → IsChoice remaining choice → Contains remaining other → MayStandBefore choice other
 choice_may_stand_before remaining choice other times unopposed bounded is among =
     let a = is.first_entered in
     let b = is.first_dequeued in
@@ -95,7 +102,8 @@ choice_may_stand_before remaining choice other times unopposed bounded is among 
       )
     ]
 
-pub no_two_opposite : (operations : List Operation) (x y : Life) → IsClear operations → NoOrderViolation operations → IsLife operations x → IsLife operations y → ¬ (IsOpposite x y)
+pub no_two_opposite : (operations : List Operation) (x y : Life) → IsClear operations → NoOrderViolation operations → IsLife operations x
+    → IsLife operations y → ¬ (IsOpposite x y)
 no_two_opposite operations x y clear none is_x is_y =
     unopposed_from_times operations x y none (times_of_life operations x clear is_x) (times_of_life operations y clear is_y)
     (returned_by_never operations x clear is_x) (returned_by_never operations y clear is_y) is_x is_y
@@ -103,15 +111,19 @@ no_two_opposite operations x y clear none is_x is_y =
 -- what stands in the order of values is a life, and each life stands there
 pub is_life : (operations : List Operation) (lives : List Life) → IsValueOrder operations lives → (x : Life) → Contains lives x → IsLife operations x
 is_life operations lives order x among =
-    life_of_contained operations x (Contains-permutation lives (lives_of operations) x (IsPermutation-sym (lives_of operations) lives order.holds_each_once) among)
+    life_of_contained operations x (Contains-permutation lives (lives_of operations) x
+        (IsPermutation-sym (lives_of operations) lives order.holds_each_once) among)
 
-pub stands_in_order : (operations : List Operation) (lives : List Life) → IsClear operations → IsValueOrder operations lives → (x : Life) → IsLife operations x → Contains lives x
-stands_in_order operations lives clear order x is = Contains-permutation (lives_of operations) lives x order.holds_each_once (life_is_contained operations x clear is)
+pub stands_in_order : (operations : List Operation) (lives : List Life) → IsClear operations → IsValueOrder operations lives → (x : Life)
+    → IsLife operations x → Contains lives x
+stands_in_order operations lives clear order x is = Contains-permutation (lives_of operations) lives x order.holds_each_once
+    (life_is_contained operations x clear is)
 
 pub one_deeper : {X : Type 0} (z : X) (xs : List X) (x : X) → Contains xs x → Contains (z ∷ xs) x
 one_deeper z xs x among = (suc among.0, omega (arith, among.1), among.2)
 
-each_may_stand : (operations : List Operation) (lives : List Life) → IsClear operations → NoOrderViolation operations → ((x : Life) → Contains lives x → IsLife operations x) → EachIsChoice lives → AllPairs MayStandBefore lives
+each_may_stand : (operations : List Operation) (lives : List Life) → IsClear operations → NoOrderViolation operations
+    → ((x : Life) → Contains lives x → IsLife operations x) → EachIsChoice lives → AllPairs MayStandBefore lives
 each_may_stand operations [] clear none are each = λ i j d below within. absurd (omega arith)
 each_may_stand operations (life ∷ rest) clear none are each =
     pairs (each_may_stand operations rest clear none (λ x among. are x (one_deeper life rest x among)) each.1)
@@ -129,5 +141,6 @@ each_may_stand operations (life ∷ rest) clear none are each =
     pairs more zero (suc j) d below within = first (get_or rest j d) (one_deeper life rest (get_or rest j d) (Contains-get_or rest j d (omega arith)))
     pairs more (suc i) (suc j) d below within = more i j d (omega arith) (omega arith)
 
-pub each_may_stand_before : (operations : List Operation) (lives : List Life) → IsClear operations → NoOrderViolation operations → IsValueOrder operations lives → AllPairs MayStandBefore lives
+pub each_may_stand_before : (operations : List Operation) (lives : List Life) → IsClear operations → NoOrderViolation operations
+    → IsValueOrder operations lives → AllPairs MayStandBefore lives
 each_may_stand_before operations lives clear none order = each_may_stand operations lives clear none (is_life operations lives order) order.each_is_choice

@@ -12,19 +12,23 @@ use Rattle.value_match.specs.declared.life.MatchedValue.{MatchedValue}
 use Rattle.value_match.specs.Lives.{HoldsLives, lives_of, HasPlaces}
 use Rattle.linearizer.specs.Placement.{IsOrderOfPlaces, elements_at, lives_at, lives_in}
 
-pub elements_push : {X : Type 0} (xs : List X) (places : List ℕ) (p : ℕ) (x : X) → slice_get xs p ≡ Some x → elements_at xs (places ++ p ∷ []) ≡ elements_at xs places ++ x ∷ []
+pub elements_push : {X : Type 0} (xs : List X) (places : List ℕ) (p : ℕ) (x : X) → slice_get xs p ≡ Some x
+    → elements_at xs (places ++ p ∷ []) ≡ elements_at xs places ++ x ∷ []
 elements_push xs places p x at = filter_map-append (slice_get xs) places (p ∷ []) ∙ ap (λ o. elements_at xs places ++ cons_option o []) at
 
 pub elements_mapped : {X Y : Type 0} (f : X → Y) (xs : List X) (places : List ℕ) → elements_at (map f xs) places ≡ map f (elements_at xs places)
 elements_mapped f xs [] = refl
-elements_mapped {X} {Y} f xs (p ∷ places) = ap (λ o. cons_option o (elements_at (map f xs) places)) (slice_get-map f xs p) ∙ step (slice_get xs p) (elements_mapped f xs places)
+elements_mapped {X} {Y} f xs (p ∷ places) = ap (λ o. cons_option o (elements_at (map f xs) places)) (slice_get-map f xs p)
+    ∙ step (slice_get xs p) (elements_mapped f xs places)
   where
-    step : (o : Option X) → elements_at (map f xs) places ≡ map f (elements_at xs places) → cons_option (option_map f o) (elements_at (map f xs) places) ≡ map f (cons_option o (elements_at xs places))
+    step : (o : Option X) → elements_at (map f xs) places ≡ map f (elements_at xs places)
+        → cons_option (option_map f o) (elements_at (map f xs) places) ≡ map f (cons_option o (elements_at xs places))
     step None more = more
     step (Some x) more = ap (λ ys. f x ∷ ys) more
 
 -- places in range give one element each
-first_of : {X : Type 0} (xs : List X) (p : ℕ) (places : List ℕ) → p < length xs → (x : X) × (slice_get xs p ≡ Some x) × (elements_at xs (p ∷ places) ≡ x ∷ elements_at xs places)
+first_of : {X : Type 0} (xs : List X) (p : ℕ) (places : List ℕ) → p < length xs
+    → (x : X) × (slice_get xs p ≡ Some x) × (elements_at xs (p ∷ places) ≡ x ∷ elements_at xs places)
 first_of [] p places below = absurd (omega arith)
 first_of (y ∷ ys) p places below =
     let at = slice_get-get_or (y ∷ ys) p y below in (get_or (y ∷ ys) p y, at, ap (λ o. cons_option o (elements_at (y ∷ ys) places)) at)
@@ -36,7 +40,8 @@ elements_long xs (p ∷ places) within =
     let more = elements_long xs places (All-tail (λ p. p < length xs) p places within) in
     ap length here.2 ∙ ap suc more
 
-pub element_at : {X : Type 0} (xs : List X) (places : List ℕ) (i p : ℕ) → All (λ p. p < length xs) places → slice_get places i ≡ Some p → slice_get (elements_at xs places) i ≡ slice_get xs p
+pub element_at : {X : Type 0} (xs : List X) (places : List ℕ) (i p : ℕ) → All (λ p. p < length xs) places → slice_get places i ≡ Some p
+    → slice_get (elements_at xs places) i ≡ slice_get xs p
 element_at xs [] i p within at = cc
 element_at xs (q ∷ places) zero p within at =
     let here = first_of xs q places (All-head (λ p. p < length xs) q places within) in
@@ -47,7 +52,8 @@ element_at xs (q ∷ places) (suc i) p within at =
     ap (λ ys. slice_get ys (suc i)) here.2 ∙ element_at xs places i p (All-tail (λ p. p < length xs) q places within) at
 
 -- the lives of the values at these places
-pub lives_are : (operations : List Operation) (values : List MatchedValue) (places : List ℕ) → HoldsLives operations values → lives_in (elements_at values places) ≡ lives_at operations places
+pub lives_are : (operations : List Operation) (values : List MatchedValue) (places : List ℕ) → HoldsLives operations values
+    → lives_in (elements_at values places) ≡ lives_at operations places
 lives_are operations values places holds = sym (elements_mapped (λ m. m.life) values places) ∙ ap (λ lives. elements_at lives places) holds.0
 
 pub lives_long : (operations : List Operation) (places : List ℕ) → IsOrderOfPlaces operations places → length (lives_at operations places) ≡ length places
@@ -60,7 +66,8 @@ pub record IsValueAt (operations : List Operation) (values : List MatchedValue) 
   pub has_rank : slice_get (lives_at operations places) rank ≡ Some value.life
   pub has_places : HasPlaces operations value
 
-pub value_at : (operations : List Operation) (values : List MatchedValue) (places : List ℕ) (rank place : ℕ) → HoldsLives operations values → IsOrderOfPlaces operations places → slice_get places rank ≡ Some place → IsValueAt operations values places rank place
+pub value_at : (operations : List Operation) (values : List MatchedValue) (places : List ℕ) (rank place : ℕ) → HoldsLives operations values
+    → IsOrderOfPlaces operations places → slice_get places rank ≡ Some place → IsValueAt operations values places rank place
 value_at operations values places rank place holds order at = with_value (get_or values place nowhere) (slice_get-get_or values place nowhere inside)
   where
     below : place < length (lives_of operations)
@@ -81,12 +88,14 @@ value_at operations values places rank place holds order at = with_value (get_or
       value = m;
       is_at = at_place;
       has_rank =
-          element_at (lives_of operations) places rank place order.within at ∙ ap (λ lives. slice_get lives place) (sym holds.0) ∙ slice_get-map (λ m. m.life) values place ∙ ap (option_map (λ m. m.life)) at_place;
+          element_at (lives_of operations) places rank place order.within at ∙ ap (λ lives. slice_get lives place) (sym holds.0)
+              ∙ slice_get-map (λ m. m.life) values place ∙ ap (option_map (λ m. m.life)) at_place;
       has_places = All-contains (HasPlaces operations) values m holds.1 (contains_at values place m at_place);
     }
 
 -- the value that was read at its place
-pub life_read : (operations : List Operation) (values : List MatchedValue) (places : List ℕ) (rank place : ℕ) (m : MatchedValue) → HoldsLives operations values → IsOrderOfPlaces operations places → slice_get places rank ≡ Some place → m ≡ get_or values place m
+pub life_read : (operations : List Operation) (values : List MatchedValue) (places : List ℕ) (rank place : ℕ) (m : MatchedValue)
+    → HoldsLives operations values → IsOrderOfPlaces operations places → slice_get places rank ≡ Some place → m ≡ get_or values place m
     → slice_get (lives_at operations places) rank ≡ Some m.life
 life_read operations values places rank place m holds order at reads =
     let here = value_at operations values places rank place holds order at in

@@ -2,7 +2,8 @@
 use Rattle.std.proofs.Common.{◌≡◌, zero, ◌<◌, Bool, true, false, cond, List, [], ◌∷◌, ◌++◌, Option, None, Some, refl, sym, ◌∙◌, ap, subst, inl, inr, arith}
 use Rattle.std.specs.Prelude.{AllPairs, Contains, IsPermutation, MatchOption, filter, flat_map, option_to_list}
 use Rattle.std.specs.List.{cons_option}
-use Rattle.std.proofs.lemmas.List.Sorted.{IsPermutation-append_left, IsPermutation-cons, IsPermutation-middle, IsPermutation-refl, IsPermutation-sym, IsPermutation-trans}
+use Rattle.std.proofs.lemmas.List.Sorted.{IsPermutation-append_left, IsPermutation-cons, IsPermutation-middle, IsPermutation-refl, IsPermutation-sym}
+use Rattle.std.proofs.lemmas.List.Sorted.{IsPermutation-trans}
 use Rattle.history_merge.specs.declared.operation.Operation.{Operation}
 use Rattle.history_merge.specs.declared.operation.OpKind.{OpKind}
 use Rattle.history_merge.specs.declared.operation.OpKind.TheVariants.{Enq, Deq, Empty, Not}
@@ -17,21 +18,25 @@ use Rattle.linearizer.proofs.Keys.{one_place}
 use Rattle.linearizer.proofs.Opposites.{is_life, one_deeper, stands_in_order}
 use Rattle.linearizer.proofs.DifferentTimes.{IsOf, not_both_kinds, one_life_of_operation, one_place_of_life}
 use Rattle.linearizer.proofs.EachPosition.{life_of_dequeue, life_of_enqueue}
-use Rattle.linearizer.proofs.NoneTwice.{NoneTwice, from_flat_map, into_flat_map, none_twice-append, none_twice-filter, none_twice_from_places, same_elements_permute}
+use Rattle.linearizer.proofs.NoneTwice.{NoneTwice, from_flat_map, into_flat_map, none_twice-append, none_twice-filter, none_twice_from_places}
+use Rattle.linearizer.proofs.NoneTwice.{same_elements_permute}
 use Rattle.value_match.proofs.Lists.{passed_filter, passes_filter}
 
 -- the enqueues, and then the dequeues
 by_class : (lives : List Life) → IsPermutation (flat_map operations_of_life lives) (enqueues_of lives ++ dequeues_of lives)
 by_class [] = IsPermutation-refl []
 by_class (life ∷ lives) =
-    IsPermutation-cons (enqueue_of life) (option_to_list (dequeue_of life) ++ flat_map operations_of_life lives) (enqueues_of lives ++ cons_option (dequeue_of life) (dequeues_of lives)) (step (dequeue_of life) (by_class lives))
+    IsPermutation-cons (enqueue_of life) (option_to_list (dequeue_of life) ++ flat_map operations_of_life lives)
+        (enqueues_of lives ++ cons_option (dequeue_of life) (dequeues_of lives)) (step (dequeue_of life) (by_class lives))
   where
-    step : (o : Option Operation) → IsPermutation (flat_map operations_of_life lives) (enqueues_of lives ++ dequeues_of lives) → IsPermutation (option_to_list o ++ flat_map operations_of_life lives) (enqueues_of lives ++ cons_option o (dequeues_of lives))
+    step : (o : Option Operation) → IsPermutation (flat_map operations_of_life lives) (enqueues_of lives ++ dequeues_of lives)
+        → IsPermutation (option_to_list o ++ flat_map operations_of_life lives) (enqueues_of lives ++ cons_option o (dequeues_of lives))
     step None more = more
     step (Some d) more =
         IsPermutation-trans (d ∷ flat_map operations_of_life lives) (d ∷ (enqueues_of lives ++ dequeues_of lives)) (enqueues_of lives ++ d ∷ dequeues_of lives)
         (IsPermutation-cons d (flat_map operations_of_life lives) (enqueues_of lives ++ dequeues_of lives) more)
-        (IsPermutation-sym (enqueues_of lives ++ d ∷ dequeues_of lives) (d ∷ (enqueues_of lives ++ dequeues_of lives)) (IsPermutation-middle (enqueues_of lives) d (dequeues_of lives)))
+        (IsPermutation-sym (enqueues_of lives ++ d ∷ dequeues_of lives) (d ∷ (enqueues_of lives ++ dequeues_of lives))
+            (IsPermutation-middle (enqueues_of lives) d (dequeues_of lives)))
 
 abbrev moves_kind : OpKind → Bool
 moves_kind (Enq v) = true
@@ -43,7 +48,8 @@ moves_kind (Not v) = false
 abbrev moves_value : Operation → Bool
 moves_value o = moves_kind o.kind
 
-split_by_kind : (operations : List Operation) → IsPermutation operations (filter moves_value operations ++ filter is_empty_answer operations ++ filter is_refused operations)
+split_by_kind : (operations : List Operation) → IsPermutation operations
+    (filter moves_value operations ++ filter is_empty_answer operations ++ filter is_refused operations)
 split_by_kind [] = IsPermutation-refl []
 split_by_kind (o ∷ operations) =
     step (filter moves_value operations) (filter is_empty_answer operations) (filter is_refused operations) (split_by_kind operations) o.kind
@@ -61,11 +67,13 @@ split_by_kind (o ∷ operations) =
 
 none_twice_by_calls : (operations : List Operation) → AllPairs (λ x y. x.call < y.call) operations → NoneTwice operations
 none_twice_by_calls operations rise =
-    none_twice_from_places operations (λ i j x y at_x at_y same. one_place (λ o. o.call) operations operations i j x y rise (IsPermutation-refl operations) at_x at_y (ap (λ o. o.call) same))
+    none_twice_from_places operations (λ i j x y at_x at_y same. one_place (λ o. o.call) operations operations i j x y rise
+        (IsPermutation-refl operations) at_x at_y (ap (λ o. o.call) same))
 
 -- the operations in a life are those of it
 of_life : (life : Life) (o : Operation) → Contains (operations_of_life life) o → IsOf life o
-of_life life o among = elim (contains_cons (enqueue_of life) (option_to_list (dequeue_of life)) o among) [ inl enqueues ↦ inl enqueues | inr there ↦ inr (dequeues (dequeue_of life) there) ]
+of_life life o among = elim (contains_cons (enqueue_of life) (option_to_list (dequeue_of life)) o among)
+    [ inl enqueues ↦ inl enqueues | inr there ↦ inr (dequeues (dequeue_of life) there) ]
   where
     dequeues : (dequeue : Option Operation) → Contains (option_to_list dequeue) o → dequeue ≡ Some o
     dequeues None there = absurd (not_in_none o there)
@@ -73,7 +81,8 @@ of_life life o among = elim (contains_cons (enqueue_of life) (option_to_list (de
 
 in_life : (life : Life) (o : Operation) → IsOf life o → Contains (operations_of_life life) o
 in_life life o (inl enqueues) = (zero, omega arith, enqueues)
-in_life life o (inr dequeues) = one_deeper (enqueue_of life) (option_to_list (dequeue_of life)) o (subst (λ d. Contains (option_to_list d) o) (sym dequeues) (zero, omega arith, refl))
+in_life life o (inr dequeues) = one_deeper (enqueue_of life) (option_to_list (dequeue_of life)) o
+    (subst (λ d. Contains (option_to_list d) o) (sym dequeues) (zero, omega arith, refl))
 
 module _ (operations : List Operation) (clear : IsClear operations) where
   none_twice_in_life : (life : Life) → IsLife operations life → NoneTwice (operations_of_life life)
@@ -93,15 +102,18 @@ module _ (operations : List Operation) (clear : IsClear operations) where
       alone None = tt
       alone (Some d) = (not_in_none d, tt)
 
-  none_twice_in_lives : (lives : List Life) → NoneTwice lives → ((x : Life) → Contains lives x → IsLife operations x) → NoneTwice (flat_map operations_of_life lives)
+  none_twice_in_lives : (lives : List Life) → NoneTwice lives → ((x : Life) → Contains lives x → IsLife operations x)
+      → NoneTwice (flat_map operations_of_life lives)
   none_twice_in_lives [] none are = tt
   none_twice_in_lives (life ∷ lives) none are =
-      none_twice-append (operations_of_life life) (flat_map operations_of_life lives) (none_twice_in_life life (are life (zero, omega arith, refl))) (none_twice_in_lives lives none.1 (λ x among. are x (one_deeper life lives x among)))
+      none_twice-append (operations_of_life life) (flat_map operations_of_life lives) (none_twice_in_life life (are life (zero, omega arith, refl)))
+          (none_twice_in_lives lives none.1 (λ x among. are x (one_deeper life lives x among)))
       (λ o here there. shared o (of_life life o here) (from_flat_map operations_of_life lives o there))
     where
       shared : (o : Operation) → IsOf life o → (x : Life) × Contains lives x × Contains (operations_of_life x) o → ⊥
       shared o of (x, among, at) =
-          let one = one_life_of_operation operations life x o clear (are life (zero, omega arith, refl)) (are x (one_deeper life lives x among)) of (of_life x o at) in
+          let one = one_life_of_operation operations life x o clear (are life (zero, omega arith, refl)) (are x (one_deeper life lives x among)) of
+              (of_life x o at) in
           none.0 (subst (Contains lives) (sym one) among)
 
   module _ (lives : List Life) (order : IsValueOrder operations lives) where
@@ -118,24 +130,29 @@ module _ (operations : List Operation) (clear : IsClear operations) where
         by_kind in_o (Not v) is moves = cc
 
     from_lives : (o : Operation) → Contains (flat_map operations_of_life lives) o → Contains (filter moves_value operations) o
-    from_lives o among = let found = from_flat_map operations_of_life lives o among in moved found.0 (is_life operations lives order found.0 found.1) (of_life found.0 o found.2)
+    from_lives o among = let found = from_flat_map operations_of_life lives o among in
+        moved found.0 (is_life operations lives order found.0 found.1) (of_life found.0 o found.2)
       where
         moved : (life : Life) → IsLife operations life → IsOf life o → Contains (filter moves_value operations) o
         moved life is (inl enqueues) =
             let did : Did operations o (Enq is.0) = subst (λ x. Did operations x (Enq is.0)) enqueues is.1 in
             passes_filter moves_value operations o (ap moves_kind did.1) did.0
         moved life is (inr dequeues) =
-            let did : Did operations o (Deq is.0) = subst (λ e. MatchOption e (NoneDid operations (Deq is.0)) (λ d. Did operations d (Deq is.0))) dequeues is.2 in
+            let did : Did operations o (Deq is.0) = subst (λ e. MatchOption e (NoneDid operations (Deq is.0)) (λ d. Did operations d (Deq is.0)))
+                dequeues is.2 in
             passes_filter moves_value operations o (ap moves_kind did.1) did.0
 
     -- the operations by kind
-    pub each_once : AllPairs (λ x y. x.call < y.call) operations → IsPermutation operations (enqueues_of lives ++ dequeues_of lives ++ filter is_empty_answer operations ++ filter is_refused operations)
+    pub each_once : AllPairs (λ x y. x.call < y.call) operations → IsPermutation operations
+        (enqueues_of lives ++ dequeues_of lives ++ filter is_empty_answer operations ++ filter is_refused operations)
     each_once rise =
         let here = filter moves_value operations in
         let by_value = flat_map operations_of_life lives in
         let there = enqueues_of lives ++ dequeues_of lives in
         let lives_once = none_twice_from_places lives (λ i j x y at_x at_y same. one_place_of_life operations lives i j x y clear order at_x at_y same) in
-        let moved = same_elements_permute here by_value (none_twice-filter moves_value operations (none_twice_by_calls operations rise)) (none_twice_in_lives lives lives_once (is_life operations lives order)) into_lives from_lives in
-        IsPermutation-trans operations (here ++ filter is_empty_answer operations ++ filter is_refused operations) (there ++ filter is_empty_answer operations ++ filter is_refused operations) (split_by_kind operations)
+        let moved = same_elements_permute here by_value (none_twice-filter moves_value operations (none_twice_by_calls operations rise))
+            (none_twice_in_lives lives lives_once (is_life operations lives order)) into_lives from_lives in
+        IsPermutation-trans operations (here ++ filter is_empty_answer operations ++ filter is_refused operations)
+            (there ++ filter is_empty_answer operations ++ filter is_refused operations) (split_by_kind operations)
         (IsPermutation-append_left (filter is_refused operations) (here ++ filter is_empty_answer operations) (there ++ filter is_empty_answer operations)
         (IsPermutation-append_left (filter is_empty_answer operations) here there (IsPermutation-trans here by_value there moved (by_class lives))))

@@ -4,7 +4,8 @@ use Rattle.std.specs.Prelude.{IsPermutation, MatchOption, fold, if◌then◌else
 use Rattle.std.specs.List.{AllZip, cons_option}
 use Rattle.std.proofs.lemmas.List.{append-nil, append_assoc, get_or_default, map-append, take_all, take_more}
 use Rattle.std.proofs.lemmas.List.Elements.{filter_map-append}
-use Rattle.std.proofs.lemmas.List.Sorted.{IsPermutation-append_left, IsPermutation-cons, IsPermutation-middle, IsPermutation-refl, IsPermutation-sym, IsPermutation-to_front, IsPermutation-trans}
+use Rattle.std.proofs.lemmas.List.Sorted.{IsPermutation-append_left, IsPermutation-cons, IsPermutation-middle, IsPermutation-refl, IsPermutation-sym}
+use Rattle.std.proofs.lemmas.List.Sorted.{IsPermutation-to_front, IsPermutation-trans}
 use Rattle.std.proofs.lemmas.Option.{get_or_from_slice_get, slice_get_within}
 use Rattle.history_merge.specs.declared.operation.Operation.{Operation}
 use Rattle.history_merge.specs.declared.operation.OpKind.{OpKind}
@@ -30,7 +31,8 @@ pub one_more_among : {X : Type 0} (xs ys zs : List X) (x : X) → IsPermutation 
 one_more_among xs ys zs x moved =
     subst (λ l. IsPermutation l (zs ++ x ∷ [])) (sym (append_assoc xs (x ∷ []) ys))
     (IsPermutation-trans (xs ++ x ∷ ys) (x ∷ (xs ++ ys)) (zs ++ x ∷ []) (IsPermutation-middle xs x ys)
-    (IsPermutation-trans (x ∷ (xs ++ ys)) (x ∷ zs) (zs ++ x ∷ []) (IsPermutation-cons x (xs ++ ys) zs moved) (IsPermutation-sym (zs ++ x ∷ []) (x ∷ zs) (IsPermutation-to_front zs x))))
+    (IsPermutation-trans (x ∷ (xs ++ ys)) (x ∷ zs) (zs ++ x ∷ []) (IsPermutation-cons x (xs ++ ys) zs moved)
+        (IsPermutation-sym (zs ++ x ∷ []) (x ∷ zs) (IsPermutation-to_front zs x))))
 
 -- two zipped lists joined
 pub zip_joined : {A B : Type 0} (R : A → B → Type 0) (xs xs' : List A) (ys ys' : List B) → AllZip R xs ys → AllZip R xs' ys' → AllZip R (xs ++ xs') (ys ++ ys')
@@ -40,15 +42,18 @@ zip_joined R (x ∷ xs) xs' [] ys' zip zip' = absurd zip
 zip_joined R (x ∷ xs) xs' (y ∷ ys) ys' zip zip' = (zip.0, zip_joined R xs xs' ys ys' zip.1 zip')
 
 -- where a dequeue stands that is placed at the greatest of these times
-pub dequeue_stands : (lives : List Life) (i gap left later : ℕ) (placed : Placed) → gap ≡ enqueue_gap lives i → left ≡ greatest_leaves_from (take (i + 1) lives) → later ≡ max left gap
-    → position_of placed.position ≡ record { gap = later; class = (if nat_lt gap later then earlier_dequeues else other_dequeues); rank = i } → position_of placed.position ≡ dequeue_position lives i
+pub dequeue_stands : (lives : List Life) (i gap left later : ℕ) (placed : Placed) → gap ≡ enqueue_gap lives i
+    → left ≡ greatest_leaves_from (take (i + 1) lives) → later ≡ max left gap
+    → position_of placed.position ≡ record { gap = later; class = (if nat_lt gap later then earlier_dequeues else other_dequeues); rank = i }
+        → position_of placed.position ≡ dequeue_position lives i
 dequeue_stands lives i gap left later placed gap_is left_is later_is stands =
     let last : later ≡ dequeue_gap lives i = later_is ∙ ap (λ m. max m gap) left_is ∙ ap (max (greatest_leaves_from (take (i + 1) lives))) gap_is in
     stands ∙ ap (λ g. record { gap = later; class = (if nat_lt g later then earlier_dequeues else other_dequeues); rank = i }) gap_is
     ∙ ap (λ g. record { gap = g; class = (if nat_lt (enqueue_gap lives i) g then earlier_dequeues else other_dequeues); rank = i }) last
 
 -- one value more, of which the gaps and the tickets are known
-module _ (operations : List Operation) (lives : List Life) (order : IsValueOrder operations lives) (i : ℕ) (life : Life) (at : slice_get lives i ≡ Some life) where
+module _ (operations : List Operation) (lives : List Life) (order : IsValueOrder operations lives) (i : ℕ) (life : Life)
+    (at : slice_get lives i ≡ Some life) where
   is : IsLife operations life
   is = is_life operations lives order life (contains_at lives i life at)
 
@@ -57,19 +62,22 @@ module _ (operations : List Operation) (lives : List Life) (order : IsValueOrder
 
   greatest_more : greatest_leaves_from (take (i + 1) lives) ≡ max (greatest_leaves_from (take i lives)) (leaves_from life)
   greatest_more =
-      ap greatest_leaves_from longer ∙ ap (fold max 0) (map-append leaves_from (take i lives) (life ∷ [])) ∙ fold_max-append 0 (map leaves_from (take i lives)) (leaves_from life ∷ [])
+      ap greatest_leaves_from longer ∙ ap (fold max 0) (map-append leaves_from (take i lives) (life ∷ []))
+          ∙ fold_max-append 0 (map leaves_from (take i lives)) (leaves_from life ∷ [])
 
   enqueues_more : enqueues_of (take (i + 1) lives) ≡ enqueues_of (take i lives) ++ enqueue_of life ∷ []
   enqueues_more = ap enqueues_of longer ∙ map-append enqueue_of (take i lives) (life ∷ [])
 
   dequeues_more : dequeues_of (take (i + 1) lives) ≡ dequeues_of (take i lives) ++ option_to_list (dequeue_of life)
-  dequeues_more = ap dequeues_of longer ∙ filter_map-append dequeue_of (take i lives) (life ∷ []) ∙ ap (λ os. dequeues_of (take i lives) ++ os) (alone (dequeue_of life))
+  dequeues_more = ap dequeues_of longer ∙ filter_map-append dequeue_of (take i lives) (life ∷ [])
+      ∙ ap (λ os. dequeues_of (take i lives) ++ os) (alone (dequeue_of life))
     where
       alone : (o : Option Operation) → cons_option o [] ≡ option_to_list o
       alone None = refl
       alone (Some d) = refl
 
-  enqueue_placed : (gap : ℕ) (placed : Placed) → gap ≡ enqueue_gap lives i → IsAt operations placed.operation (enqueue_of life) → position_of placed.position ≡ record { gap = gap; class = enqueues; rank = i }
+  enqueue_placed : (gap : ℕ) (placed : Placed) → gap ≡ enqueue_gap lives i → IsAt operations placed.operation (enqueue_of life)
+      → position_of placed.position ≡ record { gap = gap; class = enqueues; rank = i }
       → IsPlaced operations lives (enqueue_of life) placed
   enqueue_placed gap placed gap_is names stands = (names, stands_for (enqueue_of life).kind is.1.1)
     where
@@ -78,8 +86,10 @@ module _ (operations : List Operation) (lives : List Life) (order : IsValueOrder
           subst (λ k. IsPositionFor operations lives (enqueue_of life) k (position_of placed.position)) (sym same)
           (i, life, at, refl, stands ∙ ap (λ g. record { gap = g; class = enqueues; rank = i }) gap_is)
 
-  dequeue_placed : (gap left later : ℕ) (d : Operation) (placed : Placed) → gap ≡ enqueue_gap lives i → left ≡ greatest_leaves_from (take (i + 1) lives) → later ≡ max left gap → dequeue_of life ≡ Some d
-      → IsAt operations placed.operation d → position_of placed.position ≡ record { gap = later; class = (if nat_lt gap later then earlier_dequeues else other_dequeues); rank = i } → IsPlaced operations lives d placed
+  dequeue_placed : (gap left later : ℕ) (d : Operation) (placed : Placed) → gap ≡ enqueue_gap lives i
+      → left ≡ greatest_leaves_from (take (i + 1) lives) → later ≡ max left gap → dequeue_of life ≡ Some d
+      → IsAt operations placed.operation d → position_of placed.position
+          ≡ record { gap = later; class = (if nat_lt gap later then earlier_dequeues else other_dequeues); rank = i } → IsPlaced operations lives d placed
   dequeue_placed gap left later d placed gap_is left_is later_is dequeues names stands = (names, stands_for d.kind did.1)
     where
       did : Did operations d (Deq is.0)
@@ -99,21 +109,26 @@ pub record IsTurn (operations : List Operation) (lives : List Life) (i : ℕ) (m
   pub gap_is : gap ≡ enqueue_gap lives i
 
 -- the place and the rank are in range
-pub value_within : (operations : List Operation) (values : List MatchedValue) (places : List ℕ) (i place : ℕ) → HoldsLives operations values → IsOrderOfPlaces operations places → slice_get places i ≡ Some place → place < length values
-value_within operations values places i place holds order at = let here = value_at operations values places i place holds order at in slice_get_within values place here.value here.is_at
+pub value_within : (operations : List Operation) (values : List MatchedValue) (places : List ℕ) (i place : ℕ) → HoldsLives operations values
+    → IsOrderOfPlaces operations places → slice_get places i ≡ Some place → place < length values
+value_within operations values places i place holds order at = let here = value_at operations values places i place holds order at in
+    slice_get_within values place here.value here.is_at
 
-pub gap_within : (operations : List Operation) (places gaps : List ℕ) (i place : ℕ) → IsOrderOfPlaces operations places → AreEnqueueGaps (lives_at operations places) gaps → slice_get places i ≡ Some place → i < length gaps
+pub gap_within : (operations : List Operation) (places gaps : List ℕ) (i place : ℕ) → IsOrderOfPlaces operations places
+    → AreEnqueueGaps (lives_at operations places) gaps → slice_get places i ≡ Some place → i < length gaps
 gap_within operations places gaps i place order are_gaps at =
     omega (arith, are_gaps.one_each, lives_long operations places order, slice_get_within places i place at)
 
 -- the turn, by what is read in it
-pub turn_is : (operations : List Operation) (values : List MatchedValue) (places gaps : List ℕ) (i place : ℕ) (m : MatchedValue) (gap d : ℕ) → HoldsLives operations values → IsOrderOfPlaces operations places → AreEnqueueGaps (lives_at operations places) gaps
+pub turn_is : (operations : List Operation) (values : List MatchedValue) (places gaps : List ℕ) (i place : ℕ) (m : MatchedValue) (gap d : ℕ)
+    → HoldsLives operations values → IsOrderOfPlaces operations places → AreEnqueueGaps (lives_at operations places) gaps
     → slice_get places i ≡ Some place → m ≡ get_or values place m → gap ≡ get_or gaps i d → IsTurn operations (lives_at operations places) i m gap
 turn_is operations values places gaps i place m gap d holds order are_gaps at reads gap_here = record {
   order = order.in_order;
   places = subst (HasPlaces operations) (sym same) here.has_places;
   at = here.has_rank ∙ ap (λ m. Some m.life) (sym same);
-  gap_is = gap_here ∙ get_or_default gaps i d 0 (gap_within operations places gaps i place order are_gaps at) ∙ are_gaps.at_each i (slice_get_within (lives_at operations places) i here.value.life here.has_rank);
+  gap_is = gap_here ∙ get_or_default gaps i d 0 (gap_within operations places gaps i place order are_gaps at)
+      ∙ are_gaps.at_each i (slice_get_within (lives_at operations places) i here.value.life here.has_rank);
 }
   where
     here : IsValueAt operations values places i place
@@ -126,7 +141,8 @@ pub nothing_placed : (operations : List Operation) (lives : List Life) → Holds
 nothing_placed operations lives = record { left_is = refl; listed = []; each_once = IsPermutation-refl []; each_placed = tt }
 
 -- all are placed
-pub all_placed : (operations : List Operation) (places : List ℕ) (i j left : ℕ) (placed : List Placed) → IsOrderOfPlaces operations places → length places ≤ i → length places ≤ j
+pub all_placed : (operations : List Operation) (places : List ℕ) (i j left : ℕ) (placed : List Placed) → IsOrderOfPlaces operations places
+    → length places ≤ i → length places ≤ j
     → HoldsUpTo operations (lives_at operations places) i j left placed → HoldsValues operations placed
 all_placed operations places i j left placed order all_in all_out so_far = record {
   lives = lives;
@@ -145,48 +161,60 @@ all_placed operations places i j left placed order all_in all_out so_far = recor
 
 -- the next enqueue is placed
 module _ (operations : List Operation) (lives : List Life) (i : ℕ) (m : MatchedValue) (gap : ℕ) (turn : IsTurn operations lives i m gap) where
-  pub enqueue_more : (j left : ℕ) (placed : List Placed) (first : Placed) → HoldsUpTo operations lives i j left placed → first.operation ≡ m.enqueue → position_of first.position ≡ record { gap = gap; class = enqueues; rank = i }
+  pub enqueue_more : (j left : ℕ) (placed : List Placed) (first : Placed) → HoldsUpTo operations lives i j left placed → first.operation ≡ m.enqueue
+      → position_of first.position ≡ record { gap = gap; class = enqueues; rank = i }
       → HoldsUpTo operations lives (i + 1) j left (placed ++ first ∷ [])
   enqueue_more j left placed first so_far names stands = record {
     left_is = so_far.left_is;
     listed = so_far.listed ++ enqueue_of m.life ∷ [];
-    each_once = subst (λ os. IsPermutation (os ++ dequeues_of (take j lives)) (so_far.listed ++ enqueue_of m.life ∷ [])) (sym (enqueues_more operations lives turn.order i m.life turn.at))
+    each_once = subst (λ os. IsPermutation (os ++ dequeues_of (take j lives)) (so_far.listed ++ enqueue_of m.life ∷ []))
+        (sym (enqueues_more operations lives turn.order i m.life turn.at))
         (one_more_among (enqueues_of (take i lives)) (dequeues_of (take j lives)) so_far.listed (enqueue_of m.life) so_far.each_once);
     each_placed = zip_joined (IsPlaced operations lives) so_far.listed (enqueue_of m.life ∷ []) placed (first ∷ []) so_far.each_placed
-        (enqueue_placed operations lives turn.order i m.life turn.at gap first turn.gap_is (subst (λ p. IsAt operations p (enqueue_of m.life)) (sym names) turn.places.0) stands, tt);
+        (enqueue_placed operations lives turn.order i m.life turn.at gap first turn.gap_is
+            (subst (λ p. IsAt operations p (enqueue_of m.life)) (sym names) turn.places.0) stands, tt);
   }
 
 -- the turn of the next dequeue
-module _ (operations : List Operation) (lives : List Life) (j : ℕ) (m : MatchedValue) (gap left left' : ℕ) (turn : IsTurn operations lives j m gap) (left_is : left' ≡ max (leaves_from m.life) left) (i : ℕ) (placed : List Placed) (so_far : HoldsUpTo operations lives i j left placed) where
+module _ (operations : List Operation) (lives : List Life) (j : ℕ) (m : MatchedValue) (gap left left' : ℕ) (turn : IsTurn operations lives j m gap)
+    (left_is : left' ≡ max (leaves_from m.life) left) (i : ℕ) (placed : List Placed) (so_far : HoldsUpTo operations lives i j left placed) where
   pub left_more : left' ≡ greatest_leaves_from (take (j + 1) lives)
   left_more = let more = greatest_more operations lives turn.order j m.life turn.at in omega (arith, more, left_is, so_far.left_is)
 
-  with_rest : (rest : List Placed) → AllZip (IsPlaced operations lives) (option_to_list (dequeue_of m.life)) rest → HoldsUpTo operations lives i (j + 1) left' (placed ++ rest)
+  with_rest : (rest : List Placed) → AllZip (IsPlaced operations lives) (option_to_list (dequeue_of m.life)) rest
+      → HoldsUpTo operations lives i (j + 1) left' (placed ++ rest)
   with_rest rest zip = record {
     left_is = left_more;
     listed = so_far.listed ++ option_to_list (dequeue_of m.life);
     each_once = subst (λ os. IsPermutation os (so_far.listed ++ option_to_list (dequeue_of m.life)))
-        (append_assoc (enqueues_of (take i lives)) (dequeues_of (take j lives)) (option_to_list (dequeue_of m.life)) ∙ ap (λ os. enqueues_of (take i lives) ++ os) (sym (dequeues_more operations lives turn.order j m.life turn.at)))
-        (IsPermutation-append_left (option_to_list (dequeue_of m.life)) (enqueues_of (take i lives) ++ dequeues_of (take j lives)) so_far.listed so_far.each_once);
+        (append_assoc (enqueues_of (take i lives)) (dequeues_of (take j lives)) (option_to_list (dequeue_of m.life))
+            ∙ ap (λ os. enqueues_of (take i lives) ++ os) (sym (dequeues_more operations lives turn.order j m.life turn.at)))
+        (IsPermutation-append_left (option_to_list (dequeue_of m.life))
+            (enqueues_of (take i lives) ++ dequeues_of (take j lives)) so_far.listed so_far.each_once);
     each_placed = zip_joined (IsPlaced operations lives) so_far.listed (option_to_list (dequeue_of m.life)) placed rest so_far.each_placed zip;
   }
 
   pub turn_alone : m.dequeue ≡ None → HoldsUpTo operations lives i (j + 1) left' placed
-  turn_alone none = subst (HoldsUpTo operations lives i (j + 1) left') (append-nil placed) (with_rest [] (nothing m.dequeue (dequeue_of m.life) none turn.places.1))
+  turn_alone none = subst (HoldsUpTo operations lives i (j + 1) left') (append-nil placed)
+      (with_rest [] (nothing m.dequeue (dequeue_of m.life) none turn.places.1))
     where
-      nothing : (place : Option ℕ) (dequeue : Option Operation) → place ≡ None → IsMaybeAt operations place dequeue → AllZip (IsPlaced operations lives) (option_to_list dequeue) []
+      nothing : (place : Option ℕ) (dequeue : Option Operation) → place ≡ None → IsMaybeAt operations place dequeue
+          → AllZip (IsPlaced operations lives) (option_to_list dequeue) []
       nothing None None same places = tt
       nothing None (Some d) same places = absurd places
       nothing (Some p) dequeue same places = cc
 
   pub turn_with_dequeue : (p later : ℕ) (second : Placed) → m.dequeue ≡ Some p → later ≡ max left' gap → second.operation ≡ p
-      → position_of second.position ≡ record { gap = later; class = (if nat_lt gap later then earlier_dequeues else other_dequeues); rank = j } → HoldsUpTo operations lives i (j + 1) left' (placed ++ second ∷ [])
+      → position_of second.position ≡ record { gap = later; class = (if nat_lt gap later then earlier_dequeues else other_dequeues); rank = j }
+          → HoldsUpTo operations lives i (j + 1) left' (placed ++ second ∷ [])
   turn_with_dequeue p later second same later_is names stands = with_rest (second ∷ []) (one m.dequeue (dequeue_of m.life) same turn.places.1 refl)
     where
-      one : (place : Option ℕ) (dequeue : Option Operation) → place ≡ Some p → IsMaybeAt operations place dequeue → dequeue_of m.life ≡ dequeue → AllZip (IsPlaced operations lives) (option_to_list dequeue) (second ∷ [])
+      one : (place : Option ℕ) (dequeue : Option Operation) → place ≡ Some p → IsMaybeAt operations place dequeue → dequeue_of m.life ≡ dequeue
+          → AllZip (IsPlaced operations lives) (option_to_list dequeue) (second ∷ [])
       one None dequeue same places is = cc
       one (Some q) None same places is = absurd places
-      one (Some q) (Some d) same places is = (dequeue_placed operations lives turn.order j m.life turn.at gap left' later d second turn.gap_is left_more later_is is at_second stands, tt)
+      one (Some q) (Some d) same places is = (dequeue_placed operations lives turn.order j m.life turn.at gap left' later d second turn.gap_is
+          left_more later_is is at_second stands, tt)
         where
           at_second : IsAt operations second.operation d
           at_second = let here : q ≡ second.operation = cc in subst (λ r. IsAt operations r d) here places

@@ -51,7 +51,8 @@ life_at (x ∷ lives) zero within = (x, refl)
 life_at (x ∷ lives) (suc i) within = life_at lives i (omega arith)
 
 -- what returns before the last ticket is over is there
-pub returned_in_time : (operations : List Operation) (life : Life) (d : Operation) → IsClear operations → IsLife operations life → dequeue_of life ≡ Some d → dequeue_return life < NEVER
+pub returned_in_time : (operations : List Operation) (life : Life) (d : Operation) → IsClear operations → IsLife operations life
+    → dequeue_of life ≡ Some d → dequeue_return life < NEVER
 returned_in_time operations life d clear is dequeues =
     let did = subst (λ e. MatchOption e (NoneDid operations (Deq is.0)) (λ d. Did operations d (Deq is.0))) dequeues is.2 in
     let range = return_in_range operations d clear.complete did.0 in
@@ -89,18 +90,21 @@ reached_by_one a c (x ∷ xs) less le =
       | inr later ↦ let more = reached_by_one (min a (entered_by x)) c xs later le in (suc more.0, more.1, more.2, more.3)
     ]
 
-entered_later : (lives : List Life) (i c : ℕ) → c < NEVER → least_entered_by (drop i lives) ≤ c → (j : ℕ) × (y : Life) × (i ≤ j) × (slice_get lives j ≡ Some y) × (entered_by y ≤ c)
+entered_later : (lives : List Life) (i c : ℕ) → c < NEVER → least_entered_by (drop i lives) ≤ c
+    → (j : ℕ) × (y : Life) × (i ≤ j) × (slice_get lives j ≡ Some y) × (entered_by y ≤ c)
 entered_later lives zero c less le = let found = reached_by_one NEVER c lives less le in (found.0, found.1, omega arith, found.2, found.3)
 entered_later [] (suc i) c less le = absurd (omega arith)
 entered_later (x ∷ lives) (suc i) c less le = let more = entered_later lives i c less le in (suc more.0, more.1, omega (arith, more.2), more.3, more.4)
 
 -- the values enqueued before a free gap are all dequeued by then
-pub gone_at_free_gap : (operations : List Operation) (lives : List Life) (c : ℕ) → IsClear operations → IsValueOrder operations lives → IsFreeGap operations c → c < NEVER
+pub gone_at_free_gap : (operations : List Operation) (lives : List Life) (c : ℕ) → IsClear operations → IsValueOrder operations lives
+    → IsFreeGap operations c → c < NEVER
     → (i : ℕ) → i < length lives → enqueue_gap lives i < c → (dequeue_gap lives i ≤ c) × IsDequeued lives i
 gone_at_free_gap operations lives c clear order free in_range i within entered =
     let later = entered_later lives i c in_range (omega arith) in
     let each : (j : ℕ) (x : Life) → j ≤ i → slice_get lives j ≡ Some x → leaves_from x < suc c =
-    λ j x le at. let left = left_before_entered operations lives c j later.0 x later.1 clear order free (omega (arith, later.2)) at later.3 later.4 in omega arith in
+    λ j x le at. let left = left_before_entered operations lives c j later.0 x later.1 clear order free (omega (arith, later.2)) at later.3 later.4 in
+        omega arith in
     let greatest = below_greatest lives i (suc c) (omega arith) each in
     let x = life_at lives i within in
     let left = each i x.0 (omega arith) x.1 in
@@ -109,7 +113,8 @@ gone_at_free_gap operations lives c clear order free in_range i within entered =
     (omega arith, (x.0, found.0, x.1, found.1))
 
 -- an operation at its position is an item of the run
-pub item_of : (operations : List Operation) (lives : List Life) → IsClear operations → IsValueOrder operations lives → (o : Operation) → Contains operations o → (k : OpKind) → o.kind ≡ k
+pub item_of : (operations : List Operation) (lives : List Life) → IsClear operations → IsValueOrder operations lives → (o : Operation)
+    → Contains operations o → (k : OpKind) → o.kind ≡ k
     → (position : Position) → IsPositionFor operations lives o k position → IsItemOf lives k position
 item_of operations lives clear order o among (Enq v) is position stands =
     (stands.0, slice_get_within lives stands.0 stands.1 stands.2, (stands.1, stands.2, ap (λ o. o.kind) stands.3 ∙ is), stands.4)
@@ -118,15 +123,19 @@ item_of operations lives clear order o among (Deq v) is position stands =
     let did = subst (λ e. MatchOption e (NoneDid operations (Deq lives_here.0)) (λ d. Did operations d (Deq lives_here.0))) stands.3 lives_here.2 in
     let kinds : Deq lives_here.0 ≡ Deq v = sym did.1 ∙ is in
     let values : lives_here.0 ≡ v = cc in
-    (stands.0, slice_get_within lives stands.0 stands.1 stands.2, (stands.1, stands.2, lives_here.1.1 ∙ ap (λ u. Enq u) values), (stands.1, o, stands.2, stands.3), stands.4)
+    (stands.0, slice_get_within lives stands.0 stands.1 stands.2, (stands.1, stands.2, lives_here.1.1 ∙ ap (λ u. Enq u) values),
+        (stands.1, o, stands.2, stands.3), stands.4)
 item_of operations lives clear order o among Empty is position stands =
     let range = return_in_range operations o clear.complete among in
     let window = stands.1.in_window in
-    subst (IsItemOf lives Empty) (sym stands.2) (refl, λ i within entered. gone_at_free_gap operations lives stands.0 clear order stands.1.is_free (omega (arith, window.1)) i within entered)
+    subst (IsItemOf lives Empty) (sym stands.2) (refl, λ i within entered. gone_at_free_gap operations lives stands.0 clear order stands.1.is_free
+        (omega (arith, window.1)) i within entered)
 item_of operations lives clear order o among (Not v) is position stands = ap (λ p. p.class) stands
 
-pub items_of : (operations : List Operation) (lives : List Life) → IsClear operations → IsValueOrder operations lives → (order : List Operation) (positions : List Position)
-    → ((o : Operation) → Contains order o → Contains operations o) → AllZip (λ o position. IsPositionOf operations lives o position) order positions → AllZip (IsItemOf lives) (map (λ o. o.kind) order) positions
+pub items_of : (operations : List Operation) (lives : List Life) → IsClear operations → IsValueOrder operations lives
+    → (order : List Operation) (positions : List Position)
+    → ((o : Operation) → Contains order o → Contains operations o) → AllZip (λ o position. IsPositionOf operations lives o position) order positions
+        → AllZip (IsItemOf lives) (map (λ o. o.kind) order) positions
 items_of operations lives clear values [] [] among stands = stands
 items_of operations lives clear values [] (p ∷ positions) among stands = stands
 items_of operations lives clear values (o ∷ order) [] among stands = stands
@@ -136,7 +145,8 @@ items_of operations lives clear values (o ∷ order) (p ∷ positions) among sta
 )
 
 -- the element beside one of a zipped list
-pub beside : {A B : Type 0} (R : A → B → Type 0) (xs : List A) (ys : List B) (i : ℕ) (x : A) → AllZip R xs ys → slice_get xs i ≡ Some x → (y : B) × (slice_get ys i ≡ Some y) × R x y
+pub beside : {A B : Type 0} (R : A → B → Type 0) (xs : List A) (ys : List B) (i : ℕ) (x : A) → AllZip R xs ys → slice_get xs i ≡ Some x
+    → (y : B) × (slice_get ys i ≡ Some y) × R x y
 beside R [] ys i x zip at = cc
 beside R (z ∷ xs) [] i x zip at = absurd zip
 beside R (z ∷ xs) (y ∷ ys) zero x zip at = let same : z ≡ x = cc in (y, refl, subst (λ a. R a y) same zip.0)
@@ -153,4 +163,5 @@ before_each p (x ∷ ps) each = (each zero x refl, before_each p ps (λ i r at. 
 
 pub rises : (ps : List Position) → AllPairs StandsBefore ps → Rises ps
 rises [] pairs = search rules
-rises (x ∷ ps) pairs = (before_each x ps (λ i r at. pairs_at StandsBefore (x ∷ ps) zero (suc i) x r pairs (omega arith) refl at), rises ps (λ i j d below within. pairs (suc i) (suc j) d (omega arith) (omega arith)))
+rises (x ∷ ps) pairs = (before_each x ps (λ i r at. pairs_at StandsBefore (x ∷ ps) zero (suc i) x r pairs (omega arith) refl at), rises ps
+    (λ i j d below within. pairs (suc i) (suc j) d (omega arith) (omega arith)))

@@ -36,7 +36,8 @@ abbrev pub dequeue_at : (ℕ → ℕ) → (ℕ → ℕ) → ℕ → Position
 dequeue_at enter leave i = record { gap = leave i; class = (if nat_lt (enter i) (leave i) then earlier_dequeues else other_dequeues); rank = i }
 
 -- the class of a dequeue
-pub class_of : (enter leave : ℕ → ℕ) (i : ℕ) → ((enter i < leave i) × ((dequeue_at enter leave i).class ≡ 0)) ⊎ ((leave i ≤ enter i) × ((dequeue_at enter leave i).class ≡ 3))
+pub class_of : (enter leave : ℕ → ℕ) (i : ℕ) → ((enter i < leave i) × ((dequeue_at enter leave i).class ≡ 0))
+    ⊎ ((leave i ≤ enter i) × ((dequeue_at enter leave i).class ≡ 3))
 class_of enter leave i = grind (arith, nat_tests)
 
 pub by_gap : (p r : Position) → p.gap < r.gap → StandsBefore p r
@@ -56,7 +57,8 @@ pub record AreGaps (n : ℕ) (enter leave : ℕ → ℕ) : Type 0 where
 
 module _ (n : ℕ) (enter leave : ℕ → ℕ) (gaps : AreGaps n enter leave) where
   pub enqueues_rise : (i j : ℕ) → i < j → j < n → StandsBefore (enqueue_at enter i) (enqueue_at enter j)
-  enqueues_rise i j below within = let le = gaps.enter_rises i j (omega arith) within in by_rank (enqueue_at enter i) (enqueue_at enter j) le (omega arith) below
+  enqueues_rise i j below within = let le = gaps.enter_rises i j (omega arith) within in
+      by_rank (enqueue_at enter i) (enqueue_at enter j) le (omega arith) below
 
   class_falls : (i j : ℕ) → i ≤ j → j < n → leave j ≤ leave i → (dequeue_at enter leave i).class ≤ (dequeue_at enter leave j).class
   class_falls i j below within same =

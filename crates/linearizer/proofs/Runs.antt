@@ -1,5 +1,6 @@
 -- Operations in the order of their positions are a run that the queue accepts.
-use Rattle.std.proofs.Common.{◌≡◌, ℕ, zero, suc, ◌+◌, ◌<◌, ◌≤◌, ◌⊎◌, List, [], ◌∷◌, ◌++◌, length, Option, None, Some, refl, sym, ◌∙◌, ap, subst, inl, inr, arith}
+use Rattle.std.proofs.Common.{◌≡◌, ℕ, zero, suc, ◌+◌, ◌<◌, ◌≤◌, ◌⊎◌, List, [], ◌∷◌, ◌++◌, length, Option, None, Some, refl, sym, ◌∙◌, ap, subst, inl}
+use Rattle.std.proofs.Common.{inr, arith}
 use Rattle.std.specs.Prelude.{slice_get}
 use Rattle.std.specs.List.{AllZip}
 use Rattle.std.proofs.lemmas.Bool.{eq-eqb}
@@ -7,17 +8,21 @@ use Rattle.history_merge.specs.declared.operation.OpKind.{OpKind}
 use Rattle.history_merge.specs.declared.operation.OpKind.TheVariants.{Enq, Deq, Empty, Not}
 use Rattle.history_merge.specs.Queue.{IsAccepted}
 use Rattle.linearizer.specs.Order.{Position, StandsBefore, idle_answers}
-use Rattle.linearizer.proofs.Rising.{Among, AreGaps, BeforeAll, Rises, before_one, by_class, by_gap, class_of, dequeue_at, dequeues_rise, enqueue_at, enqueue_is_no_dequeue, enqueued_before_dequeued, enqueues_rise, idle_is_no_dequeue, idle_is_no_enqueue, not_both, not_itself}
+use Rattle.linearizer.proofs.Rising.{Among, AreGaps, BeforeAll, Rises, before_one, by_class, by_gap, class_of, dequeue_at, dequeues_rise, enqueue_at}
+use Rattle.linearizer.proofs.Rising.{enqueue_is_no_dequeue, enqueued_before_dequeued, enqueues_rise, idle_is_no_dequeue, idle_is_no_enqueue, not_both}
+use Rattle.linearizer.proofs.Rising.{not_itself}
 
 -- what an operation of the run does, and where it stands: of n values the i-th holds v, and some are dequeued
 abbrev pub IsItem : (n : ℕ) → (enter leave : ℕ → ℕ) → (ℕ → ℕ → Type 0) → (ℕ → Type 0) → OpKind → Position → Type 0
 IsItem n enter leave Holds Leaves (Enq v) position = (i : ℕ) × (i < n) × Holds i v × (position ≡ enqueue_at enter i)
 IsItem n enter leave Holds Leaves (Deq v) position = (i : ℕ) × (i < n) × Holds i v × Leaves i × (position ≡ dequeue_at enter leave i)
-IsItem n enter leave Holds Leaves Empty position = (position.class ≡ idle_answers) × ((i : ℕ) → i < n → enter i < position.gap → (leave i ≤ position.gap) × Leaves i)
+IsItem n enter leave Holds Leaves Empty position = (position.class ≡ idle_answers)
+    × ((i : ℕ) → i < n → enter i < position.gap → (leave i ≤ position.gap) × Leaves i)
 IsItem n enter leave Holds Leaves (Not v) position = position.class ≡ idle_answers
 
 -- between two operations of the run: d values have been dequeued, and of e values enqueued the others are in the queue
-record IsBetween (n : ℕ) (enter leave : ℕ → ℕ) (Holds : ℕ → ℕ → Type 0) (Leaves : ℕ → Type 0) (e d : ℕ) (queue : List ℕ) (positions : List Position) : Type 0 where
+record IsBetween (n : ℕ) (enter leave : ℕ → ℕ) (Holds : ℕ → ℕ → Type 0) (Leaves : ℕ → Type 0) (e d : ℕ) (queue : List ℕ)
+    (positions : List Position) : Type 0 where
   in_order : d ≤ e
   within : e ≤ n
   long : length queue + d ≡ e
@@ -44,7 +49,8 @@ one_longer (x ∷ queue) v = ap suc (one_longer queue v)
 module _ (n : ℕ) (enter leave : ℕ → ℕ) (gaps : AreGaps n enter leave) (Holds : ℕ → ℕ → Type 0) (one_value : (i v w : ℕ) → Holds i v → Holds i w → v ≡ w)
     (Leaves : ℕ → Type 0) (leaves_first : (i j : ℕ) → i ≤ j → j < n → Leaves j → Leaves i) where
   -- the next enqueue is that of the first value not yet enqueued
-  is_next_enqueue : (e d r : ℕ) (queue : List ℕ) (x : Position) (xs : List Position) → IsBetween n enter leave Holds Leaves e d queue (x ∷ xs) → BeforeAll x xs → r < n → x ≡ enqueue_at enter r → r ≡ e
+  is_next_enqueue : (e d r : ℕ) (queue : List ℕ) (x : Position) (xs : List Position) → IsBetween n enter leave Holds Leaves e d queue (x ∷ xs)
+      → BeforeAll x xs → r < n → x ≡ enqueue_at enter r → r ≡ e
   is_next_enqueue e d r queue x xs state rises within is =
       let order : (r < e) ⊎ ((r ≡ e) ⊎ (e < r)) = grind arith in
       elim order [
@@ -54,11 +60,13 @@ module _ (n : ℕ) (enter leave : ℕ → ℕ) (gaps : AreGaps n enter leave) (H
             let differs : ¬ (x ≡ enqueue_at enter e) = λ same. let ranks : r ≡ e = ap (λ p. p.rank) (sym is ∙ same) in omega arith in
             let there = past_first (enqueue_at enter e) x xs differs (state.enqueues_left e (omega arith) (omega arith)) in
             let after = before_one x (enqueue_at enter e) xs rises there in
-            absurd (not_both (enqueue_at enter e) (enqueue_at enter r) (enqueues_rise n enter leave gaps e r above within) (subst (λ y. StandsBefore y (enqueue_at enter e)) is after))
+            absurd (not_both (enqueue_at enter e) (enqueue_at enter r) (enqueues_rise n enter leave gaps e r above within)
+                (subst (λ y. StandsBefore y (enqueue_at enter e)) is after))
       ]
 
   -- the next dequeue is that of the first value not yet dequeued, which is in the queue
-  is_next_dequeue : (e d r : ℕ) (queue : List ℕ) (x : Position) (xs : List Position) → IsBetween n enter leave Holds Leaves e d queue (x ∷ xs) → BeforeAll x xs → r < n → Leaves r → x ≡ dequeue_at enter leave r → r ≡ d
+  is_next_dequeue : (e d r : ℕ) (queue : List ℕ) (x : Position) (xs : List Position) → IsBetween n enter leave Holds Leaves e d queue (x ∷ xs)
+      → BeforeAll x xs → r < n → Leaves r → x ≡ dequeue_at enter leave r → r ≡ d
   is_next_dequeue e d r queue x xs state rises within leaves is =
       let order : (r < d) ⊎ ((r ≡ d) ⊎ (d < r)) = grind arith in
       elim order [
@@ -66,12 +74,15 @@ module _ (n : ℕ) (enter leave : ℕ → ℕ) (gaps : AreGaps n enter leave) (H
         | inr (inl same) ↦ same
         | inr (inr above) ↦
             let differs : ¬ (x ≡ dequeue_at enter leave d) = λ same. let ranks : r ≡ d = ap (λ p. p.rank) (sym is ∙ same) in omega arith in
-            let there = past_first (dequeue_at enter leave d) x xs differs (state.dequeues_left d (omega arith) (omega arith) (leaves_first d r (omega arith) within leaves)) in
+            let there = past_first (dequeue_at enter leave d) x xs differs
+                (state.dequeues_left d (omega arith) (omega arith) (leaves_first d r (omega arith) within leaves)) in
             let after = before_one x (dequeue_at enter leave d) xs rises there in
-            absurd (not_both (dequeue_at enter leave d) (dequeue_at enter leave r) (dequeues_rise n enter leave gaps d r above within) (subst (λ y. StandsBefore y (dequeue_at enter leave d)) is after))
+            absurd (not_both (dequeue_at enter leave d) (dequeue_at enter leave r) (dequeues_rise n enter leave gaps d r above within)
+                (subst (λ y. StandsBefore y (dequeue_at enter leave d)) is after))
       ]
 
-  not_too_early : (e d : ℕ) (queue : List ℕ) (x : Position) (xs : List Position) → IsBetween n enter leave Holds Leaves e d queue (x ∷ xs) → BeforeAll x xs → d < n → x ≡ dequeue_at enter leave d → d < e
+  not_too_early : (e d : ℕ) (queue : List ℕ) (x : Position) (xs : List Position) → IsBetween n enter leave Holds Leaves e d queue (x ∷ xs)
+      → BeforeAll x xs → d < n → x ≡ dequeue_at enter leave d → d < e
   not_too_early e d queue x xs state rises within is =
       let order : (d < e) ⊎ (e ≤ d) = grind arith in
       elim order [
@@ -80,11 +91,13 @@ module _ (n : ℕ) (enter leave : ℕ → ℕ) (gaps : AreGaps n enter leave) (H
             let differs : ¬ (x ≡ enqueue_at enter d) = λ same. enqueue_is_no_dequeue n enter leave gaps d d (sym same ∙ is) in
             let there = past_first (enqueue_at enter d) x xs differs (state.enqueues_left d early within) in
             let after = before_one x (enqueue_at enter d) xs rises there in
-            absurd (not_both (enqueue_at enter d) (dequeue_at enter leave d) (enqueued_before_dequeued n enter leave gaps d within) (subst (λ y. StandsBefore y (enqueue_at enter d)) is after))
+            absurd (not_both (enqueue_at enter d) (dequeue_at enter leave d) (enqueued_before_dequeued n enter leave gaps d within)
+                (subst (λ y. StandsBefore y (enqueue_at enter d)) is after))
       ]
 
   -- where an answer finds the queue empty, no value is in it
-  all_gone : (e d : ℕ) (queue : List ℕ) (x : Position) (xs : List Position) → IsBetween n enter leave Holds Leaves e d queue (x ∷ xs) → BeforeAll x xs → e ≤ n → IsItem n enter leave Holds Leaves Empty x → d ≡ e
+  all_gone : (e d : ℕ) (queue : List ℕ) (x : Position) (xs : List Position) → IsBetween n enter leave Holds Leaves e d queue (x ∷ xs) → BeforeAll x xs
+      → e ≤ n → IsItem n enter leave Holds Leaves Empty x → d ≡ e
   all_gone e d queue x xs state rises within is =
       let order : (d ≡ e) ⊎ (d < e) = grind (arith, state.in_order) in
       elim order [
@@ -93,7 +106,8 @@ module _ (n : ℕ) (enter leave : ℕ → ℕ) (gaps : AreGaps n enter leave) (H
             let before : StandsBefore (enqueue_at enter d) x = (state.enqueues_gone d below).0 in
             let entered : enter d < x.gap = gap_below before is.0 in
             let gone = is.1 d (omega arith) entered in
-            let there = past_first (dequeue_at enter leave d) x xs (idle_is_no_dequeue n enter leave gaps x d is.0) (state.dequeues_left d (omega arith) (omega arith) gone.1) in
+            let there = past_first (dequeue_at enter leave d) x xs (idle_is_no_dequeue n enter leave gaps x d is.0)
+                (state.dequeues_left d (omega arith) (omega arith) gone.1) in
             let after = before_one x (dequeue_at enter leave d) xs rises there in
             absurd (not_both (dequeue_at enter leave d) x (left_before entered gone.0 is.0) after)
       ]
@@ -108,7 +122,8 @@ module _ (n : ℕ) (enter leave : ℕ → ℕ) (gaps : AreGaps n enter leave) (H
             | inr late ↦ by_gap (dequeue_at enter leave d) x (omega (arith, late.0))
           ]
 
-  after_enqueue : (e d v : ℕ) (queue : List ℕ) (x : Position) (xs : List Position) → IsBetween n enter leave Holds Leaves e d queue (x ∷ xs) → BeforeAll x xs → e < n → Holds e v → x ≡ enqueue_at enter e
+  after_enqueue : (e d v : ℕ) (queue : List ℕ) (x : Position) (xs : List Position) → IsBetween n enter leave Holds Leaves e d queue (x ∷ xs)
+      → BeforeAll x xs → e < n → Holds e v → x ≡ enqueue_at enter e
       → IsBetween n enter leave Holds Leaves (suc e) d (queue ++ v ∷ []) xs
   after_enqueue e d v queue x xs state rises within holds is = record {
     in_order = omega (arith, state.in_order);
@@ -116,9 +131,11 @@ module _ (n : ℕ) (enter leave : ℕ → ℕ) (gaps : AreGaps n enter leave) (H
     long = omega (arith, one_longer queue v, state.long);
     queued = queued;
     enqueues_gone = gone;
-    enqueues_left = λ i above below. past_first (enqueue_at enter i) x xs (λ same. let ranks : e ≡ i = ap (λ p. p.rank) (sym is ∙ same) in omega arith) (state.enqueues_left i (omega arith) below);
+    enqueues_left = λ i above below. past_first (enqueue_at enter i) x xs
+        (λ same. let ranks : e ≡ i = ap (λ p. p.rank) (sym is ∙ same) in omega arith) (state.enqueues_left i (omega arith) below);
     dequeues_gone = λ i below. (state.dequeues_gone i below).1;
-    dequeues_left = λ i above below leaves. past_first (dequeue_at enter leave i) x xs (λ same. enqueue_is_no_dequeue n enter leave gaps e i (sym is ∙ same)) (state.dequeues_left i above below leaves);
+    dequeues_left = λ i above below leaves. past_first (dequeue_at enter leave i) x xs
+        (λ same. enqueue_is_no_dequeue n enter leave gaps e i (sym is ∙ same)) (state.dequeues_left i above below leaves);
   }
     where
       gone : (i : ℕ) → i < suc e → BeforeAll (enqueue_at enter i) xs
@@ -134,7 +151,8 @@ module _ (n : ℕ) (enter leave : ℕ → ℕ) (gaps : AreGaps n enter leave) (H
             subst (λ u. Holds (d + k) u) last.1 (subst (λ i. Holds i v) place holds)
       ]
 
-  after_dequeue : (e d front : ℕ) (rest : List ℕ) (x : Position) (xs : List Position) → IsBetween n enter leave Holds Leaves e d (front ∷ rest) (x ∷ xs) → BeforeAll x xs → d < e → x ≡ dequeue_at enter leave d
+  after_dequeue : (e d front : ℕ) (rest : List ℕ) (x : Position) (xs : List Position)
+      → IsBetween n enter leave Holds Leaves e d (front ∷ rest) (x ∷ xs) → BeforeAll x xs → d < e → x ≡ dequeue_at enter leave d
       → IsBetween n enter leave Holds Leaves e (suc d) rest xs
   after_dequeue e d front rest x xs state rises below_e is = record {
     in_order = below_e;
@@ -142,9 +160,11 @@ module _ (n : ℕ) (enter leave : ℕ → ℕ) (gaps : AreGaps n enter leave) (H
     long = omega (arith, state.long);
     queued = λ k w at. let place : d + suc k ≡ suc d + k = omega arith in subst (λ i. Holds i w) place (state.queued (suc k) w at);
     enqueues_gone = λ i below. (state.enqueues_gone i below).1;
-    enqueues_left = λ i above below. past_first (enqueue_at enter i) x xs (λ same. enqueue_is_no_dequeue n enter leave gaps i d (sym same ∙ is)) (state.enqueues_left i above below);
+    enqueues_left = λ i above below. past_first (enqueue_at enter i) x xs (λ same. enqueue_is_no_dequeue n enter leave gaps i d (sym same ∙ is))
+        (state.enqueues_left i above below);
     dequeues_gone = gone;
-    dequeues_left = λ i above below leaves. past_first (dequeue_at enter leave i) x xs (λ same. let ranks : d ≡ i = ap (λ p. p.rank) (sym is ∙ same) in omega arith) (state.dequeues_left i (omega arith) below leaves);
+    dequeues_left = λ i above below leaves. past_first (dequeue_at enter leave i) x xs
+        (λ same. let ranks : d ≡ i = ap (λ p. p.rank) (sym is ∙ same) in omega arith) (state.dequeues_left i (omega arith) below leaves);
   }
     where
       gone : (i : ℕ) → i < suc d → BeforeAll (dequeue_at enter leave i) xs
@@ -152,7 +172,8 @@ module _ (n : ℕ) (enter leave : ℕ → ℕ) (gaps : AreGaps n enter leave) (H
           let order : (i < d) ⊎ (d ≡ i) = grind arith in
           elim order [ inl less ↦ (state.dequeues_gone i less).1 | inr same ↦ subst (λ p. BeforeAll p xs) (is ∙ ap (dequeue_at enter leave) same) rises ]
 
-  after_idle : (e d : ℕ) (queue : List ℕ) (x : Position) (xs : List Position) → IsBetween n enter leave Holds Leaves e d queue (x ∷ xs) → x.class ≡ idle_answers → IsBetween n enter leave Holds Leaves e d queue xs
+  after_idle : (e d : ℕ) (queue : List ℕ) (x : Position) (xs : List Position) → IsBetween n enter leave Holds Leaves e d queue (x ∷ xs)
+      → x.class ≡ idle_answers → IsBetween n enter leave Holds Leaves e d queue xs
   after_idle e d queue x xs state idle = record {
     in_order = state.in_order;
     within = state.within;
@@ -161,10 +182,12 @@ module _ (n : ℕ) (enter leave : ℕ → ℕ) (gaps : AreGaps n enter leave) (H
     enqueues_gone = λ i below. (state.enqueues_gone i below).1;
     enqueues_left = λ i above below. past_first (enqueue_at enter i) x xs (idle_is_no_enqueue n enter leave gaps x i idle) (state.enqueues_left i above below);
     dequeues_gone = λ i below. (state.dequeues_gone i below).1;
-    dequeues_left = λ i above below leaves. past_first (dequeue_at enter leave i) x xs (idle_is_no_dequeue n enter leave gaps x i idle) (state.dequeues_left i above below leaves);
+    dequeues_left = λ i above below leaves. past_first (dequeue_at enter leave i) x xs (idle_is_no_dequeue n enter leave gaps x i idle)
+        (state.dequeues_left i above below leaves);
   }
 
-  is_accepted : (kinds : List OpKind) (positions : List Position) (e d : ℕ) (queue : List ℕ) → AllZip (IsItem n enter leave Holds Leaves) kinds positions → Rises positions
+  is_accepted : (kinds : List OpKind) (positions : List Position) (e d : ℕ) (queue : List ℕ)
+      → AllZip (IsItem n enter leave Holds Leaves) kinds positions → Rises positions
       → IsBetween n enter leave Holds Leaves e d queue positions → IsAccepted queue kinds
   is_accepted [] positions e d queue items rises state = refl
   is_accepted (k ∷ kinds) [] e d queue items rises state = absurd items
@@ -196,7 +219,8 @@ module _ (n : ℕ) (enter leave : ℕ → ℕ) (gaps : AreGaps n enter leave) (H
 
   -- a run of which the positions rise, and in which each value is enqueued, and dequeued if it leaves, is accepted
   pub run_is_accepted : (kinds : List OpKind) (positions : List Position) → AllZip (IsItem n enter leave Holds Leaves) kinds positions → Rises positions
-      → ((i : ℕ) → i < n → Among (enqueue_at enter i) positions) → ((i : ℕ) → i < n → Leaves i → Among (dequeue_at enter leave i) positions) → IsAccepted [] kinds
+      → ((i : ℕ) → i < n → Among (enqueue_at enter i) positions) → ((i : ℕ) → i < n → Leaves i → Among (dequeue_at enter leave i) positions)
+          → IsAccepted [] kinds
   run_is_accepted kinds positions items rises enqueued dequeued = is_accepted kinds positions 0 0 [] items rises (record {
     in_order = omega arith;
     within = omega arith;

@@ -1,10 +1,12 @@
 -- The values that are left, and the first of them in a list by times.
-use Rattle.std.proofs.Common.{◌≡◌, ℕ, zero, suc, ◌+◌, ◌<◌, ◌≤◌, ◌⊎◌, Bool, true, false, List, [], ◌∷◌, ◌++◌, length, get_or, set, take, replicate, Option, None, Some, refl, sym, ◌∙◌, ap, subst, inl, inr, arith}
+use Rattle.std.proofs.Common.{◌≡◌, ℕ, zero, suc, ◌+◌, ◌<◌, ◌≤◌, ◌⊎◌, Bool, true, false, List, [], ◌∷◌, ◌++◌, length, get_or, set, take, replicate}
+use Rattle.std.proofs.Common.{Option, None, Some, refl, sym, ◌∙◌, ap, subst, inl, inr, arith}
 use Rattle.std.specs.Prelude.{All, Contains, IsPermutation, IsSomeAnd, slice_get}
 use Rattle.std.specs.List.Sorted.{IsNonDecreasingBy}
 use Rattle.std.proofs.lemmas.List.{get_or-take, length-take, length_push, get_or_append_left, get_or_push}
 use Rattle.std.proofs.lemmas.List.Elements.{All-contains, All-contains_itself, All-get_or, All-map, All-more, All-weaker}
-use Rattle.std.proofs.lemmas.List.Sorted.{All-permutation, Contains-permutation, IsPermutation-cons, IsPermutation-middle, IsPermutation-refl, IsPermutation-trans}
+use Rattle.std.proofs.lemmas.List.Sorted.{All-permutation, Contains-permutation, IsPermutation-cons, IsPermutation-middle, IsPermutation-refl}
+use Rattle.std.proofs.lemmas.List.Sorted.{IsPermutation-trans}
 use Rattle.std.proofs.lemmas.Option.{get_or_from_slice_get, slice_get-get_or, slice_get_read, slice_get_within}
 use Rattle.history_merge.proofs.Distinct.{contains_at, one_at, place_of}
 use Rattle.value_match.specs.declared.life.Life.{Life}
@@ -28,7 +30,8 @@ all_left [] = refl
 all_left (x ∷ xs) = ap (λ rest. x ∷ rest) (all_left xs)
 
 -- an element whose flag is not set is left
-pub left_where : {X : Type 0} (xs : List X) (taken : List Bool) (p : ℕ) (x : X) → slice_get xs p ≡ Some x → slice_get taken p ≡ Some false → Contains (left_of xs taken) x
+pub left_where : {X : Type 0} (xs : List X) (taken : List Bool) (p : ℕ) (x : X) → slice_get xs p ≡ Some x → slice_get taken p ≡ Some false
+    → Contains (left_of xs taken) x
 left_where [] taken p x at flag = cc
 left_where (y ∷ ys) [] p x at flag = cc
 left_where (y ∷ ys) (true ∷ taken) zero x at flag = cc
@@ -37,7 +40,8 @@ left_where (y ∷ ys) (false ∷ taken) zero x at flag = let same : y ≡ x = cc
 left_where (y ∷ ys) (false ∷ taken) (suc p) x at flag = one_deeper y (left_of ys taken) x (left_where ys taken p x at flag)
 
 -- what is left stands at a place whose flag is not set
-pub place_left : {X : Type 0} (xs : List X) (taken : List Bool) (i : ℕ) (x : X) → slice_get (left_of xs taken) i ≡ Some x → (p : ℕ) × (slice_get xs p ≡ Some x) × (slice_get taken p ≡ Some false)
+pub place_left : {X : Type 0} (xs : List X) (taken : List Bool) (i : ℕ) (x : X) → slice_get (left_of xs taken) i ≡ Some x
+    → (p : ℕ) × (slice_get xs p ≡ Some x) × (slice_get taken p ≡ Some false)
 place_left [] taken i x at = cc
 place_left (y ∷ ys) [] i x at = cc
 place_left (y ∷ ys) (true ∷ taken) i x at = let later = place_left ys taken i x at in (suc later.0, later.1, later.2)
@@ -45,7 +49,8 @@ place_left (y ∷ ys) (false ∷ taken) zero x at = (zero, at, refl)
 place_left (y ∷ ys) (false ∷ taken) (suc i) x at = let later = place_left ys taken i x at in (suc later.0, later.1, later.2)
 
 -- the flag of one that is left is set
-pub one_taken : {X : Type 0} (xs : List X) (taken : List Bool) (p : ℕ) (x : X) → slice_get xs p ≡ Some x → slice_get taken p ≡ Some false → IsPermutation (left_of xs taken) (x ∷ left_of xs (set taken p true))
+pub one_taken : {X : Type 0} (xs : List X) (taken : List Bool) (p : ℕ) (x : X) → slice_get xs p ≡ Some x → slice_get taken p ≡ Some false
+    → IsPermutation (left_of xs taken) (x ∷ left_of xs (set taken p true))
 one_taken [] taken p x at flag = cc
 one_taken (y ∷ ys) [] p x at flag = cc
 one_taken (y ∷ ys) (true ∷ taken) zero x at flag = cc
@@ -54,7 +59,8 @@ one_taken (y ∷ ys) (false ∷ taken) zero x at flag =
     let same : y ≡ x = cc in subst (λ z. IsPermutation (y ∷ left_of ys taken) (z ∷ left_of ys taken)) same (IsPermutation-refl (y ∷ left_of ys taken))
 one_taken (y ∷ ys) (false ∷ taken) (suc p) x at flag =
     let rest = left_of ys (set taken p true) in
-    IsPermutation-trans (y ∷ left_of ys taken) (y ∷ x ∷ rest) (x ∷ y ∷ rest) (IsPermutation-cons y (left_of ys taken) (x ∷ rest) (one_taken ys taken p x at flag)) (IsPermutation-middle (y ∷ []) x rest)
+    IsPermutation-trans (y ∷ left_of ys taken) (y ∷ x ∷ rest) (x ∷ y ∷ rest)
+        (IsPermutation-cons y (left_of ys taken) (x ∷ rest) (one_taken ys taken p x at flag)) (IsPermutation-middle (y ∷ []) x rest)
 
 -- a flag that is set stays set
 pub flag_stays : (taken : List Bool) (p k : ℕ) → slice_get taken k ≡ Some true → slice_get (set taken p true) k ≡ Some true
@@ -72,7 +78,8 @@ pub record AreTimedSoFar (number : Life → ℕ) (values : List MatchedValue) (i
 pub none_timed : (number : Life → ℕ) (values : List MatchedValue) → AreTimedSoFar number values 0 []
 none_timed number values = record { one_each = refl; at_each = λ place timed at. cc }
 
-pub one_more_timed : (number : Life → ℕ) (values : List MatchedValue) (i time : ℕ) (entries : List Timed) (m : MatchedValue) → AreTimedSoFar number values i entries → slice_get values i ≡ Some m → time ≡ number m.life
+pub one_more_timed : (number : Life → ℕ) (values : List MatchedValue) (i time : ℕ) (entries : List Timed) (m : MatchedValue)
+    → AreTimedSoFar number values i entries → slice_get values i ≡ Some m → time ≡ number m.life
     → AreTimedSoFar number values (i + 1) (entries ++ record { time = time; place = i } ∷ [])
 one_more_timed number values i time entries m so_far at is = record { one_each = length_push entries last ∙ ap (λ n. n + 1) so_far.one_each; at_each = each }
   where
@@ -92,17 +99,20 @@ one_more_timed number values i time entries m so_far at is = record { one_each =
         elim cases [
           | inl before ↦
               let inside : place < length entries = omega (arith, so_far.one_each) in
-              so_far.at_each place timed (slice_get_read entries (length entries) place timed refl inside (sym read ∙ get_or_append_left entries (last ∷ []) timed place inside))
+              so_far.at_each place timed (slice_get_read entries (length entries) place timed refl inside
+                  (sym read ∙ get_or_append_left entries (last ∷ []) timed place inside))
           | inr here ↦
               let same : timed ≡ last = sym read ∙ get_or_push entries last timed place (so_far.one_each ∙ sym here) in
               (ap (λ e. e.place) same ∙ sym here, subst (IsTimeOf number values) (sym same) is_last)
         ]
 
-pub sorted_by_time : (number : Life → ℕ) (values : List MatchedValue) (n : ℕ) (entries sorted : List Timed) → AreTimedSoFar number values n entries → length values ≤ n → IsPermutation entries sorted → IsNonDecreasingBy (λ timed. timed.time) sorted → AreByTime number values sorted
+pub sorted_by_time : (number : Life → ℕ) (values : List MatchedValue) (n : ℕ) (entries sorted : List Timed) → AreTimedSoFar number values n entries
+    → length values ≤ n → IsPermutation entries sorted → IsNonDecreasingBy (λ timed. timed.time) sorted → AreByTime number values sorted
 sorted_by_time number values n entries sorted are all moved rises = record {
   never_falls = rises;
   are_timed = All-permutation (IsTimeOf number values) entries sorted moved
-      (All-weaker (Contains entries) (IsTimeOf number values) (λ timed among. let place = place_of entries timed among in (are.at_each place.0 timed place.1).1) entries (All-contains_itself entries));
+      (All-weaker (Contains entries) (IsTimeOf number values) (λ timed among. let place = place_of entries timed among in
+          (are.at_each place.0 timed place.1).1) entries (All-contains_itself entries));
   has_each = each;
 }
   where
@@ -112,10 +122,12 @@ sorted_by_time number values n entries sorted are all moved rises = record {
     each : (place : ℕ) → place < length values → (timed : Timed) × Contains sorted timed × (timed.place ≡ place)
     each place below =
         let at = slice_get-get_or entries place nowhere (omega (arith, are.one_each)) in
-        (get_or entries place nowhere, Contains-permutation entries sorted (get_or entries place nowhere) moved (contains_at entries place (get_or entries place nowhere) at), (are.at_each place (get_or entries place nowhere) at).0)
+        (get_or entries place nowhere, Contains-permutation entries sorted (get_or entries place nowhere) moved
+            (contains_at entries place (get_or entries place nowhere) at), (are.at_each place (get_or entries place nowhere) at).0)
 
 -- an entry before the cursor is taken, so one that is left stands at or after it
-stands_after : (taken : List Bool) (entries : List Timed) (i k : ℕ) (timed : Timed) → All (IsTaken taken) (take i entries) → slice_get entries k ≡ Some timed → IsLeft taken timed → i ≤ k
+stands_after : (taken : List Bool) (entries : List Timed) (i k : ℕ) (timed : Timed) → All (IsTaken taken) (take i entries)
+    → slice_get entries k ≡ Some timed → IsLeft taken timed → i ≤ k
 stands_after taken entries i k timed before at flag =
     let cases : (k < i) ⊎ (i ≤ k) = grind arith in
     elim cases [ inl below ↦ absurd (clash below) | inr after ↦ after ]
@@ -131,30 +143,35 @@ stands_after taken entries i k timed before at flag =
         cc
 
 -- where some value is left, the walk along the entries ends
-pub not_past : (taken : List Bool) (entries : List Timed) (i : ℕ) → All (IsTaken taken) (take i entries) → (timed : Timed) × Contains entries timed × IsLeft taken timed → i < length entries
+pub not_past : (taken : List Bool) (entries : List Timed) (i : ℕ) → All (IsTaken taken) (take i entries)
+    → (timed : Timed) × Contains entries timed × IsLeft taken timed → i < length entries
 not_past taken entries i before left =
     let place = place_of entries left.0 left.1 in
     let after = stands_after taken entries i place.0 left.0 before place.1 left.2 in
     let inside = slice_get_within entries place.0 left.0 place.1 in
     omega arith
 
-flag_at : (taken : List Bool) (entries : List Timed) (i : ℕ) (d : Timed) (e b : Bool) → All (λ timed. timed.place < length taken) entries → i < length entries → get_or taken (get_or entries i d).place e ≡ b → slice_get taken (get_or entries i d).place ≡ Some b
+flag_at : (taken : List Bool) (entries : List Timed) (i : ℕ) (d : Timed) (e b : Bool) → All (λ timed. timed.place < length taken) entries
+    → i < length entries → get_or taken (get_or entries i d).place e ≡ b → slice_get taken (get_or entries i d).place ≡ Some b
 flag_at taken entries i d e b flagged within is =
     slice_get-get_or taken (get_or entries i d).place e (All-get_or (λ timed. timed.place < length taken) entries i d within flagged) ∙ ap Some is
 
 -- the walk goes on past an entry that is taken
-pub walked : (taken : List Bool) (entries : List Timed) (i : ℕ) (d : Timed) (e : Bool) → All (λ timed. timed.place < length taken) entries → All (IsTaken taken) (take i entries) → (timed : Timed) × Contains entries timed × IsLeft taken timed
+pub walked : (taken : List Bool) (entries : List Timed) (i : ℕ) (d : Timed) (e : Bool) → All (λ timed. timed.place < length taken) entries
+    → All (IsTaken taken) (take i entries) → (timed : Timed) × Contains entries timed × IsLeft taken timed
     → get_or taken (get_or entries i d).place e ≡ true → All (IsTaken taken) (take (i + 1) entries)
 walked taken entries i d e flagged before left is =
     let within = not_past taken entries i before left in
     All-more (IsTaken taken) entries i d within before (flag_at taken entries i d e true flagged within is)
 
 -- and ends at one that is not
-pub stopped : (taken : List Bool) (entries : List Timed) (i : ℕ) (d : Timed) (e : Bool) → All (λ timed. timed.place < length taken) entries → All (IsTaken taken) (take i entries) → (timed : Timed) × Contains entries timed × IsLeft taken timed
+pub stopped : (taken : List Bool) (entries : List Timed) (i : ℕ) (d : Timed) (e : Bool) → All (λ timed. timed.place < length taken) entries
+    → All (IsTaken taken) (take i entries) → (timed : Timed) × Contains entries timed × IsLeft taken timed
     → get_or taken (get_or entries i d).place e ≡ false → IsFirstLeft entries taken i
 stopped taken entries i d e flagged before left is =
     let within = not_past taken entries i before left in
-    record { entry = get_or entries i d; is_at = slice_get-get_or entries i d within; is_left = flag_at taken entries i d e false flagged within is; before = before }
+    record { entry = get_or entries i d; is_at = slice_get-get_or entries i d within; is_left =
+        flag_at taken entries i d e false flagged within is; before = before }
 
 -- at the first entry whose value is left stands the least of the values that are left
 pub record IsLeastLeft (number : Life → ℕ) (values : List MatchedValue) (taken : List Bool) (timed : Timed) : Type 0 where
@@ -169,9 +186,11 @@ from_some_and None P is = absurd is
 from_some_and (Some x) P is = (x, refl, is)
 
 module _ (number : Life → ℕ) (values : List MatchedValue) (entries : List Timed) (taken : List Bool) (are : AreByTime number values entries) where
-  value_of : (k : ℕ) (timed : Timed) → slice_get entries k ≡ Some timed → (m : MatchedValue) × (slice_get values timed.place ≡ Some m) × (timed.time ≡ number m.life)
+  value_of : (k : ℕ) (timed : Timed) → slice_get entries k ≡ Some timed
+      → (m : MatchedValue) × (slice_get values timed.place ≡ Some m) × (timed.time ≡ number m.life)
   value_of k timed at =
-      from_some_and (slice_get values timed.place) (λ m. timed.time ≡ number m.life) (All-contains (IsTimeOf number values) entries timed are.are_timed (contains_at entries k timed at))
+      from_some_and (slice_get values timed.place) (λ m. timed.time ≡ number m.life)
+          (All-contains (IsTimeOf number values) entries timed are.are_timed (contains_at entries k timed at))
 
   none_less : (i : ℕ) (first : IsFirstLeft entries taken i) (y : MatchedValue) → Contains (left_of values taken) y → first.entry.time ≤ number y.life
   none_less i first y among =
@@ -184,9 +203,11 @@ module _ (number : Life → ℕ) (values : List MatchedValue) (entries : List Ti
       let rises = are.never_falls i stands.0 entry.0 after (slice_get_within entries stands.0 entry.0 stands.1) in
       let here = get_or_from_slice_get entries i first.entry entry.0 first.is_at in
       let there = get_or_from_slice_get entries stands.0 entry.0 entry.0 stands.1 in
-      let same = one_at values place.0 (value_of stands.0 entry.0 stands.1).0 y (sym (ap (slice_get values) entry.2) ∙ (value_of stands.0 entry.0 stands.1).1) place.1 in
+      let same = one_at values place.0 (value_of stands.0 entry.0 stands.1).0 y
+          (sym (ap (slice_get values) entry.2) ∙ (value_of stands.0 entry.0 stands.1).1) place.1 in
       let time : entry.0.time ≡ number y.life = (value_of stands.0 entry.0 stands.1).2 ∙ ap (λ m. number m.life) same in
-      let times : first.entry.time ≤ entry.0.time = subst (λ e. first.entry.time ≤ e.time) there (subst (λ e. e.time ≤ (get_or entries stands.0 entry.0).time) here rises) in
+      let times : first.entry.time ≤ entry.0.time = subst (λ e. first.entry.time ≤ e.time) there
+          (subst (λ e. e.time ≤ (get_or entries stands.0 entry.0).time) here rises) in
       subst (λ n. first.entry.time ≤ n) time times
 
   pub least_left : (i : ℕ) (first : IsFirstLeft entries taken i) → IsLeastLeft number values taken first.entry
@@ -200,7 +221,8 @@ module _ (number : Life → ℕ) (values : List MatchedValue) (entries : List Ti
         is_least = (
           mapped_to (λ m. m.life) (left_of values taken) found.0 (left_where values taken first.entry.place found.0 found.1 first.is_left),
           All-map (λ other. number found.0.life ≤ number other) (λ m. m.life) (left_of values taken)
-              (All-weaker (Contains (left_of values taken)) (λ y. number found.0.life ≤ number y.life) (λ y among. subst (λ n. n ≤ number y.life) found.2 (none_less i first y among)) (left_of values taken)
+              (All-weaker (Contains (left_of values taken)) (λ y. number found.0.life ≤ number y.life)
+                  (λ y among. subst (λ n. n ≤ number y.life) found.2 (none_less i first y among)) (left_of values taken)
               (All-contains_itself (left_of values taken))),
         );
       }
@@ -212,7 +234,8 @@ pub record IsNext (values : List MatchedValue) (taken : List Bool) (place : ℕ)
   pub is_left : slice_get taken place ≡ Some false
   pub is_choice : IsChoice (lives_in (left_of values taken)) value.life
 
-pub chosen : (values : List MatchedValue) (taken : List Bool) (first_in first_out : Timed) (place : ℕ) → IsLeastLeft entered_by values taken first_in → IsLeastLeft dequeue_return values taken first_out → TakesOneOf values first_in first_out place → IsNext values taken place
+pub chosen : (values : List MatchedValue) (taken : List Bool) (first_in first_out : Timed) (place : ℕ) → IsLeastLeft entered_by values taken first_in
+    → IsLeastLeft dequeue_return values taken first_out → TakesOneOf values first_in first_out place → IsNext values taken place
 chosen values taken first_in first_out place a b takes = elim (takes a.value a.is_at) [
   | inl dequeued ↦ record {
     value = b.value;
@@ -249,16 +272,21 @@ chosen values taken first_in first_out place a b takes = elim (takes a.value a.i
     apart' r t n same more less = omega arith
 
 -- the entry that was read at the cursor
-least_read : (number : Life → ℕ) (values : List MatchedValue) (entries : List Timed) (taken : List Bool) (i : ℕ) (read : Timed) → AreByTime number values entries → IsFirstLeft entries taken i → read ≡ get_or entries i read → IsLeastLeft number values taken read
+least_read : (number : Life → ℕ) (values : List MatchedValue) (entries : List Timed) (taken : List Bool) (i : ℕ) (read : Timed)
+    → AreByTime number values entries → IsFirstLeft entries taken i → read ≡ get_or entries i read → IsLeastLeft number values taken read
 least_read number values entries taken i read are first is =
-    subst (IsLeastLeft number values taken) (sym (is ∙ get_or_from_slice_get entries i first.entry read first.is_at)) (least_left number values entries taken are i first)
+    subst (IsLeastLeft number values taken) (sym (is ∙ get_or_from_slice_get entries i first.entry read first.is_at))
+        (least_left number values entries taken are i first)
 
-pub next_at : (values : List MatchedValue) (entries dequeues : List Timed) (taken : List Bool) (i j : ℕ) (first_in first_out : Timed) (place : ℕ) → AreByTime entered_by values entries → AreByTime dequeue_return values dequeues → IsFirstLeft entries taken i → IsFirstLeft dequeues taken j
+pub next_at : (values : List MatchedValue) (entries dequeues : List Timed) (taken : List Bool) (i j : ℕ) (first_in first_out : Timed) (place : ℕ)
+    → AreByTime entered_by values entries → AreByTime dequeue_return values dequeues → IsFirstLeft entries taken i → IsFirstLeft dequeues taken j
     → first_in ≡ get_or entries i first_in → first_out ≡ get_or dequeues j first_out → TakesOneOf values first_in first_out place → IsNext values taken place
 next_at values entries dequeues taken i j first_in first_out place are_in are_out a b is_in is_out takes =
-    chosen values taken first_in first_out place (least_read entered_by values entries taken i first_in are_in a is_in) (least_read dequeue_return values dequeues taken j first_out are_out b is_out) takes
+    chosen values taken first_in first_out place (least_read entered_by values entries taken i first_in are_in a is_in)
+        (least_read dequeue_return values dequeues taken j first_out are_out b is_out) takes
 
 -- the place in an entry is that of a value
-pub place_within : (number : Life → ℕ) (values : List MatchedValue) (entries : List Timed) (taken : List Bool) (i : ℕ) (read : Timed) → AreByTime number values entries → IsFirstLeft entries taken i → read ≡ get_or entries i read → read.place < length values
+pub place_within : (number : Life → ℕ) (values : List MatchedValue) (entries : List Timed) (taken : List Bool) (i : ℕ) (read : Timed)
+    → AreByTime number values entries → IsFirstLeft entries taken i → read ≡ get_or entries i read → read.place < length values
 place_within number values entries taken i read are first is =
     let least = least_read number values entries taken i read are first is in slice_get_within values read.place least.value least.is_at

@@ -7,7 +7,8 @@ use Rattle.history_merge.specs.Operations.{Did, NoneDid}
 use Rattle.history_merge.proofs.Distinct.{return_differs_from_call, return_in_range, call_before_return}
 use Rattle.value_match.specs.declared.life.Life.{Life}
 use Rattle.value_match.specs.declared.life.TheConstants.{NEVER}
-use Rattle.value_match.specs.Lives.{IsLife, call_or_never, return_or_never, enqueue_call, dequeue_return, leaves_from, enqueue_return, dequeue_call, entered_by, dequeue_of, enqueue_of}
+use Rattle.value_match.specs.Lives.{IsLife, call_or_never, return_or_never, enqueue_call, dequeue_return, leaves_from, enqueue_return, dequeue_call}
+use Rattle.value_match.specs.Lives.{entered_by, dequeue_of, enqueue_of}
 use Rattle.value_match.specs.Violations.{IsClear}
 
 -- a number that is neither below another nor equal to it is above
@@ -37,7 +38,8 @@ record HasDequeueTimes (enqueue : Operation) (dequeue : Option Operation) : Type
   in_range : return_or_never dequeue ≤ NEVER
 
 module _ (operations : List Operation) (clear : IsClear operations) where
-  dequeue_times : (v : ℕ) (enqueue : Operation) (dequeue : Option Operation) → Did operations enqueue (Enq v) → MatchOption dequeue (NoneDid operations (Deq v)) (λ d. Did operations d (Deq v)) → HasDequeueTimes enqueue dequeue
+  dequeue_times : (v : ℕ) (enqueue : Operation) (dequeue : Option Operation) → Did operations enqueue (Enq v)
+      → MatchOption dequeue (NoneDid operations (Deq v)) (λ d. Did operations d (Deq v)) → HasDequeueTimes enqueue dequeue
   dequeue_times v enqueue None did none =
       let range = return_in_range operations enqueue clear.complete did.0 in
       let order : enqueue.call ≤ enqueue.ret = omega (arith, call_before_return operations enqueue clear.complete did.0) in

@@ -2,7 +2,8 @@
 use Rattle.std.proofs.Common.{◌≡◌, ℕ, zero, suc, ◌<◌, ◌≤◌, ◌⊎◌, List, [], ◌∷◌, length, Some, refl, sym, ◌∙◌, ap, subst, inl, inr, arith, rules}
 use Rattle.std.specs.Prelude.{Contains, IsPermutation, remove, slice_get}
 use Rattle.std.proofs.lemmas.List.Elements.{All-cons, All-nil, All-weaker}
-use Rattle.std.proofs.lemmas.List.Sorted.{IsPermutation-refl, IsPermutation-sym, IsPermutation-cons, IsPermutation-trans, IsPermutation-remove, Contains-permutation, All-permutation, length_permutation}
+use Rattle.std.proofs.lemmas.List.Sorted.{IsPermutation-refl, IsPermutation-sym, IsPermutation-cons, IsPermutation-trans, IsPermutation-remove}
+use Rattle.std.proofs.lemmas.List.Sorted.{Contains-permutation, All-permutation, length_permutation}
 use Rattle.history_merge.specs.declared.operation.Operation.{Operation}
 use Rattle.history_merge.proofs.Distinct.{contains_cons, not_in_none, place_of}
 use Rattle.value_match.specs.declared.life.Life.{Life}
@@ -16,7 +17,8 @@ use Rattle.linearizer.proofs.Opposites.{is_life, one_deeper}
 use Rattle.linearizer.proofs.DifferentTimes.{one_life_of_entering, one_life_of_dequeue_return, one_place_of_life}
 
 least_by : (number : Life → ℕ) (x : Life) (xs : List Life) → (life : Life) × IsLeastBy number (x ∷ xs) life
-least_by number x [] = (x, ((zero, omega arith, refl), All-cons (λ other. number x ≤ number other) x [] (omega arith) (All-nil (λ other. number x ≤ number other))))
+least_by number x [] = (x, ((zero, omega arith, refl), All-cons (λ other. number x ≤ number other) x [] (omega arith)
+    (All-nil (λ other. number x ≤ number other))))
 least_by number x (y ∷ xs) =
     let rest = least_by number y xs in
     let cases : (number rest.0 < number x) ⊎ (number x ≤ number rest.0) = grind arith in
@@ -38,12 +40,15 @@ choice_of x xs =
     let b = least_by dequeue_return x xs in
     let cases : (dequeue_return b.0 < leaves_from a.0) ⊎ (leaves_from a.0 ≤ dequeue_return b.0) = grind arith in
     elim cases [
-      | inl less ↦ (b.0, record { first_entered = a.0; first_dequeued = b.0; enters_first = a.1; dequeued_first = b.1; takes_dequeued = λ _. refl; takes_entered = λ more. absurd (omega arith) })
-      | inr more ↦ (a.0, record { first_entered = a.0; first_dequeued = b.0; enters_first = a.1; dequeued_first = b.1; takes_dequeued = λ less. absurd (omega arith); takes_entered = λ _. refl })
+      | inl less ↦ (b.0, record { first_entered = a.0; first_dequeued = b.0; enters_first = a.1; dequeued_first = b.1; takes_dequeued =
+          λ _. refl; takes_entered = λ more. absurd (omega arith) })
+      | inr more ↦ (a.0, record { first_entered = a.0; first_dequeued = b.0; enters_first = a.1; dequeued_first = b.1; takes_dequeued =
+          λ less. absurd (omega arith); takes_entered = λ _. refl })
     ]
 
 least_in_other_order : (number : Life → ℕ) (xs ys : List Life) (life : Life) → IsPermutation xs ys → IsLeastBy number xs life → IsLeastBy number ys life
-least_in_other_order number xs ys life moved is = (Contains-permutation xs ys life moved is.0, All-permutation (λ other. number life ≤ number other) xs ys moved is.1)
+least_in_other_order number xs ys life moved is = (Contains-permutation xs ys life moved is.0, All-permutation
+    (λ other. number life ≤ number other) xs ys moved is.1)
 
 pub choice_in_other_order : (xs ys : List Life) (life : Life) → IsPermutation xs ys → IsChoice xs life → IsChoice ys life
 choice_in_other_order xs ys life moved is = record {
@@ -71,7 +76,8 @@ in_order (suc n) (x ∷ xs) long =
     let moved = IsPermutation-remove (x ∷ xs) among.0 choice.0 among.1 (sym among.2) in
     let shorter = length_permutation (x ∷ xs) (choice.0 ∷ remove (x ∷ xs) among.0) moved in
     let rest = in_order n (remove (x ∷ xs) among.0) (omega arith) in
-    let all_moved = IsPermutation-trans (x ∷ xs) (choice.0 ∷ remove (x ∷ xs) among.0) (choice.0 ∷ rest.0) moved (IsPermutation-cons choice.0 (remove (x ∷ xs) among.0) rest.0 rest.1) in
+    let all_moved = IsPermutation-trans (x ∷ xs) (choice.0 ∷ remove (x ∷ xs) among.0) (choice.0 ∷ rest.0) moved
+        (IsPermutation-cons choice.0 (remove (x ∷ xs) among.0) rest.0 rest.1) in
     (choice.0 ∷ rest.0, all_moved, (choice_in_other_order (x ∷ xs) (choice.0 ∷ rest.0) choice.0 all_moved choice.1, rest.2))
 
 pub values_have_order : (operations : List Operation) → IsClear operations → (lives : List Life) × IsValueOrder operations lives
@@ -92,7 +98,8 @@ least_alike number xs ys a b same is_a is_b =
     let second = least_at number ys b a is_b (same.into a is_a.0) in
     omega arith
 
-one_choice : (operations : List Operation) (xs ys : List Life) (c d : Life) → IsClear operations → ((x : Life) → Contains xs x → IsLife operations x) → AreSame xs ys → IsChoice xs c → IsChoice ys d → c ≡ d
+one_choice : (operations : List Operation) (xs ys : List Life) (c d : Life) → IsClear operations → ((x : Life) → Contains xs x → IsLife operations x)
+    → AreSame xs ys → IsChoice xs c → IsChoice ys d → c ≡ d
 one_choice operations xs ys c d clear are same is_c is_d =
     let a = is_c.first_entered in let a' = is_d.first_entered in
     let b = is_c.first_dequeued in let b' = is_d.first_dequeued in
@@ -136,7 +143,8 @@ rest_alike {X} x y xs ys one same = record {
     deeper : (x : X) (xs : List X) (z : X) → Contains xs z → Contains (x ∷ xs) z
     deeper x xs z among = (suc among.0, omega (arith, among.1), among.2)
 
-    pass : (z x y : X) (xs ys : List X) → x ≡ y → ((i j : ℕ) (u v : X) → slice_get (x ∷ xs) i ≡ Some u → slice_get (x ∷ xs) j ≡ Some v → u ≡ v → i ≡ j) → Contains (y ∷ ys) z → Contains xs z → Contains ys z
+    pass : (z x y : X) (xs ys : List X) → x ≡ y → ((i j : ℕ) (u v : X) → slice_get (x ∷ xs) i ≡ Some u → slice_get (x ∷ xs) j ≡ Some v → u ≡ v
+        → i ≡ j) → Contains (y ∷ ys) z → Contains xs z → Contains ys z
     pass z x y xs ys one once there among = elim (contains_cons y ys z there) [
       | inl here ↦
           let place = place_of xs z among in
@@ -145,7 +153,8 @@ rest_alike {X} x y xs ys one same = record {
       | inr later ↦ later
     ]
 
-one_order : (operations : List Operation) (xs ys : List Life) → IsClear operations → ((x : Life) → Contains xs x → IsLife operations x) → AreSame xs ys → EachIsChoice xs → EachIsChoice ys → xs ≡ ys
+one_order : (operations : List Operation) (xs ys : List Life) → IsClear operations → ((x : Life) → Contains xs x → IsLife operations x)
+    → AreSame xs ys → EachIsChoice xs → EachIsChoice ys → xs ≡ ys
 one_order operations [] [] clear are same each each' = refl
 one_order operations [] (y ∷ ys) clear are same each each' = absurd (not_in_none y (same.back y (zero, omega arith, refl)))
 one_order operations (x ∷ xs) [] clear are same each each' = absurd (not_in_none x (same.into x (zero, omega arith, refl)))
@@ -154,11 +163,14 @@ one_order operations (x ∷ xs) (y ∷ ys) clear are same each each' =
     let rest = one_order operations xs ys clear (λ z among. are z (one_deeper x xs z among)) (rest_alike x y xs ys one same) each.1 each'.1 in
     cc
 
-pub values_have_one_order : (operations : List Operation) (xs ys : List Life) → IsClear operations → IsValueOrder operations xs → IsValueOrder operations ys → xs ≡ ys
+pub values_have_one_order : (operations : List Operation) (xs ys : List Life) → IsClear operations → IsValueOrder operations xs
+    → IsValueOrder operations ys → xs ≡ ys
 values_have_one_order operations xs ys clear order order' =
     one_order operations xs ys clear (is_life operations xs order) (record {
-      into = λ x among. Contains-permutation (lives_of operations) ys x order'.holds_each_once (Contains-permutation xs (lives_of operations) x (IsPermutation-sym (lives_of operations) xs order.holds_each_once) among);
-      back = λ x among. Contains-permutation (lives_of operations) xs x order.holds_each_once (Contains-permutation ys (lives_of operations) x (IsPermutation-sym (lives_of operations) ys order'.holds_each_once) among);
+      into = λ x among. Contains-permutation (lives_of operations) ys x order'.holds_each_once
+          (Contains-permutation xs (lives_of operations) x (IsPermutation-sym (lives_of operations) xs order.holds_each_once) among);
+      back = λ x among. Contains-permutation (lives_of operations) xs x order.holds_each_once
+          (Contains-permutation ys (lives_of operations) x (IsPermutation-sym (lives_of operations) ys order'.holds_each_once) among);
       first_once = λ i j x y at_x at_y one. one_place_of_life operations xs i j x y clear order at_x at_y one;
       second_once = λ i j x y at_x at_y one. one_place_of_life operations ys i j x y clear order' at_x at_y one;
     }) order.each_is_choice order'.each_is_choice

@@ -7,7 +7,8 @@ use Rattle.history_merge.specs.declared.operation.OpKind.TheVariants.{Deq}
 use Rattle.history_merge.proofs.Distinct.{contains_at, pairs_at, call_before_return, return_in_range, one_at}
 use Rattle.value_match.specs.declared.life.Life.{Life}
 use Rattle.value_match.specs.declared.life.TheConstants.{NEVER}
-use Rattle.value_match.specs.Lives.{IsLife, return_or_never, call_or_never, enqueue_call, enqueue_return, dequeue_call, dequeue_return, entered_by, leaves_from, dequeue_of, enqueue_of}
+use Rattle.value_match.specs.Lives.{IsLife, return_or_never, call_or_never, enqueue_call, enqueue_return, dequeue_call, dequeue_return, entered_by}
+use Rattle.value_match.specs.Lives.{leaves_from, dequeue_of, enqueue_of}
 use Rattle.value_match.specs.Violations.{IsClear, NoOrderViolation}
 use Rattle.linearizer.specs.Values.{IsValueOrder, enqueue_gap, dequeue_gap, least_entered_by, greatest_leaves_from}
 use Rattle.linearizer.proofs.Opposites.{MayStandBefore, is_life, each_may_stand_before}
@@ -20,7 +21,8 @@ least_at_least a b [] le each = le
 least_at_least a b (x ∷ xs) le each = let here = each zero x refl in least_at_least (min a (entered_by x)) b xs (omega arith) (λ j y at. each (suc j) y at)
 
 -- a number that is at most the entry of each value from place i on is at most the least of them
-pub at_most_least : (lives : List Life) (i b : ℕ) → b ≤ NEVER → ((j : ℕ) (y : Life) → i ≤ j → slice_get lives j ≡ Some y → b ≤ entered_by y) → b ≤ least_entered_by (drop i lives)
+pub at_most_least : (lives : List Life) (i b : ℕ) → b ≤ NEVER → ((j : ℕ) (y : Life) → i ≤ j → slice_get lives j ≡ Some y → b ≤ entered_by y)
+    → b ≤ least_entered_by (drop i lives)
 at_most_least lives zero b le each = least_at_least NEVER b lives le (λ j y at. each j y (omega arith) at)
 at_most_least [] (suc i) b le each = le
 at_most_least (x ∷ lives) (suc i) b le each = at_most_least lives i b le (λ j y above at. each (suc j) y (omega arith) at)
@@ -40,15 +42,19 @@ least_of_later (x ∷ lives) (suc i) zero y le at = absurd (omega arith)
 least_of_later (x ∷ lives) (suc i) (suc j) y le at = least_of_later lives i j y (omega arith) at
 
 -- a number above a start and above what each of the first k values leaves from is above the greatest of them
-greatest_below : (a b : ℕ) (lives : List Life) (k : ℕ) → a < b → ((j : ℕ) (y : Life) → j < k → slice_get lives j ≡ Some y → leaves_from y < b) → fold max a (map leaves_from (take k lives)) < b
+greatest_below : (a b : ℕ) (lives : List Life) (k : ℕ) → a < b → ((j : ℕ) (y : Life) → j < k → slice_get lives j ≡ Some y → leaves_from y < b)
+    → fold max a (map leaves_from (take k lives)) < b
 greatest_below a b lives zero less each = less
 greatest_below a b [] (suc k) less each = less
-greatest_below a b (x ∷ lives) (suc k) less each = let here = each zero x (omega arith) refl in greatest_below (max a (leaves_from x)) b lives k (omega arith) (λ j y below at. each (suc j) y (omega arith) at)
+greatest_below a b (x ∷ lives) (suc k) less each = let here = each zero x (omega arith) refl in
+    greatest_below (max a (leaves_from x)) b lives k (omega arith) (λ j y below at. each (suc j) y (omega arith) at)
 
-pub below_greatest : (lives : List Life) (i b : ℕ) → 0 < b → ((j : ℕ) (y : Life) → j ≤ i → slice_get lives j ≡ Some y → leaves_from y < b) → greatest_leaves_from (take (i + 1) lives) < b
+pub below_greatest : (lives : List Life) (i b : ℕ) → 0 < b → ((j : ℕ) (y : Life) → j ≤ i → slice_get lives j ≡ Some y → leaves_from y < b)
+    → greatest_leaves_from (take (i + 1) lives) < b
 below_greatest lives i b above each = greatest_below 0 b lives (i + 1) above (λ j y below at. each j y (omega arith) at)
 
-greatest_at_least : (a : ℕ) (lives : List Life) (k j : ℕ) (y : Life) → j < k → slice_get lives j ≡ Some y → leaves_from y ≤ fold max a (map leaves_from (take k lives))
+greatest_at_least : (a : ℕ) (lives : List Life) (k j : ℕ) (y : Life) → j < k → slice_get lives j ≡ Some y
+    → leaves_from y ≤ fold max a (map leaves_from (take k lives))
 greatest_at_least a lives zero j y below at = absurd (omega arith)
 greatest_at_least a [] (suc k) j y below at = cc
 greatest_at_least a (x ∷ lives) (suc k) zero y below at =
@@ -56,10 +62,12 @@ greatest_at_least a (x ∷ lives) (suc k) zero y below at =
     let above = greatest_above_start (max a (leaves_from x)) (map leaves_from (take k lives)) in omega arith
 greatest_at_least a (x ∷ lives) (suc k) (suc j) y below at = greatest_at_least (max a (leaves_from x)) lives k j y (omega arith) at
 
-pub greatest_of_first : (lives : List Life) (i j : ℕ) (y : Life) → j ≤ i → slice_get lives j ≡ Some y → leaves_from y ≤ greatest_leaves_from (take (i + 1) lives)
+pub greatest_of_first : (lives : List Life) (i j : ℕ) (y : Life) → j ≤ i → slice_get lives j ≡ Some y
+    → leaves_from y ≤ greatest_leaves_from (take (i + 1) lives)
 greatest_of_first lives i j y le at = greatest_at_least 0 lives (i + 1) j y (omega arith) at
 
-called_before_entered : (operations : List Operation) (lives : List Life) (i j : ℕ) (x y : Life) → IsClear operations → NoOrderViolation operations → IsValueOrder operations lives
+called_before_entered : (operations : List Operation) (lives : List Life) (i j : ℕ) (x y : Life) → IsClear operations → NoOrderViolation operations
+    → IsValueOrder operations lives
     → i ≤ j → slice_get lives i ≡ Some x → slice_get lives j ≡ Some y → enqueue_call x < entered_by y
 called_before_entered operations lives i j x y clear none order le at_x at_y =
     let is_x = is_life operations lives order x (contains_at lives i x at_x) in
@@ -77,7 +85,8 @@ called_before_entered operations lives i j x y clear none order le at_x at_y =
           above (enqueue_call x) (entered_by y) (λ less. omega arith) differs
     ]
 
-pub enqueue_gap_in_window : (operations : List Operation) (lives : List Life) (i : ℕ) (life : Life) → IsClear operations → NoOrderViolation operations → IsValueOrder operations lives → slice_get lives i ≡ Some life → IsInWindow (enqueue_of life) (enqueue_gap lives i)
+pub enqueue_gap_in_window : (operations : List Operation) (lives : List Life) (i : ℕ) (life : Life) → IsClear operations → NoOrderViolation operations
+    → IsValueOrder operations lives → slice_get lives i ≡ Some life → IsInWindow (enqueue_of life) (enqueue_gap lives i)
 enqueue_gap_in_window operations lives i life clear none order at =
     let is = is_life operations lives order life (contains_at lives i life at) in
     let times = times_of_life operations life clear is in
@@ -89,7 +98,8 @@ enqueue_gap_in_window operations lives i life clear none order at =
     let entered : entered_by life ≤ enqueue_return life = omega arith in
     (omega arith, omega arith)
 
-left_before_returned : (operations : List Operation) (lives : List Life) (i j : ℕ) (x y : Life) → IsClear operations → NoOrderViolation operations → IsValueOrder operations lives
+left_before_returned : (operations : List Operation) (lives : List Life) (i j : ℕ) (x y : Life) → IsClear operations → NoOrderViolation operations
+    → IsValueOrder operations lives
     → j ≤ i → slice_get lives i ≡ Some x → slice_get lives j ≡ Some y → dequeue_return x < NEVER → leaves_from y < dequeue_return x
 left_before_returned operations lives i j x y clear none order le at_x at_y returned =
     let is_x = is_life operations lives order x (contains_at lives i x at_x) in
@@ -106,17 +116,21 @@ left_before_returned operations lives i j x y clear none order le at_x at_y retu
           elim (times_of_life operations y clear is_y).leaves_before_return [ inl left ↦ omega arith | inr never ↦ absurd (omega arith) ]
     ]
 
-pub dequeue_gap_before_return : (operations : List Operation) (lives : List Life) (i : ℕ) (life : Life) → IsClear operations → NoOrderViolation operations → IsValueOrder operations lives
+pub dequeue_gap_before_return : (operations : List Operation) (lives : List Life) (i : ℕ) (life : Life) → IsClear operations
+    → NoOrderViolation operations → IsValueOrder operations lives
     → slice_get lives i ≡ Some life → dequeue_return life < NEVER → dequeue_gap lives i < dequeue_return life
 dequeue_gap_before_return operations lives i life clear none order at returned =
     let is = is_life operations lives order life (contains_at lives i life at) in
     let left = left_before_returned operations lives i i life life clear none order (omega arith) at at returned in
-    let greatest = below_greatest lives i (dequeue_return life) (omega arith) (λ j y le at_y. left_before_returned operations lives i j life y clear none order le at at_y returned) in
+    let greatest = below_greatest lives i (dequeue_return life) (omega arith)
+        (λ j y le at_y. left_before_returned operations lives i j life y clear none order le at at_y returned) in
     let least = least_of_later lives i i life (omega arith) at in
     let entered : entered_by life ≤ dequeue_return life = omega arith in
     omega arith
 
-pub dequeue_gap_in_window : (operations : List Operation) (lives : List Life) (i : ℕ) (life : Life) (d : Operation) → IsClear operations → NoOrderViolation operations → IsValueOrder operations lives → slice_get lives i ≡ Some life → dequeue_of life ≡ Some d → IsInWindow d (dequeue_gap lives i)
+pub dequeue_gap_in_window : (operations : List Operation) (lives : List Life) (i : ℕ) (life : Life) (d : Operation) → IsClear operations
+    → NoOrderViolation operations → IsValueOrder operations lives → slice_get lives i ≡ Some life → dequeue_of life ≡ Some d
+    → IsInWindow d (dequeue_gap lives i)
 dequeue_gap_in_window operations lives i life d clear none order at dequeues =
     let calls : dequeue_call life ≡ d.call = ap call_or_never dequeues in
     let returns : dequeue_return life ≡ d.ret = ap return_or_never dequeues in

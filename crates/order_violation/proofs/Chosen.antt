@@ -18,7 +18,8 @@ use Rattle.order_violation.specs.Overtaking.{Overtakes, IsFirstOvertaking}
 use Rattle.order_violation.specs.Pairs.{IsChosenPair}
 use Rattle.value_match.proofs.Lives.{value_is_life, value_of_life, places_of_value}
 
-call_in_range : (operations : List Operation) (v : ℕ) (dequeue : Option Operation) → AreComplete operations → MatchOption dequeue (NoneDid operations (Deq v)) (λ d. Did operations d (Deq v)) → call_or_never dequeue ≤ NEVER
+call_in_range : (operations : List Operation) (v : ℕ) (dequeue : Option Operation) → AreComplete operations
+    → MatchOption dequeue (NoneDid operations (Deq v)) (λ d. Did operations d (Deq v)) → call_or_never dequeue ≤ NEVER
 call_in_range operations v None complete none = omega arith
 call_in_range operations v (Some d) complete did =
     let range = return_in_range operations d complete did.0 in let order = call_before_return operations d complete did.0 in omega arith
@@ -34,13 +35,15 @@ dequeued operations a b clear is_a overtakes = go (dequeue_of b) refl
         let range = call_in_range operations is_a.0 (dequeue_of a) clear.complete is_a.2 in
         absurd (omega (arith, overtakes.1))
 
-dequeued_later : (operations : List Operation) (v : ℕ) (deq_b : Operation) (dequeue : Option Operation) → MatchOption dequeue (NoneDid operations (Deq v)) (λ d. Did operations d (Deq v)) → deq_b.ret < call_or_never dequeue
+dequeued_later : (operations : List Operation) (v : ℕ) (deq_b : Operation) (dequeue : Option Operation)
+    → MatchOption dequeue (NoneDid operations (Deq v)) (λ d. Did operations d (Deq v)) → deq_b.ret < call_or_never dequeue
     → MatchOption dequeue (NoneDid operations (Deq v)) (λ d. Did operations d (Deq v) × Precedes deq_b d)
 dequeued_later operations v deq_b None none later = none
 dequeued_later operations v deq_b (Some d) did later = (did, later)
 
 -- b is dequeued before a, which was enqueued before b
-overtaking_violates : (operations : List Operation) (a b : Life) (deq_b : Operation) → IsLife operations a → IsLife operations b → dequeue_of b ≡ Some deq_b → Overtakes b a → IsOrderViolation operations (enqueue_of a) (enqueue_of b) deq_b (dequeue_of a)
+overtaking_violates : (operations : List Operation) (a b : Life) (deq_b : Operation) → IsLife operations a → IsLife operations b
+    → dequeue_of b ≡ Some deq_b → Overtakes b a → IsOrderViolation operations (enqueue_of a) (enqueue_of b) deq_b (dequeue_of a)
 overtaking_violates operations a b deq_b is_a is_b dequeues overtakes = record {
   a = is_a.0;
   b = is_b.0;
@@ -48,23 +51,28 @@ overtaking_violates operations a b deq_b is_a is_b dequeues overtakes = record {
   enqueues_b = is_b.1;
   dequeues_b = subst (λ dequeue. MatchOption dequeue (NoneDid operations (Deq is_b.0)) (λ d. Did operations d (Deq is_b.0))) dequeues is_b.2;
   enqueued_first = overtakes.0;
-  dequeued_later = dequeued_later operations is_a.0 deq_b (dequeue_of a) is_a.2 (subst (λ dequeue. return_or_never dequeue < dequeue_call a) dequeues overtakes.1);
+  dequeued_later = dequeued_later operations is_a.0 deq_b (dequeue_of a) is_a.2
+      (subst (λ dequeue. return_or_never dequeue < dequeue_call a) dequeues overtakes.1);
 }
 
 -- the lives of an order violation
-life_a : (operations : List Operation) (enq_a enq_b deq_b : Operation) (deq_a : Option Operation) → IsOrderViolation operations enq_a enq_b deq_b deq_a → IsLife operations (record { enqueue = enq_a; dequeue = deq_a })
+life_a : (operations : List Operation) (enq_a enq_b deq_b : Operation) (deq_a : Option Operation)
+    → IsOrderViolation operations enq_a enq_b deq_b deq_a → IsLife operations (record { enqueue = enq_a; dequeue = deq_a })
 life_a operations enq_a enq_b deq_b deq_a violation = (violation.a, violation.enqueues_a, named deq_a violation.dequeued_later)
   where
-    named : (dequeue : Option Operation) → MatchOption dequeue (NoneDid operations (Deq violation.a)) (λ d. Did operations d (Deq violation.a) × Precedes deq_b d)
+    named : (dequeue : Option Operation) → MatchOption dequeue (NoneDid operations (Deq violation.a))
+        (λ d. Did operations d (Deq violation.a) × Precedes deq_b d)
         → MatchOption dequeue (NoneDid operations (Deq violation.a)) (λ d. Did operations d (Deq violation.a))
     named None none = none
     named (Some d) later = later.0
 
-violation_overtakes : (operations : List Operation) (enq_a enq_b deq_b : Operation) (deq_a : Option Operation) → IsClear operations → IsOrderViolation operations enq_a enq_b deq_b deq_a
+violation_overtakes : (operations : List Operation) (enq_a enq_b deq_b : Operation) (deq_a : Option Operation) → IsClear operations
+    → IsOrderViolation operations enq_a enq_b deq_b deq_a
     → Overtakes (record { enqueue = enq_b; dequeue = Some deq_b }) (record { enqueue = enq_a; dequeue = deq_a })
 violation_overtakes operations enq_a enq_b deq_b deq_a clear violation = (violation.enqueued_first, before deq_a violation.dequeued_later)
   where
-    before : (dequeue : Option Operation) → MatchOption dequeue (NoneDid operations (Deq violation.a)) (λ d. Did operations d (Deq violation.a) × Precedes deq_b d) → deq_b.ret < call_or_never dequeue
+    before : (dequeue : Option Operation) → MatchOption dequeue (NoneDid operations (Deq violation.a))
+        (λ d. Did operations d (Deq violation.a) × Precedes deq_b d) → deq_b.ret < call_or_never dequeue
     before None none = let range = return_in_range operations deq_b clear.complete violation.dequeues_b.0 in omega arith
     before (Some d) later = later.1
 
@@ -78,7 +86,8 @@ record HasValues (operations : List Operation) (values : List MatchedValue) (enq
   is_b : b.life ≡ record { enqueue = enq_b; dequeue = Some deq_b }
   overtakes : Overtakes b.life a.life
 
-values_of : (operations : List Operation) (values : List MatchedValue) (enq_a enq_b deq_b : Operation) (deq_a : Option Operation) → IsClear operations → HoldsLives operations values
+values_of : (operations : List Operation) (values : List MatchedValue) (enq_a enq_b deq_b : Operation) (deq_a : Option Operation) → IsClear operations
+    → HoldsLives operations values
     → IsOrderViolation operations enq_a enq_b deq_b deq_a → HasValues operations values enq_a enq_b deq_b deq_a
 values_of operations values enq_a enq_b deq_b deq_a clear holds violation =
     let a : Life = record { enqueue = enq_a; dequeue = deq_a } in
@@ -97,17 +106,22 @@ values_of operations values enq_a enq_b deq_b deq_a clear holds violation =
     }
 
 -- where no value overtakes another, there is no order violation
-pub no_overtaking : (operations : List Operation) (values : List MatchedValue) → IsClear operations → HoldsLives operations values → All (λ b. NonePasses (Overtakes b.life) values) values → NoOrderViolation operations
+pub no_overtaking : (operations : List Operation) (values : List MatchedValue) → IsClear operations → HoldsLives operations values
+    → All (λ b. NonePasses (Overtakes b.life) values) values → NoOrderViolation operations
 no_overtaking operations values clear holds none enq_a enq_b deq_b deq_a violation =
     let found = values_of operations values enq_a enq_b deq_b deq_a clear holds violation in
-    All-contains (λ a. ¬ (Overtakes found.b.life a.life)) values found.a (All-contains (λ b. NonePasses (Overtakes b.life) values) values found.b none found.among_b) found.among_a found.overtakes
+    All-contains (λ a. ¬ (Overtakes found.b.life a.life)) values found.a
+        (All-contains (λ b. NonePasses (Overtakes b.life) values) values found.b none found.among_b) found.among_a found.overtakes
 
-place_named : (operations : List Operation) (place : Option ℕ) (o : Option Operation) (d : Operation) (p : ℕ) → IsMaybeAt operations place o → o ≡ Some d → place ≡ Some p → IsAt operations p d
+place_named : (operations : List Operation) (place : Option ℕ) (o : Option Operation) (d : Operation) (p : ℕ) → IsMaybeAt operations place o
+    → o ≡ Some d → place ≡ Some p → IsAt operations p d
 place_named operations None o d p at is named = cc
 place_named operations (Some q) None d p at is named = cc
-place_named operations (Some q) (Some e) d p at is named = let ops : e ≡ d = cc in let places : q ≡ p = cc in subst (λ r. IsAt operations r d) places (subst (IsAt operations q) ops at)
+place_named operations (Some q) (Some e) d p at is named = let ops : e ≡ d = cc in let places : q ≡ p = cc in
+    subst (λ r. IsAt operations r d) places (subst (IsAt operations q) ops at)
 
-place_missing : (operations : List Operation) (place : Option ℕ) (o : Option Operation) (d : Operation) → IsMaybeAt operations place o → o ≡ Some d → place ≡ None → ⊥
+place_missing : (operations : List Operation) (place : Option ℕ) (o : Option Operation) (d : Operation) → IsMaybeAt operations place o → o ≡ Some d
+    → place ≡ None → ⊥
 place_missing operations None None d at is missing = cc
 place_missing operations None (Some e) d at is missing = at
 place_missing operations (Some q) o d at is missing = cc
@@ -117,21 +131,25 @@ module _ (operations : List Operation) (values : List MatchedValue) (clear : IsC
   dequeue_of_b : (d : Operation) × (dequeue_of b.life ≡ Some d)
   dequeue_of_b = dequeued operations a.life b.life clear (value_is_life operations values a holds longest.among) longest.passes
 
-  comes_first : (enq_a' enq_b' deq_b' : Operation) (deq_a' : Option Operation) → IsOrderViolation operations enq_a' enq_b' deq_b' deq_a' → dequeue_of_b.0.ret ≤ deq_b'.ret
+  comes_first : (enq_a' enq_b' deq_b' : Operation) (deq_a' : Option Operation) → IsOrderViolation operations enq_a' enq_b' deq_b' deq_a'
+      → dequeue_of_b.0.ret ≤ deq_b'.ret
   comes_first enq_a' enq_b' deq_b' deq_a' violation =
       let found = values_of operations values enq_a' enq_b' deq_b' deq_a' clear holds violation in
-      let le = All-contains (λ other. (a : MatchedValue) → Contains values a → Overtakes other.life a.life → dequeue_return b.life ≤ dequeue_return other.life) values found.b first.first found.among_b
+      let le = All-contains (λ other. (a : MatchedValue) → Contains values a → Overtakes other.life a.life
+          → dequeue_return b.life ≤ dequeue_return other.life) values found.b first.first found.among_b
       found.a found.among_a found.overtakes in
       let here : dequeue_return b.life ≡ dequeue_of_b.0.ret = ap return_or_never dequeue_of_b.1 in
       let there : dequeue_return found.b.life ≡ deq_b'.ret = ap dequeue_return found.is_b in
       omega arith
 
-  stays_longest : (enq_a' : Operation) (deq_a' : Option Operation) → IsOrderViolation operations enq_a' (enqueue_of b.life) dequeue_of_b.0 deq_a' → StaysAtLeast a.life (record { enqueue = enq_a'; dequeue = deq_a' })
+  stays_longest : (enq_a' : Operation) (deq_a' : Option Operation) → IsOrderViolation operations enq_a' (enqueue_of b.life) dequeue_of_b.0 deq_a'
+      → StaysAtLeast a.life (record { enqueue = enq_a'; dequeue = deq_a' })
   stays_longest enq_a' deq_a' violation =
       let found = values_of operations values enq_a' (enqueue_of b.life) dequeue_of_b.0 deq_a' clear holds violation in
       let same : found.b.life ≡ b.life = found.is_b ∙ (λ i. record { enqueue = enqueue_of b.life; dequeue = sym dequeue_of_b.1 i }) in
       subst (StaysAtLeast a.life) found.is_a
-      (All-contains (λ other. Overtakes b.life other.life → StaysAtLeast a.life other.life) values found.a longest.longest found.among_a (subst (λ l. Overtakes l found.a.life) same found.overtakes))
+      (All-contains (λ other. Overtakes b.life other.life → StaysAtLeast a.life other.life) values found.a longest.longest found.among_a
+          (subst (λ l. Overtakes l found.a.life) same found.overtakes))
 
   -- the first value that overtakes another, with the longest that it overtakes, is the chosen pair
   pub is_chosen_pair : (p : ℕ) → b.dequeue ≡ Some p → IsChosenPair operations (record { enq_a = a.enqueue; enq_b = b.enqueue; deq_b = p; deq_a = a.dequeue })
@@ -158,4 +176,5 @@ module _ (operations : List Operation) (values : List MatchedValue) (clear : IsC
 
   -- its dequeue has a place
   pub dequeue_is_named : b.dequeue ≡ None → ⊥
-  dequeue_is_named missing = place_missing operations b.dequeue (dequeue_of b.life) dequeue_of_b.0 (places_of_value operations values b holds first.among).1 dequeue_of_b.1 missing
+  dequeue_is_named missing = place_missing operations b.dequeue (dequeue_of b.life) dequeue_of_b.0
+      (places_of_value operations values b holds first.among).1 dequeue_of_b.1 missing

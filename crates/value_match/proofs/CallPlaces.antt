@@ -1,5 +1,6 @@
 -- Places of calls and of sources, met by walks over the operations.
-use Rattle.std.proofs.Common.{◌≡◌, ℕ, ◌+◌, ◌<◌, ◌≤◌, ◌⊎◌, true, false, List, [], ◌∷◌, ◌++◌, length, get_or, Option, Some, None, refl, sym, ◌∙◌, set, subst, inl, inr, arith, get_or-set_other, get_or-set_same, length-set, length-append}
+use Rattle.std.proofs.Common.{◌≡◌, ℕ, ◌+◌, ◌<◌, ◌≤◌, ◌⊎◌, true, false, List, [], ◌∷◌, ◌++◌, length, get_or, Option, Some, None, refl, sym, ◌∙◌, set}
+use Rattle.std.proofs.Common.{subst, inl, inr, arith, get_or-set_other, get_or-set_same, length-set, length-append}
 use Rattle.std.specs.Prelude.{All, Contains, IsPermutation, MatchOption, is_some}
 use Rattle.std.specs.List.Sorted.{IsNonDecreasingBy, IsPartitionPoint}
 use lib.Dec.{ltb}
@@ -57,9 +58,11 @@ named_if_found operations names v None some found = absurd (false≢true some)
 named_if_found operations names v (Some place) some found = found.1
 
 -- an operation that called to enqueue nothing, a call of a value that is where its name tells, and any other call
-module _ (operations : List Operation) (names : Names) (i : ℕ) (o : Operation) (calls : List Call) (here : IsAt operations i o) (met : MetOthers operations names i calls) where
+module _ (operations : List Operation) (names : Names) (i : ℕ) (o : Operation) (calls : List Call) (here : IsAt operations i o)
+    (met : MetOthers operations names i calls) where
   pub others_no_call : enqueued_value o.kind ≡ None → MetOthers operations names (i + 1) calls
-  others_no_call none = record { are_calls = met.are_calls; has_all = λ v unnamed none_of. met_no_call operations i o v None here none (met.has_all v unnamed none_of) }
+  others_no_call none = record { are_calls = met.are_calls; has_all =
+      λ v unnamed none_of. met_no_call operations i o v None here none (met.has_all v unnamed none_of) }
 
   pub others_named : (w : ℕ) → enqueued_value o.kind ≡ Some w → IsNamed operations names w → MetOthers operations names (i + 1) calls
   others_named w called named = record {
@@ -72,11 +75,13 @@ module _ (operations : List Operation) (names : Names) (i : ℕ) (o : Operation)
   others_more w called = record {
     are_calls = All-push (IsCall operations) calls (record { value = w; place = i }) met.are_calls (o, here, called);
     has_all = λ v unnamed none_of.
-        let parts = All-pop (λ (call : Call). ¬ (call.value ≡ v)) (calls ++ record { value = w; place = i } ∷ []) calls (Some (record { value = w; place = i })) refl none_of in
+        let parts = All-pop (λ (call : Call). ¬ (call.value ≡ v)) (calls ++ record { value = w; place = i } ∷ []) calls
+            (Some (record { value = w; place = i })) refl none_of in
         met_other operations i o v None here (λ same. parts.1 (let e = sym called ∙ same in cc)) (met.has_all v unnamed parts.0);
   }
 
-pub others_sorted : (operations : List Operation) (names : Names) (n : ℕ) (calls sorted : List Call) → length operations ≤ n → MetOthers operations names n calls → IsPermutation calls sorted
+pub others_sorted : (operations : List Operation) (names : Names) (n : ℕ) (calls sorted : List Call) → length operations ≤ n
+    → MetOthers operations names n calls → IsPermutation calls sorted
     → IsNonDecreasingBy (λ call. call.value) sorted → HoldsOthers operations names sorted
 others_sorted operations names n calls sorted all met moved rises = record {
   are_calls = All-permutation (IsCall operations) calls sorted moved met.are_calls;
@@ -90,7 +95,8 @@ pub record HasSources (operations : List Operation) (n : ℕ) (sources : List (O
   pub one_each : length sources ≡ n
   pub each : (i : ℕ) (o : Operation) → i < n → IsAt operations i o → IsSourceOf operations o.kind (get_or sources i None)
 
-pub sources_push : (operations : List Operation) (n : ℕ) (o : Operation) (sources : List (Option ℕ)) (source : Option ℕ) → IsAt operations n o → IsSourceOf operations o.kind source
+pub sources_push : (operations : List Operation) (n : ℕ) (o : Operation) (sources : List (Option ℕ)) (source : Option ℕ) → IsAt operations n o
+    → IsSourceOf operations o.kind source
     → HasSources operations n sources → HasSources operations (n + 1) (sources ++ source ∷ [])
 sources_push operations n o sources source here is known = record {
   one_each = simp length-append (omega (arith, known.one_each));
@@ -98,12 +104,15 @@ sources_push operations n o sources source here is known = record {
 }
   where
     last : IsSourceOf operations o.kind (get_or (sources ++ source ∷ []) n None)
-    last = subst (λ i. IsSourceOf operations o.kind (get_or (sources ++ source ∷ []) i None)) known.one_each (subst (IsSourceOf operations o.kind) (sym (get_or-append_seam sources source [] None)) is)
+    last = subst (λ i. IsSourceOf operations o.kind (get_or (sources ++ source ∷ []) i None)) known.one_each
+        (subst (IsSourceOf operations o.kind) (sym (get_or-append_seam sources source [] None)) is)
 
     before : (i : ℕ) (x : Operation) → i < n → IsAt operations i x → IsSourceOf operations x.kind (get_or (sources ++ source ∷ []) i None)
-    before i x below at = subst (IsSourceOf operations x.kind) (sym (get_or_append_left sources (source ∷ []) None i (omega (arith, known.one_each)))) (known.each i x below at)
+    before i x below at = subst (IsSourceOf operations x.kind) (sym (get_or_append_left sources (source ∷ []) None i (omega (arith, known.one_each))))
+        (known.each i x below at)
 
-pub sources_all : (operations : List Operation) (n : ℕ) (sources : List (Option ℕ)) → length operations ≤ n → n ≤ length operations → HasSources operations n sources → HoldsSources operations sources
+pub sources_all : (operations : List Operation) (n : ℕ) (sources : List (Option ℕ)) → length operations ≤ n → n ≤ length operations
+    → HasSources operations n sources → HoldsSources operations sources
 sources_all operations n sources all within known = record {
   one_each = omega (arith, known.one_each);
   each = λ i o at. known.each i o (let below = slice_get_within operations i o at in omega arith) at;
@@ -115,7 +124,8 @@ call_within operations v place (o, here, called) = slice_get_within operations p
 
 -- where the calls from place i on have this value or a greater one, and those before a smaller one, and that at i isn't of this value, none is
 pub none_among : (calls : List Call) (v i : ℕ) → IsNonDecreasingBy (λ call. call.value) calls
-    → IsPartitionPoint (λ (call : Call). ltb call.value v ≡ true) (λ (call : Call). ltb call.value v ≡ false) calls i → ((d : Call) → i < length calls → ¬ ((get_or calls i d).value ≡ v)) → NoneOf calls v
+    → IsPartitionPoint (λ (call : Call). ltb call.value v ≡ true) (λ (call : Call). ltb call.value v ≡ false) calls i
+        → ((d : Call) → i < length calls → ¬ ((get_or calls i d).value ≡ v)) → NoneOf calls v
 none_among calls v i rises point differs k d below same =
     let cases : (k < i) ⊎ (i ≤ k) = grind arith in
     elim cases [
@@ -135,7 +145,8 @@ pub record HasNear (operations : List Operation) (n : ℕ) (sources : List (Opti
   pub one_each : length sources ≡ n
   pub each : (i : ℕ) (o : Operation) → i < n → IsAt operations i o → IsNearSource operations o.kind (get_or sources i None)
 
-pub near_push : (operations : List Operation) (n : ℕ) (o : Operation) (sources : List (Option ℕ)) (source : Option ℕ) → IsAt operations n o → IsNearSource operations o.kind source
+pub near_push : (operations : List Operation) (n : ℕ) (o : Operation) (sources : List (Option ℕ)) (source : Option ℕ) → IsAt operations n o
+    → IsNearSource operations o.kind source
     → HasNear operations n sources → HasNear operations (n + 1) (sources ++ source ∷ [])
 near_push operations n o sources source here is known = record {
   one_each = simp length-append (omega (arith, known.one_each));
@@ -143,12 +154,15 @@ near_push operations n o sources source here is known = record {
 }
   where
     last : IsNearSource operations o.kind (get_or (sources ++ source ∷ []) n None)
-    last = subst (λ i. IsNearSource operations o.kind (get_or (sources ++ source ∷ []) i None)) known.one_each (subst (IsNearSource operations o.kind) (sym (get_or-append_seam sources source [] None)) is)
+    last = subst (λ i. IsNearSource operations o.kind (get_or (sources ++ source ∷ []) i None)) known.one_each
+        (subst (IsNearSource operations o.kind) (sym (get_or-append_seam sources source [] None)) is)
 
     before : (i : ℕ) (x : Operation) → i < n → IsAt operations i x → IsNearSource operations x.kind (get_or (sources ++ source ∷ []) i None)
-    before i x below at = subst (IsNearSource operations x.kind) (sym (get_or_append_left sources (source ∷ []) None i (omega (arith, known.one_each)))) (known.each i x below at)
+    before i x below at = subst (IsNearSource operations x.kind) (sym
+        (get_or_append_left sources (source ∷ []) None i (omega (arith, known.one_each)))) (known.each i x below at)
 
-pub near_all : (operations : List Operation) (n : ℕ) (sources : List (Option ℕ)) → length operations ≤ n → n ≤ length operations → HasNear operations n sources → HoldsNear operations sources
+pub near_all : (operations : List Operation) (n : ℕ) (sources : List (Option ℕ)) → length operations ≤ n → n ≤ length operations
+    → HasNear operations n sources → HoldsNear operations sources
 near_all operations n sources all within known = record {
   one_each = omega (arith, known.one_each);
   each = λ i o at. known.each i o (let below = slice_get_within operations i o at in omega arith) at;
@@ -168,14 +182,16 @@ none_found operations sources near = record {
 }
 
 -- a source that was near
-near_source : (operations : List Operation) (kind : OpKind) (source : Option ℕ) → IsNearSource operations kind source → ¬ (source ≡ None) → IsSourceOf operations kind source
+near_source : (operations : List Operation) (kind : OpKind) (source : Option ℕ) → IsNearSource operations kind source → ¬ (source ≡ None)
+    → IsSourceOf operations kind source
 near_source operations (Deq v) None near some = absurd (some refl)
 near_source operations (Deq v) (Some p) near some = near
 near_source operations (Enq v) source near some = near
 near_source operations (Not v) source near some = near
 near_source operations Empty source near some = near
 
-pub found_near : (operations : List Operation) (n : ℕ) (o : Operation) (sources : List (Option ℕ)) → IsAt operations n o → ¬ (get_or sources n None ≡ None) → HasFound operations n sources → HasFound operations (n + 1) sources
+pub found_near : (operations : List Operation) (n : ℕ) (o : Operation) (sources : List (Option ℕ)) → IsAt operations n o
+    → ¬ (get_or sources n None ≡ None) → HasFound operations n sources → HasFound operations (n + 1) sources
 found_near operations n o sources here some known = record {
   one_each = known.one_each;
   found = each_more (λ i x. IsSourceOf operations x.kind (get_or sources i None)) operations n o here
@@ -183,25 +199,29 @@ found_near operations n o sources here some known = record {
   near = λ i x after at. known.near i x (omega (arith, after)) at;
 }
 
-pub found_more : (operations : List Operation) (n : ℕ) (o : Operation) (sources : List (Option ℕ)) (source : Option ℕ) → IsAt operations n o → IsSourceOf operations o.kind source → HasFound operations n sources
+pub found_more : (operations : List Operation) (n : ℕ) (o : Operation) (sources : List (Option ℕ)) (source : Option ℕ) → IsAt operations n o
+    → IsSourceOf operations o.kind source → HasFound operations n sources
     → HasFound operations (n + 1) (set sources n source)
 found_more operations n o sources source here is known = record {
   one_each = length-set sources n source ∙ known.one_each;
   found = each_more (λ i x. IsSourceOf operations x.kind (get_or (set sources n source) i None)) operations n o here
       (subst (IsSourceOf operations o.kind) (sym (get_or-set_same sources n source None within)) is)
       (λ i x below at. subst (IsSourceOf operations x.kind) (sym (get_or-set_other sources n i source None (omega (arith, below)))) (known.found i x below at));
-  near = λ i x after at. subst (IsNearSource operations x.kind) (sym (get_or-set_other sources n i source None (omega (arith, after)))) (known.near i x (omega (arith, after)) at);
+  near = λ i x after at. subst (IsNearSource operations x.kind) (sym (get_or-set_other sources n i source None (omega (arith, after))))
+      (known.near i x (omega (arith, after)) at);
 }
   where
     within : n < length sources
     within = let inside = slice_get_within operations n o here in omega (arith, known.one_each)
 
-pub found_all : (operations : List Operation) (n : ℕ) (sources : List (Option ℕ)) → length operations ≤ n → HasFound operations n sources → HoldsSources operations sources
+pub found_all : (operations : List Operation) (n : ℕ) (sources : List (Option ℕ)) → length operations ≤ n → HasFound operations n sources
+    → HoldsSources operations sources
 found_all operations n sources all known = record {
   one_each = known.one_each;
   each = λ i o at. known.found i o (let below = slice_get_within operations i o at in omega (arith, below)) at;
 }
 
 -- a call among the others
-pub other_call : (operations : List Operation) (names : Names) (calls : List Call) (v place : ℕ) → HoldsOthers operations names calls → Contains calls (record { value = v; place = place }) → IsCallPlace operations v (Some place)
+pub other_call : (operations : List Operation) (names : Names) (calls : List Call) (v place : ℕ) → HoldsOthers operations names calls
+    → Contains calls (record { value = v; place = place }) → IsCallPlace operations v (Some place)
 other_call operations names calls v place others among = All-contains (IsCall operations) calls (record { value = v; place = place }) others.are_calls among

@@ -1,5 +1,6 @@
 -- Dequeues of values that were not there, told by the places of the calls.
-use Rattle.std.proofs.Common.{◌≡◌, ℕ, ◌+◌, ◌<◌, ◌≤◌, ◌⊎◌, ◌||◌, ◌↔◌, Bool, true, false, cond, List, length, get_or, Option, Some, None, IsTrue, refl, sym, ◌∙◌, ap, subst, inl, inr, arith, nat_lt}
+use Rattle.std.proofs.Common.{◌≡◌, ℕ, ◌+◌, ◌<◌, ◌≤◌, ◌⊎◌, ◌||◌, ◌↔◌, Bool, true, false, cond, List, length, get_or, Option, Some, None, IsTrue, refl}
+use Rattle.std.proofs.Common.{sym, ◌∙◌, ap, subst, inl, inr, arith, nat_lt}
 use Rattle.std.specs.Prelude.{Contains, IfSome}
 use Rattle.std.proofs.lemmas.Bool.{false≢true, ltb-true, ltb-false, lt-ltb, cases_Bool}
 use Rattle.std.proofs.lemmas.Option.{slice_get_within, slice_get-get_or}
@@ -39,15 +40,18 @@ fresh_without_call operations i o v here is none = (
   λ _. refl,
 )
 
-pub fresh_by_call : (operations : List Operation) (i p : ℕ) (o call : Operation) (v : ℕ) → IsAt operations i o → o.kind ≡ Deq v → IsAt operations p call → enqueued_value call.kind ≡ Some v
+pub fresh_by_call : (operations : List Operation) (i p : ℕ) (o call : Operation) (v : ℕ) → IsAt operations i o → o.kind ≡ Deq v
+    → IsAt operations p call → enqueued_value call.kind ≡ Some v
     → IsTrue (is_refused call || nat_lt o.ret call.call) ↔ IsFreshFrom operations (Some p) o
 fresh_by_call operations i p o call v here is there calls = (λ soon. (Some call, there, late soon (calls_for call.kind v calls)), only)
   where
     late : (is_refused call || nat_lt o.ret call.call) ≡ true → (call.kind ≡ Enq v) ⊎ (call.kind ≡ Not v) → IsEnqueuedTooLate operations o call
     late soon (inl accepted) =
         let before : nat_lt o.ret call.call ≡ true = rw accepted at soon in
-        record { value = v; dequeues = (contains_at operations i o here, is); enqueues = inr ((contains_at operations p call there, accepted), ltb-true _ _ before) }
-    late soon (inr refused) = record { value = v; dequeues = (contains_at operations i o here, is); enqueues = inl (contains_at operations p call there, refused) }
+        record { value = v; dequeues = (contains_at operations i o here, is); enqueues =
+            inr ((contains_at operations p call there, accepted), ltb-true _ _ before) }
+    late soon (inr refused) = record { value = v; dequeues = (contains_at operations i o here, is); enqueues =
+        inl (contains_at operations p call there, refused) }
 
     only : IsFreshFrom operations (Some p) o → (is_refused call || nat_lt o.ret call.call) ≡ true
     only (None, at, violates) = elim at [ ]
@@ -62,32 +66,42 @@ fresh_by_call operations i p o call v here is there calls = (λ soon. (Some call
         ]
 
 -- the source of a dequeue
-pub source_of_dequeue : (operations : List Operation) (sources : List (Option ℕ)) (i : ℕ) (o : Operation) (v : ℕ) (source : Option ℕ) → HoldsSources operations sources → IsAt operations i o → o.kind ≡ Deq v
+pub source_of_dequeue : (operations : List Operation) (sources : List (Option ℕ)) (i : ℕ) (o : Operation) (v : ℕ) (source : Option ℕ)
+    → HoldsSources operations sources → IsAt operations i o → o.kind ≡ Deq v
     → get_or sources i None ≡ source → IsCallPlace operations v source
-source_of_dequeue operations sources i o v source holds here is from = subst (IsCallPlace operations v) from (subst (λ kind. IsSourceOf operations kind (get_or sources i None)) is (holds.each i o here))
+source_of_dequeue operations sources i o v source holds here is from =
+    subst (IsCallPlace operations v) from (subst (λ kind. IsSourceOf operations kind (get_or sources i None)) is (holds.each i o here))
 
-pub source_in_range : (operations : List Operation) (sources : List (Option ℕ)) (i : ℕ) (o : Operation) (v p : ℕ) → HoldsSources operations sources → IsAt operations i o → o.kind ≡ Deq v
+pub source_in_range : (operations : List Operation) (sources : List (Option ℕ)) (i : ℕ) (o : Operation) (v p : ℕ) → HoldsSources operations sources
+    → IsAt operations i o → o.kind ≡ Deq v
     → get_or sources i None ≡ Some p → p < length operations
-source_in_range operations sources i o v p holds here is from = let call = source_of_dequeue operations sources i o v (Some p) holds here is from in slice_get_within operations p call.0 call.1
+source_in_range operations sources i o v p holds here is from = let call = source_of_dequeue operations sources i o v (Some p) holds here is from in
+    slice_get_within operations p call.0 call.1
 
-pub fresh_at_none : (operations : List Operation) (sources : List (Option ℕ)) (i : ℕ) (o x : Operation) (v : ℕ) → HoldsSources operations sources → IsAt operations i o → o.kind ≡ Deq v → get_or sources i None ≡ None
+pub fresh_at_none : (operations : List Operation) (sources : List (Option ℕ)) (i : ℕ) (o x : Operation) (v : ℕ) → HoldsSources operations sources
+    → IsAt operations i o → o.kind ≡ Deq v → get_or sources i None ≡ None
     → IsAt operations i x → IsTrue true ↔ IsFreshFrom operations (get_or sources i None) x
 fresh_at_none operations sources i o x v holds here is from there =
     let same : o ≡ x = one_at operations i o x here there in
     subst (λ y. IsTrue true ↔ IsFreshFrom operations (get_or sources i None) y) same
-    (subst (λ source. IsTrue true ↔ IsFreshFrom operations source o) (sym from) (fresh_without_call operations i o v here is (source_of_dequeue operations sources i o v None holds here is from)))
+    (subst (λ source. IsTrue true ↔ IsFreshFrom operations source o) (sym from)
+        (fresh_without_call operations i o v here is (source_of_dequeue operations sources i o v None holds here is from)))
 
-pub fresh_at_some : (operations : List Operation) (sources : List (Option ℕ)) (i : ℕ) (o x : Operation) (v p : ℕ) (soon : Bool) → HoldsSources operations sources → IsAt operations i o → o.kind ≡ Deq v → get_or sources i None ≡ Some p
-    → ((call : Operation) → IsAt operations p call → soon ≡ (is_refused call || nat_lt o.ret call.call)) → IsAt operations i x → IsTrue soon ↔ IsFreshFrom operations (get_or sources i None) x
+pub fresh_at_some : (operations : List Operation) (sources : List (Option ℕ)) (i : ℕ) (o x : Operation) (v p : ℕ) (soon : Bool)
+    → HoldsSources operations sources → IsAt operations i o → o.kind ≡ Deq v → get_or sources i None ≡ Some p
+    → ((call : Operation) → IsAt operations p call → soon ≡ (is_refused call || nat_lt o.ret call.call)) → IsAt operations i x
+        → IsTrue soon ↔ IsFreshFrom operations (get_or sources i None) x
 fresh_at_some operations sources i o x v p soon holds here is from tells there =
     let call = source_of_dequeue operations sources i o v (Some p) holds here is from in
     let same : o ≡ x = one_at operations i o x here there in
     let answer : IsTrue soon ↔ IsFreshFrom operations (Some p) o =
     subst (λ b. IsTrue b ↔ IsFreshFrom operations (Some p) o) (sym (tells call.0 call.1)) (fresh_by_call operations i p o call.0 v here is call.1 call.2) in
-    subst (λ y. IsTrue soon ↔ IsFreshFrom operations (get_or sources i None) y) same (subst (λ source. IsTrue soon ↔ IsFreshFrom operations source o) (sym from) answer)
+    subst (λ y. IsTrue soon ↔ IsFreshFrom operations (get_or sources i None) y) same
+        (subst (λ source. IsTrue soon ↔ IsFreshFrom operations source o) (sym from) answer)
 
 -- the call that a violation names is the source
-pub named_by_source : (operations : List Operation) (o : Operation) (enq : Option Operation) (source : Option ℕ) → AreComplete operations → IsSourceOf operations o.kind source
+pub named_by_source : (operations : List Operation) (o : Operation) (enq : Option Operation) (source : Option ℕ) → AreComplete operations
+    → IsSourceOf operations o.kind source
     → IsFreshViolation operations o enq → IsMaybeAt operations source enq
 named_by_source operations o None source complete from violates = named source (subst (λ kind. IsSourceOf operations kind source) violates.dequeues.1 from)
   where
@@ -108,7 +122,8 @@ named_by_source operations o (Some e) source complete from violates = named sour
     named : (place : Option ℕ) → IsCallPlace operations violates.value place → IsMaybeAt operations place (Some e)
     named None none = absurd (none e among (elim for_it [ inl accepted ↦ ap enqueued_value accepted | inr refused ↦ ap enqueued_value refused ]))
     named (Some p) (call, there, calls) =
-        let same = same_value_call operations call e violates.value complete (contains_at operations p call there) among (calls_for call.kind violates.value calls) for_it in
+        let same = same_value_call operations call e violates.value complete (contains_at operations p call there) among
+            (calls_for call.kind violates.value calls) for_it in
         subst (IsAt operations p) same there
 
 pub violates_among : (operations : List Operation) (o : Operation) (enq : Option Operation) → IsFreshViolation operations o enq → Contains operations o
@@ -117,13 +132,15 @@ violates_among operations o (Some e) violates = violates.dequeues.0
 
 -- of the first n operations none violates, or the one at this place does and returns first
 abbrev pub IsFirstFresh : List Operation → List (Option ℕ) → ℕ → Option ℕ → Type 0
-IsFirstFresh operations sources n None = (k : ℕ) (o : Operation) → k < n → IsAt operations k o → (enq : Option Operation) → ¬ (IsFreshViolation operations o enq)
+IsFirstFresh operations sources n None = (k : ℕ) (o : Operation) → k < n → IsAt operations k o → (enq : Option Operation)
+    → ¬ (IsFreshViolation operations o enq)
 IsFirstFresh operations sources n (Some place) =
     (deq : Operation) × IsAt operations place deq × IsFreshFrom operations (get_or sources place None) deq
     × ((k : ℕ) (o : Operation) → k < n → IsAt operations k o → (enq : Option Operation) → IsFreshViolation operations o enq → deq.ret ≤ o.ret)
 
 -- an operation that violates nothing
-pub first_skip : (operations : List Operation) (sources : List (Option ℕ)) (i : ℕ) (o : Operation) (first : Option ℕ) → AreComplete operations → HoldsSources operations sources → IsAt operations i o
+pub first_skip : (operations : List Operation) (sources : List (Option ℕ)) (i : ℕ) (o : Operation) (first : Option ℕ) → AreComplete operations
+    → HoldsSources operations sources → IsAt operations i o
     → ¬ (IsFreshFrom operations (get_or sources i None) o) → IsFirstFresh operations sources i first → IsFirstFresh operations sources (i + 1) first
 first_skip operations sources i o None complete holds here none found =
     each_more (λ k x. (enq : Option Operation) → ¬ (IsFreshViolation operations x enq)) operations i o here
@@ -137,7 +154,8 @@ first_skip operations sources i o (Some place) complete holds here none found = 
 )
 
 -- an operation that violates, and the one of the two that returns first
-pub first_more : (operations : List Operation) (sources : List (Option ℕ)) (i : ℕ) (o : Operation) (first : Option ℕ) (sooner : ℕ) → IsAt operations i o → IsFreshFrom operations (get_or sources i None) o
+pub first_more : (operations : List Operation) (sources : List (Option ℕ)) (i : ℕ) (o : Operation) (first : Option ℕ) (sooner : ℕ)
+    → IsAt operations i o → IsFreshFrom operations (get_or sources i None) o
     → (first ≡ None → sooner ≡ i) → IfSome first (λ p. (x y : Operation) → IsAt operations p x → IsAt operations i y → sooner ≡ cond (nat_lt x.ret y.ret) p i)
     → IsFirstFresh operations sources i first → IsFirstFresh operations sources (i + 1) (Some sooner)
 first_more operations sources i o None sooner here violates none some found =
@@ -154,7 +172,8 @@ first_more operations sources i o (Some place) sooner here violates none some fo
           let kept : sooner ≡ place = some found.0 o found.1 here ∙ ap (λ b. cond b place i) before in
           let less = ltb-true _ _ before in
           subst (λ p. IsFirstFresh operations sources (i + 1) (Some p)) (sym kept)
-          (found.0, found.1, found.2, each_more (λ k x. (enq : Option Operation) → IsFreshViolation operations x enq → found.0.ret ≤ x.ret) operations i o here (λ enq violates'. omega arith) found.3)
+          (found.0, found.1, found.2, each_more (λ k x. (enq : Option Operation) → IsFreshViolation operations x enq → found.0.ret ≤ x.ret) operations
+              i o here (λ enq violates'. omega arith) found.3)
       | inr after ↦
           let taken : sooner ≡ i = some found.0 o found.1 here ∙ ap (λ b. cond b place i) after in
           let most = ltb-false _ _ after in
@@ -167,12 +186,14 @@ first_more operations sources i o (Some place) sooner here violates none some fo
           )
     ]
 
-pub none_fresh : (operations : List Operation) (sources : List (Option ℕ)) (n : ℕ) → length operations ≤ n → IsFirstFresh operations sources n None → NoFreshViolation operations
+pub none_fresh : (operations : List Operation) (sources : List (Option ℕ)) (n : ℕ) → length operations ≤ n → IsFirstFresh operations sources n None
+    → NoFreshViolation operations
 none_fresh operations sources n all none deq enq violates =
     let at = place_of operations deq (violates_among operations deq enq violates) in
     none at.0 deq (let within = slice_get_within operations at.0 deq at.1 in omega arith) at.1 enq violates
 
-pub first_fresh : (operations : List Operation) (sources : List (Option ℕ)) (n place : ℕ) (source : Option ℕ) → length operations ≤ n → source ≡ get_or sources place None → IsFirstFresh operations sources n (Some place)
+pub first_fresh : (operations : List Operation) (sources : List (Option ℕ)) (n place : ℕ) (source : Option ℕ) → length operations ≤ n
+    → source ≡ get_or sources place None → IsFirstFresh operations sources n (Some place)
     → NamesChosenFresh operations (Fresh place source)
 first_fresh operations sources n place source all is found =
     let enq = found.2.0 in (
@@ -188,22 +209,28 @@ first_fresh operations sources n place source all is found =
     )
 
 -- the place so far is one of the operations
-pub first_in_range : (operations : List Operation) (sources : List (Option ℕ)) (n : ℕ) (first : Option ℕ) → IsFirstFresh operations sources n first → IfSome first (λ p. p < length operations)
+pub first_in_range : (operations : List Operation) (sources : List (Option ℕ)) (n : ℕ) (first : Option ℕ) → IsFirstFresh operations sources n first
+    → IfSome first (λ p. p < length operations)
 first_in_range operations sources n None found = tt
 first_in_range operations sources n (Some place) found = slice_get_within operations place found.0 found.1
 
-not_fresh : (operations : List Operation) (source : Option ℕ) (o : Operation) (b : Bool) → b ≡ false → IsTrue b ↔ IsFreshFrom operations source o → ¬ (IsFreshFrom operations source o)
+not_fresh : (operations : List Operation) (source : Option ℕ) (o : Operation) (b : Bool) → b ≡ false → IsTrue b ↔ IsFreshFrom operations source o
+    → ¬ (IsFreshFrom operations source o)
 not_fresh operations source o b is tells violates = false≢true (sym is ∙ tells.1 violates)
 
 -- ---- at an operation that the walk reads
 
-pub first_skip_at : (operations : List Operation) (sources : List (Option ℕ)) (i : ℕ) (d : Operation) (first : Option ℕ) (b : Bool) → AreComplete operations → HoldsSources operations sources → i < length operations
-    → b ≡ false → ((o : Operation) → IsAt operations i o → IsTrue b ↔ IsFreshFrom operations (get_or sources i None) o) → IsFirstFresh operations sources i first → IsFirstFresh operations sources (i + 1) first
+pub first_skip_at : (operations : List Operation) (sources : List (Option ℕ)) (i : ℕ) (d : Operation) (first : Option ℕ) (b : Bool)
+    → AreComplete operations → HoldsSources operations sources → i < length operations
+    → b ≡ false → ((o : Operation) → IsAt operations i o → IsTrue b ↔ IsFreshFrom operations (get_or sources i None) o)
+        → IsFirstFresh operations sources i first → IsFirstFresh operations sources (i + 1) first
 first_skip_at operations sources i d first b complete holds below is tells found =
     let here = slice_get-get_or operations i d below in
-    first_skip operations sources i (get_or operations i d) first complete holds here (not_fresh operations (get_or sources i None) (get_or operations i d) b is (tells (get_or operations i d) here)) found
+    first_skip operations sources i (get_or operations i d) first complete holds here
+        (not_fresh operations (get_or sources i None) (get_or operations i d) b is (tells (get_or operations i d) here)) found
 
-pub first_more_at : (operations : List Operation) (sources : List (Option ℕ)) (i : ℕ) (d : Operation) (first : Option ℕ) (sooner : ℕ) (b : Bool) → i < length operations
+pub first_more_at : (operations : List Operation) (sources : List (Option ℕ)) (i : ℕ) (d : Operation) (first : Option ℕ) (sooner : ℕ) (b : Bool)
+    → i < length operations
     → b ≡ true → ((o : Operation) → IsAt operations i o → IsTrue b ↔ IsFreshFrom operations (get_or sources i None) o)
     → (first ≡ None → sooner ≡ i) → IfSome first (λ p. (x y : Operation) → IsAt operations p x → IsAt operations i y → sooner ≡ cond (nat_lt x.ret y.ret) p i)
     → IsFirstFresh operations sources i first → IsFirstFresh operations sources (i + 1) (Some sooner)

@@ -1,10 +1,12 @@
 -- Values in the order of their enqueues' returns, and the longest of each front.
-use Rattle.std.proofs.Common.{◌≡◌, ℕ, ◌+◌, ◌<◌, ◌≤◌, ◌⊎◌, true, false, List, [], ◌∷◌, ◌++◌, length, get_or, take, Option, Some, None, refl, sym, ◌∙◌, ap, subst, inl, inr, arith, below_more, rules}
+use Rattle.std.proofs.Common.{◌≡◌, ℕ, ◌+◌, ◌<◌, ◌≤◌, ◌⊎◌, true, false, List, [], ◌∷◌, ◌++◌, length, get_or, take, Option, Some, None, refl, sym, ◌∙◌}
+use Rattle.std.proofs.Common.{ap, subst, inl, inr, arith, below_more, rules}
 use Rattle.std.specs.Prelude.{All, Contains, MatchOption, IfSome}
 use Rattle.std.specs.List.Sorted.{IsNonDecreasingBy, IsPermutation, IsPartitionPoint}
 use Rattle.std.proofs.Math.ListN.{set}
 use Rattle.std.proofs.lemmas.Bool.{ltb-true, ltb-false, lt-ltb, le-ltb}
-use Rattle.std.proofs.lemmas.List.{get_or-map, get_or-take, get_or-set_other, get_or-set_same, get_or_default, length-map, length-set, length-take-le, map-append, take_all, take_more}
+use Rattle.std.proofs.lemmas.List.{get_or-map, get_or-take, get_or-set_other, get_or-set_same, get_or_default, length-map, length-set, length-take-le}
+use Rattle.std.proofs.lemmas.List.{map-append, take_all, take_more}
 use Rattle.std.proofs.lemmas.List.Elements.{All-nil, All-push, All-get_or, All-from_get_or}
 use Rattle.std.proofs.lemmas.List.Sorted.{All-permutation, Contains-permutation, IsPermutation-map, IsPermutation-refl, IsPermutation-sym, IsPermutation-trans}
 use lib.Dec.{ltb}
@@ -34,7 +36,8 @@ pub record ListsValues (values : List MatchedValue) (n : ℕ) (entries : List Fr
   pub each_once : (d : MatchedValue) → values_at values entries d ≡ take n values
 
 -- with the next value
-pub lists_more : (values : List MatchedValue) (n : ℕ) (x : MatchedValue) (entries : List Front) → n < length values → x ≡ get_or values n x → ListsValues values n entries → ListsValues values (n + 1) (entries ++ entry_of x n ∷ [])
+pub lists_more : (values : List MatchedValue) (n : ℕ) (x : MatchedValue) (entries : List Front) → n < length values → x ≡ get_or values n x
+    → ListsValues values n entries → ListsValues values (n + 1) (entries ++ entry_of x n ∷ [])
 lists_more values n x entries within is known = record {
   names = All-push (IsEntryOf values) entries (entry_of x n) known.names
       (record { within = within; returns = λ d. ap (λ (v : MatchedValue). enqueue_return v.life) (is ∙ get_or_default values n x d within) });
@@ -47,14 +50,17 @@ lists_more values n x entries within is known = record {
 pub all_listed : (values : List MatchedValue) (n : ℕ) (entries : List Front) → length values ≤ n → ListsValues values n entries → AreEntriesOf values entries
 all_listed values n entries all known = record {
   names = known.names;
-  each_once = λ d. subst (λ (vs : List MatchedValue). IsPermutation vs (values_at values entries d)) (known.each_once d ∙ take_all n values all) (IsPermutation-refl (values_at values entries d));
+  each_once = λ d. subst (λ (vs : List MatchedValue). IsPermutation vs (values_at values entries d)) (known.each_once d ∙ take_all n values all)
+      (IsPermutation-refl (values_at values entries d));
 }
 
 -- the same in another order
-pub entries_moved : (values : List MatchedValue) (listed entries : List Front) → AreEntriesOf values listed → IsPermutation listed entries → AreEntriesOf values entries
+pub entries_moved : (values : List MatchedValue) (listed entries : List Front) → AreEntriesOf values listed → IsPermutation listed entries
+    → AreEntriesOf values entries
 entries_moved values listed entries known moved = record {
   names = All-permutation (IsEntryOf values) listed entries moved known.names;
-  each_once = λ d. IsPermutation-trans values (values_at values listed d) (values_at values entries d) (known.each_once d) (IsPermutation-map (λ (e : Front). get_or values e.place d) listed entries moved);
+  each_once = λ d. IsPermutation-trans values (values_at values listed d) (values_at values entries d) (known.each_once d)
+      (IsPermutation-map (λ (e : Front). get_or values e.place d) listed entries moved);
 }
 
 -- the value at the place, if there is one
@@ -79,14 +85,17 @@ none_so_far values entries = record {
   longest = λ d. All-nil (λ value. ¬ (Any value.life));
 }
 
-longer_at : (values : List MatchedValue) (d : MatchedValue) (so_far : Option ℕ) (place p : ℕ) → MatchOption so_far (p ≡ place) (λ q. IsLongerOf (get_or values q d) (get_or values place d) (get_or values p d))
+longer_at : (values : List MatchedValue) (d : MatchedValue) (so_far : Option ℕ) (place p : ℕ)
+    → MatchOption so_far (p ≡ place) (λ q. IsLongerOf (get_or values q d) (get_or values place d) (get_or values p d))
     → MatchOption (value_at values d so_far) (get_or values p d ≡ get_or values place d) (λ a. IsLongerOf a (get_or values place d) (get_or values p d))
 longer_at values d None place p same = ap (λ q. get_or values q d) same
 longer_at values d (Some q) place p longer = longer
 
 -- with the next entry
-pub one_more_front : (values : List MatchedValue) (entries : List Front) (n p : ℕ) (e : Front) (fronts : List Front) (so_far : Option ℕ) → n < length fronts → e ≡ get_or fronts n e → HasSoFar values entries n fronts so_far
-    → p < length values → ((d : MatchedValue) → MatchOption so_far (p ≡ e.place) (λ q. IsLongerOf (get_or values q d) (get_or values e.place d) (get_or values p d)))
+pub one_more_front : (values : List MatchedValue) (entries : List Front) (n p : ℕ) (e : Front) (fronts : List Front) (so_far : Option ℕ)
+    → n < length fronts → e ≡ get_or fronts n e → HasSoFar values entries n fronts so_far
+    → p < length values → ((d : MatchedValue) → MatchOption so_far (p ≡ e.place)
+        (λ q. IsLongerOf (get_or values q d) (get_or values e.place d) (get_or values p d)))
     → HasSoFar values entries (n + 1) (set fronts n (record e { place = p })) (Some p)
 one_more_front values entries n p e fronts so_far inside read known within longer = record {
   one_each = length-set fronts n front ∙ known.one_each;
@@ -110,8 +119,10 @@ one_more_front values entries n p e fronts so_far inside read known within longe
         let order = values_at values entries d in
         let x = get_or values e.place d in
         let many = length-map entries (λ (e : Front). get_or values e.place d) in
-        let here : x ≡ get_or order n x = sym (get_or-map (λ (e : Front). get_or values e.place d) entries n e x below ∙ ap (λ (e : Front). get_or values e.place d) (sym is)) in
-        longest_changes Any order n x (get_or values p d) (value_at values d so_far) (omega (arith, many)) here (known.longest d) tt (longer_at values d so_far e.place p (longer d))
+        let here : x ≡ get_or order n x = sym (get_or-map (λ (e : Front). get_or values e.place d) entries n e x below
+            ∙ ap (λ (e : Front). get_or values e.place d) (sym is)) in
+        longest_changes Any order n x (get_or values p d) (value_at values d so_far) (omega (arith, many)) here (known.longest d) tt
+            (longer_at values d so_far e.place p (longer d))
 
     is_front : IsFrontAt values entries n front
     is_front = record {
@@ -127,7 +138,8 @@ one_more_front values entries n p e fronts so_far inside read known within longe
     before i less f = subst (IsFrontAt values entries i) (sym (get_or-set_other fronts n i front f (omega arith))) (known.each i less f)
 
 -- all of them
-pub all_fronts : (values : List MatchedValue) (entries fronts : List Front) (n : ℕ) (so_far : Option ℕ) → length fronts ≤ n → HasSoFar values entries n fronts so_far → HasFronts values entries fronts
+pub all_fronts : (values : List MatchedValue) (entries fronts : List Front) (n : ℕ) (so_far : Option ℕ) → length fronts ≤ n
+    → HasSoFar values entries n fronts so_far → HasFronts values entries fronts
 all_fronts values entries fronts n so_far all known = record { one_each = known.one_each; each = λ i less f. known.each i (omega (arith, known.one_each)) f }
 
 pub fronts_rise : (values : List MatchedValue) (fronts : List Front) → IsTableOf values fronts → IsNonDecreasingBy (λ f. f.enqueue_return) fronts
@@ -139,16 +151,20 @@ fronts_rise values fronts table i j f le inside =
     let rises = table.1.rises i j nowhere le upper in
     omega arith
 
-pub longest_within : (values : List MatchedValue) (fronts : List Front) (i : ℕ) (front : Front) → IsTableOf values fronts → i < length fronts → front ≡ get_or fronts i front → front.place < length values
-longest_within values fronts i front table inside is = subst (λ (f : Front). f.place < length values) (sym is) (table.2.each i (omega (arith, table.2.one_each)) front).within
+pub longest_within : (values : List MatchedValue) (fronts : List Front) (i : ℕ) (front : Front) → IsTableOf values fronts → i < length fronts
+    → front ≡ get_or fronts i front → front.place < length values
+longest_within values fronts i front table inside is = subst (λ (f : Front). f.place < length values) (sym is)
+    (table.2.each i (omega (arith, table.2.one_each)) front).within
 
 -- what the fronts tell of the values that entered before a limit, where the first i of them returned before it
 module _ (values : List MatchedValue) (fronts : List Front) (limit i : ℕ) (table : IsTableOf values fronts)
-    (point : IsPartitionPoint (λ (f : Front). ltb f.enqueue_return limit ≡ true) (λ (f : Front). ltb f.enqueue_return limit ≡ false) fronts i) (within : i ≤ length fronts) where
+    (point : IsPartitionPoint (λ (f : Front). ltb f.enqueue_return limit ≡ true) (λ (f : Front). ltb f.enqueue_return limit ≡ false) fronts i)
+        (within : i ≤ length fronts) where
   counted : (d : MatchedValue) → length (values_at values table.0 d) ≡ length fronts
   counted d = length-map table.0 (λ (e : Front). get_or values e.place d) ∙ sym table.2.one_each
 
-  return_at : (d e : MatchedValue) (k : ℕ) (f : Front) → k < length fronts → (get_or fronts k f).enqueue_return ≡ enqueue_return (get_or (values_at values table.0 d) k e).life
+  return_at : (d e : MatchedValue) (k : ℕ) (f : Front) → k < length fronts
+      → (get_or fronts k f).enqueue_return ≡ enqueue_return (get_or (values_at values table.0 d) k e).life
   return_at d e k f inside =
       let below : k < length table.0 = omega (arith, table.2.one_each) in
       (table.2.each k below f).returns nowhere ∙ (All-get_or (IsEntryOf values) table.0 k nowhere below table.1.are.names).returns d
@@ -170,7 +186,8 @@ module _ (values : List MatchedValue) (fronts : List Front) (limit i : ℕ) (tab
       All-permutation (λ v. ¬ (EntersBefore limit v.life)) order values (IsPermutation-sym values order (table.1.are.each_once nobody))
       (All-from_get_or (λ v. ¬ (EntersBefore limit v.life)) order nobody (λ k inside. enters_not nobody nobody k (omega arith) (omega (arith, counted nobody))))
 
-  pub longest_found : (last : ℕ) (front : Front) (d : MatchedValue) → last + 1 ≡ i → front ≡ get_or fronts last front → IsLongestOf (EntersBefore limit) values (get_or values front.place d)
+  pub longest_found : (last : ℕ) (front : Front) (d : MatchedValue) → last + 1 ≡ i → front ≡ get_or fronts last front
+      → IsLongestOf (EntersBefore limit) values (get_or values front.place d)
   longest_found last front d is here = record {
     among = Contains-permutation order values value back among;
     passes = subst (λ (v : MatchedValue). EntersBefore limit v.life) same (enters d value k less);
@@ -190,7 +207,8 @@ module _ (values : List MatchedValue) (fronts : List Front) (limit i : ℕ) (tab
       is_longest : IsLongestOf Any (take i order) value
       is_longest =
           let front_at = (table.2.each last (omega (arith, table.2.one_each)) front).longest d in
-          subst (λ n. IsLongestOf Any (take n order) value) is (subst (λ (f : Front). IsLongestOf Any (take (last + 1) order) (get_or values f.place d)) (sym here) front_at)
+          subst (λ n. IsLongestOf Any (take n order) value) is (subst (λ (f : Front). IsLongestOf Any (take (last + 1) order)
+              (get_or values f.place d)) (sym here) front_at)
 
       k : ℕ
       k = is_longest.among.0
@@ -216,10 +234,12 @@ module _ (values : List MatchedValue) (fronts : List Front) (limit i : ℕ) (tab
           ]
 
 -- where the front before place i returned before the limit, and the one at i, if there is one, did not, the first i did and no other
-pub point_between : (fronts : List Front) (limit i : ℕ) → IsNonDecreasingBy (λ f. f.enqueue_return) fronts → i < length fronts → ((f : Front) → (get_or fronts i f).enqueue_return < limit)
+pub point_between : (fronts : List Front) (limit i : ℕ) → IsNonDecreasingBy (λ f. f.enqueue_return) fronts → i < length fronts
+    → ((f : Front) → (get_or fronts i f).enqueue_return < limit)
     → ((f : Front) → i + 1 < length fronts → limit ≤ (get_or fronts (i + 1) f).enqueue_return)
     → IsPartitionPoint (λ (f : Front). ltb f.enqueue_return limit ≡ true) (λ (f : Front). ltb f.enqueue_return limit ≡ false) fronts (i + 1)
 point_between fronts limit i rises within here next = (
   λ k f below before. let le = rises k i f (omega arith) within in let less = here f in lt-ltb (get_or fronts k f).enqueue_return limit (omega arith),
-  λ k f after inside. let le = rises (i + 1) k f after inside in let more = next f (omega arith) in le-ltb (get_or fronts k f).enqueue_return limit (omega arith),
+  λ k f after inside. let le = rises (i + 1) k f after inside in let more = next f (omega arith) in
+      le-ltb (get_or fronts k f).enqueue_return limit (omega arith),
 )

@@ -1,5 +1,6 @@
 -- What a list contains, and what is made of lists.
-use Rattle.std.proofs.Common.{◌≡◌, ℕ, zero, suc, ◌+◌, ◌<◌, ◌⊎◌, Bool, true, false, cond, List, [], ◌∷◌, ◌++◌, length, get_or, take, drop, Option, Some, None, refl, sym, ◌∙◌, ap, subst, inl, inr, arith}
+use Rattle.std.proofs.Common.{◌≡◌, ℕ, zero, suc, ◌+◌, ◌<◌, ◌⊎◌, Bool, true, false, cond, List, [], ◌∷◌, ◌++◌, length, get_or, take, drop, Option}
+use Rattle.std.proofs.Common.{Some, None, refl, sym, ◌∙◌, ap, subst, inl, inr, arith}
 use Rattle.std.specs.Prelude.{Contains, filter, filter_map, map, IsPermutation}
 use Rattle.std.specs.List.{cons_option, AllZip}
 use Rattle.std.proofs.lemmas.List.{take_more, take_all, drop_all, append-nil}
@@ -18,7 +19,8 @@ pub kept : {X Y : Type 0} (h : X → Option Y) (xs : List X) (y : Y) → Contain
 kept h [] y among = absurd (not_in_none y among)
 kept {X} {Y} h (x ∷ xs) y among = pick (kept h xs y) (h x) refl among
   where
-    pick : (Contains (filter_map h xs) y → (x' : X) × Contains xs x' × (h x' ≡ Some y)) → (o : Option Y) → h x ≡ o → Contains (cons_option o (filter_map h xs)) y → (x' : X) × Contains (x ∷ xs) x' × (h x' ≡ Some y)
+    pick : (Contains (filter_map h xs) y → (x' : X) × Contains xs x' × (h x' ≡ Some y)) → (o : Option Y) → h x ≡ o
+        → Contains (cons_option o (filter_map h xs)) y → (x' : X) × Contains (x ∷ xs) x' × (h x' ≡ Some y)
     pick rest None same among' = let more = rest among' in (more.0, one_deeper x xs more.0 more.1, more.2)
     pick rest (Some z) same among' = elim (contains_cons z (filter_map h xs) y among') [
       | inl here ↦ (x, (zero, omega arith, refl), same ∙ ap (λ w. Some w) here)
@@ -68,7 +70,8 @@ pub passed_filter : {X : Type 0} (p : X → Bool) (xs : List X) (x : X) → Cont
 passed_filter p [] x among = absurd (not_in_none x among)
 passed_filter {X} p (z ∷ xs) x among = pick (passed_filter p xs x) (p z) refl among
   where
-    pick : (Contains (filter p xs) x → Contains xs x × (p x ≡ true)) → (b : Bool) → p z ≡ b → Contains (cond b (z ∷ filter p xs) (filter p xs)) x → Contains (z ∷ xs) x × (p x ≡ true)
+    pick : (Contains (filter p xs) x → Contains xs x × (p x ≡ true)) → (b : Bool) → p z ≡ b → Contains (cond b (z ∷ filter p xs) (filter p xs)) x
+        → Contains (z ∷ xs) x × (p x ≡ true)
     pick rest true passes among' = elim (contains_cons z (filter p xs) x among') [
       | inl same ↦ ((zero, omega arith, same), sym (ap p same) ∙ passes)
       | inr later ↦ let more = rest later in (one_deeper z xs x more.0, more.1)
@@ -76,14 +79,16 @@ passed_filter {X} p (z ∷ xs) x among = pick (passed_filter p xs x) (p z) refl 
     pick rest false fails among' = let more = rest among' in (one_deeper z xs x more.0, more.1)
 
 -- lists that go together, with one more element each
-pub one_more_zipped : {A B : Type 0} (R : A → B → Type 0) (xs : List A) (ys : List B) (x : A) (y : B) → AllZip R xs ys → R x y → AllZip R (xs ++ x ∷ []) (ys ++ y ∷ [])
+pub one_more_zipped : {A B : Type 0} (R : A → B → Type 0) (xs : List A) (ys : List B) (x : A) (y : B) → AllZip R xs ys → R x y
+    → AllZip R (xs ++ x ∷ []) (ys ++ y ∷ [])
 one_more_zipped R [] [] x y zip is = (is, zip)
 one_more_zipped R [] (z ∷ ys) x y zip is = absurd zip
 one_more_zipped R (z ∷ xs) [] x y zip is = absurd zip
 one_more_zipped R (z ∷ xs) (w ∷ ys) x y zip is = (zip.0, one_more_zipped R xs ys x y zip.1 is)
 
 -- the elements of a vector, moved in place
-pub moved_in_place : {X : Type 0} (items slice moved : List X) (len : ℕ) → slice ≡ items → length items ≡ len → length moved ≡ length slice → IsPermutation slice moved → IsPermutation items (take len (moved ++ drop (length moved) items))
+pub moved_in_place : {X : Type 0} (items slice moved : List X) (len : ℕ) → slice ≡ items → length items ≡ len → length moved ≡ length slice
+    → IsPermutation slice moved → IsPermutation items (take len (moved ++ drop (length moved) items))
 moved_in_place items slice moved len same all long permutation =
     let none : drop (length moved) items ≡ [] = drop_all (length moved) items (omega (arith, long, ap length same)) in
     subst (λ xs. IsPermutation xs (take len (moved ++ drop (length moved) items))) same

@@ -11,7 +11,8 @@ use Rattle.history_merge.proofs.Distinct.{contains_cons, not_in_none, contains_a
 use Rattle.value_match.specs.declared.life.Life.{Life}
 use Rattle.value_match.specs.declared.life.MatchedValue.{MatchedValue}
 use Rattle.value_match.specs.declared.life.TheConstants.{NEVER}
-use Rattle.value_match.specs.Lives.{call_or_never, dequeue_call, IsLife, life_from, is_dequeue_of, dequeues_kind, lives_of, HoldsLives, HasPlaces, dequeue_of, enqueue_of}
+use Rattle.value_match.specs.Lives.{call_or_never, dequeue_call, IsLife, life_from, is_dequeue_of, dequeues_kind, lives_of, HoldsLives, HasPlaces}
+use Rattle.value_match.specs.Lives.{dequeue_of, enqueue_of}
 use Rattle.value_match.specs.Violations.{IsClear}
 use Rattle.value_match.proofs.Lists.{kept, keeps, mapped_from, mapped_to}
 
@@ -35,9 +36,12 @@ passes : (v : ℕ) (o : Operation) → o.kind ≡ Deq v → is_dequeue_of v o �
 passes v o is = rw (is, eq-eqb v v refl)
 
 -- the dequeue that is found is one, and where none is found there is none
-pub found_dequeue : (operations : List Operation) (v : ℕ) (found : Option Operation) → find (is_dequeue_of v) operations ≡ found → MatchOption found (NoneDid operations (Deq v)) (λ d. Did operations d (Deq v))
-found_dequeue operations v None none = λ o among is. let fails = none_found (is_dequeue_of v) operations o none among in let clash : true ≡ false = sym (passes v o is) ∙ fails in cc
-found_dequeue operations v (Some d) same = let first = found_first (is_dequeue_of v) operations d same in (contains_at operations first.place d first.at, dequeues v d.kind first.passes)
+pub found_dequeue : (operations : List Operation) (v : ℕ) (found : Option Operation) → find (is_dequeue_of v) operations ≡ found
+    → MatchOption found (NoneDid operations (Deq v)) (λ d. Did operations d (Deq v))
+found_dequeue operations v None none = λ o among is. let fails = none_found (is_dequeue_of v) operations o none among in let clash : true ≡ false =
+    sym (passes v o is) ∙ fails in cc
+found_dequeue operations v (Some d) same = let first = found_first (is_dequeue_of v) operations d same in
+    (contains_at operations first.place d first.at, dequeues v d.kind first.passes)
 
 pub life_of_contained : (operations : List Operation) (life : Life) → Contains (lives_of operations) life → IsLife operations life
 life_of_contained operations life among =
@@ -53,7 +57,8 @@ life_of_contained operations life among =
     begun o in_o (Not v) is same = cc
 
 -- dequeues of one value are one, where the value was enqueued
-pub same_dequeue : (operations : List Operation) (enq x y : Operation) (v : ℕ) → IsClear operations → Did operations enq (Enq v) → Did operations x (Deq v) → Did operations y (Deq v) → x ≡ y
+pub same_dequeue : (operations : List Operation) (enq x y : Operation) (v : ℕ) → IsClear operations → Did operations enq (Enq v)
+    → Did operations x (Deq v) → Did operations y (Deq v) → x ≡ y
 same_dequeue operations enq x y v clear did did_x did_y =
     let order : (x.ret < y.ret) ⊎ ((x.ret ≡ y.ret) ⊎ (y.ret < x.ret)) = grind arith in
     elim order [
@@ -64,7 +69,8 @@ same_dequeue operations enq x y v clear did did_x did_y =
 
 -- what is found where the value was enqueued is one answer
 pub same_found : (operations : List Operation) (enq : Operation) (v : ℕ) (a b : Option Operation) → IsClear operations → Did operations enq (Enq v)
-    → MatchOption a (NoneDid operations (Deq v)) (λ d. Did operations d (Deq v)) → MatchOption b (NoneDid operations (Deq v)) (λ d. Did operations d (Deq v)) → a ≡ b
+    → MatchOption a (NoneDid operations (Deq v)) (λ d. Did operations d (Deq v))
+        → MatchOption b (NoneDid operations (Deq v)) (λ d. Did operations d (Deq v)) → a ≡ b
 same_found operations enq v None None clear did x y = refl
 same_found operations enq v None (Some d) clear did x y = absurd (x d y.0 y.1)
 same_found operations enq v (Some d) None clear did x y = absurd (y d x.0 x.1)
@@ -73,14 +79,17 @@ same_found operations enq v (Some d) (Some e) clear did x y = ap (λ o. Some o) 
 pub life_is_contained : (operations : List Operation) (life : Life) → IsClear operations → IsLife operations life → Contains (lives_of operations) life
 life_is_contained operations life clear is =
     let v = is.0 in
-    let dequeue = same_found operations (enqueue_of life) v (find (is_dequeue_of v) operations) (dequeue_of life) clear is.1 (found_dequeue operations v (find (is_dequeue_of v) operations) refl) is.2 in
+    let dequeue = same_found operations (enqueue_of life) v (find (is_dequeue_of v) operations) (dequeue_of life) clear is.1
+        (found_dequeue operations v (find (is_dequeue_of v) operations) refl) is.2 in
     keeps (λ o. life_from operations o o.kind) operations (enqueue_of life) life is.1.0 (begins dequeue)
   where
     begins : find (is_dequeue_of is.0) operations ≡ dequeue_of life → life_from operations (enqueue_of life) (enqueue_of life).kind ≡ Some life
-    begins same = subst (λ k. life_from operations (enqueue_of life) k ≡ Some life) (sym is.1.1) (ap (λ d. Some (record { enqueue = enqueue_of life; dequeue = d })) same)
+    begins same = subst (λ k. life_from operations (enqueue_of life) k ≡ Some life) (sym is.1.1)
+        (ap (λ d. Some (record { enqueue = enqueue_of life; dequeue = d })) same)
 
 -- lives of one enqueue are one, and so are lives of one dequeue
-pub one_life_of_enqueue : (operations : List Operation) (x y : Life) → IsClear operations → IsLife operations x → IsLife operations y → enqueue_of x ≡ enqueue_of y → x ≡ y
+pub one_life_of_enqueue : (operations : List Operation) (x y : Life) → IsClear operations → IsLife operations x → IsLife operations y
+    → enqueue_of x ≡ enqueue_of y → x ≡ y
 one_life_of_enqueue operations x y clear is_x is_y same =
     let kinds : Enq is_x.0 ≡ Enq is_y.0 = sym is_x.1.1 ∙ ap (λ o. o.kind) same ∙ is_y.1.1 in
     let values : is_x.0 ≡ is_y.0 = cc in
@@ -88,10 +97,13 @@ one_life_of_enqueue operations x y clear is_x is_y same =
     let dequeues = same_found operations (enqueue_of x) is_x.0 (dequeue_of x) (dequeue_of y) clear is_x.1 is_x.2 y_dequeue in
     λ i. record { enqueue = same i; dequeue = dequeues i }
 
-pub one_life_of_dequeue : (operations : List Operation) (x y : Life) (d : Operation) → IsClear operations → IsLife operations x → IsLife operations y → dequeue_of x ≡ Some d → dequeue_of y ≡ Some d → x ≡ y
+pub one_life_of_dequeue : (operations : List Operation) (x y : Life) (d : Operation) → IsClear operations → IsLife operations x → IsLife operations y
+    → dequeue_of x ≡ Some d → dequeue_of y ≡ Some d → x ≡ y
 one_life_of_dequeue operations x y d clear is_x is_y same_x same_y =
-    let did_x : Did operations d (Deq is_x.0) = subst (λ e. MatchOption e (NoneDid operations (Deq is_x.0)) (λ d. Did operations d (Deq is_x.0))) same_x is_x.2 in
-    let did_y : Did operations d (Deq is_y.0) = subst (λ e. MatchOption e (NoneDid operations (Deq is_y.0)) (λ d. Did operations d (Deq is_y.0))) same_y is_y.2 in
+    let did_x : Did operations d (Deq is_x.0) = subst (λ e. MatchOption e (NoneDid operations (Deq is_x.0)) (λ d. Did operations d (Deq is_x.0)))
+        same_x is_x.2 in
+    let did_y : Did operations d (Deq is_y.0) = subst (λ e. MatchOption e (NoneDid operations (Deq is_y.0)) (λ d. Did operations d (Deq is_y.0)))
+        same_y is_y.2 in
     let kinds : Deq is_x.0 ≡ Deq is_y.0 = sym did_x.1 ∙ did_y.1 in
     let values : is_x.0 ≡ is_y.0 = cc in
     let enq_y : Did operations (enqueue_of y) (Enq is_x.0) = subst (λ v. Did operations (enqueue_of y) (Enq v)) (sym values) is_y.1 in
@@ -106,11 +118,13 @@ dequeued_if_called life less = go (dequeue_of life) refl less
     go (Some d) same less = (d, same)
 
 -- each value that is held is a life, and each life is that of a value
-pub value_is_life : (operations : List Operation) (values : List MatchedValue) (value : MatchedValue) → HoldsLives operations values → Contains values value → IsLife operations value.life
+pub value_is_life : (operations : List Operation) (values : List MatchedValue) (value : MatchedValue) → HoldsLives operations values
+    → Contains values value → IsLife operations value.life
 value_is_life operations values value holds among =
     life_of_contained operations value.life (subst (λ lives. Contains lives value.life) holds.0 (mapped_to (λ m. m.life) values value among))
 
-pub value_of_life : (operations : List Operation) (values : List MatchedValue) (life : Life) → IsClear operations → HoldsLives operations values → IsLife operations life → (value : MatchedValue) × Contains values value × (value.life ≡ life)
+pub value_of_life : (operations : List Operation) (values : List MatchedValue) (life : Life) → IsClear operations → HoldsLives operations values
+    → IsLife operations life → (value : MatchedValue) × Contains values value × (value.life ≡ life)
 value_of_life operations values life clear holds is =
     mapped_from (λ m. m.life) values life (subst (λ lives. Contains lives life) (sym holds.0) (life_is_contained operations life clear is))
 

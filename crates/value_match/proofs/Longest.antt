@@ -24,7 +24,8 @@ module _ (Passes : Life → Type 0) where
   abbrev StaysPast : MatchedValue → MatchedValue → Type 0
   StaysPast value other = Passes other.life → StaysAtLeast value.life other.life
 
-  passed_by : (seen : List MatchedValue) (x : MatchedValue) (found : Option MatchedValue) → FindsLongest Passes seen found → ¬ (Passes x.life) → FindsLongest Passes (seen ++ x ∷ []) found
+  passed_by : (seen : List MatchedValue) (x : MatchedValue) (found : Option MatchedValue) → FindsLongest Passes seen found → ¬ (Passes x.life)
+      → FindsLongest Passes (seen ++ x ∷ []) found
   passed_by seen x None none not = All-push (λ value. ¬ (Passes value.life)) seen x none not
   passed_by seen x (Some a) is not = record {
     among = Contains-append_left seen (x ∷ []) a is.among;
@@ -36,10 +37,12 @@ module _ (Passes : Life → Type 0) where
   alone seen x none passes = record {
     among = Contains-push seen x;
     passes = passes;
-    longest = All-push (StaysPast x) seen x (All-weaker (λ value. ¬ (Passes value.life)) (StaysPast x) (λ other not passes. absurd (not passes)) seen none) (λ _. stays_as_itself x.life);
+    longest = All-push (StaysPast x) seen x (All-weaker (λ value. ¬ (Passes value.life)) (StaysPast x)
+        (λ other not passes. absurd (not passes)) seen none) (λ _. stays_as_itself x.life);
   }
 
-  taken : (seen : List MatchedValue) (x r : MatchedValue) (found : Option MatchedValue) → FindsLongest Passes seen found → Passes x.life → MatchOption found (r ≡ x) (λ a. IsLongerOf a x r) → IsLongestOf Passes (seen ++ x ∷ []) r
+  taken : (seen : List MatchedValue) (x r : MatchedValue) (found : Option MatchedValue) → FindsLongest Passes seen found → Passes x.life
+      → MatchOption found (r ≡ x) (λ a. IsLongerOf a x r) → IsLongestOf Passes (seen ++ x ∷ []) r
   taken seen x r None none passes same = subst (IsLongestOf Passes (seen ++ x ∷ [])) (sym same) (alone seen x none passes)
   taken seen x r (Some a) is passes longer = record {
     among = elim longer.is_one [
@@ -48,17 +51,21 @@ module _ (Passes : Life → Type 0) where
     ];
     passes = elim longer.is_one [ inl same ↦ subst (λ y. Passes y.life) (sym same) is.passes | inr same ↦ subst (λ y. Passes y.life) (sym same) passes ];
     longest = All-push (StaysPast r) seen x
-        (All-weaker (StaysPast a) (StaysPast r) (λ other stays passes'. stays_through r.life a.life other.life longer.stays_first (stays passes')) seen is.longest)
+        (All-weaker (StaysPast a) (StaysPast r) (λ other stays passes'. stays_through r.life a.life other.life longer.stays_first (stays passes'))
+            seen is.longest)
         (λ _. longer.stays_second);
   }
 
   -- the next value does not pass
-  pub longest_stays : (values : List MatchedValue) (i : ℕ) (x : MatchedValue) (found : Option MatchedValue) → i < length values → x ≡ get_or values i x → FindsLongest Passes (take i values) found
+  pub longest_stays : (values : List MatchedValue) (i : ℕ) (x : MatchedValue) (found : Option MatchedValue) → i < length values
+      → x ≡ get_or values i x → FindsLongest Passes (take i values) found
       → ¬ (Passes x.life) → FindsLongest Passes (take (i + 1) values) found
-  longest_stays values i x found within is so_far not = subst (λ seen. FindsLongest Passes seen found) (sym (one_more values i x within is)) (passed_by (take i values) x found so_far not)
+  longest_stays values i x found within is so_far not = subst (λ seen. FindsLongest Passes seen found) (sym (one_more values i x within is))
+      (passed_by (take i values) x found so_far not)
 
   -- the next value passes
-  pub longest_changes : (values : List MatchedValue) (i : ℕ) (x r : MatchedValue) (found : Option MatchedValue) → i < length values → x ≡ get_or values i x → FindsLongest Passes (take i values) found
+  pub longest_changes : (values : List MatchedValue) (i : ℕ) (x r : MatchedValue) (found : Option MatchedValue) → i < length values
+      → x ≡ get_or values i x → FindsLongest Passes (take i values) found
       → Passes x.life → MatchOption found (r ≡ x) (λ a. IsLongerOf a x r) → FindsLongest Passes (take (i + 1) values) (Some r)
   longest_changes values i x r found within is so_far passes longer =
       subst (λ seen. IsLongestOf Passes seen r) (sym (one_more values i x within is)) (taken (take i values) x r found so_far passes longer)

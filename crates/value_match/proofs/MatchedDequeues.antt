@@ -15,26 +15,30 @@ use Rattle.value_match.proofs.RepeatedDequeues.{taken_from, takes_from_enqueue}
 
 -- ---- the dequeues by their enqueues
 
-pub no_repeat : (operations : List Operation) (sources takers : List (Option ℕ)) → AreComplete operations → HoldsSources operations sources → HoldsTakers sources takers → NoRepeatViolation operations
+pub no_repeat : (operations : List Operation) (sources takers : List (Option ℕ)) → AreComplete operations → HoldsSources operations sources
+    → HoldsTakers sources takers → NoRepeatViolation operations
 no_repeat operations sources takers complete holds taken enq first second r =
     let p = place_of operations enq r.enqueues.0 in
     let i = place_of operations first r.dequeues.0 in
     let j = place_of operations second r.dequeues_again.0 in
     let taker_i = taken.takes i.0 p.0 (takes_from_enqueue operations sources i.0 p.0 first enq r.value complete holds i.1 r.dequeues.1 p.1 r.enqueues.1) in
-    let taker_j = taken.takes j.0 p.0 (takes_from_enqueue operations sources j.0 p.0 second enq r.value complete holds j.1 r.dequeues_again.1 p.1 r.enqueues.1) in
+    let taker_j = taken.takes j.0 p.0 (takes_from_enqueue operations sources j.0 p.0 second enq r.value complete holds j.1 r.dequeues_again.1 p.1
+        r.enqueues.1) in
     let same : i.0 ≡ j.0 = let both : ◌≡◌ {A = Option ℕ} (Some i.0) (Some j.0) = sym taker_i ∙ taker_j in cc in
     let one : first ≡ second = one_at operations j.0 first second (subst (λ k. IsAt operations k first) same i.1) j.1 in
     let ret = ap (λ o. o.ret) one in
     absurd (omega (arith, r.in_order))
 
-pub dequeues_by_enqueues : (operations : List Operation) (sources takers : List (Option ℕ)) → AreComplete operations → NoFreshViolation operations → HoldsSources operations sources → HoldsTakers sources takers
+pub dequeues_by_enqueues : (operations : List Operation) (sources takers : List (Option ℕ)) → AreComplete operations → NoFreshViolation operations
+    → HoldsSources operations sources → HoldsTakers sources takers
     → HoldsDequeues operations takers
 dequeues_by_enqueues operations sources takers complete no_fresh holds taken = record {
   one_each = taken.one_each ∙ holds.one_each;
   each = λ i o v here is. at_place i o v here is (get_or takers i None) refl;
 }
   where
-    at_place : (i : ℕ) (o : Operation) (v : ℕ) → IsAt operations i o → o.kind ≡ Enq v → (taker : Option ℕ) → get_or takers i None ≡ taker → IsDequeuePlace operations v taker
+    at_place : (i : ℕ) (o : Operation) (v : ℕ) → IsAt operations i o → o.kind ≡ Enq v → (taker : Option ℕ) → get_or takers i None ≡ taker
+        → IsDequeuePlace operations v taker
     at_place i o v here is None none = λ x among dequeues.
         let j = place_of operations x among in
         let taker = taken.takes j.0 i (takes_from_enqueue operations sources j.0 i x o v complete holds j.1 dequeues here is) in
@@ -51,12 +55,15 @@ dequeues_by_enqueues operations sources takers complete no_fresh holds taken = r
         (x, at_j, t.dequeues ∙ ap Deq value)
 
 -- the dequeue at the place is the one that is found
-pub found_at_place : (operations : List Operation) (enq : Operation) (v : ℕ) (place : Option ℕ) (dequeue : Option Operation) → IsClear operations → Did operations enq (Enq v) → IsDequeuePlace operations v place
+pub found_at_place : (operations : List Operation) (enq : Operation) (v : ℕ) (place : Option ℕ) (dequeue : Option Operation) → IsClear operations
+    → Did operations enq (Enq v) → IsDequeuePlace operations v place
     → IsMaybeAt operations place dequeue → dequeue ≡ find (is_dequeue_of v) operations
 found_at_place operations enq v place dequeue clear did is at =
-    same_found operations enq v dequeue (find (is_dequeue_of v) operations) clear did (named place dequeue is at) (found_dequeue operations v (find (is_dequeue_of v) operations) refl)
+    same_found operations enq v dequeue (find (is_dequeue_of v) operations) clear did (named place dequeue is at)
+        (found_dequeue operations v (find (is_dequeue_of v) operations) refl)
   where
-    named : (p : Option ℕ) (d : Option Operation) → IsDequeuePlace operations v p → IsMaybeAt operations p d → MatchOption d (NoneDid operations (Deq v)) (λ x. Did operations x (Deq v))
+    named : (p : Option ℕ) (d : Option Operation) → IsDequeuePlace operations v p → IsMaybeAt operations p d
+        → MatchOption d (NoneDid operations (Deq v)) (λ x. Did operations x (Deq v))
     named None None none there = none
     named None (Some d) none there = elim there [ ]
     named (Some p) None at_p there = elim there [ ]
@@ -64,14 +71,16 @@ found_at_place operations enq v place dequeue clear did is at =
         let same = one_at operations p at_p.0 d at_p.1 there in
         (contains_at operations p d there, subst (λ o. o.kind ≡ Deq v) same at_p.2)
 
-pub clear_from_takers : (operations : List Operation) (sources takers : List (Option ℕ)) → AreComplete operations → NoFreshViolation operations → HoldsSources operations sources → HoldsTakers sources takers → IsClear operations
+pub clear_from_takers : (operations : List Operation) (sources takers : List (Option ℕ)) → AreComplete operations → NoFreshViolation operations
+    → HoldsSources operations sources → HoldsTakers sources takers → IsClear operations
 clear_from_takers operations sources takers complete no_fresh holds taken = record {
   complete = complete;
   no_fresh = no_fresh;
   no_repeat = no_repeat operations sources takers complete holds taken;
 }
 
-pub sources_in_range : (operations : List Operation) (sources : List (Option ℕ)) → NoFreshViolation operations → HoldsSources operations sources → (i p : ℕ) → TakesFrom sources i p → p < length sources
+pub sources_in_range : (operations : List Operation) (sources : List (Option ℕ)) → NoFreshViolation operations → HoldsSources operations sources
+    → (i p : ℕ) → TakesFrom sources i p → p < length sources
 sources_in_range operations sources no_fresh holds i p from =
     let d : Operation = record { call = 0; ret = 0; thread = 0; kind = Empty } in
     let below : i < length operations = let inside = slice_get_within sources i (Some p) from in omega (arith, holds.one_each) in

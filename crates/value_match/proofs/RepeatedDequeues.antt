@@ -53,7 +53,8 @@ pub record IsTakenFrom (operations : List Operation) (o : Operation) (p : ℕ) :
   pub at_source : IsAt operations p call
   pub accepted : call.kind ≡ Enq value
 
-pub taken_from : (operations : List Operation) (sources : List (Option ℕ)) (i p : ℕ) (o : Operation) → HoldsSources operations sources → NoFreshViolation operations → IsAt operations i o → TakesFrom sources i p → IsTakenFrom operations o p
+pub taken_from : (operations : List Operation) (sources : List (Option ℕ)) (i p : ℕ) (o : Operation) → HoldsSources operations sources
+    → NoFreshViolation operations → IsAt operations i o → TakesFrom sources i p → IsTakenFrom operations o p
 taken_from operations sources i p o holds no_fresh here from = pick o.kind refl (subst (IsSourceOf operations o.kind) source (holds.each i o here))
   where
     source : get_or sources i None ≡ Some p
@@ -65,20 +66,24 @@ taken_from operations sources i p o holds no_fresh here from = pick o.kind refl 
     pick Empty is wrong = cc
     pick (Deq v) is (call, there, calls) = elim (calls_for call.kind v calls) [
       | inl accepted ↦ record { value = v; dequeues = is; call = call; at_source = there; accepted = accepted }
-      | inr refused ↦ absurd (no_fresh o (Some call) (record { value = v; dequeues = (contains_at operations i o here, is); enqueues = inl (contains_at operations p call there, refused) }))
+      | inr refused ↦ absurd (no_fresh o (Some call) (record { value = v; dequeues = (contains_at operations i o here, is); enqueues =
+          inl (contains_at operations p call there, refused) }))
     ]
 
 -- a dequeue of an accepted value has its enqueue's place as its source
-pub takes_from_enqueue : (operations : List Operation) (sources : List (Option ℕ)) (i p : ℕ) (o enq : Operation) (v : ℕ) → AreComplete operations → HoldsSources operations sources → IsAt operations i o → o.kind ≡ Deq v
+pub takes_from_enqueue : (operations : List Operation) (sources : List (Option ℕ)) (i p : ℕ) (o enq : Operation) (v : ℕ) → AreComplete operations
+    → HoldsSources operations sources → IsAt operations i o → o.kind ≡ Deq v
     → IsAt operations p enq → enq.kind ≡ Enq v → TakesFrom sources i p
 takes_from_enqueue operations sources i p o enq v complete holds here is there accepted =
     let below : i < length sources = let inside = slice_get_within operations i o here in omega (arith, holds.one_each) in
-    slice_get-get_or sources i None below ∙ ap (λ s. Some s) (named (get_or sources i None) (subst (λ kind. IsSourceOf operations kind (get_or sources i None)) is (holds.each i o here)))
+    slice_get-get_or sources i None below ∙ ap (λ s. Some s) (named (get_or sources i None)
+        (subst (λ kind. IsSourceOf operations kind (get_or sources i None)) is (holds.each i o here)))
   where
     named : (source : Option ℕ) → IsCallPlace operations v source → source ≡ Some p
     named None none = absurd (none enq (contains_at operations p enq there) (ap enqueued_value accepted))
     named (Some q) (call, at, calls) =
-        let same = same_value_call operations call enq v complete (contains_at operations q call at) (contains_at operations p enq there) (calls_for call.kind v calls) (inl accepted) in
+        let same = same_value_call operations call enq v complete (contains_at operations q call at) (contains_at operations p enq there)
+            (calls_for call.kind v calls) (inl accepted) in
         ap (λ r. Some r) (one_place operations q p enq complete (subst (IsAt operations q) same at) there)
 
 -- ---- the walk
@@ -89,7 +94,9 @@ pub entry_at : (operations : List Operation) (sources : List (Option ℕ)) (orde
 entry_at operations sources order n by below = All-get_or (λ e. (o : Operation) × IsAt operations e.1 o × (e.0 ≡ o.ret)) order n (0, 0) below by.names
 
 -- an operation that returned before the walk's entry was seen
-seen_before : (operations : List Operation) (sources : List (Option ℕ)) (order : List (ℕ × ℕ)) (n i p : ℕ) (o : Operation) → IsByReturn operations sources order → IsAt operations i o → TakesFrom sources i p → n < length order → o.ret < (get_or order n (0, 0)).0 → IsSeen order n i
+seen_before : (operations : List Operation) (sources : List (Option ℕ)) (order : List (ℕ × ℕ)) (n i p : ℕ) (o : Operation)
+    → IsByReturn operations sources order → IsAt operations i o → TakesFrom sources i p → n < length order → o.ret < (get_or order n (0, 0)).0
+    → IsSeen order n i
 seen_before operations sources order n i p o by here from below sooner =
     let among = by.has_each i p o here from in
     let is : get_or order among.0 (0, 0) ≡ (o.ret, i) = sym (get_or_read order among.0 (o.ret, i) among.1 (sym among.2) (0, 0)) in
@@ -102,10 +109,13 @@ seen_before operations sources order n i p o by here from below sooner =
     ]
 
 -- two dequeues from one enqueue, the second of them at the walk's entry, are chosen
-pub repeat_chosen : (operations : List Operation) (sources takers : List (Option ℕ)) (order : List (ℕ × ℕ)) (n p first : ℕ) → AreComplete operations → HoldsSources operations sources → NoFreshViolation operations
-    → IsByReturn operations sources order → n < length order → TakesFrom sources (get_or order n (0, 0)).1 p → get_or takers p None ≡ Some first → HasTaken (IsSeen order n) sources takers
+pub repeat_chosen : (operations : List Operation) (sources takers : List (Option ℕ)) (order : List (ℕ × ℕ)) (n p first : ℕ) → AreComplete operations
+    → HoldsSources operations sources → NoFreshViolation operations
+    → IsByReturn operations sources order → n < length order → TakesFrom sources (get_or order n (0, 0)).1 p → get_or takers p None ≡ Some first
+        → HasTaken (IsSeen order n) sources takers
     → NamesChosenRepeat operations (Repeat p first (get_or order n (0, 0)).1)
-repeat_chosen operations sources takers order n p first complete holds no_fresh by below from held known = (second.call, one.0, two.0, (second.at_source, one.1, two.1), (no_fresh, chosen))
+repeat_chosen operations sources takers order n p first complete holds no_fresh by below from held known =
+    (second.call, one.0, two.0, (second.at_source, one.1, two.1), (no_fresh, chosen))
   where
     two : (o : Operation) × IsAt operations (get_or order n (0, 0)).1 o × ((get_or order n (0, 0)).0 ≡ o.ret)
     two = entry_at operations sources order n by below
@@ -132,7 +142,8 @@ repeat_chosen operations sources takers order n p first complete holds no_fresh 
 
     apart : one.0.ret ≢ two.0.ret
     apart same =
-        let o = same_return operations one.0 two.0 complete (contains_at operations first one.0 one.1) (contains_at operations (get_or order n (0, 0)).1 two.0 two.1) same in
+        let o = same_return operations one.0 two.0 complete (contains_at operations first one.0 one.1)
+            (contains_at operations (get_or order n (0, 0)).1 two.0 two.1) same in
         let place = one_place operations first (get_or order n (0, 0)).1 two.0 complete (subst (IsAt operations first) o one.1) two.1 in
         by.has_once seen.0.0 n (0, 0) seen.0.1 below (seen.0.2 ∙ place)
 
@@ -171,7 +182,8 @@ repeat_chosen operations sources takers order n p first complete holds no_fresh 
         ]
 
 -- a walk over all operations that meets no value twice leaves none taken twice
-pub none_twice : (operations : List Operation) (sources takers : List (Option ℕ)) (order : List (ℕ × ℕ)) (n : ℕ) → HoldsSources operations sources → IsByReturn operations sources order → length order ≤ n
+pub none_twice : (operations : List Operation) (sources takers : List (Option ℕ)) (order : List (ℕ × ℕ)) (n : ℕ) → HoldsSources operations sources
+    → IsByReturn operations sources order → length order ≤ n
     → HasTaken (IsSeen order n) sources takers → ¬ (IsTakenTwice sources)
 none_twice operations sources takers order n holds by all known (i, j, p, below, from_i, from_j) =
     let taker_i = known.takes i p (seen i from_i) from_i in
@@ -189,14 +201,16 @@ none_twice operations sources takers order n holds by all known (i, j, p, below,
         (among.0, omega (arith, among.1), ap (λ (e : ℕ × ℕ). e.1) is)
 
 -- the places that the walk reads are in range
-pub entry_in_range : (operations : List Operation) (sources : List (Option ℕ)) (order : List (ℕ × ℕ)) (n : ℕ) → HoldsSources operations sources → IsByReturn operations sources order → n < length order
+pub entry_in_range : (operations : List Operation) (sources : List (Option ℕ)) (order : List (ℕ × ℕ)) (n : ℕ) → HoldsSources operations sources
+    → IsByReturn operations sources order → n < length order
     → (get_or order n (0, 0)).1 < length sources
 entry_in_range operations sources order n holds by below =
     let e = entry_at operations sources order n by below in
     let inside = slice_get_within operations (get_or order n (0, 0)).1 e.0 e.1 in
     omega (arith, holds.one_each)
 
-pub source_inside : (operations : List Operation) (sources takers : List (Option ℕ)) (order : List (ℕ × ℕ)) (n p : ℕ) → HoldsSources operations sources → NoFreshViolation operations → IsByReturn operations sources order → n < length order
+pub source_inside : (operations : List Operation) (sources takers : List (Option ℕ)) (order : List (ℕ × ℕ)) (n p : ℕ)
+    → HoldsSources operations sources → NoFreshViolation operations → IsByReturn operations sources order → n < length order
     → TakesFrom sources (get_or order n (0, 0)).1 p → HasTaken (IsSeen order n) sources takers → p < length takers
 source_inside operations sources takers order n p holds no_fresh by below from known =
     let e = entry_at operations sources order n by below in

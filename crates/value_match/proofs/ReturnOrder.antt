@@ -29,17 +29,22 @@ nothing_listed operations sources = record {
   apart = λ i j d less below. absurd (omega (arith, below));
 }
 
-pub returns_push : (operations : List Operation) (sources : List (Option ℕ)) (n : ℕ) (o : Operation) (order : List (ℕ × ℕ)) → IsAt operations n o → ListsReturns operations sources n order
+pub returns_push : (operations : List Operation) (sources : List (Option ℕ)) (n : ℕ) (o : Operation) (order : List (ℕ × ℕ)) → IsAt operations n o
+    → ListsReturns operations sources n order
     → ListsReturns operations sources (n + 1) (order ++ (o.ret, n) ∷ [])
 returns_push operations sources n o order here known = record {
   names = All-push (λ e. (o : Operation) × IsAt operations e.1 o × (e.0 ≡ o.ret)) order (o.ret, n) known.names (o, here, refl);
-  within = All-push (λ e. e.1 < n + 1) order (o.ret, n) (All-weaker (λ e. e.1 < n) (λ e. e.1 < n + 1) (λ e less. omega (arith, less)) order known.within) (omega arith);
-  has_each = each_more (λ i x. (p : ℕ) → TakesFrom sources i p → Contains (order ++ (o.ret, n) ∷ []) (x.ret, i)) operations n o here (λ p from. Contains-push order (o.ret, n))
+  within = All-push (λ e. e.1 < n + 1) order (o.ret, n) (All-weaker (λ e. e.1 < n) (λ e. e.1 < n + 1)
+      (λ e less. omega (arith, less)) order known.within) (omega arith);
+  has_each = each_more (λ i x. (p : ℕ) → TakesFrom sources i p → Contains (order ++ (o.ret, n) ∷ []) (x.ret, i)) operations n o here
+      (λ p from. Contains-push order (o.ret, n))
       (λ i x below at p from. Contains-append_left order ((o.ret, n) ∷ []) (x.ret, i) (known.has_each i x below at p from));
-  apart = all_pairs_push (λ x y. x.1 ≢ y.1) order (o.ret, n) known.apart (λ k d below same. let less = All-get_or (λ e. e.1 < n) order k d below known.within in omega (arith, less, same));
+  apart = all_pairs_push (λ x y. x.1 ≢ y.1) order (o.ret, n) known.apart
+      (λ k d below same. let less = All-get_or (λ e. e.1 < n) order k d below known.within in omega (arith, less, same));
 }
 
-pub returns_skip : (operations : List Operation) (sources : List (Option ℕ)) (n : ℕ) (o : Operation) (order : List (ℕ × ℕ)) → IsAt operations n o → slice_get sources n ≡ Some None → ListsReturns operations sources n order
+pub returns_skip : (operations : List Operation) (sources : List (Option ℕ)) (n : ℕ) (o : Operation) (order : List (ℕ × ℕ)) → IsAt operations n o
+    → slice_get sources n ≡ Some None → ListsReturns operations sources n order
     → ListsReturns operations sources (n + 1) order
 returns_skip operations sources n o order here none known = record {
   names = known.names;
@@ -53,11 +58,13 @@ abbrev same_place : ℕ × ℕ → ℕ × ℕ → Bool
 same_place x y = nat_eq x.1 y.1
 
 -- such a list, sorted
-pub by_return : (operations : List Operation) (sources : List (Option ℕ)) (n : ℕ) (listed order : List (ℕ × ℕ)) → length operations ≤ n → ListsReturns operations sources n listed → IsPermutation listed order
+pub by_return : (operations : List Operation) (sources : List (Option ℕ)) (n : ℕ) (listed order : List (ℕ × ℕ)) → length operations ≤ n
+    → ListsReturns operations sources n listed → IsPermutation listed order
     → IsNonDecreasingBy (λ e. e.0) order → IsByReturn operations sources order
 by_return operations sources n listed order all known moved rises = record {
   names = All-permutation (λ e. (o : Operation) × IsAt operations e.1 o × (e.0 ≡ o.ret)) listed order moved known.names;
-  has_each = λ i p o at from. Contains-permutation listed order (o.ret, i) moved (known.has_each i o (let inside = slice_get_within operations i o at in omega (arith, inside)) at p from);
+  has_each = λ i p o at from. Contains-permutation listed order (o.ret, i) moved
+      (known.has_each i o (let inside = slice_get_within operations i o at in omega (arith, inside)) at p from);
   has_once = once;
   rises = rises;
 }

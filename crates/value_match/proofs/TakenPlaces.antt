@@ -1,5 +1,6 @@
 -- Which operation has its source at a place, met by a walk over the operations in some order.
-use Rattle.std.proofs.Common.{◌≡◌, ◌≢◌, ℕ, true, false, zero, suc, ◌+◌, ◌<◌, ◌≤◌, ◌⊎◌, List, length, get_or, set, replicate, Option, Some, None, refl, sym, ◌∙◌, ap, subst, inl, inr, arith, get_or-set_other, get_or-set_same, length-set}
+use Rattle.std.proofs.Common.{◌≡◌, ◌≢◌, ℕ, true, false, zero, suc, ◌+◌, ◌<◌, ◌≤◌, ◌⊎◌, List, length, get_or, set, replicate, Option, Some, None, refl}
+use Rattle.std.proofs.Common.{sym, ◌∙◌, ap, subst, inl, inr, arith, get_or-set_other, get_or-set_same, length-set}
 use Rattle.std.specs.Prelude.{slice_get, is_some}
 use Rattle.std.proofs.lemmas.Bool.{false≢true, cases_eq}
 use Rattle.std.proofs.lemmas.List.{get_or_read}
@@ -23,7 +24,8 @@ nothing_at zero i = refl
 nothing_at (suc n) zero = refl
 nothing_at (suc n) (suc i) = nothing_at n i
 
-pub nothing_taken : (seen : ℕ → Type 0) (sources takers : List (Option ℕ)) → ((i : ℕ) → seen i → ⊥) → takers ≡ replicate (length sources) None → length takers ≡ length sources → HasTaken seen sources takers
+pub nothing_taken : (seen : ℕ → Type 0) (sources takers : List (Option ℕ)) → ((i : ℕ) → seen i → ⊥) → takers ≡ replicate (length sources) None
+    → length takers ≡ length sources → HasTaken seen sources takers
 nothing_taken seen sources takers none is one_each = record {
   one_each = one_each;
   taken = λ p i here. let nothing = nothing_at (length sources) p in let same = ap (λ (ts : List (Option ℕ)). get_or ts p None) is in cc;
@@ -35,18 +37,21 @@ nothing_there None none = refl
 nothing_there (Some p) none = absurd (false≢true (sym none))
 
 -- an operation without a source
-pub taken_skip : (seen after : ℕ → Type 0) (sources takers : List (Option ℕ)) (i : ℕ) → SeesOneMore seen after i → slice_get sources i ≡ Some None → HasTaken seen sources takers → HasTaken after sources takers
+pub taken_skip : (seen after : ℕ → Type 0) (sources takers : List (Option ℕ)) (i : ℕ) → SeesOneMore seen after i → slice_get sources i ≡ Some None
+    → HasTaken seen sources takers → HasTaken after sources takers
 taken_skip seen after sources takers i more none known = record {
   one_each = known.one_each;
   taken = λ p j here. let was = known.taken p j here in (more.before j was.0, was.1);
   takes = λ j p there from. elim (more.only j there) [
     | inl earlier ↦ known.takes j p earlier from
-    | inr same ↦ absurd (let here = subst (λ k. TakesFrom sources k p) same from in let both : ◌≡◌ {A = Option (Option ℕ)} (Some None) (Some (Some p)) = sym none ∙ here in cc)
+    | inr same ↦ absurd (let here = subst (λ k. TakesFrom sources k p) same from in
+        let both : ◌≡◌ {A = Option (Option ℕ)} (Some None) (Some (Some p)) = sym none ∙ here in cc)
   ];
 }
 
 -- an operation whose source no other has
-pub taken_more : (seen after : ℕ → Type 0) (sources takers : List (Option ℕ)) (i p : ℕ) → SeesOneMore seen after i → TakesFrom sources i p → p < length takers → get_or takers p None ≡ None
+pub taken_more : (seen after : ℕ → Type 0) (sources takers : List (Option ℕ)) (i p : ℕ) → SeesOneMore seen after i → TakesFrom sources i p
+    → p < length takers → get_or takers p None ≡ None
     → HasTaken seen sources takers → HasTaken after sources (set takers p (Some i))
 taken_more seen after sources takers i p more from below free known = record {
   one_each = simp length-set known.one_each;
@@ -73,7 +78,8 @@ taken_more seen after sources takers i p more from below free known = record {
     takes j q there other = elim (more.only j there) [
       | inl earlier ↦
           let was = known.takes j q earlier other in
-          let apart : q ≢ p = λ same. let clash : get_or takers p None ≡ Some j = subst (λ k. get_or takers k None ≡ Some j) same was in let both : ◌≡◌ {A = Option ℕ} None (Some j) = sym free ∙ clash in cc in
+          let apart : q ≢ p = λ same. let clash : get_or takers p None ≡ Some j = subst (λ k. get_or takers k None ≡ Some j) same was in
+              let both : ◌≡◌ {A = Option ℕ} None (Some j) = sym free ∙ clash in cc in
           rw get_or-set_other was
       | inr same ↦
           let here : q ≡ p = one_source q (subst (λ k. TakesFrom sources k q) same other) in
@@ -88,7 +94,8 @@ below_more n = record {
   only = λ j below. elim (cases_eq j n) [ inl same ↦ inr same | inr other ↦ inl (omega arith) ];
 }
 
-pub taken_twice : (sources takers : List (Option ℕ)) (i j p : ℕ) → HasTaken (λ k. k < i) sources takers → TakesFrom sources i p → get_or takers p None ≡ Some j → IsTakenTwice sources
+pub taken_twice : (sources takers : List (Option ℕ)) (i j p : ℕ) → HasTaken (λ k. k < i) sources takers → TakesFrom sources i p
+    → get_or takers p None ≡ Some j → IsTakenTwice sources
 taken_twice sources takers i j p known from held = let was = known.taken p j held in (j, i, p, was.0, was.1, from)
 
 pub taken_all : (n : ℕ) (sources takers : List (Option ℕ)) → length sources ≤ n → HasTaken (λ i. i < n) sources takers → HoldsTakers sources takers
@@ -99,13 +106,16 @@ taken_all n sources takers all known = record {
 }
 
 -- what reading a slot tells
-pub slot_held : (takers : List (Option ℕ)) (p : ℕ) (read : Option ℕ) → p < length takers → read ≡ get_or takers p read → is_some read ≡ true → (j : ℕ) × (get_or takers p None ≡ Some j)
+pub slot_held : (takers : List (Option ℕ)) (p : ℕ) (read : Option ℕ) → p < length takers → read ≡ get_or takers p read → is_some read ≡ true
+    → (j : ℕ) × (get_or takers p None ≡ Some j)
 slot_held takers p None below is held = absurd (false≢true held)
 slot_held takers p (Some j) below is held = (j, sym (get_or_read takers p (Some j) below is None))
 
-pub slot_free : (takers : List (Option ℕ)) (p : ℕ) (read : Option ℕ) → p < length takers → read ≡ get_or takers p read → is_some read ≡ false → get_or takers p None ≡ None
+pub slot_free : (takers : List (Option ℕ)) (p : ℕ) (read : Option ℕ) → p < length takers → read ≡ get_or takers p read → is_some read ≡ false
+    → get_or takers p None ≡ None
 slot_free takers p None below is free = sym is
 slot_free takers p (Some j) below is free = absurd (false≢true (sym free))
 
-pub source_read : (sources : List (Option ℕ)) (i : ℕ) (source : Option ℕ) → i < length sources → get_or sources i None ≡ source → slice_get sources i ≡ Some source
+pub source_read : (sources : List (Option ℕ)) (i : ℕ) (source : Option ℕ) → i < length sources → get_or sources i None ≡ source
+    → slice_get sources i ≡ Some source
 source_read sources i source below is = slice_get-get_or sources i None below ∙ ap (λ s. Some s) is

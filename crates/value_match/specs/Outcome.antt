@@ -15,7 +15,8 @@ use Rattle.value_match.specs.Choice.{IsChosenBreach}
 
 -- the steps name these lives, one by one
 abbrev pub NamesCover : List Operation → List CoverStep → List Life → Type 0
-NamesCover operations steps cover = AllZip (λ step life. IsAt operations step.enqueue (enqueue_of life) × IsMaybeAt operations step.dequeue (dequeue_of life)) steps cover
+NamesCover operations steps cover = AllZip (λ step life. IsAt operations step.enqueue (enqueue_of life)
+    × IsMaybeAt operations step.dequeue (dequeue_of life)) steps cover
 
 -- the places of the violation are those of the operations that show it
 abbrev pub Names : List Operation → Violation → Breach → Type 0
@@ -38,7 +39,8 @@ NamesChosenFresh operations violation =
 -- the violation names the chosen two dequeues of one value, and no dequeue is of a value that was not there
 abbrev pub NamesChosenRepeat : List Operation → Violation → Type 0
 NamesChosenRepeat operations violation =
-    (enq : Operation) × (first : Operation) × (second : Operation) × Names operations violation (repeat enq first second) × IsChosenBreach operations (repeat enq first second)
+    (enq : Operation) × (first : Operation) × (second : Operation) × Names operations violation (repeat enq first second)
+        × IsChosenBreach operations (repeat enq first second)
 
 -- a matching where the first two kinds of violation are absent, else the chosen violation of the first of them
 abbrev pub IsMatchedOf : List Operation → Matched → Type 0

@@ -7,7 +7,8 @@ use Rattle.empty_witness.proofs.search.first_covered.Goals as goal
 use Rattle.empty_witness.proofs.search.first_covered.Goals.{then-is_none, else-is_none}
 
 pub answer_at-answer-requires : goal.answer_at-answer-requires
-answer_at-answer-requires c = answer_is_empty c.args.matching.now c.args.others.now c.loop-empty.empty-index c.empty-item.result c.requires.others c.loop-empty-test.true c.empty-item.is
+answer_at-answer-requires c = answer_is_empty c.args.matching.now c.args.others.now c.loop-empty.empty-index c.empty-item.result c.requires.others
+    c.loop-empty-test.true c.empty-item.is
 
 pub loop-empty-init : goal.loop-empty-init
 loop-empty-init c = λ seen first. subst (λ ps. IsFirstCovered c.args.matching.now ps c.args.covered) (sym (append-nil seen)) first
@@ -26,11 +27,14 @@ loop-empty-preserved c = λ seen first.
           let covered = covered_if_none operations answer.result.operation c.least_free_gap.result window (search rules) in
           rw w.first-is
           (one_more_covered operations seen others i c.loop-empty.first answer.result w.sooner_of-first.result c.loop-empty-test.true is so_far
-          (record { at = subst (λ p. IsAt operations p answer.result.operation) (sym answer.ensures.place) answer.ensures.at; is_empty = answer.ensures.is_empty; is_covered = covered }) w.sooner_of-first.ensures)
+          (record { at = subst (λ p. IsAt operations p answer.result.operation) (sym answer.ensures.place) answer.ensures.at; is_empty =
+              answer.ensures.is_empty; is_covered = covered }) w.sooner_of-first.ensures)
       | else-is_none w ↦
           let gap = gap_if_some operations answer.result.operation c.least_free_gap.result window (search rules) in
-          rw w.first-is (one_more_free operations seen others i c.empty-item.result gap.0 answer.result.operation c.loop-empty.first c.loop-empty-test.true c.empty-item.is so_far answer.ensures.at gap.1)
+          rw w.first-is (one_more_free operations seen others i c.empty-item.result gap.0 answer.result.operation c.loop-empty.first
+              c.loop-empty-test.true c.empty-item.is so_far answer.ensures.at gap.1)
     ]
 
 pub returns : goal.returns
-returns c = λ seen first. subst (λ ps. IsFirstCovered c.args.matching.now (seen ++ ps) c.loop-empty.first) (take_all c.loop-empty.empty-index c.args.others.now c.loop-empty-test.false) (c.loop-empty.invariant seen first)
+returns c = λ seen first. subst (λ ps. IsFirstCovered c.args.matching.now (seen ++ ps) c.loop-empty.first)
+    (take_all c.loop-empty.empty-index c.args.others.now c.loop-empty-test.false) (c.loop-empty.invariant seen first)

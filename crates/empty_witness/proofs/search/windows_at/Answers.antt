@@ -7,12 +7,14 @@ use Rattle.empty_witness.proofs.Answers.{answer_is_empty, from_the_first, one_mo
 use Rattle.empty_witness.proofs.search.windows_at.Goals as goal
 
 pub answer_at-answer-requires : goal.answer_at-answer-requires
-answer_at-answer-requires c = answer_is_empty c.args.matching.now c.args.empties.now c.loop-index.index c.index-empties-index.result c.requires.empties c.loop-index-test.true c.index-empties-index.is
+answer_at-answer-requires c = answer_is_empty c.args.matching.now c.args.empties.now c.loop-index.index c.index-empties-index.result
+    c.requires.empties c.loop-index-test.true c.index-empties-index.is
 
 pub first_covered-requires-clause-others : goal.first_covered-requires-clause-others
 first_covered-requires-clause-others c =
     let operations = c.args.matching.now in
-    subst (All (IsEmptyAnswerAt operations)) (sym c.split_at.ensures.back) (All-drop (IsEmptyAnswerAt operations) (c.loop-index.index + 1) c.args.empties.now c.requires.empties)
+    subst (All (IsEmptyAnswerAt operations)) (sym c.split_at.ensures.back)
+        (All-drop (IsEmptyAnswerAt operations) (c.loop-index.index + 1) c.args.empties.now c.requires.empties)
 
 pub returns-in-None : goal.returns-in-None
 returns-in-None c =
@@ -22,13 +24,16 @@ returns-in-None c =
     let i = c.loop-index.index in
     let is = subst (λ p. p ≡ get_or empties i p) (sym answer.ensures.place) c.index-empties-index.is in
     let covered = c.in-None.ensures operations c.requires.spans in
-    from_the_first operations empties c.loop-index.gaps.items c.split_at.result.1.now i answer.result c.first_covered.result c.loop-index-test.true is c.loop-index.invariant
-    (record { at = subst (λ p. IsAt operations p answer.result.operation) (sym answer.ensures.place) answer.ensures.at; is_empty = answer.ensures.is_empty; is_covered = covered }) c.split_at.ensures.back c.first_covered.ensures
+    from_the_first operations empties c.loop-index.gaps.items c.split_at.result.1.now i answer.result c.first_covered.result c.loop-index-test.true is
+        c.loop-index.invariant
+    (record { at = subst (λ p. IsAt operations p answer.result.operation) (sym answer.ensures.place) answer.ensures.at; is_empty =
+        answer.ensures.is_empty; is_covered = covered }) c.split_at.ensures.back c.first_covered.ensures
 
 pub loop-index-preserved : goal.loop-index-preserved
 loop-index-preserved c =
     let operations = c.args.matching.now in
     let answer = c.answer_at-answer in
     rw c.in_ok-push-in-Some.ensures.items
-    (one_more_gap operations c.args.empties.now c.loop-index.gaps.items c.loop-index.index c.index-empties-index.result c.in-Some.gap answer.result.operation c.loop-index-test.true c.index-empties-index.is c.loop-index.invariant answer.ensures.at
+    (one_more_gap operations c.args.empties.now c.loop-index.gaps.items c.loop-index.index c.index-empties-index.result c.in-Some.gap
+        answer.result.operation c.loop-index-test.true c.index-empties-index.is c.loop-index.invariant answer.ensures.at
     (c.in-Some.ensures operations c.requires.spans))

@@ -2,7 +2,8 @@ use Rattle.std.proofs.Common.{get_or, refl, sym, subst, arith}
 use Rattle.std.proofs.lemmas.List.{get_or_default}
 use Rattle.empty_witness.specs.declared.spans.Span.{Span}
 use Rattle.empty_witness.specs.Spans.{AreJoined}
-use Rattle.empty_witness.proofs.Joined.{IsJoinedSoFar, starts, first_is_least, next_is_least, comes_later, stay_holds_some, with_next, joins, begins_anew, all_seen, all_joined}
+use Rattle.empty_witness.proofs.Joined.{IsJoinedSoFar, starts, first_is_least, next_is_least, comes_later, stay_holds_some, with_next, joins}
+use Rattle.empty_witness.proofs.Joined.{begins_anew, all_seen, all_joined}
 use Rattle.empty_witness.proofs.spans.join_spans.Goals as goal
 use Rattle.empty_witness.proofs.spans.join_spans.Goals.{then-stay-last, else-stay-last+in_ok-push}
 
@@ -37,7 +38,8 @@ loop-stay-preserved c =
       | else-stay-last+in_ok-push w ↦
           rw (w.spans-is, w.in_ok-push.ensures.items, w.last-is)
           (record {
-            joined = with_next stays rest first same i stay within is _ stay (begins_anew _ c.loop-stay.spans.items last stay c.loop-stay.invariant.joined w.if-stay-last.false some);
+            joined = with_next stays rest first same i stay within is _ stay
+                (begins_anew _ c.loop-stay.spans.items last stay c.loop-stay.invariant.joined w.if-stay-last.false some);
             rise = next_is_least stays rest first same i stay within is c.requires.rise;
           })
     ]
@@ -47,4 +49,5 @@ returns c =
     subst (AreJoined c.args.stays.now) (sym c.in_ok-push-2.ensures.items)
     (all_joined c.args.stays.now c.loop-stay.spans.items c.loop-stay.last
     (subst (λ seen. IsJoinedSoFar seen c.loop-stay.spans.items c.loop-stay.last)
-    (all_seen c.args.stays.now c.in-Some.rest.now c.in-Some.first.now c.in-Some.ensures.cases.0 c.loop-stay.stay-index c.loop-stay-test.false) c.loop-stay.invariant.joined))
+    (all_seen c.args.stays.now c.in-Some.rest.now c.in-Some.first.now c.in-Some.ensures.cases.0 c.loop-stay.stay-index c.loop-stay-test.false)
+        c.loop-stay.invariant.joined))

@@ -10,11 +10,14 @@ use Rattle.linearizer.proofs.placing.place_empties.Goals.{After-place}
 
 -- the place and the gap of this turn
 pair : (c : After-place) → (length c.loop-id.yielded < length c.empties.result.now) × (length c.loop-id.yielded < length c.args.gaps.now)
-    × ((d : ℕ) → c.in-Some.id.now ≡ get_or c.empties.result.now (length c.loop-id.yielded) d) × ((d : ℕ) → c.in-Some.gap.now ≡ get_or c.args.gaps.now (length c.loop-id.yielded) d)
-pair c = zip_turn c.empties.result.now c.args.gaps.now c.loop-id.yielded c.into_iter-id-iterator.result c.loop-id.id-iterator c.next.new.self c.next.result (search rules) (search rules) c.loop-id.yielded_by (c.in-Some.id, c.in-Some.gap) c.in-Some.is c.next.ensures.steps
+    × ((d : ℕ) → c.in-Some.id.now ≡ get_or c.empties.result.now (length c.loop-id.yielded) d)
+        × ((d : ℕ) → c.in-Some.gap.now ≡ get_or c.args.gaps.now (length c.loop-id.yielded) d)
+pair c = zip_turn c.empties.result.now c.args.gaps.now c.loop-id.yielded c.into_iter-id-iterator.result c.loop-id.id-iterator c.next.new.self
+    c.next.result (search rules) (search rules) c.loop-id.yielded_by (c.in-Some.id, c.in-Some.gap) c.in-Some.is c.next.ensures.steps
 
 turn : (c : After-place) → IsNamed c.args.matching.now (filter is_empty_answer c.args.matching.now) (length c.loop-id.yielded) c.place.result
-turn c = named _ _ c.empties.result.now _ _ c.empties.ensures (slice_get_read _ _ _ _ refl (pair c).0 ((pair c).2 c.in-Some.id.now) ∙ ap Some (sym c.place.ensures))
+turn c = named _ _ c.empties.result.now _ _ c.empties.ensures
+    (slice_get_read _ _ _ _ refl (pair c).0 ((pair c).2 c.in-Some.id.now) ∙ ap Some (sym c.place.ensures))
 
 within : (c : After-place) → c.place.result < length c.operations-operations.result.now
 within c = named_within _ _ _ _ _ (turn c) c.operations-operations.ensures.operations
@@ -33,9 +36,11 @@ loop-id-preserved c =
     let of_place = (goal.at.loop-id-preserved c).After-place in
     let free = gap_beside _ _ c.args.gaps.now _ c.in-Some.gap.now 0 _ c.requires (turn of_place).is_listed ((pair of_place).3 0) in
     rw (length_push c.loop-id.yielded (c.in-Some.id, c.in-Some.gap), c.in_ok-push.ensures.items)
-    (adds_empty _ _ _ _ _ _ _ _ _ (turn of_place) c.loop-id.invariant c.operations-operations.ensures.operations free (c.idle.ensures.operation ∙ sym c.place.ensures) c.idle.ensures.position)
+    (adds_empty _ _ _ _ _ _ _ _ _ (turn of_place) c.loop-id.invariant c.operations-operations.ensures.operations free
+        (c.idle.ensures.operation ∙ sym c.place.ensures) c.idle.ensures.position)
 
 pub returns : goal.returns
 returns c =
-    let long = zip_end c.empties.result.now c.args.gaps.now c.loop-id.yielded c.into_iter-id-iterator.result c.loop-id.id-iterator c.next.new.self c.next.result (search rules) (search rules) c.loop-id.yielded_by c.in-None.is c.next.ensures.steps in
+    let long = zip_end c.empties.result.now c.args.gaps.now c.loop-id.yielded c.into_iter-id-iterator.result c.loop-id.id-iterator c.next.new.self
+        c.next.result (search rules) (search rules) c.loop-id.yielded_by c.in-None.is c.next.ensures.steps in
     adds_all _ _ _ _ _ _ _ c.empties.ensures c.requires long c.loop-id.invariant

@@ -8,7 +8,8 @@ use Rattle.linearizer.proofs.placing.place_refused.Goals.{After-place}
 
 -- the operation of this turn
 turn : (c : After-place) → IsNamed c.args.matching.now (filter is_refused c.args.matching.now) c.loop-id.id-index c.place.result
-turn c = named _ _ c.refused-id-items.result.now _ _ c.refused-id-items.ensures (slice_get_read _ _ _ _ refl c.loop-id-test.true c.id-item.is ∙ ap Some (sym c.place.ensures))
+turn c = named _ _ c.refused-id-items.result.now _ _ c.refused-id-items.ensures
+    (slice_get_read _ _ _ _ refl c.loop-id-test.true c.id-item.is ∙ ap Some (sym c.place.ensures))
 
 within : (c : After-place) → c.place.result < length c.operations-operations.result.now
 within c = named_within _ _ _ _ _ (turn c) c.operations-operations.ensures.operations
@@ -25,4 +26,5 @@ bounds-operations-place c = within c
 pub loop-id-preserved : goal.loop-id-preserved
 loop-id-preserved c =
     let of_place = (goal.at.loop-id-preserved c).After-place in
-    rw c.in_ok-push.ensures.items (adds_refused _ _ _ _ _ _ _ _ (turn of_place) c.loop-id.invariant c.operations-operations.ensures.operations (c.idle.ensures.operation ∙ sym c.place.ensures) c.idle.ensures.position)
+    rw c.in_ok-push.ensures.items (adds_refused _ _ _ _ _ _ _ _ (turn of_place) c.loop-id.invariant c.operations-operations.ensures.operations
+        (c.idle.ensures.operation ∙ sym c.place.ensures) c.idle.ensures.position)

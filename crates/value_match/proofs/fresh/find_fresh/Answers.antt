@@ -10,17 +10,20 @@ abbrev nowhere : Operation
 nowhere = record { call = 0; ret = 0; thread = 0; kind = Enq 0 }
 
 pub loop-place-preserved-then-not-is_fresh : goal.loop-place-preserved-then-not-is_fresh
-loop-place-preserved-then-not-is_fresh c = first_skip_at _ _ _ nowhere _ _ c.requires.complete c.requires.sources c.loop-place-test.true c.if-not-is_fresh.true c.is_fresh.ensures c.loop-place.invariant
+loop-place-preserved-then-not-is_fresh c = first_skip_at _ _ _ nowhere _ _ c.requires.complete c.requires.sources c.loop-place-test.true
+    c.if-not-is_fresh.true c.is_fresh.ensures c.loop-place.invariant
 
 pub sooner-requires-clause-place : goal.sooner-requires-clause-place
 sooner-requires-clause-place c = first_in_range _ _ _ _ c.loop-place.invariant
 
 pub loop-place-preserved : goal.loop-place-preserved
-loop-place-preserved c = first_more_at _ _ _ nowhere _ _ _ c.loop-place-test.true c.if-not-is_fresh.false c.is_fresh.ensures c.sooner.ensures.none c.sooner.ensures.some c.loop-place.invariant
+loop-place-preserved c = first_more_at _ _ _ nowhere _ _ _ c.loop-place-test.true c.if-not-is_fresh.false c.is_fresh.ensures c.sooner.ensures.none
+    c.sooner.ensures.some c.loop-place.invariant
 
 pub returns-in_err-deq : goal.returns-in_err-deq
 returns-in_err-deq c =
-    let none = none_fresh _ c.args.sources.now _ c.loop-place-test.false (subst (IsFirstFresh c.args.operations.now c.args.sources.now c.loop-place.place) c.in_err-deq.was c.loop-place.invariant) in
+    let none = none_fresh _ c.args.sources.now _ c.loop-place-test.false
+        (subst (IsFirstFresh c.args.operations.now c.args.sources.now c.loop-place.place) c.in_err-deq.was c.loop-place.invariant) in
     rw c.from_residual.ensures none
 
 pub fresh_at-requires : goal.fresh_at-requires
