@@ -1,5 +1,6 @@
 -- How far the seal has come.
-use Rattle.std.proofs.Common.{◌≡◌, ℕ, suc, ◌+◌, List, [], ◌∷◌, ◌++◌, length, map, refl, ap, sym, subst, ◌∙◌, arith, append_assoc, length-append, add-one, append-nil}
+use Rattle.std.proofs.Common.{◌≡◌, ℕ, suc, ◌+◌, List, [], ◌∷◌, ◌++◌, length, map, refl, ap, sym, subst, ◌∙◌, arith, append_assoc, length-append}
+use Rattle.std.proofs.Common.{add-one, append-nil}
 use Rattle.std.proofs.lemmas.List.{map-append}
 use Rattle.std.specs.List.{AllZip, range_with_len}
 use Rattle.tickets.specs.Views.{numbers_below}
@@ -24,7 +25,8 @@ head_same x y xs ys e = cc
 tail_same : (x y : ℕ) (xs ys : List ℕ) → x ∷ xs ≡ y ∷ ys → xs ≡ ys
 tail_same x y xs ys e = cc
 
-module _ (tokens : List TokenView) (rings rings' : List DrainView) (left left' : List TokenView) (lists : List (List Event)) (r : DrainView) (t : TokenView) (p : IsSealing tokens rings left lists) (next_ring : rings ≡ r ∷ rings') (next_token : left ≡ t ∷ left') where
+module _ (tokens : List TokenView) (rings rings' : List DrainView) (left left' : List TokenView) (lists : List (List Event)) (r : DrainView)
+    (t : TokenView) (p : IsSealing tokens rings left lists) (next_ring : rings ≡ r ∷ rings') (next_token : left ≡ t ∷ left') where
   ordered : r.thread ∷ map (λ (ring : DrainView). ring.thread) rings' ≡ length p.done ∷ range_with_len (length p.done + 1) (length rings')
   ordered = subst (λ (rs : List DrainView). map (λ (ring : DrainView). ring.thread) rs ≡ range_with_len (length p.done) (length rs)) next_ring p.order
 
@@ -32,14 +34,16 @@ module _ (tokens : List TokenView) (rings rings' : List DrainView) (left left' :
   own_place = head_same _ _ _ _ ordered
 
   pub fits_next : Fits r t
-  fits_next = (subst (λ (ts : List TokenView). AllZip Fits (r ∷ rings') ts) next_token (subst (λ (rs : List DrainView). AllZip Fits rs left) next_ring p.fits)).0
+  fits_next = (subst (λ (ts : List TokenView). AllZip Fits (r ∷ rings') ts) next_token
+      (subst (λ (rs : List DrainView). AllZip Fits rs left) next_ring p.fits)).0
 
   pub seals_next : (events : List Event) → events ≡ t.sent → t.thread ≡ r.thread → IsSealing tokens rings' left' (lists ++ events ∷ [])
   seals_next events all own = record {
     done = p.done ++ t ∷ [];
     tokens_are = p.tokens_are ∙ ap (λ l. p.done ++ l) next_token ∙ sym (append_assoc p.done (t ∷ []) left');
     fits = (subst (λ (ts : List TokenView). AllZip Fits (r ∷ rings') ts) next_token (subst (λ (rs : List DrainView). AllZip Fits rs left) next_ring p.fits)).1;
-    sealed = ap (λ l. l ++ events ∷ []) p.sealed ∙ ap (λ e. map (λ (token : TokenView). token.sent) p.done ++ e ∷ []) all ∙ sym (map-append (λ (token : TokenView). token.sent) p.done (t ∷ []));
+    sealed = ap (λ l. l ++ events ∷ []) p.sealed ∙ ap (λ e. map (λ (token : TokenView). token.sent) p.done ++ e ∷ []) all
+        ∙ sym (map-append (λ (token : TokenView). token.sent) p.done (t ∷ []));
     own =
         map-append (λ (token : TokenView). token.thread) p.done (t ∷ [])
         ∙ ap (λ l. l ++ t.thread ∷ []) p.own
@@ -80,15 +84,18 @@ none_left [] fits = refl
 none_left (t ∷ ts) fits = absurd fits
 
 -- where no token is left, each was of its place's thread
-pub all_certified : (tokens : List TokenView) (ends rings : List DrainView) (left : List TokenView) (lists : List (List Event)) → AllZip Fits ends tokens → AreInOrder ends → IsSealing tokens rings left lists → left ≡ [] → threads_of_tokens tokens ≡ threads_of ends
+pub all_certified : (tokens : List TokenView) (ends rings : List DrainView) (left : List TokenView) (lists : List (List Event))
+    → AllZip Fits ends tokens → AreInOrder ends → IsSealing tokens rings left lists → left ≡ [] → threads_of_tokens tokens ≡ threads_of ends
 all_certified tokens ends rings left lists fits order p none =
     let all : tokens ≡ p.done = p.tokens_are ∙ ap (λ (l : List TokenView). p.done ++ l) none ∙ append-nil p.done in
     let long : length p.done ≡ length ends = sym (ap length all) ∙ AllZip-long Fits ends tokens fits in
     ap threads_of_tokens all ∙ p.own ∙ ap numbers_below long ∙ sym order
 
 -- where no ring is left, no token is
-pub certified_at_end : (tokens : List TokenView) (ends rings : List DrainView) (left : List TokenView) (lists : List (List Event)) → AllZip Fits ends tokens → AreInOrder ends → IsSealing tokens rings left lists → length rings ≡ 0 → threads_of_tokens tokens ≡ threads_of ends
-certified_at_end tokens ends rings left lists fits order p none = all_certified tokens ends rings left lists fits order p (none_left left (subst (λ (rs : List DrainView). AllZip Fits rs left) (empty rings none) p.fits))
+pub certified_at_end : (tokens : List TokenView) (ends rings : List DrainView) (left : List TokenView) (lists : List (List Event))
+    → AllZip Fits ends tokens → AreInOrder ends → IsSealing tokens rings left lists → length rings ≡ 0 → threads_of_tokens tokens ≡ threads_of ends
+certified_at_end tokens ends rings left lists fits order p none =
+    all_certified tokens ends rings left lists fits order p (none_left left (subst (λ (rs : List DrainView). AllZip Fits rs left) (empty rings none) p.fits))
   where
     empty : (xs : List DrainView) → length xs ≡ 0 → xs ≡ []
     empty [] e = refl

@@ -1,5 +1,6 @@
 -- Different operations of a complete history have different tickets, and enqueue different values.
-use Rattle.std.proofs.Common.{◌≡◌, ◌≢◌, ℕ, zero, suc, ◌<◌, ◌≤◌, ◌⊎◌, Bool, true, false, cond, List, [], ◌∷◌, length, get_or, map, Option, Some, None, refl, sym, ◌∙◌, ap, subst, inl, inr, arith, nat_eq}
+use Rattle.std.proofs.Common.{◌≡◌, ◌≢◌, ℕ, zero, suc, ◌<◌, ◌≤◌, ◌⊎◌, Bool, true, false, cond, List, [], ◌∷◌, length, get_or, map, Option, Some, None}
+use Rattle.std.proofs.Common.{refl, sym, ◌∙◌, ap, subst, inl, inr, arith, nat_eq}
 use Rattle.std.specs.Prelude.{AllPairs, Contains, find, slice_get}
 use Rattle.std.specs.List.{cons_option}
 use Rattle.std.proofs.lemmas.Bool.{eqb-true, eq-eqb}
@@ -33,7 +34,8 @@ pub contains_at : {X : Type 0} (xs : List X) (i : ℕ) (x : X) → slice_get xs 
 contains_at xs i x at = (i, slice_get_within xs i x at, get_or_from_slice_get xs i x x at)
 
 -- what holds of each two elements holds of those at two places
-pub pairs_at : {X : Type 0} (R : X → X → Type 0) (xs : List X) (i j : ℕ) (x y : X) → AllPairs R xs → i < j → slice_get xs i ≡ Some x → slice_get xs j ≡ Some y → R x y
+pub pairs_at : {X : Type 0} (R : X → X → Type 0) (xs : List X) (i j : ℕ) (x y : X) → AllPairs R xs → i < j → slice_get xs i ≡ Some x
+    → slice_get xs j ≡ Some y → R x y
 pairs_at R xs i j x y pairs below at_i at_j =
     let here = pairs i j x below (slice_get_within xs j y at_j) in
     subst (λ a. R a y) (get_or_from_slice_get xs i x x at_i) (subst (λ b. R (get_or xs i x) b) (get_or_from_slice_get xs j y x at_j) here)
@@ -91,7 +93,8 @@ one_later e later o t = record {
   none_between = between t;
 }
   where
-    between : (t : IsTraced later o) (k : ℕ) (x : Event) → suc t.called_at < k → k < suc t.returned_at → slice_get (e ∷ later) k ≡ Some x → nat_eq x.thread t.call.thread ≡ false
+    between : (t : IsTraced later o) (k : ℕ) (x : Event) → suc t.called_at < k → k < suc t.returned_at → slice_get (e ∷ later) k ≡ Some x
+        → nat_eq x.thread t.call.thread ≡ false
     between t zero x above below at = absurd (omega arith)
     between t (suc k) x above below at = t.none_between k x (omega arith) (omega arith) at
 
@@ -123,7 +126,8 @@ pub traced : (events : List Event) (o : Operation) → Contains (operations_of e
 traced [] o among = absurd (not_in_none o among)
 traced (e ∷ later) o among = join (traced later o) (operation_of e (find (λ r. nat_eq r.thread e.thread) later)) refl among
   where
-    join : (Contains (operations_of later) o → IsTraced later o) → (made : Option Operation) → operation_of e (find (λ r. nat_eq r.thread e.thread) later) ≡ made
+    join : (Contains (operations_of later) o → IsTraced later o) → (made : Option Operation)
+        → operation_of e (find (λ r. nat_eq r.thread e.thread) later) ≡ made
         → Contains (cons_option made (operations_of later)) o → IsTraced (e ∷ later) o
     join more None same among' = one_later e later o (more among')
     join more (Some x) same among' =
@@ -133,7 +137,8 @@ traced (e ∷ later) o among = join (traced later o) (operation_of e (find (λ r
         ]
 
 -- events with one ticket are one event, at one place
-pub same_event : (events : List Event) (i j : ℕ) (e r : Event) → TicketsRise events → slice_get events i ≡ Some e → slice_get events j ≡ Some r → e.ticket ≡ r.ticket → i ≡ j
+pub same_event : (events : List Event) (i j : ℕ) (e r : Event) → TicketsRise events → slice_get events i ≡ Some e → slice_get events j ≡ Some r
+    → e.ticket ≡ r.ticket → i ≡ j
 same_event events i j e r rise at_i at_j same =
     let order : (i < j) ⊎ ((i ≡ j) ⊎ (j < i)) = grind arith in
     elim order [
@@ -191,7 +196,8 @@ pub calls_rise : (events : List Event) → TicketsRise events → AllPairs (λ x
 calls_rise [] rise = λ i j d below within. absurd (omega arith)
 calls_rise (e ∷ later) rise = join (calls_rise later (rises_later e later rise)) (operation_of e (find (λ r. nat_eq r.thread e.thread) later)) refl
   where
-    join : AllPairs (λ x y. x.call < y.call) (operations_of later) → (made : Option Operation) → operation_of e (find (λ r. nat_eq r.thread e.thread) later) ≡ made
+    join : AllPairs (λ x y. x.call < y.call) (operations_of later) → (made : Option Operation)
+        → operation_of e (find (λ r. nat_eq r.thread e.thread) later) ≡ made
         → AllPairs (λ x y. x.call < y.call) (cons_option made (operations_of later))
     join more None same = more
     join more (Some o) same = pairs
@@ -209,7 +215,8 @@ calls_rise (e ∷ later) rise = join (calls_rise later (rises_later e later rise
         pairs (suc i) (suc j) d below within = more i j d (omega arith) (omega arith)
 
 -- operations with one call ticket are one
-pub same_call : (operations : List Operation) (x y : Operation) → AreComplete operations → Contains operations x → Contains operations y → x.call ≡ y.call → x ≡ y
+pub same_call : (operations : List Operation) (x y : Operation) → AreComplete operations → Contains operations x → Contains operations y
+    → x.call ≡ y.call → x ≡ y
 same_call operations x y complete in_x in_y same =
     let rise : AllPairs (λ x y. x.call < y.call) operations = rw complete.2 (calls_rise complete.0 complete.1.tickets_rise) in
     let at_x = place_of operations x in_x in
@@ -224,12 +231,14 @@ same_call operations x y complete in_x in_y same =
 trace_of : (operations : List Operation) (o : Operation) (complete : AreComplete operations) → Contains operations o → IsTraced complete.0 o
 trace_of operations o complete among = traced complete.0 o (subst (λ os. Contains os o) complete.2 among)
 
-pub return_differs_from_call : (operations : List Operation) (x y : Operation) → AreComplete operations → Contains operations x → Contains operations y → x.ret ≢ y.call
+pub return_differs_from_call : (operations : List Operation) (x y : Operation) → AreComplete operations → Contains operations x
+    → Contains operations y → x.ret ≢ y.call
 return_differs_from_call operations x y complete in_x in_y =
     return_is_no_call complete.0 complete.1.tickets_rise x y (trace_of operations x complete in_x) (trace_of operations y complete in_y)
 
 -- operations with one return ticket are one
-pub same_return : (operations : List Operation) (x y : Operation) → AreComplete operations → Contains operations x → Contains operations y → x.ret ≡ y.ret → x ≡ y
+pub same_return : (operations : List Operation) (x y : Operation) → AreComplete operations → Contains operations x → Contains operations y
+    → x.ret ≡ y.ret → x ≡ y
 same_return operations x y complete in_x in_y same =
     same_call operations x y complete in_x in_y
     (same_return_same_call complete.0 complete.1.tickets_rise x y (trace_of operations x complete in_x) (trace_of operations y complete in_y) same)
@@ -238,13 +247,15 @@ pub return_in_range : (operations : List Operation) (o : Operation) → AreCompl
 return_in_range operations o complete among =
     let t = trace_of operations o complete among in
     let bound = complete.1.tickets_in_range t.returned_at t.answer (slice_get_within complete.0 t.returned_at t.answer t.at_return) in
-    let here : t.answer.ticket ≤ MAX_TICKET = subst (λ e. e.ticket ≤ MAX_TICKET) (get_or_from_slice_get complete.0 t.returned_at t.answer t.answer t.at_return) bound in
+    let here : t.answer.ticket ≤ MAX_TICKET = subst (λ e. e.ticket ≤ MAX_TICKET)
+        (get_or_from_slice_get complete.0 t.returned_at t.answer t.answer t.at_return) bound in
     omega (arith, t.made.returned)
 
 pub call_before_return : (operations : List Operation) (o : Operation) → AreComplete operations → Contains operations o → o.call < o.ret
 call_before_return operations o complete among =
     let t = trace_of operations o complete among in
-    let less = pairs_at (λ x y. x.ticket < y.ticket) complete.0 t.called_at t.returned_at t.call t.answer complete.1.tickets_rise t.in_order t.at_call t.at_return in
+    let less = pairs_at (λ x y. x.ticket < y.ticket) complete.0 t.called_at t.returned_at t.call t.answer complete.1.tickets_rise t.in_order t.at_call
+        t.at_return in
     omega (arith, t.made.called, t.made.returned)
 
 kind_at : (xs : List Operation) (i : ℕ) (o : Operation) → slice_get xs i ≡ Some o → slice_get (map (λ o. o.kind) xs) i ≡ Some o.kind
@@ -256,7 +267,8 @@ calls_it : (v : ℕ) (k : OpKind) → k ≡ Enq v → calls_of_kind v k ≡ 1
 calls_it v k e = rw (e, eq-eqb v v refl)
 
 -- enqueues of one value are one
-pub same_enqueue : (operations : List Operation) (x y : Operation) (v : ℕ) → AreComplete operations → Did operations x (Enq v) → Did operations y (Enq v) → x ≡ y
+pub same_enqueue : (operations : List Operation) (x y : Operation) (v : ℕ) → AreComplete operations → Did operations x (Enq v)
+    → Did operations y (Enq v) → x ≡ y
 same_enqueue operations x y v complete did_x did_y =
     let at_x = place_of operations x did_x.0 in
     let at_y = place_of operations y did_y.0 in
@@ -273,7 +285,8 @@ calls_for v o (inl e) = rw (e, eq-eqb v v refl)
 calls_for v o (inr e) = rw (e, eq-eqb v v refl)
 
 -- calls to enqueue one value are one
-pub same_value_call : (operations : List Operation) (x y : Operation) (v : ℕ) → AreComplete operations → Contains operations x → Contains operations y → CallsFor x v → CallsFor y v → x ≡ y
+pub same_value_call : (operations : List Operation) (x y : Operation) (v : ℕ) → AreComplete operations → Contains operations x → Contains operations y
+    → CallsFor x v → CallsFor y v → x ≡ y
 same_value_call operations x y v complete in_x in_y for_x for_y =
     let at_x = place_of operations x in_x in
     let at_y = place_of operations y in_y in

@@ -1,5 +1,7 @@
 -- Values that no two calls share.
-use Rattle.std.proofs.Common.{◌≡◌, ◌≢◌, ℕ, zero, suc, ◌+◌, ◌≤◌, ◌<◌, ◌||◌, ◌↔◌, Bool, true, false, cond, List, [], ◌∷◌, ◌++◌, length, get_or, take, drop, Option, Some, None, IsTrue, refl, sym, ◌∙◌, ap, subst, inl, inr, arith, nat_eq, nat_lt, length-append, get_or-set_other, get_or-set_same, length-set, set}
+use Rattle.std.proofs.Common.{◌≡◌, ◌≢◌, ℕ, zero, suc, ◌+◌, ◌≤◌, ◌<◌, ◌||◌, ◌↔◌, Bool, true, false, cond, List, [], ◌∷◌, ◌++◌, length, get_or, take}
+use Rattle.std.proofs.Common.{drop, Option, Some, None, IsTrue, refl, sym, ◌∙◌, ap, subst, inl, inr, arith, nat_eq, nat_lt, length-append}
+use Rattle.std.proofs.Common.{get_or-set_other, get_or-set_same, length-set, set}
 use Rattle.std.specs.Prelude.{AllPairs, IsPermutation, slice_get}
 use Rattle.std.specs.Option.{option_map_or}
 use Rattle.std.specs.Ordering.{nat_cmp}
@@ -36,10 +38,12 @@ distinct_moved xs ys moved distinct i j d below within same =
     eqb-false _ _ (apart_from_distinct nat_eq ys i j d (IsDistinct-IsPermutation nat_eq nat_eq_flips xs ys moved apart) below within) same
 
 -- of sorted numbers, the neighbours tell
-pub distinct_from_sorted : (xs ys : List ℕ) (rises : Bool) → IsPermutation xs ys → IsSorted nat_cmp ys → IsAllAdjacentAnswer (λ x y b. b ≡ nat_lt x y) ys rises → IsTrue rises ↔ AreDistinct xs
+pub distinct_from_sorted : (xs ys : List ℕ) (rises : Bool) → IsPermutation xs ys → IsSorted nat_cmp ys
+    → IsAllAdjacentAnswer (λ x y b. b ≡ nat_lt x y) ys rises → IsTrue rises ↔ AreDistinct xs
 distinct_from_sorted xs ys true moved sorted answer =
     let strictly = sorted_from_strictly_increasing ys (λ k within. ltb-true _ _ (sym (answer k 0 within))) in
-    (λ rises. distinct_moved ys xs (IsPermutation-sym xs ys moved) (λ i j d below within same. let lt = below_from_sorted ys i j d strictly below within in omega arith), λ distinct. refl)
+    (λ rises. distinct_moved ys xs (IsPermutation-sym xs ys moved)
+        (λ i j d below within same. let lt = below_from_sorted ys i j d strictly below within in omega arith), λ distinct. refl)
 distinct_from_sorted xs ys false moved sorted answer = (
   λ rises. absurd (false≢true rises),
   λ distinct.
@@ -67,7 +71,8 @@ was_called_is (e ∷ events) v = join (called_value e.what) (was_called_is event
     join (Some w) more = ap (λ b. nat_eq w v || b) more
 
 -- the values of the calls stay distinct with a call of a new value
-pub distinct_push : (events : List Event) (e : Event) → AreDistinct (called_values events) → repeats_value events e ≡ false → AreDistinct (called_values (events ++ e ∷ []))
+pub distinct_push : (events : List Event) (e : Event) → AreDistinct (called_values events) → repeats_value events e ≡ false
+    → AreDistinct (called_values (events ++ e ∷ []))
 distinct_push events e distinct new = rw (filter_map-append (λ x. called_value x.what) events (e ∷ [])) (join (called_value e.what) new)
   where
     join : (called : Option ℕ) → option_map_or (was_called events) called false ≡ false → AreDistinct (called_values events ++ cons_option called [])
@@ -83,7 +88,8 @@ distinct_push events e distinct new = rw (filter_map-append (λ x. called_value 
 pub new_from_distinct : (before later : List Event) (e : Event) → AreDistinct (called_values (before ++ e ∷ later)) → repeats_value before e ≡ false
 new_from_distinct before later e distinct = join (called_value e.what) (rw (filter_map-append (λ x. called_value x.what) before (e ∷ later)) at distinct)
   where
-    join : (called : Option ℕ) → AreDistinct (called_values before ++ cons_option called (called_values later)) → option_map_or (was_called before) called false ≡ false
+    join : (called : Option ℕ) → AreDistinct (called_values before ++ cons_option called (called_values later))
+        → option_map_or (was_called before) called false ≡ false
     join None distinct' = refl
     join (Some v) distinct' = false_from_ne_true (was_called before v) repeated
       where
@@ -121,7 +127,8 @@ pub record HasMet (events : List Event) (n : ℕ) (met : ℕ → Bool) : Type 0 
   pub called : (v : ℕ) → met v ≡ was_called (take n events) v
   pub no_repeat : NoRepeatBefore events n
 
-pub repeats_if : (events : List Event) (called : Option ℕ) (e : Event) → called_value e.what ≡ called → repeats_value events e ≡ option_map_or (was_called events) called false
+pub repeats_if : (events : List Event) (called : Option ℕ) (e : Event) → called_value e.what ≡ called
+    → repeats_value events e ≡ option_map_or (was_called events) called false
 repeats_if events called e is = ap (λ o. option_map_or (was_called events) o false) is
 
 or_false : (b : Bool) → (b || false) ≡ b
@@ -134,17 +141,21 @@ or_cond true false = refl
 or_cond false true = refl
 or_cond false false = refl
 
-pub met_none : (events : List Event) (i : ℕ) (e : Event) (met : ℕ → Bool) → slice_get events i ≡ Some e → called_value e.what ≡ None → HasMet events i met → HasMet events (i + 1) met
+pub met_none : (events : List Event) (i : ℕ) (e : Event) (met : ℕ → Bool) → slice_get events i ≡ Some e → called_value e.what ≡ None
+    → HasMet events i met → HasMet events (i + 1) met
 met_none events i e met here none m = record {
   called = λ v. m.called v ∙ sym (was_called-more events i e None v here none ∙ or_false (was_called (take i events) v));
   no_repeat = each_more (λ k x. repeats_value (take k events) x ≡ false) events i e here (repeats_if (take i events) None e none) m.no_repeat;
 }
 
-pub met_new : (events : List Event) (i : ℕ) (e : Event) (v : ℕ) (met after : ℕ → Bool) → slice_get events i ≡ Some e → called_value e.what ≡ Some v → met v ≡ false
+pub met_new : (events : List Event) (i : ℕ) (e : Event) (v : ℕ) (met after : ℕ → Bool) → slice_get events i ≡ Some e → called_value e.what ≡ Some v
+    → met v ≡ false
     → ((q : ℕ) → after q ≡ cond (nat_eq v q) true (met q)) → HasMet events i met → HasMet events (i + 1) after
 met_new events i e v met after here calls new adds m = record {
-  called = λ q. adds q ∙ ap (cond (nat_eq v q) true) (m.called q) ∙ sym (was_called-more events i e (Some v) q here calls ∙ or_cond (nat_eq v q) (was_called (take i events) q));
-  no_repeat = each_more (λ k x. repeats_value (take k events) x ≡ false) events i e here (repeats_if (take i events) (Some v) e calls ∙ sym (m.called v) ∙ new) m.no_repeat;
+  called = λ q. adds q ∙ ap (cond (nat_eq v q) true) (m.called q)
+      ∙ sym (was_called-more events i e (Some v) q here calls ∙ or_cond (nat_eq v q) (was_called (take i events) q));
+  no_repeat = each_more (λ k x. repeats_value (take k events) x ≡ false) events i e here
+      (repeats_if (take i events) (Some v) e calls ∙ sym (m.called v) ∙ new) m.no_repeat;
 }
 
 -- where all values of the calls differ, no call repeats one
@@ -153,7 +164,8 @@ no_repeat_from_distinct events distinct i e below here =
     new_from_distinct (take i events) (drop (suc i) events) e (subst (λ es. AreDistinct (called_values es)) (cut_at events i e here) distinct)
 
 -- a value that was met is called again
-pub met_again : (events : List Event) (i : ℕ) (e : Event) (v : ℕ) (met : ℕ → Bool) → slice_get events i ≡ Some e → called_value e.what ≡ Some v → met v ≡ true → HasMet events i met → IsFirstRepeat events (Some i)
+pub met_again : (events : List Event) (i : ℕ) (e : Event) (v : ℕ) (met : ℕ → Bool) → slice_get events i ≡ Some e → called_value e.what ≡ Some v
+    → met v ≡ true → HasMet events i met → IsFirstRepeat events (Some i)
 met_again events i e v met here calls again m = (m.no_repeat, (e, here, repeats_if (take i events) (Some v) e calls ∙ sym (m.called v) ∙ again))
 
 -- a walk over the first n events has met no value twice, and each value that it met is below the least that its name may have next
@@ -169,7 +181,8 @@ rises_at_first name events least long = record {
   no_repeat = λ i e below at. absurd (omega arith);
 }
 
-pub rises_none : (name : ℕ → ℕ) (events : List Event) (i : ℕ) (e : Event) (least : List ℕ) → slice_get events i ≡ Some e → called_value e.what ≡ None → RisesTo name events i least → RisesTo name events (i + 1) least
+pub rises_none : (name : ℕ → ℕ) (events : List Event) (i : ℕ) (e : Event) (least : List ℕ) → slice_get events i ≡ Some e → called_value e.what ≡ None
+    → RisesTo name events i least → RisesTo name events (i + 1) least
 rises_none name events i e least here none r = record {
   one_each = r.one_each;
   below = λ v called. r.below v (sym (was_called-more events i e None v here none ∙ or_false (was_called (take i events) v)) ∙ called);
@@ -194,7 +207,8 @@ rises_more name events i e v least here calls fits above r = record {
     each w called = elim (eqb_tells v w) [
       | inl h ↦ subst (λ x. x < get_or (set least (name v) (v + 1)) (name x) 0) h.1 (rw (get_or-set_same least (name v) (v + 1) 0 within) (omega arith))
       | inr h ↦
-          let before : was_called (take i events) w ≡ true = sym (was_called-more events i e (Some v) w here calls ∙ ap (λ b. was_called (take i events) w || b) h.0 ∙ or_false (was_called (take i events) w)) ∙ called in
+          let before : was_called (take i events) w ≡ true = sym (was_called-more events i e (Some v) w here calls
+              ∙ ap (λ b. was_called (take i events) w || b) h.0 ∙ or_false (was_called (take i events) w)) ∙ called in
           let less = r.below w before in
           elim (eqb_tells (name w) (name v)) [
             | inl same ↦ let at : get_or least (name w) 0 ≤ v = rw same.1 above in rw (same.1, get_or-set_same least (name v) (v + 1) 0 within) (omega arith)

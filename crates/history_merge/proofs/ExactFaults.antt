@@ -1,5 +1,6 @@
 -- A list of events is a complete history exactly where it has no fault.
-use Rattle.std.proofs.Common.{◌≡◌, ℕ, true, zero, suc, ◌<◌, ◌≤◌, List, [], ◌∷◌, ◌++◌, length, get_or, take, drop, Option, Some, None, refl, sym, ◌∙◌, subst, inl, inr, arith, nat_eq, length-append}
+use Rattle.std.proofs.Common.{◌≡◌, ℕ, true, zero, suc, ◌<◌, ◌≤◌, List, [], ◌∷◌, ◌++◌, length, get_or, take, drop, Option, Some, None, refl, sym, ◌∙◌}
+use Rattle.std.proofs.Common.{subst, inl, inr, arith, nat_eq, length-append}
 use Rattle.std.specs.Prelude.{All, Contains, MatchOption, slice_get, ⊤}
 use Rattle.std.specs.Option.{option_eq}
 use Rattle.std.specs.List.{last_or}
@@ -16,7 +17,8 @@ use Rattle.event_records.specs.declared.limits.TheConstants.{MAX_TICKET, MAX_THR
 use Rattle.event_records.specs.Turns.{TakesTurns, TicketsRise}
 use Rattle.event_records.specs.Projection.{projection}
 use Rattle.history_merge.specs.declared.fault.HistoryFault.{HistoryFault}
-use Rattle.history_merge.specs.declared.fault.HistoryFault.TheVariants.{TicketOrder, BadThread, CallWhilePending, ReturnWithoutCall, WrongReturn, DuplicateValue, Pending, Memory}
+use Rattle.history_merge.specs.declared.fault.HistoryFault.TheVariants.{TicketOrder, BadThread, CallWhilePending, ReturnWithoutCall, WrongReturn}
+use Rattle.history_merge.specs.declared.fault.HistoryFault.TheVariants.{DuplicateValue, Pending, Memory}
 use Rattle.history_merge.specs.Complete.{IsCompleteHistory, called_values}
 use Rattle.history_merge.specs.Faults.{fault_at, NoFaultBefore, NothingPending, IsFirstFault, IsFirstFaultAt, IsFirstRepeat, repeats_value}
 use Rattle.history_merge.proofs.Distinct.{one_at}
@@ -41,10 +43,12 @@ last_is o e [] d = refl
 last_is o e (x ∷ events) d = last_is (Some e) x events d
 
 -- a ticket above the last is above all
-above_all : (events : List Event) (ticket : ℕ) → TicketsRise events → MatchOption (last_or None events) ⊤ (λ last. last.ticket < ticket) → (k : ℕ) (d : Event) → k < length events → (get_or events k d).ticket < ticket
+above_all : (events : List Event) (ticket : ℕ) → TicketsRise events → MatchOption (last_or None events) ⊤ (λ last. last.ticket < ticket)
+    → (k : ℕ) (d : Event) → k < length events → (get_or events k d).ticket < ticket
 above_all [] ticket rise above k d below = absurd (omega arith)
 above_all (e ∷ events) ticket rise above k d below =
-    let last : (get_or (e ∷ events) (length events) d).ticket < ticket = subst (λ o. MatchOption o ⊤ (λ l. l.ticket < ticket)) (last_is None e events d) above in
+    let last : (get_or (e ∷ events) (length events) d).ticket < ticket =
+        subst (λ o. MatchOption o ⊤ (λ l. l.ticket < ticket)) (last_is None e events d) above in
     elim (cases_lt k (length events)) [
       | inl earlier ↦ let less = rise k (length events) d earlier (omega arith) in omega arith
       | inr here ↦ let same : length events ≡ k = omega arith in subst (λ j. (get_or (e ∷ events) j d).ticket < ticket) same last
@@ -90,12 +94,14 @@ complete_without_fault events none nothing =
       tickets_rise = sound.tickets_rise;
       tickets_in_range = sound.tickets_in_range;
       threads_in_range = sound.threads_in_range;
-      threads_take_turns = λ thread. subst (λ pending. MatchOption pending (TakesTurns (projection thread events)) (λ call. (done : List Event) × (projection thread events ≡ done ++ call ∷ []) × TakesTurns done)) (nothing thread) (sound.turns thread);
+      threads_take_turns = λ thread. subst (λ pending. MatchOption pending (TakesTurns (projection thread events))
+          (λ call. (done : List Event) × (projection thread events ≡ done ++ call ∷ []) × TakesTurns done)) (nothing thread) (sound.turns thread);
       values_are_distinct = sound.values_are_distinct;
     }
 
 -- the same after a walk over all events
-pub complete_after_walk : (events : List Event) (n : ℕ) → length events ≤ n → n ≤ length events → NoFaultBefore events n → NothingPending (take n events) → IsCompleteHistory events
+pub complete_after_walk : (events : List Event) (n : ℕ) → length events ≤ n → n ≤ length events → NoFaultBefore events n
+    → NothingPending (take n events) → IsCompleteHistory events
 complete_after_walk events n all within none nothing =
     complete_without_fault events (λ i e below here. none i e (omega arith) here) (subst NothingPending (take_all n events all) nothing)
 
@@ -123,7 +129,8 @@ may_follow_in before later e complete = record {
         let less = rise (length xs) (suc (length xs)) x (omega arith) within in
         let last = get_or_append_left (x ∷ xs) (e ∷ later) x (length xs) (omega arith) in
         let own = get_or-append_seam (x ∷ xs) e later x in
-        let below : (get_or (x ∷ xs) (length xs) x).ticket < e.ticket = subst (λ l. l.ticket < e.ticket) last (subst (λ r. (get_or ((x ∷ xs) ++ e ∷ later) (length xs) x).ticket < r.ticket) own less) in
+        let below : (get_or (x ∷ xs) (length xs) x).ticket < e.ticket =
+            subst (λ l. l.ticket < e.ticket) last (subst (λ r. (get_or ((x ∷ xs) ++ e ∷ later) (length xs) x).ticket < r.ticket) own less) in
         subst (λ o. MatchOption o ⊤ (λ l. l.ticket < e.ticket)) (sym (last_is None x xs x)) below
 
 pub no_fault_in_complete : (events : List Event) → IsCompleteHistory events → NoFaultBefore events (length events)
@@ -143,14 +150,17 @@ no_first_fault events i fault complete found =
 -- ---- what a walk over the events finds
 
 -- the fault found at a place is the first
-pub first_fault_at : (events : List Event) (i : ℕ) (e : Event) (fault : HistoryFault) → NoFaultBefore events i → slice_get events i ≡ Some e → fault_at (take i events) i e ≡ Some fault → IsFirstFault events fault
+pub first_fault_at : (events : List Event) (i : ℕ) (e : Event) (fault : HistoryFault) → NoFaultBefore events i → slice_get events i ≡ Some e
+    → fault_at (take i events) i e ≡ Some fault → IsFirstFault events fault
 first_fault_at events i e fault none here found =
     let at_place : (f : HistoryFault) → fault_at (take i events) i e ≡ Some f → IsFirstFaultAt events i f = λ f is. (none, (e, here, is)) in
     one_of_rules (λ f. fault_at (take i events) i e ≡ Some f → IsFirstFault events f) (take i events) i e fault found
-    (at_place (TicketOrder i)) (at_place (BadThread i)) (at_place (CallWhilePending i)) (at_place (ReturnWithoutCall i)) (at_place (WrongReturn i)) (at_place (DuplicateValue i)) found
+    (at_place (TicketOrder i)) (at_place (BadThread i)) (at_place (CallWhilePending i)) (at_place (ReturnWithoutCall i)) (at_place (WrongReturn i))
+        (at_place (DuplicateValue i)) found
 
 -- the place of the first repeat tells of each event whether it repeats a value
-pub repeats_at : (events : List Event) (repeat : Option ℕ) (i : ℕ) (e : Event) → IsFirstRepeat events repeat → NoFaultBefore events i → slice_get events i ≡ Some e
+pub repeats_at : (events : List Event) (repeat : Option ℕ) (i : ℕ) (e : Event) → IsFirstRepeat events repeat → NoFaultBefore events i
+    → slice_get events i ≡ Some e
     → option_eq nat_eq repeat (Some i) ≡ repeats_value (take i events) e
 repeats_at events None i e first none here = sym (first i e (slice_get_within events i e here) here)
 repeats_at events (Some j) i e first none here = elim (cases_order j i) [

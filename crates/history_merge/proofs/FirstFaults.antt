@@ -8,7 +8,8 @@ use Rattle.event_records.specs.declared.event.Event.{Event}
 use Rattle.event_records.specs.declared.limits.TheConstants.{MAX_TICKET, MAX_THREAD}
 use Rattle.event_records.specs.Turns.{is_call, answers}
 use Rattle.history_merge.specs.declared.fault.HistoryFault.{HistoryFault}
-use Rattle.history_merge.specs.declared.fault.HistoryFault.TheVariants.{TicketOrder, BadThread, CallWhilePending, ReturnWithoutCall, WrongReturn, DuplicateValue}
+use Rattle.history_merge.specs.declared.fault.HistoryFault.TheVariants.{TicketOrder, BadThread, CallWhilePending, ReturnWithoutCall, WrongReturn}
+use Rattle.history_merge.specs.declared.fault.HistoryFault.TheVariants.{DuplicateValue}
 use Rattle.history_merge.specs.Faults.{fault_at, breaks_ticket_order, answers_pending, repeats_value, pending_call}
 use Rattle.history_merge.specs.Forming.{FitsTurn}
 use Rattle.history_merge.proofs.Turns.{answer_is_return}
@@ -70,7 +71,8 @@ breaks_no_turn (Some call) e fits =
     record { no_call_while_pending = rw returned refl; no_return_without_call = rw returned refl; no_wrong_return = rw (returned, fits) refl }
 
 -- the rule on tickets
-rises_above : (last : Option Event) (e : Event) → option_map_or (λ l. nat_le e.ticket l.ticket) last false ≡ false → MatchOption last ⊤ (λ l. l.ticket < e.ticket)
+rises_above : (last : Option Event) (e : Event) → option_map_or (λ l. nat_le e.ticket l.ticket) last false ≡ false
+    → MatchOption last ⊤ (λ l. l.ticket < e.ticket)
 rises_above None e h = tt
 rises_above (Some last) e h = leb-false e.ticket last.ticket h
 
@@ -81,7 +83,8 @@ not_above (Some last) e h = lt-leb e.ticket last.ticket h
 pub may_follow : (before : List Event) (i : ℕ) (e : Event) → fault_at before i e ≡ None → MayFollow before e
 may_follow before i e none =
     let pending = pending_call e.thread before in
-    let rules = all_false (breaks_ticket_order before e) (nat_lt MAX_THREAD e.thread) (is_call e.what && is_some pending) (not (is_call e.what) && is_none pending)
+    let rules = all_false (breaks_ticket_order before e) (nat_lt MAX_THREAD e.thread) (is_call e.what && is_some pending)
+        (not (is_call e.what) && is_none pending)
     (not (is_call e.what) && not (answers_pending pending e)) (repeats_value before e) _ _ _ _ _ _ none in
     let order = or_parts (nat_lt MAX_TICKET e.ticket) (option_map_or (λ l. nat_le e.ticket l.ticket) (last_or None before) false) rules.first in
     record {
@@ -98,7 +101,8 @@ no_fault before i e m =
     let turn = breaks_no_turn pending e m.fits in
     none_first (breaks_ticket_order before e) (nat_lt MAX_THREAD e.thread) (is_call e.what && is_some pending) (not (is_call e.what) && is_none pending)
     (not (is_call e.what) && not (answers_pending pending e)) (repeats_value before e) _ _ _ _ _ _ (record {
-      first = or_from (nat_lt MAX_TICKET e.ticket) (option_map_or (λ l. nat_le e.ticket l.ticket) (last_or None before) false) (le-ltb MAX_TICKET e.ticket m.ticket_in_range) (not_above (last_or None before) e m.rises);
+      first = or_from (nat_lt MAX_TICKET e.ticket) (option_map_or (λ l. nat_le e.ticket l.ticket) (last_or None before) false)
+          (le-ltb MAX_TICKET e.ticket m.ticket_in_range) (not_above (last_or None before) e m.rises);
       second = le-ltb MAX_THREAD e.thread m.thread_in_range;
       third = turn.no_call_while_pending;
       fourth = turn.no_return_without_call;
@@ -106,7 +110,8 @@ no_fault before i e m =
       sixth = m.is_new;
     })
 
-one_of : (P : HistoryFault → Type 0) (p q r s t u : Bool) (a b c d f g x : HistoryFault) → first_of p q r s t u a b c d f g ≡ Some x → P a → P b → P c → P d → P f → P g → P x
+one_of : (P : HistoryFault → Type 0) (p q r s t u : Bool) (a b c d f g x : HistoryFault) → first_of p q r s t u a b c d f g ≡ Some x → P a → P b → P c
+    → P d → P f → P g → P x
 one_of P true q r s t u a b c d f g x h pa pb pc pd pf pg = let same : a ≡ x = cc in subst P same pa
 one_of P false true r s t u a b c d f g x h pa pb pc pd pf pg = let same : b ≡ x = cc in subst P same pb
 one_of P false false true s t u a b c d f g x h pa pb pc pd pf pg = let same : c ≡ x = cc in subst P same pc

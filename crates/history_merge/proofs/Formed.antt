@@ -1,5 +1,6 @@
 -- What a history in the making keeps, after one more event and at the end.
-use Rattle.std.proofs.Common.{◌≡◌, ◌≢◌, ℕ, ◌<◌, ◌≤◌, Bool, true, false, List, [], ◌∷◌, ◌++◌, length, get_or, set, Option, Some, None, refl, sym, ◌∙◌, ap, subst, inl, inr, arith, nat_eq, append_assoc, length-set, get_or-set_same, get_or-set_other}
+use Rattle.std.proofs.Common.{◌≡◌, ◌≢◌, ℕ, ◌<◌, ◌≤◌, Bool, true, false, List, [], ◌∷◌, ◌++◌, length, get_or, set, Option, Some, None, refl, sym, ◌∙◌}
+use Rattle.std.proofs.Common.{ap, subst, inl, inr, arith, nat_eq, append_assoc, length-set, get_or-set_same, get_or-set_other}
 use Rattle.std.specs.Prelude.{slice_get, option_map, MatchOption, ⊤}
 use Rattle.std.specs.Bool.{then_some}
 use Rattle.std.proofs.lemmas.Bool.Decides.{eqb_tells}
@@ -41,15 +42,19 @@ waits_more : (events : List Event) (e : Event) → option_map (λ found. found.1
     → ((thread : ℕ) → option_map (λ found. found.1) (waiting thread events) ≡ pending_call thread events)
     → (thread : ℕ) → option_map (λ found. found.1) (waiting thread (events ++ e ∷ [])) ≡ pending_call thread (events ++ e ∷ [])
 waits_more events e own waits thread = elim (eqb_tells e.thread thread) [
-  | inl same ↦ subst (λ t. option_map (λ found. found.1) (waiting t (events ++ e ∷ [])) ≡ pending_call t (events ++ e ∷ [])) same.1 (own ∙ sym (pending_call-push_own events e))
+  | inl same ↦ subst (λ t. option_map (λ found. found.1) (waiting t (events ++ e ∷ [])) ≡ pending_call t (events ++ e ∷ [])) same.1
+      (own ∙ sym (pending_call-push_own events e))
   | inr other ↦ ap (option_map (λ found. found.1)) (waits_other thread events e other.0) ∙ waits thread ∙ sym (pending_call-push_other events e thread other.0)
 ]
 
 -- one more call
-pub formed_after_call : (events : List Event) (e : Event) (old new : Forming) (place : ℕ) → place ≡ length old.operations.items → e.thread ≤ MAX_THREAD → is_call e.what ≡ true → pending_call e.thread events ≡ None → HasFormed events old
-    → new.operations.items ≡ old.operations.items ++ operation_so_far e None ∷ [] → new.places ≡ set old.places e.thread place → HasFormed (events ++ e ∷ []) new
+pub formed_after_call : (events : List Event) (e : Event) (old new : Forming) (place : ℕ) → place ≡ length old.operations.items
+    → e.thread ≤ MAX_THREAD → is_call e.what ≡ true → pending_call e.thread events ≡ None → HasFormed events old
+    → new.operations.items ≡ old.operations.items ++ operation_so_far e None ∷ [] → new.places ≡ set old.places e.thread place
+        → HasFormed (events ++ e ∷ []) new
 formed_after_call events e old new place last below call none known added placed = record {
-  operations = added ∙ ap (λ os. os ++ operation_so_far e None ∷ []) known.operations ∙ sym (formed_call events e (none_waits _ (known.waits e.thread ∙ none)) call);
+  operations = added ∙ ap (λ os. os ++ operation_so_far e None ∷ []) known.operations
+      ∙ sym (formed_call events e (none_waits _ (known.waits e.thread ∙ none)) call);
   one_per_thread = rw (placed, length-set) known.one_per_thread;
   waits = waits_more events e (ap (option_map (λ found. found.1)) (waits_call events e call) ∙ rw call refl) known.waits;
   places = places;
@@ -75,7 +80,8 @@ pub record IsCompletedBy (events : List Event) (e : Event) (old : Forming) : Typ
   pub was : (d : Operation) → get_or old.operations.items place d ≡ operation_so_far call None
   pub now : operations_so_far (events ++ e ∷ []) ≡ set old.operations.items place (operation_so_far call (Some e))
 
-pub completed_by : (events : List Event) (e call : Event) (old : Forming) → e.thread ≤ MAX_THREAD → is_call e.what ≡ false → pending_call e.thread events ≡ Some call → HasFormed events old → IsCompletedBy events e old
+pub completed_by : (events : List Event) (e call : Event) (old : Forming) → e.thread ≤ MAX_THREAD → is_call e.what ≡ false
+    → pending_call e.thread events ≡ Some call → HasFormed events old → IsCompletedBy events e old
 completed_by events e call old below returns pending known =
     let waits = waits_for (waiting e.thread events) call (known.waits e.thread ∙ pending) in
     let done = formed_answer events e waits.0 call waits.1 returns in
@@ -89,7 +95,8 @@ completed_by events e call old below returns pending known =
       now = rw known.operations done.operations;
     }
 
-pub formed_after_answer : (events : List Event) (e call : Event) (old new : Forming) → e.thread ≤ MAX_THREAD → is_call e.what ≡ false → pending_call e.thread events ≡ Some call → HasFormed events old
+pub formed_after_answer : (events : List Event) (e call : Event) (old new : Forming) → e.thread ≤ MAX_THREAD → is_call e.what ≡ false
+    → pending_call e.thread events ≡ Some call → HasFormed events old
     → new.operations.items ≡ operations_so_far (events ++ e ∷ []) → new.places ≡ old.places → HasFormed (events ++ e ∷ []) new
 formed_after_answer events e call old new below returns pending known done kept = record {
   operations = done;
@@ -100,7 +107,8 @@ formed_after_answer events e call old new below returns pending known done kept 
   where
     places : (thread : ℕ) → thread ≤ MAX_THREAD → MatchOption (waiting thread (events ++ e ∷ [])) ⊤ (λ found. get_or new.places thread 0 ≡ found.0)
     places thread within = elim (eqb_tells e.thread thread) [
-      | inl same ↦ subst (λ t. MatchOption (waiting t (events ++ e ∷ [])) ⊤ (λ found. get_or new.places t 0 ≡ found.0)) same.1 (rw (waits_answer events e returns) tt)
+      | inl same ↦ subst (λ t. MatchOption (waiting t (events ++ e ∷ [])) ⊤ (λ found. get_or new.places t 0 ≡ found.0)) same.1
+          (rw (waits_answer events e returns) tt)
       | inr other ↦ rw (waits_other thread events e other.0, kept) (known.places thread within)
     ]
 
@@ -116,7 +124,8 @@ some_pending (Some p) e fits returns = (p, refl)
 -- ---- all events
 
 -- in events of one thread that take turns, a call is followed by its answer
-next_in_turns : (before : List Event) (e : Event) (later : List Event) → TakesTurns (before ++ e ∷ later) → is_call e.what ≡ true → (a : Event) × (rest : List Event) × (later ≡ a ∷ rest) × (answers e.what a.what ≡ true)
+next_in_turns : (before : List Event) (e : Event) (later : List Event) → TakesTurns (before ++ e ∷ later) → is_call e.what ≡ true
+    → (a : Event) × (rest : List Event) × (later ≡ a ∷ rest) × (answers e.what a.what ≡ true)
 next_in_turns [] e [] turns call = elim turns [ ]
 next_in_turns [] e (a ∷ rest) turns call = (a, rest, refl, turns.0)
 next_in_turns (c ∷ []) e later turns call = absurd (false≢true (sym (answer_is_return c.what e.what turns.0) ∙ call))
@@ -127,7 +136,8 @@ next_from_projection : (thread : ℕ) (events : List Event) (a : Event) (rest : 
 next_from_projection thread [] a rest h = cc
 next_from_projection thread (e ∷ later) a rest h = join (next_from_projection thread later a rest) (nat_eq e.thread thread) refl
   where
-    join : (projection thread later ≡ a ∷ rest → next_of thread later ≡ Some a) → (own : Bool) → nat_eq e.thread thread ≡ own → next_of thread (e ∷ later) ≡ Some a
+    join : (projection thread later ≡ a ∷ rest → next_of thread later ≡ Some a) → (own : Bool) → nat_eq e.thread thread ≡ own
+        → next_of thread (e ∷ later) ≡ Some a
     join more true own = let is : e ∷ projection thread later ≡ a ∷ rest = rw own at h in let same : e ≡ a = cc in rw own (ap (λ x. Some x) same)
     join more false own = rw own (more (rw own at h))
 

@@ -1,5 +1,6 @@
 -- How one more event changes the operations of the events so far.
-use Rattle.std.proofs.Common.{◌≡◌, ℕ, suc, ◌||◌, ◌⊎◌, ◌≢◌, Bool, true, false, cond, List, [], ◌∷◌, ◌++◌, length, set, Option, Some, None, refl, sym, ◌∙◌, ap, subst, inl, inr, nat_eq}
+use Rattle.std.proofs.Common.{◌≡◌, ℕ, suc, ◌||◌, ◌⊎◌, ◌≢◌, Bool, true, false, cond, List, [], ◌∷◌, ◌++◌, length, set, Option, Some, None, refl, sym}
+use Rattle.std.proofs.Common.{◌∙◌, ap, subst, inl, inr, nat_eq}
 use Rattle.std.specs.Prelude.{find, slice_get}
 use Rattle.std.specs.Option.{option_map_or, option_or}
 use Rattle.std.proofs.lemmas.Bool.Decides.{eqb_tells}
@@ -47,7 +48,8 @@ waits_found thread [] w h = cc
 waits_found thread (e ∷ later) w h = join (waits_found thread later) (waiting thread later) refl (next_of thread later) refl (nat_eq e.thread thread) refl
   where
     join : ((w' : ℕ × Event) → waiting thread later ≡ Some w' → (r : Event) × (next_of thread later ≡ Some r))
-        → (o : Option (ℕ × Event)) → waiting thread later ≡ o → (next : Option Event) → next_of thread later ≡ next → (own : Bool) → nat_eq e.thread thread ≡ own
+        → (o : Option (ℕ × Event)) → waiting thread later ≡ o → (next : Option Event) → next_of thread later ≡ next → (own : Bool)
+            → nat_eq e.thread thread ≡ own
         → (r : Event) × (next_of thread (e ∷ later) ≡ Some r)
     join more o is next is' true own = (e, rw own refl)
     join more (Some w') is next is' false own = let r = more w' is in (r.0, rw own r.1)
@@ -55,7 +57,8 @@ waits_found thread (e ∷ later) w h = join (waits_found thread later) (waiting 
     join more None is None is' false own = absurd (let none : waiting thread (e ∷ later) ≡ None = rw (is, is', own) refl in cc)
 
 -- the operation of a call of another thread, or that has its next event, stays
-same_next : (e : Event) (later : List Event) (r : Event) → (nat_eq r.thread e.thread ≡ false) ⊎ ((x : Event) × (next_of e.thread later ≡ Some x)) → next_of e.thread (later ++ r ∷ []) ≡ next_of e.thread later
+same_next : (e : Event) (later : List Event) (r : Event) → (nat_eq r.thread e.thread ≡ false) ⊎ ((x : Event) × (next_of e.thread later ≡ Some x))
+    → next_of e.thread (later ++ r ∷ []) ≡ next_of e.thread later
 same_next e later r (inl other) = next_other e.thread later r other
 same_next e later r (inr (x, found)) = next_stays e.thread later r x found ∙ sym found
 
@@ -86,7 +89,8 @@ formed_call (e ∷ later) r none call = join (waiting r.thread later) refl (form
             absurd (let some : waiting r.thread (e ∷ later) ≡ Some (0, e) = rw (none', is', mine, is) refl in cc)
 
     join : (o : Option (ℕ × Event)) → waiting r.thread later ≡ o
-        → (waiting r.thread later ≡ None → is_call r.what ≡ true → operations_so_far (later ++ r ∷ []) ≡ operations_so_far later ++ operation_so_far r None ∷ [])
+        → (waiting r.thread later ≡ None → is_call r.what ≡ true → operations_so_far
+            (later ++ r ∷ []) ≡ operations_so_far later ++ operation_so_far r None ∷ [])
         → operations_so_far ((e ∷ later) ++ r ∷ []) ≡ operations_so_far (e ∷ later) ++ operation_so_far r None ∷ []
     join None is more = step (stays is) (more is call) (is_call e.what) refl
     join (Some w) is more = absurd (let some : waiting r.thread (e ∷ later) ≡ Some ((cond (is_call e.what) (suc w.0) w.0), w.1) = rw is refl in cc)
@@ -116,10 +120,12 @@ waits_answer (e ∷ later) r call = join (waits_answer later r call) (next_of r.
 pub waits_other : (thread : ℕ) (events : List Event) (r : Event) → nat_eq r.thread thread ≡ false → waiting thread (events ++ r ∷ []) ≡ waiting thread events
 waits_other thread [] r other = rw other refl
 waits_other thread (e ∷ later) r other =
-    ap (λ o. waits_behind thread e o (next_of thread (later ++ r ∷ []))) (waits_other thread later r other) ∙ ap (waits_behind thread e (waiting thread later)) (next_other thread later r other)
+    ap (λ o. waits_behind thread e o (next_of thread (later ++ r ∷ []))) (waits_other thread later r other)
+        ∙ ap (waits_behind thread e (waiting thread later)) (next_other thread later r other)
 
 -- a return of a thread that has no event there changes no operation
-unanswered : (events : List Event) (r : Event) → next_of r.thread events ≡ None → is_call r.what ≡ false → operations_so_far (events ++ r ∷ []) ≡ operations_so_far events
+unanswered : (events : List Event) (r : Event) → next_of r.thread events ≡ None → is_call r.what ≡ false
+    → operations_so_far (events ++ r ∷ []) ≡ operations_so_far events
 unanswered [] r none call = rw call refl
 unanswered (e ∷ later) r none call = join (unanswered later r) (eqb_tells e.thread r.thread)
   where
@@ -137,12 +143,15 @@ pub record IsAnswered (events : List Event) (r : Event) (place : ℕ) (call : Ev
   pub operations : operations_so_far (events ++ r ∷ []) ≡ set (operations_so_far events) place (operation_so_far call (Some r))
   pub was : slice_get (operations_so_far events) place ≡ Some (operation_so_far call None)
 
-pub formed_answer : (events : List Event) (r : Event) (place : ℕ) (call : Event) → waiting r.thread events ≡ Some (place, call) → is_call r.what ≡ false → IsAnswered events r place call
+pub formed_answer : (events : List Event) (r : Event) (place : ℕ) (call : Event) → waiting r.thread events ≡ Some (place, call)
+    → is_call r.what ≡ false → IsAnswered events r place call
 formed_answer [] r place call waits returns = cc
-formed_answer (e ∷ later) r place call waits returns = join (formed_answer later r) (waiting r.thread later) refl (next_of r.thread later) refl (nat_eq e.thread r.thread) refl (is_call e.what) refl
+formed_answer (e ∷ later) r place call waits returns = join (formed_answer later r) (waiting r.thread later) refl (next_of r.thread later) refl
+    (nat_eq e.thread r.thread) refl (is_call e.what) refl
   where
     join : ((p : ℕ) (c : Event) → waiting r.thread later ≡ Some (p, c) → is_call r.what ≡ false → IsAnswered later r p c)
-        → (o : Option (ℕ × Event)) → waiting r.thread later ≡ o → (next : Option Event) → next_of r.thread later ≡ next → (own : Bool) → nat_eq e.thread r.thread ≡ own
+        → (o : Option (ℕ × Event)) → waiting r.thread later ≡ o → (next : Option Event) → next_of r.thread later ≡ next → (own : Bool)
+            → nat_eq e.thread r.thread ≡ own
         → (called : Bool) → is_call e.what ≡ called → IsAnswered (e ∷ later) r place call
     join more (Some (p, c)) is next is' own mine false is_return =
         let found : ◌≡◌ {A = Option (ℕ × Event)} (Some (p, c)) (Some (place, call)) = rw (is, is_return) at waits in
@@ -173,7 +182,8 @@ formed_answer (e ∷ later) r place call waits returns = join (formed_answer lat
         let same_thread : r.thread ≡ e.thread = sym (eq_of mine) in
         let none : next_of e.thread later ≡ None = subst (λ t. next_of t later ≡ None) same_thread is' in
         let now : next_of e.thread (later ++ r ∷ []) ≡ Some r = subst (λ t. next_of t (later ++ r ∷ []) ≡ Some r) same_thread (next_new later r is') in
-        record { operations = rw (is_called, ← same_place, ← same_call, now, unanswered later r is' returns) refl; was = rw (is_called, ← same_place, ← same_call, none) refl }
+        record { operations = rw (is_called, ← same_place, ← same_call, now, unanswered later r is' returns) refl; was =
+            rw (is_called, ← same_place, ← same_call, none) refl }
       where
         eq_of : nat_eq e.thread r.thread ≡ true → e.thread ≡ r.thread
         eq_of h = elim (eqb_tells e.thread r.thread) [ inl same ↦ same.1 | inr other ↦ absurd (false≢true (sym other.0 ∙ h)) ]
@@ -202,7 +212,8 @@ called_in_operations [] v = refl
 called_in_operations (e ∷ later) v = join e.what refl (next_of e.thread later) (called_in_operations later v)
   where
     join : (what : What) → e.what ≡ what → (next : Option Event) → was_called later v ≡ is_called_in (operations_so_far later) v
-        → (option_map_or (λ w. nat_eq w v) (called_value what) false || was_called later v) ≡ is_called_in (cond (is_call what) (operation_so_far (record e { what = what }) next ∷ operations_so_far later) (operations_so_far later)) v
+        → (option_map_or (λ w. nat_eq w v) (called_value what) false || was_called later v) ≡ is_called_in
+            (cond (is_call what) (operation_so_far (record e { what = what }) next ∷ operations_so_far later) (operations_so_far later)) v
     join (CallEnq w) is None more = ap (λ b. nat_eq w v || b) more
     join (CallEnq w) is (Some answer) more = rw (enqueued_answered w answer.what) (ap (λ b. nat_eq w v || b) more)
     join CallDeq is None more = more

@@ -1,5 +1,6 @@
 -- The faults of events to which more are added.
-use Rattle.std.proofs.Common.{◌≡◌, ◌++◌, ◌∷◌, [], ℕ, zero, suc, ◌<◌, ◌≤◌, List, length, take, Option, Some, None, refl, sym, ◌∙◌, subst, inl, inr, arith, length-append}
+use Rattle.std.proofs.Common.{◌≡◌, ◌++◌, ◌∷◌, [], ℕ, zero, suc, ◌<◌, ◌≤◌, List, length, take, Option, Some, None, refl, sym, ◌∙◌, subst, inl, inr}
+use Rattle.std.proofs.Common.{arith, length-append}
 use Rattle.std.specs.Prelude.{slice_get, MatchOption, is_some, true, false}
 use Rattle.std.proofs.Math.Seq.{take-append_seam}
 use Rattle.std.proofs.lemmas.Bool.{cases_lt}
@@ -31,14 +32,16 @@ no_fault-append events later n within none i e below here =
     rw (take-append-le i events later (omega (arith, below, within))) (none i e below (sym (slice_get-append_left events later i (omega arith)) ∙ here))
 
 -- one more event without a fault
-pub no_fault-push : (events : List Event) (e : Event) → fault_at events (length events) e ≡ None → NoFaultBefore events (length events) → NoFaultBefore (events ++ e ∷ []) (length (events ++ e ∷ []))
+pub no_fault-push : (events : List Event) (e : Event) → fault_at events (length events) e ≡ None → NoFaultBefore events (length events)
+    → NoFaultBefore (events ++ e ∷ []) (length (events ++ e ∷ []))
 no_fault-push events e here none i x below at = elim (cases_lt i (length events)) [
   | inl before ↦ no_fault-append events (e ∷ []) (length events) (omega arith) none i x before at
   | inr above ↦
       let short = simp length-append at below in
       let last : length events ≡ i = omega arith in
       subst (λ k. slice_get (events ++ e ∷ []) k ≡ Some x → fault_at (take k (events ++ e ∷ [])) k x ≡ None) last
-      (λ at_last. let same : e ≡ x = cc (slice_get-append_seam events e) in subst (λ y. fault_at (take (length events) (events ++ e ∷ [])) (length events) y ≡ None) same (rw take-append_seam here)) at
+      (λ at_last. let same : e ≡ x = cc (slice_get-append_seam events e) in
+          subst (λ y. fault_at (take (length events) (events ++ e ∷ [])) (length events) y ≡ None) same (rw take-append_seam here)) at
 ]
 
 -- a fault that was met stays the first
@@ -46,10 +49,12 @@ pub met_fault-append : (events later : List Event) (fault : HistoryFault) → Ha
 met_fault-append events later fault (inl memory) = inl memory
 met_fault-append events later fault (inr (i, (none, (e, here, found)))) =
     let within = slice_get_within events i e here in
-    inr (i, (no_fault-append events later i (omega (arith, within)) none, (e, slice_get-append_left events later i within ∙ here, rw (take-append-le i events later (omega (arith, within))) found)))
+    inr (i, (no_fault-append events later i (omega (arith, within)) none,
+        (e, slice_get-append_left events later i within ∙ here, rw (take-append-le i events later (omega (arith, within))) found)))
 
 -- the fault of one more event is the first
-pub met_fault-push : (events : List Event) (e : Event) (fault : HistoryFault) → fault_at events (length events) e ≡ Some fault → NoFaultBefore events (length events) → HasMetFault (events ++ e ∷ []) fault
+pub met_fault-push : (events : List Event) (e : Event) (fault : HistoryFault) → fault_at events (length events) e ≡ Some fault
+    → NoFaultBefore events (length events) → HasMetFault (events ++ e ∷ []) fault
 met_fault-push events e fault found none =
     inr (length events, (no_fault-append events (e ∷ []) (length events) (omega arith) none, (e, slice_get-append_seam events e, rw take-append_seam found)))
 
@@ -58,10 +63,12 @@ met_fault_is_first events fault (inl memory) = subst (IsFirstFault events) (sym 
 met_fault_is_first events fault (inr (i, (none, (e, here, found)))) = first_fault_at events i e fault none here found
 
 -- after a fault was met, events are passed over
-pub gathered_after_fault : (events : List Event) (e : Event) (builder : HistoryBuilder) → true ≡ is_some builder.fault → HasGathered events builder → HasGathered (events ++ e ∷ []) builder
+pub gathered_after_fault : (events : List Event) (e : Event) (builder : HistoryBuilder) → true ≡ is_some builder.fault → HasGathered events builder
+    → HasGathered (events ++ e ∷ []) builder
 gathered_after_fault events e builder some gathered = join builder.fault some gathered
   where
-    join : (fault : Option HistoryFault) → true ≡ is_some fault → MatchOption fault (IsForming events builder) (HasMetFault events) → MatchOption fault (IsForming (events ++ e ∷ []) builder) (HasMetFault (events ++ e ∷ []))
+    join : (fault : Option HistoryFault) → true ≡ is_some fault → MatchOption fault (IsForming events builder) (HasMetFault events)
+        → MatchOption fault (IsForming (events ++ e ∷ []) builder) (HasMetFault (events ++ e ∷ []))
     join None h known = cc
     join (Some fault) h known = met_fault-append events (e ∷ []) fault known
 
@@ -73,7 +80,8 @@ none_met events builder none gathered = join builder.fault none gathered
     join None h known = known
     join (Some fault) h known = cc
 
-pub gathered_without_fault : (events : List Event) (builder : HistoryBuilder) → false ≡ is_some builder.fault → IsForming events builder → HasGathered events builder
+pub gathered_without_fault : (events : List Event) (builder : HistoryBuilder) → false ≡ is_some builder.fault → IsForming events builder
+    → HasGathered events builder
 gathered_without_fault events builder none known = join builder.fault none
   where
     join : (fault : Option HistoryFault) → false ≡ is_some fault → MatchOption fault (IsForming events builder) (HasMetFault events)
@@ -85,7 +93,8 @@ pub still_forming : (events : List Event) (builder : HistoryBuilder) → builder
 still_forming events builder none gathered = subst (λ fault. MatchOption fault (IsForming events builder) (HasMetFault events)) none gathered
 
 -- a fault that is kept was met
-pub kept_is_met : (events : List Event) (builder : HistoryBuilder) (fault : HistoryFault) → builder.fault ≡ Some fault → HasGathered events builder → HasMetFault events fault
+pub kept_is_met : (events : List Event) (builder : HistoryBuilder) (fault : HistoryFault) → builder.fault ≡ Some fault → HasGathered events builder
+    → HasMetFault events fault
 kept_is_met events builder fault kept gathered = subst (λ kept. MatchOption kept (IsForming events builder) (HasMetFault events)) kept gathered
 
 -- in a complete history nothing is left pending

@@ -4,7 +4,8 @@ use Rattle.std.proofs.lemmas.Bool.{cases_order}
 use Rattle.std.proofs.lemmas.Option.{slice_get_within}
 use Rattle.event_records.specs.declared.event.Event.{Event}
 use Rattle.history_merge.specs.declared.fault.HistoryFault.{HistoryFault}
-use Rattle.history_merge.specs.declared.fault.HistoryFault.TheVariants.{TicketOrder, BadThread, CallWhilePending, ReturnWithoutCall, WrongReturn, DuplicateValue, Pending, Memory}
+use Rattle.history_merge.specs.declared.fault.HistoryFault.TheVariants.{TicketOrder, BadThread, CallWhilePending, ReturnWithoutCall, WrongReturn}
+use Rattle.history_merge.specs.declared.fault.HistoryFault.TheVariants.{DuplicateValue, Pending, Memory}
 use Rattle.history_merge.specs.Faults.{fault_at, NoFaultBefore, IsFirstFault, IsFirstFaultAt, IsLeastPending}
 use Rattle.history_merge.proofs.Distinct.{one_at}
 
@@ -13,7 +14,8 @@ abbrev EndsPending : List Event → HistoryFault → Type 0
 EndsPending events fault = (ticket : ℕ) × (fault ≡ Pending ticket) × NoFaultBefore events (length events) × IsLeastPending events ticket
 
 -- a fault that isn't want of memory is that of an event, or of what is pending at the end
-where_it_is : (events : List Event) (fault : HistoryFault) → IsFirstFault events fault → fault ≢ Memory → ((i : ℕ) × IsFirstFaultAt events i fault) ⊎ EndsPending events fault
+where_it_is : (events : List Event) (fault : HistoryFault) → IsFirstFault events fault → fault ≢ Memory
+    → ((i : ℕ) × IsFirstFaultAt events i fault) ⊎ EndsPending events fault
 where_it_is events (TicketOrder i) first known = inl (i, first)
 where_it_is events (BadThread i) first known = inl (i, first)
 where_it_is events (CallWhilePending i) first known = inl (i, first)

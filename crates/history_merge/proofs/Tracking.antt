@@ -1,5 +1,6 @@
 -- What a walk over the events keeps, and how one more event changes it.
-use Rattle.std.proofs.Common.{◌≡◌, ◌≢◌, ℕ, ◌≤◌, ◌<◌, false, List, [], ◌∷◌, ◌++◌, length, get_or, set, Option, Some, None, refl, sym, ◌∙◌, ap, inl, inr, arith, nat_eq, get_or-set_other, get_or-set_same, length-set}
+use Rattle.std.proofs.Common.{◌≡◌, ◌≢◌, ℕ, ◌≤◌, ◌<◌, false, List, [], ◌∷◌, ◌++◌, length, get_or, set, Option, Some, None, refl, sym, ◌∙◌, ap, inl}
+use Rattle.std.proofs.Common.{inr, arith, nat_eq, get_or-set_other, get_or-set_same, length-set}
 use Rattle.std.specs.Prelude.{All, option_map, option_and_then, MatchOption}
 use Rattle.std.specs.Bool.{then_some}
 use Rattle.std.specs.List.{last_or}
@@ -29,17 +30,20 @@ pending_in-push events e = rw (last_or-push None events e, pending_in) refl
 pub projection-push_own : (events : List Event) (e : Event) → projection e.thread (events ++ e ∷ []) ≡ projection e.thread events ++ e ∷ []
 projection-push_own events e = let own = eq-eqb e.thread e.thread refl in filter-append (λ x. nat_eq x.thread e.thread) events (e ∷ []) ∙ rw own refl
 
-pub projection-push_other : (events : List Event) (e : Event) (thread : ℕ) → nat_eq e.thread thread ≡ false → projection thread (events ++ e ∷ []) ≡ projection thread events
+pub projection-push_other : (events : List Event) (e : Event) (thread : ℕ) → nat_eq e.thread thread ≡ false
+    → projection thread (events ++ e ∷ []) ≡ projection thread events
 projection-push_other events e thread other = filter-append (λ x. nat_eq x.thread thread) events (e ∷ []) ∙ rw other (append-nil (projection thread events))
 
 pub pending_call-push_own : (events : List Event) (e : Event) → pending_call e.thread (events ++ e ∷ []) ≡ then_some (is_call e.what) e
 pending_call-push_own events e = ap pending_in (projection-push_own events e) ∙ pending_in-push (projection e.thread events) e
 
-pub pending_call-push_other : (events : List Event) (e : Event) (thread : ℕ) → nat_eq e.thread thread ≡ false → pending_call thread (events ++ e ∷ []) ≡ pending_call thread events
+pub pending_call-push_other : (events : List Event) (e : Event) (thread : ℕ) → nat_eq e.thread thread ≡ false
+    → pending_call thread (events ++ e ∷ []) ≡ pending_call thread events
 pending_call-push_other events e thread other = ap pending_in (projection-push_other events e thread other)
 
 -- one more event
-pub tracks_more : (before : List Event) (progress : Progress) (e : Event) (written : ℕ) (call : Option Event) → written ≡ e.thread → e.thread ≤ MAX_THREAD → call ≡ then_some (is_call e.what) e
+pub tracks_more : (before : List Event) (progress : Progress) (e : Event) (written : ℕ) (call : Option Event) → written ≡ e.thread
+    → e.thread ≤ MAX_THREAD → call ≡ then_some (is_call e.what) e
     → HasTracked before progress → HasTracked (before ++ e ∷ []) (record { last_ticket = Some e.ticket; pending = set progress.pending written call })
 tracks_more before progress e written call is below made seen = record {
   last_ticket = sym (ap (option_map (λ x. x.ticket)) (last_or-push None before e));
@@ -81,7 +85,8 @@ projection-above (e ∷ events) thread above within =
 pub pending_call-above : (events : List Event) (thread : ℕ) → MAX_THREAD < thread → All (λ e. e.thread ≤ MAX_THREAD) events → pending_call thread events ≡ None
 pending_call-above events thread above within = ap pending_in (projection-above events thread above within)
 
-pub least_pending : (events : List Event) (progress : Progress) (n : ℕ) (least : Option ℕ) → HasTracked events progress → length progress.pending ≤ n → n ≤ length progress.pending → IsLeastOf progress.pending n least
+pub least_pending : (events : List Event) (progress : Progress) (n : ℕ) (least : Option ℕ) → HasTracked events progress → length progress.pending ≤ n
+    → n ≤ length progress.pending → IsLeastOf progress.pending n least
     → MatchOption least (NothingPending events) (IsLeastPending events)
 least_pending events progress n None seen all within least = nothing
   where

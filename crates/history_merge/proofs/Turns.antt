@@ -39,7 +39,8 @@ pending_in-pair call answer (e ∷ rest) is = refl
 pub nothing_after_turns : (events : List Event) → TakesTurns events → pending_in events ≡ None
 nothing_after_turns [] turns = refl
 nothing_after_turns (call ∷ []) turns = elim turns [ ]
-nothing_after_turns (call ∷ answer ∷ rest) turns = pending_in-pair call answer rest (answer_is_return call.what answer.what turns.0) ∙ nothing_after_turns rest turns.1
+nothing_after_turns (call ∷ answer ∷ rest) turns = pending_in-pair call answer rest (answer_is_return call.what answer.what turns.0)
+    ∙ nothing_after_turns rest turns.1
 
 -- each event of a list that takes turns fits
 pub fits_in_turns : (before : List Event) (e : Event) (later : List Event) → TakesTurns (before ++ e ∷ later) → FitsTurn (pending_in before) e

@@ -1,5 +1,6 @@
 -- The first fault of a list of events that is no complete history.
-use Rattle.std.specs.Prelude.{◌≡◌, ℕ, ◌<◌, ◌≤◌, Bool, false, ◌||◌, ◌&&◌, not, nat_le, nat_lt, nat_eq, List, length, take, slice_get, Option, Some, None, is_some, is_none, if◌then◌else◌, ⊤, true, option_and_then}
+use Rattle.std.specs.Prelude.{◌≡◌, ℕ, ◌<◌, ◌≤◌, Bool, false, ◌||◌, ◌&&◌, not, nat_le, nat_lt, nat_eq, List, length, take, slice_get, Option, Some}
+use Rattle.std.specs.Prelude.{None, is_some, is_none, if◌then◌else◌, ⊤, true, option_and_then}
 use Rattle.std.specs.Bool.{then_some}
 use Rattle.std.specs.Option.{option_map_or}
 use Rattle.std.specs.List.{last_or, list_any}
@@ -7,7 +8,8 @@ use Rattle.event_records.specs.declared.event.Event.{Event}
 use Rattle.event_records.specs.Turns.{is_call, answers}
 use Rattle.event_records.specs.Projection.{projection}
 use Rattle.history_merge.specs.declared.fault.HistoryFault.{HistoryFault}
-use Rattle.history_merge.specs.declared.fault.HistoryFault.TheVariants.{TicketOrder, BadThread, CallWhilePending, ReturnWithoutCall, WrongReturn, DuplicateValue, Pending, Memory}
+use Rattle.history_merge.specs.declared.fault.HistoryFault.TheVariants.{TicketOrder, BadThread, CallWhilePending, ReturnWithoutCall, WrongReturn}
+use Rattle.history_merge.specs.declared.fault.HistoryFault.TheVariants.{DuplicateValue, Pending, Memory}
 use Rattle.event_records.specs.declared.limits.TheConstants.{MAX_TICKET, MAX_THREAD}
 use Rattle.history_merge.specs.Complete.{called_value}
 

@@ -20,7 +20,8 @@ name_in v = v / 2 ^ 32 % 64
 -- it is known which values were called: each is below the least that its name may have next, or they stand in a set
 pub record KnowsCalled (events : List Event) (values : CalledValues) : Type 0 where
   pub one_each : length values.least ≡ 64
-  pub known : MatchOption values.others ((v : ℕ) → was_called events v ≡ true → v < slice_index_or values.least (name_in v) 0) (λ others. (v : ℕ) → contains nat_cmp others v ≡ was_called events v)
+  pub known : MatchOption values.others ((v : ℕ) → was_called events v ≡ true → v < slice_index_or values.least (name_in v) 0)
+      (λ others. (v : ℕ) → contains nat_cmp others v ≡ was_called events v)
 
 -- the operations of the events are there, and the place of each call that waits for its return
 pub record HasFormed (events : List Event) (forming : Forming) : Type 0 where

@@ -12,14 +12,17 @@ use Rattle.std.proofs.lemmas.List.Sorted.{IsNonDecreasingBy-from_all_adjacent, I
 use Rattle.value_match.proofs.Lists.{moved_in_place}
 
 -- the elements of a vector after its slice was sorted
-pub in_place : {X : Type 0} (items slice sorted : List X) (len : ℕ) → slice ≡ items → length items ≡ len → length sorted ≡ length slice → take len (sorted ++ drop (length sorted) items) ≡ sorted
+pub in_place : {X : Type 0} (items slice sorted : List X) (len : ℕ) → slice ≡ items → length items ≡ len → length sorted ≡ length slice
+    → take len (sorted ++ drop (length sorted) items) ≡ sorted
 in_place items slice sorted len same all long =
     let none : drop (length sorted) items ≡ [] = drop_all (length sorted) items (omega (arith, long, ap length same)) in
     rw (none, append-nil sorted) (take_all len sorted (omega (arith, long, all, ap length same)))
 
-pub moved_twice : {X : Type 0} (before items slice sorted : List X) (len : ℕ) → IsPermutation before items → slice ≡ items → length items ≡ len → length sorted ≡ length slice → IsPermutation slice sorted
+pub moved_twice : {X : Type 0} (before items slice sorted : List X) (len : ℕ) → IsPermutation before items → slice ≡ items → length items ≡ len
+    → length sorted ≡ length slice → IsPermutation slice sorted
     → IsPermutation before (take len (sorted ++ drop (length sorted) items))
-moved_twice before items slice sorted len first same all long second = IsPermutation-trans before items _ first (moved_in_place items slice sorted len same all long second)
+moved_twice before items slice sorted len first same all long second =
+    IsPermutation-trans before items _ first (moved_in_place items slice sorted len same all long second)
 
 -- what a test of two neighbours tells
 tested : (a b : ℕ) → true ≡ is_some_and is_le (Some (nat_cmp a b)) → a ≤ b
@@ -33,5 +36,6 @@ tested a b answer = non_decreasing_from_is_sorted (a ∷ b ∷ []) true at 0 1 0
 pub rises_if_sorted : {X F : Type 0} (n : X → ℕ) {g : Mut F (Bor X × Unit {0}) ℕ} {f : F} (xs : List X) (found : Bool)
     → ((key : X → ℕ) → ComputesKey g key f → IsAllAdjacentAnswer (λ x y b. b ≡ is_some_and is_le (Some (nat_cmp (key x) (key y)))) xs found)
     → ((a : Bor X × Unit {0}) (r : ℕ) (f' : F) → Called g f a r f' → (r ≡ n a.0.now) × (f' ≡ f)) → found ≡ true → IsNonDecreasingBy n xs
-rises_if_sorted n {g} {f} xs true cases calls is = IsNonDecreasingBy-from_all_adjacent n xs (λ k d below. tested _ _ (cases n (always_returns_same g (λ a r. r ≡ n a.0.now) f calls) k d below))
+rises_if_sorted n {g} {f} xs true cases calls is = IsNonDecreasingBy-from_all_adjacent n xs
+    (λ k d below. tested _ _ (cases n (always_returns_same g (λ a r. r ≡ n a.0.now) f calls) k d below))
 rises_if_sorted n {g} {f} xs false cases calls is = cc

@@ -6,4 +6,5 @@ use Rattle.empty_witness.specs.Covered.{AreWindowsAt}
 
 -- where the first two are what is found at some places and at others, the third is what is found at all of them
 abbrev pub AreTogether : Windows → Windows → Windows → Type 0
-AreTogether low high both = (operations : List Operation) (xs ys : List ℕ) → AreWindowsAt operations xs low → AreWindowsAt operations ys high → AreWindowsAt operations (xs ++ ys) both
+AreTogether low high both = (operations : List Operation) (xs ys : List ℕ) → AreWindowsAt operations xs low → AreWindowsAt operations ys high
+    → AreWindowsAt operations (xs ++ ys) both

@@ -1,12 +1,14 @@
 -- Lists made of one block for each thread, and numbers that stand at most once in a list.
-use Rattle.std.proofs.Common.{◌≡◌, ◌≢◌, ℕ, zero, suc, ◌+◌, ◌<◌, ◌≤◌, Bool, true, cond, List, [], ◌∷◌, ◌++◌, map, refl, sym, ◌∙◌, ap, subst, inl, inr, arith, eqb, append_assoc, add-one}
+use Rattle.std.proofs.Common.{◌≡◌, ◌≢◌, ℕ, zero, suc, ◌+◌, ◌<◌, ◌≤◌, Bool, true, cond, List, [], ◌∷◌, ◌++◌, map, refl, sym, ◌∙◌, ap, subst, inl, inr}
+use Rattle.std.proofs.Common.{arith, eqb, append_assoc, add-one}
 use Rattle.std.specs.Prelude.{AllPairs, Contains, count_by, flat_map, IsPermutation}
 use Rattle.std.specs.List.{range_with_len}
 use Rattle.std.proofs.lemmas.Bool.{cases_eq, eq-eqb, ne_eqb}
 use Rattle.std.proofs.lemmas.List.{append-nil, map-id, map_push}
 use Rattle.std.proofs.lemmas.List.Concat.{flat_map-append}
 use Rattle.std.proofs.lemmas.List.FromFn.{map-range_with_len_more}
-use Rattle.std.proofs.lemmas.List.Sorted.{IsPermutation-refl, IsPermutation-trans, IsPermutation-append_left, IsPermutation-append_right, IsPermutation-append_comm, sum_by-IsPermutation}
+use Rattle.std.proofs.lemmas.List.Sorted.{IsPermutation-refl, IsPermutation-trans, IsPermutation-append_left, IsPermutation-append_right}
+use Rattle.std.proofs.lemmas.List.Sorted.{IsPermutation-append_comm, sum_by-IsPermutation}
 use Rattle.std.proofs.lemmas.List.Sums.{sum_by-cons}
 use Rattle.recorder_core.proofs.Members.{none_in_nil, pairs_cons}
 use Rattle.history_merge.proofs.Distinct.{contains_cons}
@@ -20,7 +22,8 @@ blocks f (suc n) = blocks f n ++ f n
 
 pub blocks_same : {X : Type 0} (f g : ℕ → List X) (n : ℕ) → ((t : ℕ) → t < n → f t ≡ g t) → blocks f n ≡ blocks g n
 blocks_same f g zero same = refl
-blocks_same {X} f g (suc n) same = ap (λ (l : List X). l ++ f n) (blocks_same f g n (λ t below. same t (omega arith))) ∙ ap (λ (l : List X). blocks g n ++ l) (same n (omega arith))
+blocks_same {X} f g (suc n) same = ap (λ (l : List X). l ++ f n) (blocks_same f g n (λ t below. same t (omega arith)))
+    ∙ ap (λ (l : List X). blocks g n ++ l) (same n (omega arith))
 
 pub same_permutation : {X : Type 0} (xs ys : List X) → xs ≡ ys → IsPermutation xs ys
 same_permutation xs ys same = subst (IsPermutation xs) same (IsPermutation-refl xs)
@@ -31,13 +34,15 @@ no_blocks zero = refl
 no_blocks (suc n) = no_blocks n ∙ sym (append-nil _)
 
 -- one block is longer at its end, and the others are the same
-pub blocks_grow : {X : Type 0} (f g : ℕ → List X) (u n : ℕ) (more : List X) → u < n → g u ≡ f u ++ more → ((t : ℕ) → (u ≡ t → ⊥) → g t ≡ f t) → IsPermutation (blocks f n ++ more) (blocks g n)
+pub blocks_grow : {X : Type 0} (f g : ℕ → List X) (u n : ℕ) (more : List X) → u < n → g u ≡ f u ++ more → ((t : ℕ) → (u ≡ t → ⊥) → g t ≡ f t)
+    → IsPermutation (blocks f n ++ more) (blocks g n)
 blocks_grow f g u zero more within here others = absurd (omega arith)
 blocks_grow {X} f g u (suc n) more within here others = elim (cases_eq u n) [
   | inl same ↦
       let before : blocks f n ≡ blocks g n = blocks_same f g n (λ t below. sym (others t (λ e. omega arith))) in
       let last : g n ≡ f n ++ more = rw (← same) here in
-      same_permutation _ _ (append_assoc (blocks f n) (f n) more ∙ ap (λ (l : List X). l ++ (f n ++ more)) before ∙ ap (λ (l : List X). blocks g n ++ l) (sym last))
+      same_permutation _ _ (append_assoc (blocks f n) (f n) more ∙ ap (λ (l : List X). l ++ (f n ++ more)) before
+          ∙ ap (λ (l : List X). blocks g n ++ l) (sym last))
   | inr other ↦
       let ih = blocks_grow f g u n more (omega arith) here others in
       let a = same_permutation _ _ (append_assoc (blocks f n) (f n) more) in
@@ -49,7 +54,8 @@ blocks_grow {X} f g u (suc n) more within here others = elim (cases_eq u n) [
 ]
 
 -- one block is longer at its front, and the others are the same
-pub blocks_lead : {X : Type 0} (f g : ℕ → List X) (u n : ℕ) (more : List X) → u < n → g u ≡ more ++ f u → ((t : ℕ) → (u ≡ t → ⊥) → g t ≡ f t) → IsPermutation (more ++ blocks f n) (blocks g n)
+pub blocks_lead : {X : Type 0} (f g : ℕ → List X) (u n : ℕ) (more : List X) → u < n → g u ≡ more ++ f u → ((t : ℕ) → (u ≡ t → ⊥) → g t ≡ f t)
+    → IsPermutation (more ++ blocks f n) (blocks g n)
 blocks_lead f g u zero more within here others = absurd (omega arith)
 blocks_lead {X} f g u (suc n) more within here others = elim (cases_eq u n) [
   | inl same ↦
@@ -57,7 +63,8 @@ blocks_lead {X} f g u (suc n) more within here others = elim (cases_eq u n) [
       let last : g n ≡ more ++ f n = rw (← same) here in
       let a = same_permutation _ _ (sym (append_assoc more (blocks f n) (f n))) in
       let b = IsPermutation-append_left (f n) _ _ (IsPermutation-append_comm more (blocks f n)) in
-      let c = same_permutation _ _ (append_assoc (blocks f n) more (f n) ∙ ap (λ (l : List X). l ++ (more ++ f n)) before ∙ ap (λ (l : List X). blocks g n ++ l) (sym last)) in
+      let c = same_permutation _ _ (append_assoc (blocks f n) more (f n) ∙ ap (λ (l : List X). l ++ (more ++ f n)) before
+          ∙ ap (λ (l : List X). blocks g n ++ l) (sym last)) in
       IsPermutation-trans _ _ _ a (IsPermutation-trans _ _ _ b c)
   | inr other ↦
       let a = same_permutation _ _ (sym (append_assoc more (blocks f n) (f n))) in
@@ -123,7 +130,8 @@ once_same key (z ∷ xs) x y once in_x in_y same = elim (contains_cons z xs x in
 
 pub once_apart : {X : Type 0} (key : X → ℕ) (xs : List X) → Once key xs → AllPairs (λ x y. key x ≢ key y) xs
 once_apart key [] once = λ i j d below within. absurd (omega arith)
-once_apart key (x ∷ xs) once = pairs_cons (λ a b. key a ≢ key b) x xs (λ y among. first_apart key x xs y once among) (once_apart key xs (once_later key x xs once))
+once_apart key (x ∷ xs) once = pairs_cons (λ a b. key a ≢ key b) x xs (λ y among. first_apart key x xs y once among)
+    (once_apart key xs (once_later key x xs once))
 
 pub once_permutation : {X : Type 0} (key : X → ℕ) (xs ys : List X) → IsPermutation xs ys → Once key xs → Once key ys
 once_permutation key xs ys moved once v = omega (arith, once v, sum_by-IsPermutation (λ x. cond (eqb (key x) v) 1 0) xs ys moved)
@@ -133,7 +141,8 @@ once_map key xs once v = omega (arith, once v, count_map key v xs)
   where
     count_map : {Y : Type 0} (k : Y → ℕ) (w : ℕ) (ys : List Y) → count_by (λ y. eqb (k y) w) ys ≡ count_by (λ n. eqb n w) (map k ys)
     count_map k w [] = refl
-    count_map k w (y ∷ ys) = omega (arith, sum_by-cons (λ z. cond (eqb (k z) w) 1 0) y ys, sum_by-cons (λ n. cond (eqb n w) 1 0) (k y) (map k ys), count_map k w ys)
+    count_map k w (y ∷ ys) = omega (arith, sum_by-cons (λ z. cond (eqb (k z) w) 1 0) y ys, sum_by-cons (λ n. cond (eqb n w) 1 0) (k y) (map k ys),
+        count_map k w ys)
 
 -- numbers above v
 none_of_lower : (v a n : ℕ) → v < a → count_by (λ x. eqb x v) (range_with_len a n) ≡ 0

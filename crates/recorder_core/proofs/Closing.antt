@@ -30,7 +30,8 @@ other_closed t (Close u) before ne k = rw (ne_eqb u t ne) k
 no_way : {A : Type 0} (b : Bool) → b ≡ false → b ≡ true → A
 no_way b p q = cc
 
-own_closed : (setting : Setting) (step : Step) (starved : Bool) (before : List Step) → ClosedIdle (thread_of step) before → refusal setting before (record { step = step; starved = starved }) ≡ None → ClosedIdle (thread_of step) (step ∷ before)
+own_closed : (setting : Setting) (step : Step) (starved : Bool) (before : List Step) → ClosedIdle (thread_of step) before
+    → refusal setting before (record { step = step; starved = starved }) ≡ None → ClosedIdle (thread_of step) (step ∷ before)
 own_closed setting (AskEnq u) starved before k none closed = no_way (is_closed u before) (may_ask setting before u starved none).open_still closed
 own_closed setting (AskDeq u) starved before k none closed = no_way (is_closed u before) (may_ask setting before u starved none).open_still closed
 own_closed setting (Push u) starved before k none closed = no_way (is_closed u before) (may_push setting before u starved none).open_still closed
@@ -40,7 +41,8 @@ own_closed setting (Ret u) starved before k none closed = no_way (is_closed u be
 own_closed setting (Drain u n) starved before k none closed = k closed
 own_closed setting (Close u) starved before k none closed = let m = may_close setting before u starved none in (m.none_held, m.none_pending)
 
-closed_goes_on : (setting : Setting) (t : ℕ) (before : List Step) (attempt : Attempt) → ClosedIdle t before → refusal setting before attempt ≡ None → ClosedIdle t (attempt.step ∷ before)
+closed_goes_on : (setting : Setting) (t : ℕ) (before : List Step) (attempt : Attempt) → ClosedIdle t before → refusal setting before attempt ≡ None
+    → ClosedIdle t (attempt.step ∷ before)
 closed_goes_on setting t before attempt k none = elim (cases_eq (thread_of attempt.step) t) [
   | inl same ↦
       let P : ℕ → Type 0 = λ v. ClosedIdle v before → ClosedIdle v (attempt.step ∷ before) in
@@ -51,7 +53,8 @@ closed_goes_on setting t before attempt k none = elim (cases_eq (thread_of attem
 pub closed_idle : (setting : Setting) (t : ℕ) (schedule : List Attempt) → ClosedIdle t (accepted setting schedule)
 closed_idle setting t schedule = after_each setting (ClosedIdle t) (λ closed. (omega arith, omega arith)) (closed_goes_on setting t) schedule
 
-pub all_collected : (setting : Setting) (schedule : List Attempt) → IsDone setting schedule → (t : ℕ) → t < setting.threads → collected_in setting schedule t ≡ events_in setting schedule t
+pub all_collected : (setting : Setting) (schedule : List Attempt) → IsDone setting schedule → (t : ℕ) → t < setting.threads
+    → collected_in setting schedule t ≡ events_in setting schedule t
 all_collected setting schedule done t within =
     let steps = accepted setting schedule in
     let d = done t within in
@@ -60,17 +63,21 @@ all_collected setting schedule done t within =
     take_all (drained t steps) (events setting t steps) (omega (arith, k.events_are, d.1, c))
 
 -- what is closed stays closed
-stays : (t : ℕ) (r : Option StepRefused) (step : Step) (before : List Step) → is_closed t before ≡ true → is_closed t (cond (is_none r) (step ∷ before) before) ≡ true
+stays : (t : ℕ) (r : Option StepRefused) (step : Step) (before : List Step) → is_closed t before ≡ true
+    → is_closed t (cond (is_none r) (step ∷ before) before) ≡ true
 stays t None step before h = or_right (is_close t step) (is_closed t before) h
 stays t (Some refused) step before h = h
 
-pub stays_closed : (setting : Setting) (t : ℕ) (later before : List Attempt) → is_closed t (accepted setting before) ≡ true → is_closed t (accepted setting (later ++ before)) ≡ true
+pub stays_closed : (setting : Setting) (t : ℕ) (later before : List Attempt) → is_closed t (accepted setting before) ≡ true
+    → is_closed t (accepted setting (later ++ before)) ≡ true
 stays_closed setting t [] before h = h
 stays_closed setting t (attempt ∷ later) before h =
-    stays t (refusal setting (accepted setting (later ++ before)) attempt) attempt.step (accepted setting (later ++ before)) (stays_closed setting t later before h)
+    stays t (refusal setting (accepted setting (later ++ before)) attempt) attempt.step (accepted setting (later ++ before))
+        (stays_closed setting t later before h)
 
 -- each step of a closed thread but a drain is refused
-closed_refused : (setting : Setting) (steps : List Step) (step : Step) (starved : Bool) → NeedsOpenThread step → thread_of step < setting.threads → is_closed (thread_of step) steps ≡ true → refusal setting steps (record { step = step; starved = starved }) ≡ Some Closed
+closed_refused : (setting : Setting) (steps : List Step) (step : Step) (starved : Bool) → NeedsOpenThread step → thread_of step < setting.threads
+    → is_closed (thread_of step) steps ≡ true → refusal setting steps (record { step = step; starved = starved }) ≡ Some Closed
 closed_refused setting steps (AskEnq u) starved o within closed = rw (lt-leb setting.threads u within, closed) refl
 closed_refused setting steps (AskDeq u) starved o within closed = rw (lt-leb setting.threads u within, closed) refl
 closed_refused setting steps (Push u) starved o within closed = rw (lt-leb setting.threads u within, closed) refl
@@ -81,13 +88,17 @@ closed_refused setting steps (Drain u n) starved o within closed = absurd o
 closed_refused setting steps (Close u) starved o within closed = rw (lt-leb setting.threads u within, closed) refl
 
 -- an accepted attempt is the latest accepted step
-pub accepted_is : (setting : Setting) (before : List Attempt) (attempt : Attempt) → refusal setting (accepted setting before) attempt ≡ None → accepted setting (attempt ∷ before) ≡ attempt.step ∷ accepted setting before
+pub accepted_is : (setting : Setting) (before : List Attempt) (attempt : Attempt) → refusal setting (accepted setting before) attempt ≡ None
+    → accepted setting (attempt ∷ before) ≡ attempt.step ∷ accepted setting before
 accepted_is setting before attempt none = rw none refl
 
-pub refused_is : (setting : Setting) (before : List Attempt) (attempt : Attempt) (r : StepRefused) → refusal setting (accepted setting before) attempt ≡ Some r → accepted setting (attempt ∷ before) ≡ accepted setting before
+pub refused_is : (setting : Setting) (before : List Attempt) (attempt : Attempt) (r : StepRefused)
+    → refusal setting (accepted setting before) attempt ≡ Some r → accepted setting (attempt ∷ before) ≡ accepted setting before
 refused_is setting before attempt r is = rw is refl
 
-pub closes : (setting : Setting) (before later : List Attempt) (close attempt : Attempt) → close.step ≡ Close (thread_of attempt.step) → refusal setting (accepted setting before) close ≡ None → NeedsOpenThread attempt.step → refusal setting (accepted setting (later ++ close ∷ before)) attempt ≡ Some Closed
+pub closes : (setting : Setting) (before later : List Attempt) (close attempt : Attempt) → close.step ≡ Close (thread_of attempt.step)
+    → refusal setting (accepted setting before) close ≡ None → NeedsOpenThread attempt.step
+    → refusal setting (accepted setting (later ++ close ∷ before)) attempt ≡ Some Closed
 closes setting before later close attempt is none o =
     let t = thread_of attempt.step in
     let none' : refusal setting (accepted setting before) (record { step = Close t; starved = close.starved }) ≡ None =
@@ -95,4 +106,5 @@ closes setting before later close attempt is none o =
     let m = may_close setting (accepted setting before) t close.starved none' in
     let here : is_closed t (accepted setting (close ∷ before)) ≡ true =
     rw (accepted_is setting before close none, is, same_number t) refl in
-    closed_refused setting (accepted setting (later ++ close ∷ before)) attempt.step attempt.starved o m.known (stays_closed setting t later (close ∷ before) here)
+    closed_refused setting (accepted setting (later ++ close ∷ before)) attempt.step attempt.starved o m.known
+        (stays_closed setting t later (close ∷ before) here)

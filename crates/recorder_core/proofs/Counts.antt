@@ -1,5 +1,6 @@
 -- The counts of each thread, after any schedule.
-use Rattle.std.proofs.Common.{◌≡◌, ℕ, suc, ◌+◌, ◌-◌, ◌<◌, ◌≤◌, min, Bool, true, List, [], ◌∷◌, ◌++◌, length, Option, None, Some, refl, subst, inl, inr, arith, eqb, is_some, length-append}
+use Rattle.std.proofs.Common.{◌≡◌, ℕ, suc, ◌+◌, ◌-◌, ◌<◌, ◌≤◌, min, Bool, true, List, [], ◌∷◌, ◌++◌, length, Option, None, Some, refl, subst, inl}
+use Rattle.std.proofs.Common.{inr, arith, eqb, is_some, length-append}
 use Rattle.std.proofs.lemmas.Bool.{ne_eqb, cases_eq}
 use Rattle.std.specs.Option.{option_map}
 use Rattle.recorder_core.specs.declared.step.Step.{Step}
@@ -20,7 +21,8 @@ pub record AreCounts (ring asked answered returned pushed drained_ happened : �
   pub fits : pushed ≤ drained_ + ring
 
 abbrev pub Counted : Setting → ℕ → List Step → Type 0
-Counted setting t steps = AreCounts setting.ring (asks t steps) (answers t steps) (returns t steps) (pushes t steps) (drained t steps) (length (events setting t steps))
+Counted setting t steps = AreCounts setting.ring (asks t steps) (answers t steps) (returns t steps) (pushes t steps) (drained t steps)
+    (length (events setting t steps))
 
 -- ---- how the counts go on
 
@@ -123,7 +125,8 @@ has_answer setting t (Say u answer ∷ before) h = elim (cases_eq u t) [
 ]
 
 -- a step of another thread leaves the counts
-other_counts : (setting : Setting) (t : ℕ) (step : Step) (before : List Step) → (thread_of step ≡ t → ⊥) → Counted setting t before → Counted setting t (step ∷ before)
+other_counts : (setting : Setting) (t : ℕ) (step : Step) (before : List Step) → (thread_of step ≡ t → ⊥) → Counted setting t before
+    → Counted setting t (step ∷ before)
 other_counts setting t (AskEnq u) before ne k = rw (ne_eqb u t ne) k
 other_counts setting t (AskDeq u) before ne k = rw (ne_eqb u t ne) k
 other_counts setting t (Push u) before ne k = rw (ne_eqb u t ne) k
@@ -134,7 +137,8 @@ other_counts setting t (Drain u m) before ne k = rw (ne_eqb u t ne) k
 other_counts setting t (Close u) before ne k = k
 
 -- a step that is not refused keeps them
-own_counts : (setting : Setting) (step : Step) (starved : Bool) (before : List Step) → Counted setting (thread_of step) before → refusal setting before (record { step = step; starved = starved }) ≡ None → Counted setting (thread_of step) (step ∷ before)
+own_counts : (setting : Setting) (step : Step) (starved : Bool) (before : List Step) → Counted setting (thread_of step) before
+    → refusal setting before (record { step = step; starved = starved }) ≡ None → Counted setting (thread_of step) (step ∷ before)
 own_counts setting (AskEnq u) starved before k none =
     let m = may_ask setting before u starved none in
     rw (same_number u, length-with_last (events setting u before)) (counts_asked _ _ _ _ _ _ _ k m.none_held m.none_pending)
@@ -153,11 +157,13 @@ own_counts setting (Say u answer) starved before k none =
 own_counts setting (Ret u) starved before k none =
     let m = may_return setting before u starved none in
     let some : is_some (answered setting u before) ≡ true = has_answer setting u before (omega arith) in
-    rw (same_number u, length-with_map (events setting u before) _ (answered setting u before) some) (counts_returned _ _ _ _ _ _ _ k m.none_held m.one_pending m.has_answer)
+    rw (same_number u, length-with_map (events setting u before) _ (answered setting u before) some)
+        (counts_returned _ _ _ _ _ _ _ k m.none_held m.one_pending m.has_answer)
 own_counts setting (Drain u m) starved before k none = rw (same_number u) (counts_drained _ _ _ _ _ _ _ k m)
 own_counts setting (Close u) starved before k none = k
 
-pub counts_go_on : (setting : Setting) (t : ℕ) (before : List Step) (attempt : Attempt) → Counted setting t before → refusal setting before attempt ≡ None → Counted setting t (attempt.step ∷ before)
+pub counts_go_on : (setting : Setting) (t : ℕ) (before : List Step) (attempt : Attempt) → Counted setting t before
+    → refusal setting before attempt ≡ None → Counted setting t (attempt.step ∷ before)
 counts_go_on setting t before attempt k none = elim (cases_eq (thread_of attempt.step) t) [
   | inl same ↦
       let P : ℕ → Type 0 = λ v. Counted setting v before → Counted setting v (attempt.step ∷ before) in

@@ -14,12 +14,15 @@ use Rattle.recorder_core.specs.Replay.{kind_told, effect_kinds}
 use Rattle.recorder_core.proofs.Runs.{same_number}
 
 -- one operation more
-accept_more : (start : List ℕ) (kinds : List OpKind) (kind : OpKind) (middle after : List ℕ) → accept_all start kinds ≡ Some middle → accept middle kind ≡ Some after → accept_all start (kinds ++ kind ∷ []) ≡ Some after
+accept_more : (start : List ℕ) (kinds : List OpKind) (kind : OpKind) (middle after : List ℕ) → accept_all start kinds ≡ Some middle
+    → accept middle kind ≡ Some after → accept_all start (kinds ++ kind ∷ []) ≡ Some after
 accept_more start [] kind middle after h g =
     rw (ap (λ (o : Option (List ℕ)). option_and_then (λ (q : List ℕ). accept q kind) o) h ∙ g) refl
 accept_more start (first ∷ kinds) kind middle after h g = onwards (accept start first) (λ next. accept_more next kinds kind middle after) h
   where
-    onwards : (o : Option (List ℕ)) → ((next : List ℕ) → accept_all next kinds ≡ Some middle → accept middle kind ≡ Some after → accept_all next (kinds ++ kind ∷ []) ≡ Some after) → option_and_then (λ (next : List ℕ). accept_all next kinds) o ≡ Some middle → option_and_then (λ (next : List ℕ). accept_all next (kinds ++ kind ∷ [])) o ≡ Some after
+    onwards : (o : Option (List ℕ)) → ((next : List ℕ) → accept_all next kinds ≡ Some middle → accept middle kind ≡ Some after
+        → accept_all next (kinds ++ kind ∷ []) ≡ Some after) → option_and_then (λ (next : List ℕ). accept_all next kinds) o ≡ Some middle
+        → option_and_then (λ (next : List ℕ). accept_all next (kinds ++ kind ∷ [])) o ≡ Some after
     onwards None ih i = cc
     onwards (Some next) ih i = ih next i g
 
@@ -30,9 +33,12 @@ accept_answer Dequeue [] = refl
 accept_answer Dequeue (first ∷ rest) = rw (same_number first) refl
 
 one_effect : (setting : Setting) (o : Option Question) (steps : List Step) → accept_all [] (effect_kinds setting steps) ≡ Some (queue setting steps) →
-    accept_all [] (with_last (effect_kinds setting steps) (option_map (λ (asked : Question). kind_told asked (option_map_or (λ (a : Question). queue_answer a (queue setting steps)) o NoValue)) o)) ≡ Some (option_map_or (λ (asked : Question). queue_after asked (queue setting steps)) o (queue setting steps))
+    accept_all [] (with_last (effect_kinds setting steps) (option_map
+        (λ (asked : Question). kind_told asked (option_map_or (λ (a : Question). queue_answer a (queue setting steps)) o NoValue)) o)) ≡ Some
+        (option_map_or (λ (asked : Question). queue_after asked (queue setting steps)) o (queue setting steps))
 one_effect setting None steps h = h
-one_effect setting (Some asked) steps h = accept_more [] (effect_kinds setting steps) _ (queue setting steps) (queue_after asked (queue setting steps)) h (accept_answer asked (queue setting steps))
+one_effect setting (Some asked) steps h = accept_more [] (effect_kinds setting steps) _ (queue setting steps)
+    (queue_after asked (queue setting steps)) h (accept_answer asked (queue setting steps))
 
 -- the effects are accepted from the empty queue, and leave the queue of the schedule
 pub effects_accepted : (setting : Setting) (steps : List Step) → accept_all [] (effect_kinds setting steps) ≡ Some (queue setting steps)

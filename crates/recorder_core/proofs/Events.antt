@@ -1,5 +1,6 @@
 -- The events of one thread, after any schedule.
-use Rattle.std.proofs.Common.{◌≡◌, ℕ, suc, ◌+◌, ◌*◌, ◌<◌, ◌≤◌, ◌⊎◌, Bool, true, false, List, [], ◌∷◌, ◌++◌, length, Option, Some, None, refl, sym, ◌∙◌, ap, subst, inl, inr, arith, append_assoc, length-append}
+use Rattle.std.proofs.Common.{◌≡◌, ℕ, suc, ◌+◌, ◌*◌, ◌<◌, ◌≤◌, ◌⊎◌, Bool, true, false, List, [], ◌∷◌, ◌++◌, length, Option, Some, None, refl, sym}
+use Rattle.std.proofs.Common.{◌∙◌, ap, subst, inl, inr, arith, append_assoc, length-append}
 use Rattle.std.specs.Prelude.{All, slice_get}
 use Rattle.std.proofs.lemmas.Bool.{cases_eq, cases_lt, ne_eqb}
 use Rattle.std.proofs.lemmas.List.Elements.{All-nil, All-push, All-weaker}
@@ -21,7 +22,8 @@ use Rattle.recorder_core.specs.declared.pending.Question.{Question}
 use Rattle.recorder_core.specs.declared.pending.Question.TheVariants.{Enqueue, Dequeue}
 use Rattle.recorder_core.specs.Asked.{asked_for, call_of}
 use Rattle.recorder_core.specs.Setting.{Setting}
-use Rattle.recorder_core.specs.Schedule.{Attempt, refusal, accepted, asks, answers, returns, tickets, question, answered, events, return_of, is_wrong, queue_answer, effect_answer, queue, thread_of}
+use Rattle.recorder_core.specs.Schedule.{Attempt, refusal, accepted, asks, answers, returns, tickets, question, answered, events, return_of, is_wrong}
+use Rattle.recorder_core.specs.Schedule.{queue_answer, effect_answer, queue, thread_of}
 use Rattle.recorder_core.proofs.Runs.{same_number, after_each, may_ask, may_effect, may_say, may_return}
 use Rattle.recorder_core.proofs.Counts.{Counted, counts_none, counts_go_on}
 use Rattle.recorder_core.proofs.Starting.{slice_get_front}
@@ -68,7 +70,8 @@ with_one_more xs x y k at = elim (cases_lt k (length xs)) [
   ]
 ]
 
-turns_push : (events : List Event) (call answer : Event) → TakesTurns events → answers_call call.what answer.what ≡ true → TakesTurns (events ++ call ∷ answer ∷ [])
+turns_push : (events : List Event) (call answer : Event) → TakesTurns events → answers_call call.what answer.what ≡ true
+    → TakesTurns (events ++ call ∷ answer ∷ [])
 turns_push [] call answer turns fit = (fit, tt)
 turns_push (e ∷ []) call answer turns fit = absurd turns
 turns_push (e ∷ f ∷ rest) call answer turns fit = (turns.0, turns_push rest call answer turns.1 fit)
@@ -109,7 +112,8 @@ events_none t = record {
 module _ (t a n r next : ℕ) (asked : Option Question) (told : Option Answer) (list : List Event) (k : AreEventsOf t a n r next asked told list) where
   -- the others' steps take tickets
   events_later : (next' : ℕ) → next ≤ next' → AreEventsOf t a n r next' asked told list
-  events_later next' h = record { own = k.own; below = All-weaker (λ e. e.ticket < next) (λ e. e.ticket < next') (λ e less. omega arith) list k.below; rise = k.rise; named = k.named; idle = k.idle; busy = k.busy; fits = k.fits; few = k.few }
+  events_later next' h = record { own = k.own; below = All-weaker (λ e. e.ticket < next) (λ e. e.ticket < next')
+      (λ e less. omega arith) list k.below; rise = k.rise; named = k.named; idle = k.idle; busy = k.busy; fits = k.fits; few = k.few }
 
   own_more : (what : What) → All (λ e. e.thread ≡ t) (list ++ record { ticket = next; thread = t; what = what } ∷ [])
   own_more what = All-push (λ e. e.thread ≡ t) list _ k.own refl
@@ -120,7 +124,9 @@ module _ (t a n r next : ℕ) (asked : Option Question) (told : Option Answer) (
   rise_more : (what : What) → TicketsRise (list ++ record { ticket = next; thread = t; what = what } ∷ [])
   rise_more what = all_pairs_push Below list _ k.rise (λ i d within. k.below i d within)
 
-  events_asked : length list ≡ a + r → a ≤ r → n ≤ a → r ≤ a → a < MAX_THREAD_OPERATIONS → (kind : Kind) → AreEventsOf t (suc a) n r (suc next) (Some (asked_for kind t a)) told (list ++ record { ticket = next; thread = t; what = call_of (asked_for kind t a) } ∷ [])
+  events_asked : length list ≡ a + r → a ≤ r → n ≤ a → r ≤ a → a < MAX_THREAD_OPERATIONS → (kind : Kind)
+      → AreEventsOf t (suc a) n r (suc next) (Some (asked_for kind t a)) told
+      (list ++ record { ticket = next; thread = t; what = call_of (asked_for kind t a) } ∷ [])
   events_asked long none_pending answered_below returned_below few kind = record {
     own = own_more _;
     below = below_more _;
@@ -132,15 +138,18 @@ module _ (t a n r next : ℕ) (asked : Option Question) (told : Option Answer) (
           rw number (name_of_ask kind t a value (ap (λ (e : Event). e.what) same ∙ is))
     ];
     idle = λ e. absurd (omega arith);
-    busy = λ less. record { earlier = list; call = _; question = asked_for kind t a; events_are = refl; take_turns = k.idle (omega arith); asked_is = refl; call_is = refl };
+    busy = λ less. record { earlier = list; call = _; question = asked_for kind t a; events_are = refl; take_turns = k.idle (omega arith); asked_is =
+        refl; call_is = refl };
     fits = λ less. absurd (omega arith);
     few = few;
   }
 
   events_answered : (answer : Answer) → Fits asked (Some answer) → AreEventsOf t a (suc n) r next asked (Some answer) list
-  events_answered answer right = record { own = k.own; below = k.below; rise = k.rise; named = k.named; idle = k.idle; busy = k.busy; fits = λ less. right; few = k.few }
+  events_answered answer right = record { own = k.own; below = k.below; rise = k.rise; named = k.named; idle = k.idle; busy = k.busy; fits =
+      λ less. right; few = k.few }
 
-  events_returned : length list ≡ a + r → a ≡ suc r → n ≤ a → (answer : Answer) → told ≡ Some answer → r < n → AreEventsOf t a n (suc r) (suc next) asked told (list ++ record { ticket = next; thread = t; what = return_of answer } ∷ [])
+  events_returned : length list ≡ a + r → a ≡ suc r → n ≤ a → (answer : Answer) → told ≡ Some answer → r < n
+      → AreEventsOf t a n (suc r) (suc next) asked told (list ++ record { ticket = next; thread = t; what = return_of answer } ∷ [])
   events_returned long one_pending answered_below answer told_is has_answer =
       let b = k.busy (omega arith) in
       let right : is_wrong answer (Some b.question) ≡ false = rw (b.asked_is, told_is) at (k.fits has_answer) in
@@ -153,7 +162,8 @@ module _ (t a n r next : ℕ) (asked : Option Question) (told : Option Answer) (
           | inl earlier ↦ k.named m value call earlier is
           | inr (last, same) ↦ absurd (omega (arith, last, long, one_pending))
         ];
-        idle = λ e. rw (b.events_are, append_assoc b.earlier (b.call ∷ []) (record { ticket = next; thread = t; what = return_of answer } ∷ [])) (turns_push b.earlier b.call _ b.take_turns fit);
+        idle = λ e. rw (b.events_are, append_assoc b.earlier (b.call ∷ []) (record { ticket = next; thread = t; what = return_of answer } ∷ []))
+            (turns_push b.earlier b.call _ b.take_turns fit);
         busy = λ less. absurd (omega arith);
         fits = λ less. absurd (omega arith);
         few = k.few;
@@ -162,10 +172,12 @@ module _ (t a n r next : ℕ) (asked : Option Question) (told : Option Answer) (
 -- ---- after any schedule
 
 abbrev pub Recorded : Setting → ℕ → List Step → Type 0
-Recorded setting t steps = AreEventsOf t (asks t steps) (answers t steps) (returns t steps) (tickets steps) (question t steps) (answered setting t steps) (events setting t steps)
+Recorded setting t steps = AreEventsOf t (asks t steps) (answers t steps) (returns t steps) (tickets steps) (question t steps)
+    (answered setting t steps) (events setting t steps)
 
 -- a step of another thread
-other_events : (setting : Setting) (t : ℕ) (step : Step) (before : List Step) → (thread_of step ≡ t → ⊥) → Recorded setting t before → Recorded setting t (step ∷ before)
+other_events : (setting : Setting) (t : ℕ) (step : Step) (before : List Step) → (thread_of step ≡ t → ⊥) → Recorded setting t before
+    → Recorded setting t (step ∷ before)
 other_events setting t (AskEnq u) before ne k = rw (ne_eqb u t ne) (events_later _ _ _ _ _ _ _ _ k (suc (tickets before)) (omega arith))
 other_events setting t (AskDeq u) before ne k = rw (ne_eqb u t ne) (events_later _ _ _ _ _ _ _ _ k (suc (tickets before)) (omega arith))
 other_events setting t (Push u) before ne k = k
@@ -176,11 +188,13 @@ other_events setting t (Drain u n) before ne k = k
 other_events setting t (Close u) before ne k = k
 
 -- what the pending operation of a thread asked
-pub asked_last : (setting : Setting) (t : ℕ) (before : List Step) → Recorded setting t before → returns t before < asks t before → (q : Question) × (question t before ≡ Some q)
+pub asked_last : (setting : Setting) (t : ℕ) (before : List Step) → Recorded setting t before → returns t before < asks t before
+    → (q : Question) × (question t before ≡ Some q)
 asked_last setting t before k less = let b = k.busy less in (b.question, b.asked_is)
 
 -- what a thread was answered that may return
-pub told_last : (setting : Setting) (t : ℕ) (before : List Step) → Recorded setting t before → returns t before < answers t before → (a : Answer) × (answered setting t before ≡ Some a)
+pub told_last : (setting : Setting) (t : ℕ) (before : List Step) → Recorded setting t before → returns t before < answers t before
+    → (a : Answer) × (answered setting t before ≡ Some a)
 told_last setting t before k less = some_told (question t before) (answered setting t before) (k.fits less)
   where
     some_told : (q : Option Question) (o : Option Answer) → Fits q o → (a : Answer) × (o ≡ Some a)
@@ -188,7 +202,9 @@ told_last setting t before k less = some_told (question t before) (answered sett
     some_told (Some q) None f = absurd f
     some_told (Some q) (Some a) f = (a, refl)
 
-own_events : (setting : Setting) (step : Step) (starved : Bool) (before : List Step) → Counted setting (thread_of step) before → Recorded setting (thread_of step) before → refusal setting before (record { step = step; starved = starved }) ≡ None → Recorded setting (thread_of step) (step ∷ before)
+own_events : (setting : Setting) (step : Step) (starved : Bool) (before : List Step) → Counted setting (thread_of step) before
+    → Recorded setting (thread_of step) before → refusal setting before (record { step = step; starved = starved }) ≡ None
+    → Recorded setting (thread_of step) (step ∷ before)
 own_events setting (AskEnq u) starved before c k none =
     let m = may_ask setting before u starved none in
     rw (same_number u) (events_asked _ _ _ _ _ _ _ _ k c.events_are m.none_pending c.answered_below (omega arith) m.thread_may Enq)
@@ -209,14 +225,16 @@ own_events setting (Say u answer) starved before c k none =
 own_events setting (Ret u) starved before c k none =
     let m = may_return setting before u starved none in
     let a = told_last setting u before k m.has_answer in
-    rw (same_number u, a.1) (events_returned u (asks u before) (answers u before) (returns u before) (tickets before) (question u before) (Some a.0) (events setting u before) (rw a.1 at k) c.events_are (omega arith) c.answered_below a.0 refl m.has_answer)
+    rw (same_number u, a.1) (events_returned u (asks u before) (answers u before) (returns u before) (tickets before) (question u before) (Some a.0)
+        (events setting u before) (rw a.1 at k) c.events_are (omega arith) c.answered_below a.0 refl m.has_answer)
 own_events setting (Drain u n) starved before c k none = k
 own_events setting (Close u) starved before c k none = k
 
 abbrev pub CountedAndRecorded : Setting → ℕ → List Step → Type 0
 CountedAndRecorded setting t steps = Counted setting t steps × Recorded setting t steps
 
-pub recorded_goes_on : (setting : Setting) (t : ℕ) (before : List Step) (attempt : Attempt) → CountedAndRecorded setting t before → refusal setting before attempt ≡ None → CountedAndRecorded setting t (attempt.step ∷ before)
+pub recorded_goes_on : (setting : Setting) (t : ℕ) (before : List Step) (attempt : Attempt) → CountedAndRecorded setting t before
+    → refusal setting before attempt ≡ None → CountedAndRecorded setting t (attempt.step ∷ before)
 recorded_goes_on setting t before attempt k none = (
   counts_go_on setting t before attempt k.0 none,
   elim (cases_eq (thread_of attempt.step) t) [

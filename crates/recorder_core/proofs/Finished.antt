@@ -25,7 +25,8 @@ all_from : {X : Type 0} (p : X → Bool) (xs : List X) → ((k : ℕ) (x : X) �
 all_from p [] h = refl
 all_from p (y ∷ xs) h = and_from (p y) (list_all p xs) (h 0 y refl) (all_from p xs (λ k x is. h (suc k) x is))
 
-pub done_from : (setting : Setting) (old : MachineView) (schedule : List Attempt) → IsAfter setting old schedule → list_all is_thread_done old.threads ≡ true → IsDone setting schedule
+pub done_from : (setting : Setting) (old : MachineView) (schedule : List Attempt) → IsAfter setting old schedule
+    → list_all is_thread_done old.threads ≡ true → IsDone setting schedule
 done_from setting old schedule left h = λ t within.
     let steps = accepted setting schedule in
     let k : Counted setting t steps = counted setting t schedule in
@@ -34,7 +35,8 @@ done_from setting old schedule left h = λ t within.
     let r : length (thread_after setting t steps).ring ≡ in_ring t steps = seen_ring setting t steps k in
     (p.0, omega (arith, e, r, k.drained_below))
 
-pub done_to : (setting : Setting) (old : MachineView) (schedule : List Attempt) → IsAfter setting old schedule → IsDone setting schedule → list_all is_thread_done old.threads ≡ true
+pub done_to : (setting : Setting) (old : MachineView) (schedule : List Attempt) → IsAfter setting old schedule → IsDone setting schedule
+    → list_all is_thread_done old.threads ≡ true
 done_to setting old schedule left done =
     let steps = accepted setting schedule in
     all_from is_thread_done old.threads (λ t x at.

@@ -1,5 +1,6 @@
 -- Recorded lists merge to a complete history.
-use Rattle.std.proofs.Common.{◌≡◌, ◌≢◌, ℕ, zero, suc, ◌*◌, ◌^◌, ◌<◌, ◌≤◌, true, false, List, [], ◌∷◌, length, get_or, map, Option, Some, None, refl, sym, ◌∙◌, ap, subst, arith, eqb}
+use Rattle.std.proofs.Common.{◌≡◌, ◌≢◌, ℕ, zero, suc, ◌*◌, ◌^◌, ◌<◌, ◌≤◌, true, false, List, [], ◌∷◌, length, get_or, map, Option, Some, None, refl}
+use Rattle.std.proofs.Common.{sym, ◌∙◌, ap, subst, arith, eqb}
 use Rattle.std.specs.Prelude.{Contains, IsPermutation, slice_get, flat_map}
 use Rattle.std.specs.List.{range_with_len}
 use Rattle.std.proofs.lemmas.Bool.{eqb-true, eq-eqb}
@@ -17,7 +18,8 @@ use Rattle.history_merge.specs.Complete.{IsCompleteHistory, called_value}
 use Rattle.history_merge.specs.Merge.{IsMerged}
 use Rattle.recorder_core.specs.declared.limits.TheConstants.{MAX_THREADS}
 use Rattle.recorder_core.specs.Replay.{IsListOf, AreRecorded}
-use Rattle.recorder_core.proofs.Members.{Below, contains_filter, filter_contains, contains_joined, joined_contains, contains_map, contains_range, nil_from_none, pairs_filter, pairs_filter_map, rising_unique}
+use Rattle.recorder_core.proofs.Members.{Below, contains_filter, filter_contains, contains_joined, joined_contains, contains_map, contains_range}
+use Rattle.recorder_core.proofs.Members.{nil_from_none, pairs_filter, pairs_filter_map, rising_unique}
 use Rattle.recorder_core.proofs.Blocks.{Once, once_apart, once_permutation, once_map, once_range}
 use Rattle.history_merge.proofs.Turns.{answer_is_return}
 
@@ -57,7 +59,8 @@ ticket_of e = e.ticket
 pub once_joined : (lists : List (List Event)) → AreFit lists → Once ticket_of (flat_map (λ list. list) lists)
 once_joined lists fit =
     let all = flat_map (λ (list : List Event). list) lists in
-    once_map ticket_of all (once_permutation (λ n. n) (range_with_len 0 (length all)) (map ticket_of all) (IsPermutation-sym _ _ fit.tickets) (once_range 0 (length all)))
+    once_map ticket_of all (once_permutation (λ n. n) (range_with_len 0 (length all)) (map ticket_of all) (IsPermutation-sym _ _ fit.tickets)
+        (once_range 0 (length all)))
 
 module _ (lists : List (List Event)) (merged : List Event) (fit : AreFit lists) (is : IsMerged lists merged) where
   rises : TicketsRise merged
@@ -89,7 +92,8 @@ module _ (lists : List (List Event)) (merged : List Event) (fit : AreFit lists) 
 
   -- the projection to a thread is the list of the thread
   pub projection_is : (t : ℕ) (list : List Event) → slice_get lists t ≡ Some list → projection t merged ≡ list
-  projection_is t list at = rising_unique (projection t merged) list (pairs_filter Below (λ e. eqb e.thread t) merged rises) (fit.each t list at).alternates.tickets_rise there back
+  projection_is t list at = rising_unique (projection t merged) list (pairs_filter Below (λ e. eqb e.thread t) merged rises)
+      (fit.each t list at).alternates.tickets_rise there back
     where
       there : (e : Event) → Contains (projection t merged) e → Contains list e
       there e among =
@@ -115,7 +119,8 @@ module _ (lists : List (List Event)) (merged : List Event) (fit : AreFit lists) 
       rw none tt
 
   -- where an enqueue is called, and with which name
-  named : (e : Event) (v : ℕ) → Contains merged e → called_value e.what ≡ Some v → (list : List Event) × (n : ℕ) × (slice_get lists e.thread ≡ Some list) × (slice_get list (2 * n) ≡ Some e) × (v ≡ value_name e.thread n) × (n < 2 ^ 32)
+  named : (e : Event) (v : ℕ) → Contains merged e → called_value e.what ≡ Some v
+      → (list : List Event) × (n : ℕ) × (slice_get lists e.thread ≡ Some list) × (slice_get list (2 * n) ≡ Some e) × (v ≡ value_name e.thread n) × (n < 2 ^ 32)
   named e v among called =
       let o = owned e among in
       let own = fit.each e.thread o.0 o.1 in
@@ -125,7 +130,8 @@ module _ (lists : List (List Event)) (merged : List Event) (fit : AreFit lists) 
       let at : slice_get o.0 (2 * even.0) ≡ Some e = subst (λ (k : ℕ). slice_get o.0 k ≡ Some e) even.1 p.1 in
       (o.0, even.0, o.1, at, own.names even.0 v e at c.0, omega (arith, slice_get_within o.0 (2 * even.0) e at, own.not_too_long))
 
-  distinct : (a b : Event) (v w : ℕ) → Contains merged a → Contains merged b → a.ticket < b.ticket → called_value a.what ≡ Some v → called_value b.what ≡ Some w → v ≢ w
+  distinct : (a b : Event) (v w : ℕ) → Contains merged a → Contains merged b → a.ticket < b.ticket → called_value a.what ≡ Some v
+      → called_value b.what ≡ Some w → v ≢ w
   distinct a b v w in_a in_b less call_a call_b same =
       let x = named a v in_a call_a in
       let y = named b w in_b call_b in
@@ -133,7 +139,8 @@ module _ (lists : List (List Event)) (merged : List Event) (fit : AreFit lists) 
       let threads : a.thread ≡ b.thread = omega (arith, names, x.5, y.5) in
       let numbers : x.1 ≡ y.1 = omega (arith, names, threads) in
       let lists_same = same_Some x.0 y.0 (sym x.2 ∙ ap (slice_get lists) threads ∙ y.2) in
-      let events : Some a ≡ Some b = sym x.3 ∙ ap (λ (l : List Event). slice_get l (2 * x.1)) lists_same ∙ ap (λ (n : ℕ). slice_get y.0 (2 * n)) numbers ∙ y.3 in
+      let events : Some a ≡ Some b = sym x.3 ∙ ap (λ (l : List Event). slice_get l (2 * x.1)) lists_same
+          ∙ ap (λ (n : ℕ). slice_get y.0 (2 * n)) numbers ∙ y.3 in
       let tickets : a.ticket ≡ b.ticket = ap ticket_of (same_Some a b events) in
       omega arith
 

@@ -19,7 +19,8 @@ use Rattle.recorder_core.proofs.Totals.{Added, added}
 
 -- ---- what may be done is not refused
 
-pub ask_granted : (setting : Setting) (u : ℕ) (before : List Step) (kind : Kind) → MayAsk setting u before → refusal setting before (record { step = ask_of kind u; starved = false }) ≡ None
+pub ask_granted : (setting : Setting) (u : ℕ) (before : List Step) (kind : Kind) → MayAsk setting u before
+    → refusal setting before (record { step = ask_of kind u; starved = false }) ≡ None
 ask_granted setting u before kind m = by_kind kind
   where
     limits : (leb MAX_THREAD_OPERATIONS (asks u before) || leb MAX_OPERATIONS (all_asks before)) ≡ false
@@ -29,23 +30,35 @@ ask_granted setting u before kind m = by_kind kind
         rw (a, b) refl
 
     by_kind : (k : Kind) → refusal setting before (record { step = ask_of k u; starved = false }) ≡ None
-    by_kind Enq = rw (lt-leb setting.threads u m.known, m.open_still, le-ltb (pushes u before) (asks u before + returns u before) m.none_held, le-ltb (returns u before) (asks u before) m.none_pending, limits) refl
-    by_kind Deq = rw (lt-leb setting.threads u m.known, m.open_still, le-ltb (pushes u before) (asks u before + returns u before) m.none_held, le-ltb (returns u before) (asks u before) m.none_pending, limits) refl
+    by_kind Enq = rw (lt-leb setting.threads u m.known, m.open_still, le-ltb (pushes u before) (asks u before + returns u before) m.none_held, le-ltb
+        (returns u before) (asks u before) m.none_pending, limits) refl
+    by_kind Deq = rw (lt-leb setting.threads u m.known, m.open_still, le-ltb (pushes u before) (asks u before + returns u before) m.none_held, le-ltb
+        (returns u before) (asks u before) m.none_pending, limits) refl
 
-pub push_granted : (setting : Setting) (u : ℕ) (before : List Step) → MayPush setting u before → refusal setting before (record { step = Push u; starved = false }) ≡ None
-push_granted setting u before m = rw (lt-leb setting.threads u m.known, m.open_still, lt-leb (asks u before + returns u before) (pushes u before) m.one_held, lt-leb setting.ring (pushes u before - drained u before) m.has_room) refl
+pub push_granted : (setting : Setting) (u : ℕ) (before : List Step) → MayPush setting u before
+    → refusal setting before (record { step = Push u; starved = false }) ≡ None
+push_granted setting u before m = rw (lt-leb setting.threads u m.known, m.open_still, lt-leb (asks u before + returns u before)
+    (pushes u before) m.one_held, lt-leb setting.ring (pushes u before - drained u before) m.has_room) refl
 
-pub say_granted : (setting : Setting) (u : ℕ) (before : List Step) (answer : Answer) → MayAnswer setting u before → is_wrong answer (question u before) ≡ false → refusal setting before (record { step = Say u answer; starved = false }) ≡ None
-say_granted setting u before answer m right = rw (lt-leb setting.threads u m.known, m.open_still, lt-leb (asks u before) (returns u before) m.one_pending, le-ltb (returns u before) (answers u before) m.no_answer, right) refl
+pub say_granted : (setting : Setting) (u : ℕ) (before : List Step) (answer : Answer) → MayAnswer setting u before
+    → is_wrong answer (question u before) ≡ false → refusal setting before (record { step = Say u answer; starved = false }) ≡ None
+say_granted setting u before answer m right = rw (lt-leb setting.threads u m.known, m.open_still, lt-leb (asks u before)
+    (returns u before) m.one_pending, le-ltb (returns u before) (answers u before) m.no_answer, right) refl
 
-pub return_granted : (setting : Setting) (u : ℕ) (before : List Step) → MayReturn setting u before → refusal setting before (record { step = Ret u; starved = false }) ≡ None
-return_granted setting u before m = rw (lt-leb setting.threads u m.known, m.open_still, le-ltb (pushes u before) (asks u before + returns u before) m.none_held, lt-leb (asks u before) (returns u before) m.one_pending, lt-leb (answers u before) (returns u before) m.has_answer) refl
+pub return_granted : (setting : Setting) (u : ℕ) (before : List Step) → MayReturn setting u before
+    → refusal setting before (record { step = Ret u; starved = false }) ≡ None
+return_granted setting u before m = rw (lt-leb setting.threads u m.known, m.open_still, le-ltb (pushes u before)
+    (asks u before + returns u before) m.none_held, lt-leb (asks u before) (returns u before) m.one_pending, lt-leb (answers u before)
+    (returns u before) m.has_answer) refl
 
-pub drain_granted : (setting : Setting) (u n : ℕ) (before : List Step) → u < setting.threads → refusal setting before (record { step = Drain u n; starved = false }) ≡ None
+pub drain_granted : (setting : Setting) (u n : ℕ) (before : List Step) → u < setting.threads
+    → refusal setting before (record { step = Drain u n; starved = false }) ≡ None
 drain_granted setting u n before known = rw (lt-leb setting.threads u known) refl
 
-pub close_granted : (setting : Setting) (u : ℕ) (before : List Step) → MayClose setting u before → refusal setting before (record { step = Close u; starved = false }) ≡ None
-close_granted setting u before m = rw (lt-leb setting.threads u m.known, m.open_still, le-ltb (pushes u before) (asks u before + returns u before) m.none_held, le-ltb (returns u before) (asks u before) m.none_pending) refl
+pub close_granted : (setting : Setting) (u : ℕ) (before : List Step) → MayClose setting u before
+    → refusal setting before (record { step = Close u; starved = false }) ≡ None
+close_granted setting u before m = rw (lt-leb setting.threads u m.known, m.open_still, le-ltb (pushes u before)
+    (asks u before + returns u before) m.none_held, le-ltb (returns u before) (asks u before) m.none_pending) refl
 
 -- ---- lists of steps that are all accepted
 
@@ -56,7 +69,8 @@ granted_attempt step = record { step = step; starved = false }
 abbrev pub AllGranted : Setting → List Step → Type 0
 AllGranted setting steps = accepted setting (map granted_attempt steps) ≡ steps
 
-pub one_granted : (setting : Setting) (step : Step) (before : List Step) → AllGranted setting before → refusal setting before (granted_attempt step) ≡ None → AllGranted setting (step ∷ before)
+pub one_granted : (setting : Setting) (step : Step) (before : List Step) → AllGranted setting before
+    → refusal setting before (granted_attempt step) ≡ None → AllGranted setting (step ∷ before)
 one_granted setting step before all none =
     let none' : refusal setting (accepted setting (map granted_attempt before)) (granted_attempt step) ≡ None = rw all none in
     accepted_is setting (map granted_attempt before) (granted_attempt step) none' ∙ ap (λ (l : List Step). step ∷ l) all
@@ -82,7 +96,8 @@ pub record IsOnTurn (setting : Setting) (n t held : ℕ) (list : List Event) (st
 abbrev pub collect_one : ℕ → List Step → List Step
 collect_one u before = Drain u 1 ∷ Push u ∷ before
 
-pub collected_own : (setting : Setting) (n u : ℕ) (list : List Event) (before : List Step) → IsOnTurn setting n u 1 list before → IsOnTurn setting n u 0 list (collect_one u before)
+pub collected_own : (setting : Setting) (n u : ℕ) (list : List Event) (before : List Step) → IsOnTurn setting n u 1 list before
+    → IsOnTurn setting n u 0 list (collect_one u before)
 collected_own setting n u list before h = record {
   still_open = h.still_open;
   pushed = rw (same_number u) (omega (arith, h.pushed));
@@ -93,7 +108,8 @@ collected_own setting n u list before h = record {
   later = h.later;
 }
 
-pub collected_other : (setting : Setting) (n t u : ℕ) (list : List Event) (before : List Step) → (u ≡ t → ⊥) → IsOnTurn setting n t 0 list before → IsOnTurn setting n t 0 list (collect_one u before)
+pub collected_other : (setting : Setting) (n t u : ℕ) (list : List Event) (before : List Step) → (u ≡ t → ⊥) → IsOnTurn setting n t 0 list before
+    → IsOnTurn setting n t 0 list (collect_one u before)
 collected_other setting n t u list before other k = record {
   still_open = k.still_open;
   pushed = rw (ne_eqb u t other) k.pushed;
@@ -104,18 +120,24 @@ collected_other setting n t u list before other k = record {
   later = k.later;
 }
 
-pub collected_granted : (setting : Setting) (n u : ℕ) (list : List Event) (before : List Step) → u < setting.threads → 1 ≤ setting.ring → IsOnTurn setting n u 1 list before → AllGranted setting before → AllGranted setting (collect_one u before)
+pub collected_granted : (setting : Setting) (n u : ℕ) (list : List Event) (before : List Step) → u < setting.threads → 1 ≤ setting.ring
+    → IsOnTurn setting n u 1 list before → AllGranted setting before → AllGranted setting (collect_one u before)
 collected_granted setting n u list before known room h all =
-    let push = push_granted setting u before (record { known = known; open_still = h.still_open; one_held = omega (arith, h.pushed); has_room = omega (arith, h.all_drained) }) in
+    let push = push_granted setting u before (record { known = known; open_still = h.still_open; one_held = omega (arith, h.pushed); has_room =
+        omega (arith, h.all_drained) }) in
     one_granted setting (Drain u 1) (Push u ∷ before) (one_granted setting (Push u) before all push) (drain_granted setting u 1 (Push u ∷ before) known)
 
 -- ---- an ask, and an answer with its return
 
-pub ask_other : (setting : Setting) (n t u : ℕ) (list : List Event) (before : List Step) (kind : Kind) → (u ≡ t → ⊥) → IsOnTurn setting n t 0 list before → IsOnTurn setting n t 0 list (ask_of kind u ∷ before)
-ask_other setting n t u list before Enq other k = record { still_open = k.still_open; pushed = rw (ne_eqb u t other) k.pushed; all_drained = k.all_drained; answered = k.answered; rest = k.rest; list_is = rw (ne_eqb u t other) k.list_is; later = k.later }
-ask_other setting n t u list before Deq other k = record { still_open = k.still_open; pushed = rw (ne_eqb u t other) k.pushed; all_drained = k.all_drained; answered = k.answered; rest = k.rest; list_is = rw (ne_eqb u t other) k.list_is; later = k.later }
+pub ask_other : (setting : Setting) (n t u : ℕ) (list : List Event) (before : List Step) (kind : Kind) → (u ≡ t → ⊥)
+    → IsOnTurn setting n t 0 list before → IsOnTurn setting n t 0 list (ask_of kind u ∷ before)
+ask_other setting n t u list before Enq other k = record { still_open = k.still_open; pushed = rw (ne_eqb u t other) k.pushed; all_drained =
+    k.all_drained; answered = k.answered; rest = k.rest; list_is = rw (ne_eqb u t other) k.list_is; later = k.later }
+ask_other setting n t u list before Deq other k = record { still_open = k.still_open; pushed = rw (ne_eqb u t other) k.pushed; all_drained =
+    k.all_drained; answered = k.answered; rest = k.rest; list_is = rw (ne_eqb u t other) k.list_is; later = k.later }
 
-pub answer_other : (setting : Setting) (n t u : ℕ) (list : List Event) (before : List Step) (answer : Answer) → (u ≡ t → ⊥) → IsOnTurn setting n t 0 list before → IsOnTurn setting n t 0 list (Ret u ∷ Say u answer ∷ before)
+pub answer_other : (setting : Setting) (n t u : ℕ) (list : List Event) (before : List Step) (answer : Answer) → (u ≡ t → ⊥)
+    → IsOnTurn setting n t 0 list before → IsOnTurn setting n t 0 list (Ret u ∷ Say u answer ∷ before)
 answer_other setting n t u list before answer other k = record {
   still_open = k.still_open;
   pushed = rw (ne_eqb u t other) k.pushed;

@@ -1,5 +1,6 @@
 -- The effects of an honest schedule: when each was taken, by which operation, and what it did.
-use Rattle.std.proofs.Common.{◌≡◌, ℕ, suc, ◌+◌, ◌*◌, ◌<◌, ◌≤◌, Bool, true, false, List, [], ◌∷◌, ◌++◌, length, map, Option, Some, None, refl, sym, ◌∙◌, ap, subst, inl, inr, arith, eqb, length-append}
+use Rattle.std.proofs.Common.{◌≡◌, ℕ, suc, ◌+◌, ◌*◌, ◌<◌, ◌≤◌, Bool, true, false, List, [], ◌∷◌, ◌++◌, length, map, Option, Some, None, refl, sym}
+use Rattle.std.proofs.Common.{◌∙◌, ap, subst, inl, inr, arith, eqb, length-append}
 use Rattle.std.specs.Prelude.{All, AllPairs, slice_get, not}
 use Rattle.std.specs.List.{list_all}
 use Rattle.std.specs.Option.{option_map, option_map_or}
@@ -21,7 +22,8 @@ use Rattle.recorder_core.specs.declared.pending.Question.{Question}
 use Rattle.recorder_core.specs.declared.pending.Question.TheVariants.{Enqueue, Dequeue}
 use Rattle.recorder_core.specs.Asked.{call_of}
 use Rattle.recorder_core.specs.Setting.{Setting}
-use Rattle.recorder_core.specs.Schedule.{Attempt, refusal, accepted, answers, returns, tickets, question, answered, effect_answer, events, is_wrong, queue, queue_answer, return_of, with_last}
+use Rattle.recorder_core.specs.Schedule.{Attempt, refusal, accepted, answers, returns, tickets, question, answered, effect_answer, events, is_wrong}
+use Rattle.recorder_core.specs.Schedule.{queue, queue_answer, return_of, with_last}
 use Rattle.recorder_core.specs.Replay.{is_say, effected, effect_kinds, kind_told}
 use Rattle.recorder_core.proofs.Runs.{same_number, after_each, MayAsk, may_ask, MayAnswer, may_effect, MayReturn, may_return}
 use Rattle.recorder_core.proofs.Events.{CountedAndRecorded, recorded, recorded_goes_on, told_last, asked_last, with_one_more, queue_is_right}
@@ -38,13 +40,15 @@ pub record TakenEffect : Type 0 where
 abbrev kind_now : Setting → ℕ → List Step → OpKind
 kind_now setting t before = option_map_or (λ asked. kind_told asked (effect_answer setting t before)) (question t before) EmptyOp
 
-now_kind : (setting : Setting) (t : ℕ) (before : List Step) (asked : Question) → question t before ≡ Some asked → kind_now setting t before ≡ kind_told asked (effect_answer setting t before)
+now_kind : (setting : Setting) (t : ℕ) (before : List Step) (asked : Question) → question t before ≡ Some asked
+    → kind_now setting t before ≡ kind_told asked (effect_answer setting t before)
 now_kind setting t before asked is = ap (λ (o : Option Question). option_map_or (λ q. kind_told q (effect_answer setting t before)) o EmptyOp) is
 
 -- the effects, in their order
 abbrev pub taken : Setting → List Step → List TakenEffect
 taken setting [] = []
-taken setting (Effect t ∷ before) = taken setting before ++ record { thread = t; number = answers t before; time = tickets before; kind = kind_now setting t before } ∷ []
+taken setting (Effect t ∷ before) = taken setting before ++ record { thread = t; number = answers t before; time = tickets before; kind =
+    kind_now setting t before } ∷ []
 taken setting (_ ∷ before) = taken setting before
 
 -- no step tells an answer
@@ -63,7 +67,8 @@ pub record IsTaken (next n r : ℕ) (told : Option Answer) (list : List Event) (
 
 module _ (next n r : ℕ) (told : Option Answer) (list : List Event) (number time : ℕ) (kind : OpKind) (k : IsTaken next n r told list number time kind) where
   taken_later : (next' : ℕ) → next ≤ next' → IsTaken next' n r told list number time kind
-  taken_later next' h = record { in_time = omega (arith, k.in_time); was_answered = k.was_answered; call = k.call; called = k.called; called_before = k.called_before; returned = k.returned; waiting = k.waiting }
+  taken_later next' h = record { in_time = omega (arith, k.in_time); was_answered = k.was_answered; call = k.call; called = k.called; called_before =
+      k.called_before; returned = k.returned; waiting = k.waiting }
 
   still_called : (e : Event) → slice_get (list ++ e ∷ []) (2 * number) ≡ Some k.call
   still_called e = slice_get_front list e (2 * number) (slice_get_within list (2 * number) k.call k.called) ∙ k.called
@@ -84,7 +89,8 @@ module _ (next n r : ℕ) (told : Option Answer) (list : List Event) (number tim
   }
 
   -- a return of its thread
-  taken_returned : (e : Event) (a : Answer) → length list ≡ suc (r + r) → n ≤ suc r → told ≡ Some a → e.ticket ≡ next → e.what ≡ return_of a → IsTaken (suc next) n (suc r) told (list ++ e ∷ []) number time kind
+  taken_returned : (e : Event) (a : Answer) → length list ≡ suc (r + r) → n ≤ suc r → told ≡ Some a → e.ticket ≡ next → e.what ≡ return_of a
+      → IsTaken (suc next) n (suc r) told (list ++ e ∷ []) number time kind
   taken_returned e a long few is ticket what = record {
     in_time = omega (arith, k.in_time);
     was_answered = k.was_answered;
@@ -116,7 +122,8 @@ module _ (next n r : ℕ) (told : Option Answer) (list : List Event) (number tim
 
 -- ---- an effect that is taken now
 
-told_kind : (asked : Question) (answer : Answer) → is_wrong answer (Some asked) ≡ false → kind_of (call_of asked) (return_of answer) ≡ Some (kind_told asked answer)
+told_kind : (asked : Question) (answer : Answer) → is_wrong answer (Some asked) ≡ false
+    → kind_of (call_of asked) (return_of answer) ≡ Some (kind_told asked answer)
 told_kind (Enqueue v) Taken right = refl
 told_kind (Enqueue v) Not right = refl
 told_kind (Enqueue v) (Got w) right = cc
@@ -127,16 +134,19 @@ told_kind Dequeue (Got w) right = refl
 told_kind Dequeue Empty right = refl
 
 taken_now : (setting : Setting) (u : ℕ) (before : List Step) → CountedAndRecorded setting u before → MayAnswer setting u before →
-    IsTaken (tickets before) (suc (answers u before)) (returns u before) (Some (effect_answer setting u before)) (events setting u before) (answers u before) (tickets before) (kind_now setting u before)
+    IsTaken (tickets before) (suc (answers u before)) (returns u before) (Some (effect_answer setting u before)) (events setting u before)
+        (answers u before) (tickets before) (kind_now setting u before)
 taken_now setting u before k m =
     let c = k.0 in
     let b = k.1.busy m.one_pending in
     let number : answers u before ≡ returns u before = omega (arith, c.returned_below, m.no_answer) in
     let long : length (events setting u before) ≡ suc (2 * answers u before) = omega (arith, c.events_are, c.one_pending, m.one_pending, number) in
     let earlier : length b.earlier ≡ 2 * answers u before = omega (arith, long, ap length b.events_are, length-append b.earlier (b.call ∷ [])) in
-    let at : slice_get (events setting u before) (2 * answers u before) ≡ Some b.call = rw b.events_are (slice_get_at b.earlier b.call (2 * answers u before) earlier) in
+    let at : slice_get (events setting u before) (2 * answers u before) ≡ Some b.call =
+        rw b.events_are (slice_get_at b.earlier b.call (2 * answers u before) earlier) in
     let right : is_wrong (effect_answer setting u before) (Some b.question) ≡ false =
-    ap (λ (o : Option Question). is_wrong (option_map_or (λ asked. queue_answer asked (queue setting before)) o Empty) (Some b.question)) b.asked_is ∙ queue_is_right b.question (queue setting before) in
+    ap (λ (o : Option Question). is_wrong (option_map_or (λ asked. queue_answer asked (queue setting before)) o Empty) (Some b.question)) b.asked_is
+        ∙ queue_is_right b.question (queue setting before) in
     let kind : kind_now setting u before ≡ kind_told b.question (effect_answer setting u before) = now_kind setting u before b.question b.asked_is in
     record {
       in_time = omega arith;
@@ -145,7 +155,8 @@ taken_now setting u before k m =
       called = at;
       called_before = All-at (λ e. e.ticket < tickets before) (events setting u before) (2 * answers u before) b.call k.1.below at;
       returned = λ ret at'. let past = slice_get_past (events setting u before) (2 * answers u before + 1) (omega (arith, long)) in cc;
-      waiting = λ none. (effect_answer setting u before, refl, ap (λ (w : What). kind_of w (return_of (effect_answer setting u before))) b.call_is ∙ told_kind b.question (effect_answer setting u before) right ∙ ap (λ (x : OpKind). Some x) (sym kind));
+      waiting = λ none. (effect_answer setting u before, refl, ap (λ (w : What). kind_of w (return_of (effect_answer setting u before))) b.call_is
+          ∙ told_kind b.question (effect_answer setting u before) right ∙ ap (λ (x : OpKind). Some x) (sym kind));
     }
   where
     All-at : {X : Type 0} (P : X → Type 0) (xs : List X) (i : ℕ) (x : X) → All P xs → slice_get xs i ≡ Some x → P x
@@ -154,10 +165,13 @@ taken_now setting u before k m =
 -- ---- after any honest schedule
 
 abbrev pub IsTakenAt : Setting → List Step → TakenEffect → Type 0
-IsTakenAt setting steps x = (x.thread < setting.threads) × IsTaken (tickets steps) (answers x.thread steps) (returns x.thread steps) (answered setting x.thread steps) (events setting x.thread steps) x.number x.time x.kind
+IsTakenAt setting steps x = (x.thread < setting.threads) × IsTaken (tickets steps) (answers x.thread steps) (returns x.thread steps)
+    (answered setting x.thread steps) (events setting x.thread steps) x.number x.time x.kind
 
 -- what is taken stays so with each honest step
-taken_on : (setting : Setting) (step : Step) (starved : Bool) (before : List Step) (x : TakenEffect) → ((t : ℕ) → CountedAndRecorded setting t before) → without_says (step ∷ before) ≡ true → refusal setting before (record { step = step; starved = starved }) ≡ None → IsTakenAt setting before x → IsTakenAt setting (step ∷ before) x
+taken_on : (setting : Setting) (step : Step) (starved : Bool) (before : List Step) (x : TakenEffect) → ((t : ℕ) → CountedAndRecorded setting t before)
+    → without_says (step ∷ before) ≡ true → refusal setting before (record { step = step; starved = starved }) ≡ None → IsTakenAt setting before x
+    → IsTakenAt setting (step ∷ before) x
 taken_on setting (AskEnq u) starved before x all honest none k = elim (cases_eq u x.thread) [
   | inl same ↦
       let e : eqb u x.thread ≡ true = eq-eqb u x.thread same in
@@ -188,7 +202,8 @@ taken_on setting (Ret u) starved before x all honest none k = elim (cases_eq u x
       let m = subst (λ (v : ℕ). MayReturn setting v before) same (may_return setting before u starved none) in
       let c = (all x.thread).0 in
       let a = told_last setting x.thread before (all x.thread).1 m.has_answer in
-      rw (e, a.1) (k.0, taken_returned _ _ _ _ _ _ _ _ (rw a.1 at k.1) _ a.0 (omega (arith, c.events_are, c.one_pending, m.one_pending)) (omega (arith, c.answered_below, c.one_pending)) refl refl refl)
+      rw (e, a.1) (k.0, taken_returned _ _ _ _ _ _ _ _ (rw a.1 at k.1) _ a.0 (omega (arith, c.events_are, c.one_pending, m.one_pending))
+          (omega (arith, c.answered_below, c.one_pending)) refl refl refl)
   | inr other ↦ rw (ne_eqb u x.thread other) (k.0, taken_later _ _ _ _ _ _ _ _ k.1 (suc (tickets before)) (omega arith))
 ]
 taken_on setting (Push u) starved before x all honest none k = k
@@ -211,49 +226,67 @@ later_honest (Ret u) before honest = honest
 later_honest (Drain u n) before honest = honest
 later_honest (Close u) before honest = honest
 
-one_effect : (setting : Setting) (u : ℕ) (starved : Bool) (before : List Step) → ((t : ℕ) → CountedAndRecorded setting t before) → without_says (Effect u ∷ before) ≡ true → refusal setting before (record { step = Effect u; starved = starved }) ≡ None → AreTaken setting before → AreTaken setting (Effect u ∷ before)
+one_effect : (setting : Setting) (u : ℕ) (starved : Bool) (before : List Step) → ((t : ℕ) → CountedAndRecorded setting t before)
+    → without_says (Effect u ∷ before) ≡ true → refusal setting before (record { step = Effect u; starved = starved }) ≡ None
+    → AreTaken setting before → AreTaken setting (Effect u ∷ before)
 one_effect setting u starved before all honest none k =
     let m = may_effect setting before u starved none in
     let q = asked_last setting u before (all u).1 m.one_pending in
     record {
       each = All-push (IsTakenAt setting (Effect u ∷ before)) (taken setting before) _
-          (All-weaker (IsTakenAt setting before) (IsTakenAt setting (Effect u ∷ before)) (λ x. taken_on setting (Effect u) starved before x all honest none) (taken setting before) k.each)
+          (All-weaker (IsTakenAt setting before) (IsTakenAt setting (Effect u ∷ before))
+              (λ x. taken_on setting (Effect u) starved before x all honest none) (taken setting before) k.each)
           (m.known, rw (same_number u) (taken_now setting u before (all u) m));
       in_order = all_pairs_push (λ x y. x.time ≤ y.time) (taken setting before) _ k.in_order (λ i d within. (k.each i d within).1.in_time);
       kinds_are =
           map_push (λ (x : TakenEffect). x.kind) (taken setting before) _
           ∙ ap (λ (l : List OpKind). l ++ kind_now setting u before ∷ []) k.kinds_are
           ∙ ap (λ (kind : OpKind). effect_kinds setting before ++ kind ∷ []) (now_kind setting u before q.0 q.1)
-          ∙ ap (λ (o : Option Question). with_last (effect_kinds setting before) (option_map (λ asked. kind_told asked (effect_answer setting u before)) o)) (sym q.1);
+          ∙ ap (λ (o : Option Question). with_last (effect_kinds setting before)
+              (option_map (λ asked. kind_told asked (effect_answer setting u before)) o)) (sym q.1);
     }
 
 abbrev HonestlyTaken : Setting → List Step → Type 0
 HonestlyTaken setting steps = ((t : ℕ) → CountedAndRecorded setting t steps) × (without_says steps ≡ true → AreTaken setting steps)
 
-same_effects : (setting : Setting) (step : Step) (starved : Bool) (before : List Step) → ((t : ℕ) → CountedAndRecorded setting t before) → without_says (step ∷ before) ≡ true → refusal setting before (record { step = step; starved = starved }) ≡ None → AreTaken setting before →
+same_effects : (setting : Setting) (step : Step) (starved : Bool) (before : List Step) → ((t : ℕ) → CountedAndRecorded setting t before)
+    → without_says (step ∷ before) ≡ true → refusal setting before (record { step = step; starved = starved }) ≡ None → AreTaken setting before →
     All (IsTakenAt setting (step ∷ before)) (taken setting before)
 same_effects setting step starved before all honest none k =
-    All-weaker (IsTakenAt setting before) (IsTakenAt setting (step ∷ before)) (λ x. taken_on setting step starved before x all honest none) (taken setting before) k.each
+    All-weaker (IsTakenAt setting before) (IsTakenAt setting (step ∷ before)) (λ x. taken_on setting step starved before x all honest none)
+        (taken setting before) k.each
 
-effects_on : (setting : Setting) (step : Step) (starved : Bool) (before : List Step) → ((t : ℕ) → CountedAndRecorded setting t before) → without_says (step ∷ before) ≡ true → refusal setting before (record { step = step; starved = starved }) ≡ None → AreTaken setting before → AreTaken setting (step ∷ before)
+effects_on : (setting : Setting) (step : Step) (starved : Bool) (before : List Step) → ((t : ℕ) → CountedAndRecorded setting t before)
+    → without_says (step ∷ before) ≡ true → refusal setting before (record { step = step; starved = starved }) ≡ None → AreTaken setting before
+    → AreTaken setting (step ∷ before)
 effects_on setting (Effect u) starved before all honest none k = one_effect setting u starved before all honest none k
-effects_on setting (AskEnq u) starved before all honest none k = record { each = same_effects setting (AskEnq u) starved before all honest none k; in_order = k.in_order; kinds_are = k.kinds_are }
-effects_on setting (AskDeq u) starved before all honest none k = record { each = same_effects setting (AskDeq u) starved before all honest none k; in_order = k.in_order; kinds_are = k.kinds_are }
-effects_on setting (Push u) starved before all honest none k = record { each = same_effects setting (Push u) starved before all honest none k; in_order = k.in_order; kinds_are = k.kinds_are }
+effects_on setting (AskEnq u) starved before all honest none k =
+    record { each = same_effects setting (AskEnq u) starved before all honest none k; in_order = k.in_order; kinds_are = k.kinds_are }
+effects_on setting (AskDeq u) starved before all honest none k =
+    record { each = same_effects setting (AskDeq u) starved before all honest none k; in_order = k.in_order; kinds_are = k.kinds_are }
+effects_on setting (Push u) starved before all honest none k =
+    record { each = same_effects setting (Push u) starved before all honest none k; in_order = k.in_order; kinds_are = k.kinds_are }
 effects_on setting (Say u answer) starved before all honest none k = cc
-effects_on setting (Ret u) starved before all honest none k = record { each = same_effects setting (Ret u) starved before all honest none k; in_order = k.in_order; kinds_are = k.kinds_are }
-effects_on setting (Drain u n) starved before all honest none k = record { each = same_effects setting (Drain u n) starved before all honest none k; in_order = k.in_order; kinds_are = k.kinds_are }
-effects_on setting (Close u) starved before all honest none k = record { each = same_effects setting (Close u) starved before all honest none k; in_order = k.in_order; kinds_are = k.kinds_are }
+effects_on setting (Ret u) starved before all honest none k =
+    record { each = same_effects setting (Ret u) starved before all honest none k; in_order = k.in_order; kinds_are = k.kinds_are }
+effects_on setting (Drain u n) starved before all honest none k =
+    record { each = same_effects setting (Drain u n) starved before all honest none k; in_order = k.in_order; kinds_are = k.kinds_are }
+effects_on setting (Close u) starved before all honest none k =
+    record { each = same_effects setting (Close u) starved before all honest none k; in_order = k.in_order; kinds_are = k.kinds_are }
 
-pub honestly_taken : (setting : Setting) (schedule : List Attempt) → without_says (accepted setting schedule) ≡ true → AreTaken setting (accepted setting schedule)
+pub honestly_taken : (setting : Setting) (schedule : List Attempt) → without_says (accepted setting schedule) ≡ true
+    → AreTaken setting (accepted setting schedule)
 honestly_taken setting schedule = (after_each setting (HonestlyTaken setting)
-    (λ t. recorded setting t [], λ honest. record { each = All-nil (IsTakenAt setting []); in_order = λ i j d below within. absurd (omega arith); kinds_are = refl })
-    (λ before attempt k none. (λ t. recorded_goes_on setting t before attempt (k.0 t) none, λ honest. effects_on setting attempt.step attempt.starved before k.0 honest none (k.1 (later_honest attempt.step before honest)))) schedule).1
+    (λ t. recorded setting t [], λ honest. record { each = All-nil (IsTakenAt setting []); in_order =
+        λ i j d below within. absurd (omega arith); kinds_are = refl })
+    (λ before attempt k none. (λ t. recorded_goes_on setting t before attempt (k.0 t) none,
+        λ honest. effects_on setting attempt.step attempt.starved before k.0 honest none (k.1 (later_honest attempt.step before honest)))) schedule).1
 
 -- the operations of the effects
 pub effected_are : (setting : Setting) (steps : List Step) → map (λ (x : TakenEffect). (x.thread, x.number)) (taken setting steps) ≡ effected steps
 effected_are setting [] = refl
-effected_are setting (Effect u ∷ before) = map_push (λ (x : TakenEffect). (x.thread, x.number)) (taken setting before) _ ∙ ap (λ (l : List (ℕ × ℕ)). l ++ (u, answers u before) ∷ []) (effected_are setting before)
+effected_are setting (Effect u ∷ before) = map_push (λ (x : TakenEffect). (x.thread, x.number)) (taken setting before) _
+    ∙ ap (λ (l : List (ℕ × ℕ)). l ++ (u, answers u before) ∷ []) (effected_are setting before)
 effected_are setting (AskEnq u ∷ before) = effected_are setting before
 effected_are setting (AskDeq u ∷ before) = effected_are setting before
 effected_are setting (Push u ∷ before) = effected_are setting before

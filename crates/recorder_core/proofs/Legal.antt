@@ -1,5 +1,6 @@
 -- The order of the effects of an honest schedule that is done is a legal order.
-use Rattle.std.proofs.Common.{◌≡◌, ℕ, suc, ◌+◌, ◌*◌, ◌<◌, ◌≤◌, Bool, true, List, [], ◌∷◌, ◌++◌, length, get_or, map, Option, Some, None, refl, sym, ◌∙◌, ap, arith}
+use Rattle.std.proofs.Common.{◌≡◌, ℕ, suc, ◌+◌, ◌*◌, ◌<◌, ◌≤◌, Bool, true, List, [], ◌∷◌, ◌++◌, length, get_or, map, Option, Some, None, refl, sym}
+use Rattle.std.proofs.Common.{◌∙◌, ap, arith}
 use Rattle.std.specs.Prelude.{AllPairs, Contains, filter_map, slice_get, IsPermutation}
 use Rattle.std.specs.List.{range_with_len, cons_option}
 use Rattle.std.proofs.lemmas.Bool.{ne_eqb}
@@ -53,13 +54,15 @@ own_more g t k =
 abbrev ByThread : Setting → (ℕ × ℕ → Option Operation) → List Step → Type 0
 ByThread setting g steps = without_says steps ≡ true → IsPermutation (filter_map g (effected steps)) (blocks (λ t. own g t (answers t steps)) setting.threads)
 
-by_thread_on : (setting : Setting) (g : ℕ × ℕ → Option Operation) (step : Step) (starved : Bool) (before : List Step) → ByThread setting g before → refusal setting before (record { step = step; starved = starved }) ≡ None → ByThread setting g (step ∷ before)
+by_thread_on : (setting : Setting) (g : ℕ × ℕ → Option Operation) (step : Step) (starved : Bool) (before : List Step) → ByThread setting g before
+    → refusal setting before (record { step = step; starved = starved }) ≡ None → ByThread setting g (step ∷ before)
 by_thread_on setting g (Effect u) starved before k none honest =
     let more = filter_map g ((u, answers u before) ∷ []) in
     let here : own g u (answers u (Effect u ∷ before)) ≡ own g u (answers u before) ++ more = rw (same_number u) (own_more g u (answers u before)) in
     let a = same_permutation _ _ (filter_map-append g (effected before) ((u, answers u before) ∷ [])) in
     let b = IsPermutation-append_left more _ _ (k honest) in
-    let c = blocks_grow (λ t. own g t (answers t before)) (λ t. own g t (answers t (Effect u ∷ before))) u setting.threads more (may_effect setting before u starved none).known here (λ t other. rw (ne_eqb u t other) refl) in
+    let c = blocks_grow (λ t. own g t (answers t before)) (λ t. own g t (answers t (Effect u ∷ before))) u setting.threads more
+        (may_effect setting before u starved none).known here (λ t other. rw (ne_eqb u t other) refl) in
     IsPermutation-trans _ _ _ a (IsPermutation-trans _ _ _ b c)
 by_thread_on setting g (Say u answer) starved before k none honest = cc
 by_thread_on setting g (AskEnq u) starved before k none honest = k honest
@@ -70,11 +73,14 @@ by_thread_on setting g (Drain u n) starved before k none honest = k honest
 by_thread_on setting g (Close u) starved before k none honest = k honest
 
 effects_by_thread : (setting : Setting) (g : ℕ × ℕ → Option Operation) (schedule : List Attempt) → ByThread setting g (accepted setting schedule)
-effects_by_thread setting g schedule = after_each setting (ByThread setting g) (λ honest. same_permutation _ _ (no_blocks setting.threads)) (λ before attempt k none. by_thread_on setting g attempt.step attempt.starved before k none) schedule
+effects_by_thread setting g schedule = after_each setting (ByThread setting g) (λ honest. same_permutation _ _ (no_blocks setting.threads))
+    (λ before attempt k none. by_thread_on setting g attempt.step attempt.starved before k none) schedule
 
 -- ---- what the effects did
 
-kinds_kept : (h : TakenEffect → Option Operation) (xs : List TakenEffect) → ((x : TakenEffect) → Contains xs x → (o : Operation) × (h x ≡ Some o) × (o.kind ≡ x.kind)) → map (λ (o : Operation). o.kind) (filter_map h xs) ≡ map (λ (x : TakenEffect). x.kind) xs
+kinds_kept : (h : TakenEffect → Option Operation) (xs : List TakenEffect)
+    → ((x : TakenEffect) → Contains xs x → (o : Operation) × (h x ≡ Some o) × (o.kind ≡ x.kind))
+    → map (λ (o : Operation). o.kind) (filter_map h xs) ≡ map (λ (x : TakenEffect). x.kind) xs
 kinds_kept h [] each = refl
 kinds_kept h (x ∷ xs) each =
     let first = each x (contains_head x xs) in
@@ -83,7 +89,8 @@ kinds_kept h (x ∷ xs) each =
     ∙ ap (λ (l : List OpKind). first.0.kind ∷ l) more ∙ ap (λ (k : OpKind). k ∷ map (λ (y : TakenEffect). y.kind) xs) first.2
 
 -- the operation of a call and a return at their places
-made_of : (list : List Event) (n : ℕ) (call ret : Event) (kind : OpKind) → slice_get list (2 * n) ≡ Some call → slice_get list (2 * n + 1) ≡ Some ret → kind_of call.what ret.what ≡ Some kind →
+made_of : (list : List Event) (n : ℕ) (call ret : Event) (kind : OpKind) → slice_get list (2 * n) ≡ Some call → slice_get list (2 * n + 1) ≡ Some ret
+    → kind_of call.what ret.what ≡ Some kind →
     operation_in list n ≡ Some (record { call = call.ticket; ret = ret.ticket; thread = call.thread; kind = kind })
 made_of list n call ret kind at_call at_ret is =
     ap (λ (o : Option Event). found o (slice_get list (2 * n + 1))) at_call
@@ -98,11 +105,13 @@ made_of list n call ret kind at_call at_ret is =
 
 at_number : {X : Type 0} (f : ℕ → X) (n t : ℕ) → t < n → slice_get (map f (range_with_len 0 n)) t ≡ Some (f t)
 at_number f n t within =
-    slice_get_read (map f (range_with_len 0 n)) n t (f t) (sym (length-map-range_with_len f 0 n)) within (sym (get_or-map-range_with_len f 0 n t t (f t) within (omega arith)))
+    slice_get_read (map f (range_with_len 0 n)) n t (f t) (sym (length-map-range_with_len f 0 n)) within
+        (sym (get_or-map-range_with_len f 0 n t t (f t) within (omega arith)))
 
 -- ---- the order of the effects
 
-module _ (setting : Setting) (schedule : List Attempt) (merged : List Event) (few : setting.threads ≤ MAX_THREADS) (honest : without_says (accepted setting schedule) ≡ true) (done : IsDone setting schedule) (is : IsMerged (collected_lists setting schedule) merged) where
+module _ (setting : Setting) (schedule : List Attempt) (merged : List Event) (few : setting.threads ≤ MAX_THREADS)
+    (honest : without_says (accepted setting schedule) ≡ true) (done : IsDone setting schedule) (is : IsMerged (collected_lists setting schedule) merged) where
   abbrev steps : List Step
   steps = accepted setting schedule
 
@@ -117,7 +126,8 @@ module _ (setting : Setting) (schedule : List Attempt) (merged : List Event) (fe
       (omega (arith, c.returned_below, c.answered_below, same), omega (arith, c.events_are, same))
 
   -- each effect is that of an operation whose call is before it and whose return is not
-  pub effect_did : (x : TakenEffect) → Contains (taken setting steps) x → (o : Operation) × (did x ≡ Some o) × (o.kind ≡ x.kind) × (o.call < x.time) × (x.time ≤ o.ret)
+  pub effect_did : (x : TakenEffect) → Contains (taken setting steps) x
+      → (o : Operation) × (did x ≡ Some o) × (o.kind ≡ x.kind) × (o.call < x.time) × (x.time ≤ o.ret)
   effect_did x among =
       let all = honestly_taken setting schedule honest in
       let k = All-contains (λ (y : TakenEffect). IsTakenAt setting steps y) (taken setting steps) x all.each among in
@@ -127,10 +137,12 @@ module _ (setting : Setting) (schedule : List Attempt) (merged : List Event) (fe
       let ret = get_or list (2 * x.number + 1) k.1.call in
       let at = slice_get-get_or list (2 * x.number + 1) k.1.call within in
       let r = k.1.returned ret at in
-      (record { call = k.1.call.ticket; ret = ret.ticket; thread = k.1.call.thread; kind = x.kind }, made_of list x.number k.1.call ret x.kind k.1.called at r.1, refl, k.1.called_before, r.0)
+      (record { call = k.1.call.ticket; ret = ret.ticket; thread = k.1.call.thread; kind = x.kind },
+          made_of list x.number k.1.call ret x.kind k.1.called at r.1, refl, k.1.called_before, r.0)
 
   order_is : effects_order setting steps ≡ filter_map did (taken setting steps)
-  order_is = ap (filter_map (operation_at setting steps)) (sym (effected_are setting steps)) ∙ filter_map-map (operation_at setting steps) (λ (x : TakenEffect). (x.thread, x.number)) (taken setting steps)
+  order_is = ap (filter_map (operation_at setting steps)) (sym (effected_are setting steps))
+      ∙ filter_map-map (operation_at setting steps) (λ (x : TakenEffect). (x.thread, x.number)) (taken setting steps)
 
   in_precedence : AllPairs (λ earlier later. ¬ (Precedes later earlier)) (effects_order setting steps)
   in_precedence =
@@ -155,7 +167,8 @@ module _ (setting : Setting) (schedule : List Attempt) (merged : List Event) (fe
   -- the operations of each thread are those of its effects
   thread_operations : (t : ℕ) → t < setting.threads → operations_of (projection t merged) ≡ own (operation_at setting steps) t (answers t steps)
   thread_operations t within =
-      let at = at_number (λ v. collected_in setting schedule v) setting.threads t within ∙ ap (λ (l : List Event). Some l) (all_collected setting schedule done t within) in
+      let at = at_number (λ v. collected_in setting schedule v) setting.threads t within
+          ∙ ap (λ (l : List Event). Some l) (all_collected setting schedule done t within) in
       let a = all_answered t within in
       let k = (recorded setting t schedule).1 in
       ap operations_of (projection_is (collected_lists setting schedule) merged (collected_is_fit setting schedule few done) is t (events setting t steps) at)
@@ -167,9 +180,11 @@ module _ (setting : Setting) (schedule : List Attempt) (merged : List Event) (fe
   each_once =
       let low : (e : Event) → Contains merged e → e.thread < setting.threads = λ e among.
       let o = owned (collected_lists setting schedule) merged (collected_is_fit setting schedule few done) is e among in
-      omega (arith, slice_get_within (collected_lists setting schedule) e.thread o.0 o.1, length-map-range_with_len (λ t. collected_in setting schedule t) 0 setting.threads) in
+      omega (arith, slice_get_within (collected_lists setting schedule) e.thread o.0 o.1, length-map-range_with_len
+          (λ t. collected_in setting schedule t) 0 setting.threads) in
       let a = operations_by_thread merged setting.threads low in
-      let b = same_permutation _ _ (blocks_same (λ t. operations_of (projection t merged)) (λ t. own (operation_at setting steps) t (answers t steps)) setting.threads thread_operations) in
+      let b = same_permutation _ _ (blocks_same (λ t. operations_of (projection t merged))
+          (λ t. own (operation_at setting steps) t (answers t steps)) setting.threads thread_operations) in
       let c = IsPermutation-sym _ _ (effects_by_thread setting (operation_at setting steps) schedule honest) in
       IsPermutation-trans _ _ _ a (IsPermutation-trans _ _ _ b c)
 

@@ -1,6 +1,7 @@
 -- Lists by what they contain: numbers that stand once in a list, and lists whose tickets rise.
 use Rattle.std.proofs.lemmas.Bool.{cases_eq}
-use Rattle.std.proofs.Common.{◌≡◌, ℕ, zero, suc, ◌+◌, ◌<◌, ◌⊎◌, Bool, true, false, cond, List, [], ◌∷◌, get_or, map, Option, Some, None, refl, sym, ◌∙◌, ap, subst, inl, inr, arith, ◌≤◌, ◌++◌}
+use Rattle.std.proofs.Common.{◌≡◌, ℕ, zero, suc, ◌+◌, ◌<◌, ◌⊎◌, Bool, true, false, cond, List, [], ◌∷◌, get_or, map, Option, Some, None, refl, sym}
+use Rattle.std.proofs.Common.{◌∙◌, ap, subst, inl, inr, arith, ◌≤◌, ◌++◌}
 use Rattle.std.specs.Prelude.{All, AllPairs, Contains, filter, filter_map, slice_get, flat_map}
 use Rattle.std.specs.List.{range_with_len, cons_option}
 use Rattle.std.proofs.lemmas.List.Elements.{Contains-append_left, Contains-append_right, Contains-append_cases, Contains-get_or}
@@ -48,13 +49,15 @@ filter_contains {X} p (y ∷ xs) x among = elim (kept_cases (p y) y x (filter p 
 ]
 
 -- a member of one of several lists is one of all
-pub contains_joined : {X : Type 0} (lists : List (List X)) (t : ℕ) (list : List X) (x : X) → slice_get lists t ≡ Some list → Contains list x → Contains (flat_map (λ l. l) lists) x
+pub contains_joined : {X : Type 0} (lists : List (List X)) (t : ℕ) (list : List X) (x : X) → slice_get lists t ≡ Some list → Contains list x
+    → Contains (flat_map (λ l. l) lists) x
 contains_joined [] t list x at among = cc
 contains_joined (l ∷ lists) zero list x at among = let same : l ≡ list = cc in Contains-append_left l (flat_map (λ l. l) lists) x (rw same among)
 contains_joined (l ∷ lists) (suc t) list x at among = Contains-append_right l (flat_map (λ l. l) lists) x (contains_joined lists t list x at among)
 
 -- and the other way round
-pub joined_contains : {X : Type 0} (lists : List (List X)) (x : X) → Contains (flat_map (λ l. l) lists) x → (t : ℕ) × (list : List X) × (slice_get lists t ≡ Some list) × Contains list x
+pub joined_contains : {X : Type 0} (lists : List (List X)) (x : X) → Contains (flat_map (λ l. l) lists) x
+    → (t : ℕ) × (list : List X) × (slice_get lists t ≡ Some list) × Contains list x
 joined_contains [] x among = absurd (none_in_nil x among)
 joined_contains (l ∷ lists) x among = elim (Contains-append_cases l (flat_map (λ l. l) lists) x among) [
   | inl here ↦ (zero, l, refl, here)
@@ -74,13 +77,15 @@ pairs_tail R x xs pairs i j d below within = pairs (suc i) (suc j) d (omega arit
 pub pairs_first : {X : Type 0} (R : X → X → Type 0) (x : X) (xs : List X) (y : X) → AllPairs R (x ∷ xs) → Contains xs y → R x y
 pairs_first {X} R x xs y pairs (k, within, same) = let P : X → Type 0 = λ z. R x z in subst P same (pairs zero (suc k) y (omega arith) (omega arith))
 
-pairs_kept : {X : Type 0} (R : X → X → Type 0) (b : Bool) (x : X) (kept : List X) → ((y : X) → Contains kept y → R x y) → AllPairs R kept → AllPairs R (cond b (x ∷ kept) kept)
+pairs_kept : {X : Type 0} (R : X → X → Type 0) (b : Bool) (x : X) (kept : List X) → ((y : X) → Contains kept y → R x y) → AllPairs R kept
+    → AllPairs R (cond b (x ∷ kept) kept)
 pairs_kept R true x kept first more = pairs_cons R x kept first more
 pairs_kept R false x kept first more = more
 
 pub pairs_filter : {X : Type 0} (R : X → X → Type 0) (p : X → Bool) (xs : List X) → AllPairs R xs → AllPairs R (filter p xs)
 pairs_filter R p [] pairs = λ i j d below within. absurd (omega arith)
-pairs_filter R p (x ∷ xs) pairs = pairs_kept R (p x) x (filter p xs) (λ y among. pairs_first R x xs y pairs (filter_contains p xs y among).0) (pairs_filter R p xs (pairs_tail R x xs pairs))
+pairs_filter R p (x ∷ xs) pairs = pairs_kept R (p x) x (filter p xs) (λ y among. pairs_first R x xs y pairs (filter_contains p xs y among).0)
+    (pairs_filter R p xs (pairs_tail R x xs pairs))
 
 -- ---- lists whose tickets rise
 
@@ -88,12 +93,14 @@ abbrev pub Below : Event → Event → Type 0
 Below e f = e.ticket < f.ticket
 
 -- two of them that contain the same events are one
-pub rising_unique : (xs ys : List Event) → TicketsRise xs → TicketsRise ys → ((e : Event) → Contains xs e → Contains ys e) → ((e : Event) → Contains ys e → Contains xs e) → xs ≡ ys
+pub rising_unique : (xs ys : List Event) → TicketsRise xs → TicketsRise ys → ((e : Event) → Contains xs e → Contains ys e)
+    → ((e : Event) → Contains ys e → Contains xs e) → xs ≡ ys
 rising_unique [] [] up up' there back = refl
 rising_unique [] (y ∷ ys) up up' there back = absurd (none_in_nil y (back y (contains_head y ys)))
 rising_unique (x ∷ xs) [] up up' there back = absurd (none_in_nil x (there x (contains_head x xs)))
 rising_unique (x ∷ xs) (y ∷ ys) up up' there back =
-    ap (λ (l : List Event). x ∷ l) (rising_unique xs ys (pairs_tail Below x xs up) (pairs_tail Below y ys up') (one_on x y xs ys up same there) (one_on y x ys xs up' (sym same) back)) ∙ ap (λ (z : Event). z ∷ ys) same
+    ap (λ (l : List Event). x ∷ l) (rising_unique xs ys (pairs_tail Below x xs up) (pairs_tail Below y ys up') (one_on x y xs ys up same there)
+        (one_on y x ys xs up' (sym same) back)) ∙ ap (λ (z : Event). z ∷ ys) same
   where
     same : x ≡ y
     same = elim (contains_cons y ys x (there x (contains_head x xs))) [
@@ -107,7 +114,8 @@ rising_unique (x ∷ xs) (y ∷ ys) up up' there back =
       ]
     ]
 
-    one_on : (a b : Event) (more_a more_b : List Event) → TicketsRise (a ∷ more_a) → a ≡ b → ((e : Event) → Contains (a ∷ more_a) e → Contains (b ∷ more_b) e) → (e : Event) → Contains more_a e → Contains more_b e
+    one_on : (a b : Event) (more_a more_b : List Event) → TicketsRise (a ∷ more_a) → a ≡ b
+        → ((e : Event) → Contains (a ∷ more_a) e → Contains (b ∷ more_b) e) → (e : Event) → Contains more_a e → Contains more_b e
     one_on a b more_a more_b rise is over e among = elim (contains_cons b more_b e (over e (contains_tail a more_a e among))) [
       | inl first ↦
           let less = pairs_first Below a more_a e rise among in
@@ -140,7 +148,8 @@ pub filter_map_contains : {X Y : Type 0} (h : X → Option Y) (xs : List X) (y :
 filter_map_contains h [] y among = absurd (none_in_nil y among)
 filter_map_contains {X} {Y} h (x ∷ xs) y among = by_head (h x) refl (filter_map_contains h xs y) among
   where
-    by_head : (o : Option Y) → h x ≡ o → (Contains (filter_map h xs) y → (z : X) × Contains xs z × (h z ≡ Some y)) → Contains (cons_option o (filter_map h xs)) y → (z : X) × Contains (x ∷ xs) z × (h z ≡ Some y)
+    by_head : (o : Option Y) → h x ≡ o → (Contains (filter_map h xs) y → (z : X) × Contains xs z × (h z ≡ Some y))
+        → Contains (cons_option o (filter_map h xs)) y → (z : X) × Contains (x ∷ xs) z × (h z ≡ Some y)
     by_head None is more there = let m = more there in (m.0, contains_tail x xs m.0 m.1, m.2)
     by_head (Some w) is more there = elim (contains_cons w (filter_map h xs) y there) [
       | inl same ↦ (x, contains_head x xs, is ∙ ap (λ (z : Y). Some z) same)
@@ -148,10 +157,12 @@ filter_map_contains {X} {Y} h (x ∷ xs) y among = by_head (h x) refl (filter_ma
     ]
 
 -- what holds of each two items holds, in another form, of what is kept of them
-pub pairs_filter_map : {X Y : Type 0} (R : X → X → Type 0) (S : Y → Y → Type 0) (h : X → Option Y) (xs : List X) → ((a b : X) (c d : Y) → Contains xs a → Contains xs b → R a b → h a ≡ Some c → h b ≡ Some d → S c d) → AllPairs R xs → AllPairs S (filter_map h xs)
+pub pairs_filter_map : {X Y : Type 0} (R : X → X → Type 0) (S : Y → Y → Type 0) (h : X → Option Y) (xs : List X)
+    → ((a b : X) (c d : Y) → Contains xs a → Contains xs b → R a b → h a ≡ Some c → h b ≡ Some d → S c d) → AllPairs R xs → AllPairs S (filter_map h xs)
 pairs_filter_map R S h [] turn pairs = λ i j d below within. absurd (omega arith)
 pairs_filter_map {X} {Y} R S h (x ∷ xs) turn pairs =
-    by_head (h x) refl (pairs_filter_map R S h xs (λ a b c d in_a in_b. turn a b c d (contains_tail x xs a in_a) (contains_tail x xs b in_b)) (pairs_tail R x xs pairs))
+    by_head (h x) refl (pairs_filter_map R S h xs (λ a b c d in_a in_b. turn a b c d (contains_tail x xs a in_a) (contains_tail x xs b in_b))
+        (pairs_tail R x xs pairs))
   where
     by_head : (o : Option Y) → h x ≡ o → AllPairs S (filter_map h xs) → AllPairs S (cons_option o (filter_map h xs))
     by_head None is more = more

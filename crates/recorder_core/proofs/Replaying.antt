@@ -1,6 +1,7 @@
 -- Recorded lists are collected by some schedule: it takes the events by ticket, an ask, or a say and a return, and then a push and
 -- a drain of one.
-use Rattle.std.proofs.Common.{◌≡◌, ℕ, zero, suc, ◌+◌, ◌*◌, ◌<◌, ◌≤◌, Bool, true, false, List, [], ◌∷◌, ◌++◌, length, get_or, map, Some, refl, sym, ◌∙◌, ap, subst, inl, inr, arith, append_assoc, length-append}
+use Rattle.std.proofs.Common.{◌≡◌, ℕ, zero, suc, ◌+◌, ◌*◌, ◌<◌, ◌≤◌, Bool, true, false, List, [], ◌∷◌, ◌++◌, length, get_or, map, Some, refl, sym}
+use Rattle.std.proofs.Common.{◌∙◌, ap, subst, inl, inr, arith, append_assoc, length-append}
 use Rattle.std.specs.Prelude.{All, Contains, slice_get, flat_map, not}
 use Rattle.std.specs.List.{range_with_len, list_all}
 use Rattle.std.proofs.lemmas.Bool.{cases_eq, cases_lt}
@@ -22,10 +23,12 @@ use Rattle.recorder_core.specs.Schedule.{asks, answers, returns, tickets, questi
 use Rattle.recorder_core.specs.Replay.{is_effect}
 use Rattle.recorder_core.proofs.Runs.{same_number, MayAsk}
 use Rattle.recorder_core.proofs.Totals.{total, total_doubled_less}
-use Rattle.recorder_core.proofs.Members.{Below, pairs_first, pairs_suffix, contains_joined, joined_contains, map_contains, in_range, all_from_members, none_in_nil}
+use Rattle.recorder_core.proofs.Members.{Below, pairs_first, pairs_suffix, contains_joined, joined_contains, map_contains, in_range, all_from_members}
+use Rattle.recorder_core.proofs.Members.{none_in_nil}
 use Rattle.recorder_core.proofs.Blocks.{once_same, joined_blocks, blocks}
 use Rattle.recorder_core.proofs.Fitting.{ticket_of, AreFit, once_joined}
-use Rattle.recorder_core.proofs.Granted.{AllGranted, one_granted, granted_recorded, granted_added, ask_granted, say_granted, return_granted, IsOnTurn, collect_one, collected_own, collected_other, collected_granted, ask_other, answer_other}
+use Rattle.recorder_core.proofs.Granted.{AllGranted, one_granted, granted_recorded, granted_added, ask_granted, say_granted, return_granted, IsOnTurn}
+use Rattle.recorder_core.proofs.Granted.{collect_one, collected_own, collected_other, collected_granted, ask_other, answer_other}
 use Rattle.recorder_core.proofs.Turns.{turns_split, turns_from_call, turns_even, first_is_call, answer_in, pending_is_answered}
 use Rattle.history_merge.proofs.Distinct.{contains_cons}
 
@@ -40,7 +43,8 @@ pub record HasNext (setting : Setting) (n t : ℕ) (list : List Event) (steps : 
   pub later : All (λ e. suc n ≤ e.ticket) rest
 
 -- of a list on turn that contains the event with this ticket, that event is the next
-next_is : (setting : Setting) (n t : ℕ) (list : List Event) (steps : List Step) (e : Event) → TicketsRise list → All (λ x. x.ticket < n) (events setting t steps) → IsOnTurn setting n t 0 list steps → Contains list e → e.ticket ≡ n → HasNext setting n t list steps e
+next_is : (setting : Setting) (n t : ℕ) (list : List Event) (steps : List Step) (e : Event) → TicketsRise list
+    → All (λ x. x.ticket < n) (events setting t steps) → IsOnTurn setting n t 0 list steps → Contains list e → e.ticket ≡ n → HasNext setting n t list steps e
 next_is setting n t list steps e rise below k among same =
     elim (Contains-append_cases (events setting t steps) k.rest e (subst (λ (l : List Event). Contains l e) k.list_is among)) [
       | inl earlier ↦ absurd (omega (arith, All-contains (λ (x : Event). x.ticket < n) (events setting t steps) e below earlier))
@@ -55,7 +59,8 @@ next_is setting n t list steps e rise below k among same =
           | inl head ↦ record {
             rest = rest;
             list_is = is ∙ ap (λ (z : Event). events setting t steps ++ z ∷ rest) head;
-            later = all_from_members (λ z. suc n ≤ z.ticket) rest (λ z there. let less = pairs_first Below x rest z up there in omega (arith, less, ap ticket_of head));
+            later = all_from_members (λ z. suc n ≤ z.ticket) rest (λ z there. let less = pairs_first Below x rest z up there in
+                omega (arith, less, ap ticket_of head));
           }
           | inr there ↦
               let less = pairs_first Below x rest e up there in
@@ -65,7 +70,8 @@ next_is setting n t list steps e rise below k among same =
 
 -- ---- the two kinds of turn, at the thread of the event
 
-module _ (setting : Setting) (n u : ℕ) (list : List Event) (steps : List Step) (e : Event) (k : IsOnTurn setting n u 0 list steps) (next : HasNext setting n u list steps e) (own : e.thread ≡ u) (same : e.ticket ≡ n) (counted : tickets steps ≡ n) where
+module _ (setting : Setting) (n u : ℕ) (list : List Event) (steps : List Step) (e : Event) (k : IsOnTurn setting n u 0 list steps)
+    (next : HasNext setting n u list steps e) (own : e.thread ≡ u) (same : e.ticket ≡ n) (counted : tickets steps ≡ n) where
   event_is : (x : Event) → x.ticket ≡ n → x.thread ≡ u → x.what ≡ e.what → x ≡ e
   event_is x ticket thread what =
       ap (λ (v : ℕ). let y : Event = record { ticket = v; thread = x.thread; what = x.what } in y) (ticket ∙ sym same)
@@ -73,7 +79,8 @@ module _ (setting : Setting) (n u : ℕ) (list : List Event) (steps : List Step)
       ∙ ap (λ w. let y : Event = record { ticket = e.ticket; thread = e.thread; what = w } in y) what
 
   one_more : (x : Event) → x ≡ e → list ≡ (events setting u steps ++ x ∷ []) ++ next.rest
-  one_more x is = next.list_is ∙ ap (λ (z : Event). events setting u steps ++ z ∷ next.rest) (sym is) ∙ sym (append_assoc (events setting u steps) (x ∷ []) next.rest)
+  one_more x is = next.list_is ∙ ap (λ (z : Event). events setting u steps ++ z ∷ next.rest) (sym is)
+      ∙ sym (append_assoc (events setting u steps) (x ∷ []) next.rest)
 
   ask_own : (kind : Kind) → e.what ≡ call_of (asked_for kind u (asks u steps)) → IsOnTurn setting (suc n) u 1 list (ask_of kind u ∷ steps)
   ask_own Enq what = record {
@@ -143,14 +150,17 @@ module _ (lists : List (List Event)) (fit : AreFit lists) (ring : ℕ) (room : 1
   -- the event with a ticket, in the list of its thread
   found : (n : ℕ) → n < length all → (e : Event) × (list : List Event) × (slice_get lists e.thread ≡ Some list) × Contains list e × (e.ticket ≡ n)
   found n below =
-      let c = Contains-permutation (range_with_len 0 (length all)) (map ticket_of all) n (IsPermutation-sym _ _ fit.tickets) (in_range 0 (length all) n (omega arith) (omega arith)) in
+      let c = Contains-permutation (range_with_len 0 (length all)) (map ticket_of all) n (IsPermutation-sym _ _ fit.tickets)
+          (in_range 0 (length all) n (omega arith) (omega arith)) in
       let m = map_contains ticket_of all n c in
       let j = joined_contains lists m.0 m.1 in
       let own = All-contains (λ (x : Event). x.thread ≡ j.0) j.1 m.0 (fit.each j.0 j.1 j.2).own j.3 in
       (m.0, j.1, subst (λ (t : ℕ). slice_get lists t ≡ Some j.1) (sym own) j.2, j.3, m.2)
 
   -- a thread without the event with this ticket has later ones
-  other_later : (n t : ℕ) (list : List Event) (steps : List Step) (e : Event) (from : List Event) → slice_get lists t ≡ Some list → slice_get lists e.thread ≡ Some from → Contains from e → e.ticket ≡ n → (e.thread ≡ t → ⊥) → IsOnTurn on n t 0 list steps → IsOnTurn on (suc n) t 0 list steps
+  other_later : (n t : ℕ) (list : List Event) (steps : List Step) (e : Event) (from : List Event) → slice_get lists t ≡ Some list
+      → slice_get lists e.thread ≡ Some from → Contains from e → e.ticket ≡ n → (e.thread ≡ t → ⊥) → IsOnTurn on n t 0 list steps
+      → IsOnTurn on (suc n) t 0 list steps
   other_later n t list steps e from at at_e among same other k = record {
     still_open = k.still_open;
     pushed = k.pushed;
@@ -167,7 +177,8 @@ module _ (lists : List (List Event)) (fit : AreFit lists) (ring : ℕ) (room : 1
           let low = All-contains (λ (z : Event). n ≤ z.ticket) k.rest x k.later here in
           elim (cases_eq x.ticket n) [
             | inl tie ↦
-                let one = once_same ticket_of all x e (once_joined lists fit) (contains_joined lists t list x at in_list) (contains_joined lists e.thread from e at_e among) (tie ∙ sym same) in
+                let one = once_same ticket_of all x e (once_joined lists fit) (contains_joined lists t list x at in_list)
+                    (contains_joined lists e.thread from e at_e among) (tie ∙ sym same) in
                 let own = All-contains (λ (z : Event). z.thread ≡ t) list x (fit.each t list at).own in_list in
                 absurd (other (sym (ap (λ (z : Event). z.thread) one) ∙ own))
             | inr apart ↦ omega (arith, low, apart)
@@ -198,7 +209,8 @@ module _ (lists : List (List Event)) (fit : AreFit lists) (ring : ℕ) (room : 1
       let even = turns_even (list_of t) (fit.each t (list_of t) (at_place t within)).alternates.takes_turns in
       omega (arith, even.1, ap length k.list_is, length-append (events on t r.steps) k.rest, c.0.events_are, c.0.one_pending)
 
-  may_ask_next : (n u : ℕ) (r : IsReplayed n) (list : List Event) (e : Event) → slice_get lists u ≡ Some list → HasNext on n u list r.steps e → asks u r.steps ≡ returns u r.steps → MayAsk on u r.steps
+  may_ask_next : (n u : ℕ) (r : IsReplayed n) (list : List Event) (e : Event) → slice_get lists u ≡ Some list → HasNext on n u list r.steps e
+      → asks u r.steps ≡ returns u r.steps → MayAsk on u r.steps
   may_ask_next n u r list e at next idle =
       let steps = r.steps in
       let within : u < length lists = slice_get_within lists u list at in
@@ -207,7 +219,8 @@ module _ (lists : List (List Event)) (fit : AreFit lists) (ring : ℕ) (room : 1
       let own = fit.each u list at in
       let even = turns_even list own.alternates.takes_turns in
       let same : list_of u ≡ list = get_or_from_slice_get lists u list [] at in
-      let more : 2 * asks u steps + 2 ≤ length (list_of u) = rw same (omega (arith, even.1, ap length next.list_is, length-append (events on u steps) (e ∷ next.rest), c.0.events_are, idle)) in
+      let more : 2 * asks u steps + 2 ≤ length (list_of u) = rw same
+          (omega (arith, even.1, ap length next.list_is, length-append (events on u steps) (e ∷ next.rest), c.0.events_are, idle)) in
       let few = total_doubled_less (λ t. asks t steps) (λ t. length (list_of t)) u (length lists) (λ t below. asks_half n t r below) within more in
       record {
         known = within;
@@ -220,7 +233,8 @@ module _ (lists : List (List Event)) (fit : AreFit lists) (ring : ℕ) (room : 1
 
   -- ---- one ticket more
 
-  finish : (n u : ℕ) (steps : List Step) (list : List Event) → slice_get lists u ≡ Some list → AllGranted on steps → without_effects steps ≡ true → tickets steps ≡ suc n → IsOnTurn on (suc n) u 1 list steps →
+  finish : (n u : ℕ) (steps : List Step) (list : List Event) → slice_get lists u ≡ Some list → AllGranted on steps → without_effects steps ≡ true
+      → tickets steps ≡ suc n → IsOnTurn on (suc n) u 1 list steps →
       ((t : ℕ) (l : List Event) → slice_get lists t ≡ Some l → (u ≡ t → ⊥) → IsOnTurn on (suc n) t 0 l steps) → IsReplayed (suc n)
   finish n u steps list at granted silent counted held others = record {
     steps = collect_one u steps;
@@ -230,7 +244,8 @@ module _ (lists : List (List Event)) (fit : AreFit lists) (ring : ℕ) (room : 1
     each = λ t l at'. elim (cases_eq u t) [
       | inl same ↦
           let one : list ≡ l = same_Some list l (sym at ∙ ap (slice_get lists) same ∙ at') in
-          subst (λ (v : ℕ). IsOnTurn on (suc n) v 0 l (collect_one u steps)) same (subst (λ (x : List Event). IsOnTurn on (suc n) u 0 x (collect_one u steps)) one (collected_own on (suc n) u list steps held))
+          subst (λ (v : ℕ). IsOnTurn on (suc n) v 0 l (collect_one u steps)) same
+              (subst (λ (x : List Event). IsOnTurn on (suc n) u 0 x (collect_one u steps)) one (collected_own on (suc n) u list steps held))
       | inr other ↦ collected_other on (suc n) t u l steps other (others t l at' other)
     ];
   }
@@ -249,7 +264,8 @@ module _ (lists : List (List Event)) (fit : AreFit lists) (ring : ℕ) (room : 1
   middle (z ∷ xs) x ys zero long = absurd (omega arith)
   middle (z ∷ xs) x ys (suc n) long = middle xs x ys n (omega arith)
 
-  module _ (n : ℕ) (r : IsReplayed n) (e : Event) (list : List Event) (at : slice_get lists e.thread ≡ Some list) (among : Contains list e) (same : e.ticket ≡ n) where
+  module _ (n : ℕ) (r : IsReplayed n) (e : Event) (list : List Event) (at : slice_get lists e.thread ≡ Some list) (among : Contains list e)
+      (same : e.ticket ≡ n) where
     abbrev u : ℕ
     u = e.thread
 
@@ -257,7 +273,8 @@ module _ (lists : List (List Event)) (fit : AreFit lists) (ring : ℕ) (room : 1
     on_turn = r.each u list at
 
     next : HasNext on n u list r.steps e
-    next = next_is on n u list r.steps e (fit.each u list at).alternates.tickets_rise (subst (λ (m : ℕ). All (λ x. x.ticket < m) (events on u r.steps)) r.counted (granted_recorded on u r.steps r.granted).1.below) on_turn among same
+    next = next_is on n u list r.steps e (fit.each u list at).alternates.tickets_rise
+        (subst (λ (m : ℕ). All (λ x. x.ticket < m) (events on u r.steps)) r.counted (granted_recorded on u r.steps r.granted).1.below) on_turn among same
 
     turns : TakesTurns (events on u r.steps ++ e ∷ next.rest)
     turns = subst TakesTurns next.list_is (fit.each u list at).alternates.takes_turns
@@ -273,12 +290,16 @@ module _ (lists : List (List Event)) (fit : AreFit lists) (ring : ℕ) (room : 1
         (ask_own on n u list r.steps e on_turn next refl same r.counted kind what)
         (λ t l at' other. ask_other on (suc n) t u l r.steps kind other (others t l at' other))
 
-    by_answer : (answer : Answer) → returns u r.steps < asks u r.steps → is_wrong answer (question u r.steps) ≡ false → e.what ≡ return_of answer → IsReplayed (suc n)
+    by_answer : (answer : Answer) → returns u r.steps < asks u r.steps → is_wrong answer (question u r.steps) ≡ false → e.what ≡ return_of answer
+        → IsReplayed (suc n)
     by_answer answer busy right what =
         let within : u < length lists = slice_get_within lists u list at in
-        let told = one_granted on (Say u answer) r.steps r.granted (say_granted on u r.steps answer (record { known = within; open_still = on_turn.still_open; one_pending = busy; no_answer = omega (arith, on_turn.answered) }) right) in
+        let told = one_granted on (Say u answer) r.steps r.granted (say_granted on u r.steps answer
+            (record { known = within; open_still = on_turn.still_open; one_pending = busy; no_answer = omega (arith, on_turn.answered) }) right) in
         let has : returns u (Say u answer ∷ r.steps) < answers u (Say u answer ∷ r.steps) = rw (same_number u) (omega (arith, on_turn.answered)) in
-        let returned = one_granted on (Ret u) (Say u answer ∷ r.steps) told (return_granted on u (Say u answer ∷ r.steps) (record { known = within; open_still = on_turn.still_open; none_held = omega (arith, on_turn.pushed); one_pending = busy; has_answer = has })) in
+        let returned = one_granted on (Ret u) (Say u answer ∷ r.steps) told
+            (return_granted on u (Say u answer ∷ r.steps) (record { known = within; open_still = on_turn.still_open; none_held =
+            omega (arith, on_turn.pushed); one_pending = busy; has_answer = has })) in
         finish n u (Ret u ∷ Say u answer ∷ r.steps) list at returned r.silent (ap suc r.counted)
         (answer_own on n u list r.steps e on_turn next refl same r.counted answer what)
         (λ t l at' other. answer_other on (suc n) t u l r.steps answer other (others t l at' other))
@@ -298,7 +319,8 @@ module _ (lists : List (List Event)) (fit : AreFit lists) (ring : ℕ) (room : 1
               let after = turns_split (events on u r.steps) (e ∷ next.rest) (c.1.idle even) turns in
               elim (first_is_call e next.rest after) [
                 | inl (v, what) ↦
-                    let here : slice_get list (2 * asks u r.steps) ≡ Some e = rw next.list_is (middle (events on u r.steps) e next.rest _ (omega (arith, c.0.events_are))) in
+                    let here : slice_get list (2 * asks u r.steps) ≡ Some e = rw next.list_is
+                        (middle (events on u r.steps) e next.rest _ (omega (arith, c.0.events_are))) in
                     by_ask Enq even (what ∙ ap CallEnq ((fit.each u list at).names (asks u r.steps) v e here what))
                 | inr what ↦ by_ask Deq even what
               ]

@@ -19,8 +19,10 @@ passed true x rest h = cc
 passed false x rest h = (refl, h)
 
 -- what holds of no step, and goes on with each step that is not refused, holds of the accepted steps
-module _ (setting : Setting) (P : List Step → Type 0) (start : P []) (goes_on : (before : List Step) (attempt : Attempt) → P before → refusal setting before attempt ≡ None → P (attempt.step ∷ before)) where
-  one_more : (before : List Step) (attempt : Attempt) (r : Option StepRefused) → refusal setting before attempt ≡ r → P before → P (cond (is_none r) (attempt.step ∷ before) before)
+module _ (setting : Setting) (P : List Step → Type 0) (start : P [])
+    (goes_on : (before : List Step) (attempt : Attempt) → P before → refusal setting before attempt ≡ None → P (attempt.step ∷ before)) where
+  one_more : (before : List Step) (attempt : Attempt) (r : Option StepRefused) → refusal setting before attempt ≡ r → P before
+      → P (cond (is_none r) (attempt.step ∷ before) before)
   one_more before attempt None is h = goes_on before attempt h is
   one_more before attempt (Some refused) is h = h
 
@@ -37,11 +39,13 @@ pub record MayAsk (setting : Setting) (u : ℕ) (before : List Step) : Type 0 wh
   pub machine_may : all_asks before < MAX_OPERATIONS
 
 -- also for an ask of a dequeue, which can meet the same refusals
-pub may_ask : (setting : Setting) (before : List Step) (u : ℕ) (starved : Bool) → refusal setting before (record { step = AskEnq u; starved = starved }) ≡ None → MayAsk setting u before
+pub may_ask : (setting : Setting) (before : List Step) (u : ℕ) (starved : Bool)
+    → refusal setting before (record { step = AskEnq u; starved = starved }) ≡ None → MayAsk setting u before
 may_ask setting before u starved none =
     let a = passed _ _ _ none in let b = passed _ _ _ a.1 in let c = passed _ _ _ b.1 in let d = passed _ _ _ c.1 in let e = passed _ _ _ d.1 in
     let f = or_parts _ _ e.0 in
-    record { known = leb-false _ _ a.0; open_still = b.0; none_held = ltb-false _ _ c.0; none_pending = ltb-false _ _ d.0; thread_may = leb-false _ _ f.0; machine_may = leb-false _ _ f.1 }
+    record { known = leb-false _ _ a.0; open_still = b.0; none_held = ltb-false _ _ c.0; none_pending = ltb-false _ _ d.0; thread_may =
+        leb-false _ _ f.0; machine_may = leb-false _ _ f.1 }
 
 pub record MayPush (setting : Setting) (u : ℕ) (before : List Step) : Type 0 where
   pub known : u < setting.threads
@@ -49,7 +53,8 @@ pub record MayPush (setting : Setting) (u : ℕ) (before : List Step) : Type 0 w
   pub one_held : pushes u before < asks u before + returns u before
   pub has_room : in_ring u before < setting.ring
 
-pub may_push : (setting : Setting) (before : List Step) (u : ℕ) (starved : Bool) → refusal setting before (record { step = Push u; starved = starved }) ≡ None → MayPush setting u before
+pub may_push : (setting : Setting) (before : List Step) (u : ℕ) (starved : Bool)
+    → refusal setting before (record { step = Push u; starved = starved }) ≡ None → MayPush setting u before
 may_push setting before u starved none =
     let a = passed _ _ _ none in let b = passed _ _ _ a.1 in let c = passed _ _ _ b.1 in let d = passed _ _ _ c.1 in
     record { known = leb-false _ _ a.0; open_still = b.0; one_held = leb-false _ _ c.0; has_room = leb-false _ _ d.0 }
@@ -60,12 +65,15 @@ pub record MayAnswer (setting : Setting) (u : ℕ) (before : List Step) : Type 0
   pub one_pending : returns u before < asks u before
   pub no_answer : answers u before ≤ returns u before
 
-pub may_effect : (setting : Setting) (before : List Step) (u : ℕ) (starved : Bool) → refusal setting before (record { step = Effect u; starved = starved }) ≡ None → MayAnswer setting u before
+pub may_effect : (setting : Setting) (before : List Step) (u : ℕ) (starved : Bool)
+    → refusal setting before (record { step = Effect u; starved = starved }) ≡ None → MayAnswer setting u before
 may_effect setting before u starved none =
     let a = passed _ _ _ none in let b = passed _ _ _ a.1 in let c = passed _ _ _ b.1 in let d = passed _ _ _ c.1 in
     record { known = leb-false _ _ a.0; open_still = b.0; one_pending = leb-false _ _ c.0; no_answer = ltb-false _ _ d.0 }
 
-pub may_say : (setting : Setting) (before : List Step) (u : ℕ) (answer : Answer) (starved : Bool) → refusal setting before (record { step = Say u answer; starved = starved }) ≡ None → MayAnswer setting u before × (is_wrong answer (question u before) ≡ false)
+pub may_say : (setting : Setting) (before : List Step) (u : ℕ) (answer : Answer) (starved : Bool)
+    → refusal setting before (record { step = Say u answer; starved = starved }) ≡ None
+    → MayAnswer setting u before × (is_wrong answer (question u before) ≡ false)
 may_say setting before u answer starved none =
     let a = passed _ _ _ none in let b = passed _ _ _ a.1 in let c = passed _ _ _ b.1 in let d = passed _ _ _ c.1 in let e = passed _ _ _ d.1 in
     (record { known = leb-false _ _ a.0; open_still = b.0; one_pending = leb-false _ _ c.0; no_answer = ltb-false _ _ d.0 }, e.0)
@@ -77,12 +85,14 @@ pub record MayReturn (setting : Setting) (u : ℕ) (before : List Step) : Type 0
   pub one_pending : returns u before < asks u before
   pub has_answer : returns u before < answers u before
 
-pub may_return : (setting : Setting) (before : List Step) (u : ℕ) (starved : Bool) → refusal setting before (record { step = Ret u; starved = starved }) ≡ None → MayReturn setting u before
+pub may_return : (setting : Setting) (before : List Step) (u : ℕ) (starved : Bool)
+    → refusal setting before (record { step = Ret u; starved = starved }) ≡ None → MayReturn setting u before
 may_return setting before u starved none =
     let a = passed _ _ _ none in let b = passed _ _ _ a.1 in let c = passed _ _ _ b.1 in let d = passed _ _ _ c.1 in let e = passed _ _ _ d.1 in
     record { known = leb-false _ _ a.0; open_still = b.0; none_held = ltb-false _ _ c.0; one_pending = leb-false _ _ d.0; has_answer = leb-false _ _ e.0 }
 
-pub may_drain : (setting : Setting) (before : List Step) (u k : ℕ) (starved : Bool) → refusal setting before (record { step = Drain u k; starved = starved }) ≡ None → u < setting.threads
+pub may_drain : (setting : Setting) (before : List Step) (u k : ℕ) (starved : Bool)
+    → refusal setting before (record { step = Drain u k; starved = starved }) ≡ None → u < setting.threads
 may_drain setting before u k starved none = leb-false _ _ (passed _ _ _ none).0
 
 pub record MayClose (setting : Setting) (u : ℕ) (before : List Step) : Type 0 where
@@ -91,7 +101,8 @@ pub record MayClose (setting : Setting) (u : ℕ) (before : List Step) : Type 0 
   pub none_held : asks u before + returns u before ≤ pushes u before
   pub none_pending : asks u before ≤ returns u before
 
-pub may_close : (setting : Setting) (before : List Step) (u : ℕ) (starved : Bool) → refusal setting before (record { step = Close u; starved = starved }) ≡ None → MayClose setting u before
+pub may_close : (setting : Setting) (before : List Step) (u : ℕ) (starved : Bool)
+    → refusal setting before (record { step = Close u; starved = starved }) ≡ None → MayClose setting u before
 may_close setting before u starved none =
     let a = passed _ _ _ none in let b = passed _ _ _ a.1 in let c = passed _ _ _ b.1 in let d = passed _ _ _ c.1 in
     record { known = leb-false _ _ a.0; open_still = b.0; none_held = ltb-false _ _ c.0; none_pending = ltb-false _ _ d.0 }

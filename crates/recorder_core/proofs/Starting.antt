@@ -11,7 +11,9 @@ use Rattle.recorder_core.specs.After.{IsLeftBy}
 abbrev pub untouched : ThreadView
 untouched = record { closed = false; asked = 0; pending = None; held = None; ring = []; collected = [] }
 
-pub starts : (setting : Setting) (threads : List ThreadView) → length threads ≡ setting.threads → ((k : ℕ) → k < setting.threads → slice_get threads k ≡ Some untouched) → IsLeftBy setting (record { capacity = setting.ring; threads = threads; asked = 0; next_ticket = 0; queue = [] }) []
+pub starts : (setting : Setting) (threads : List ThreadView) → length threads ≡ setting.threads
+    → ((k : ℕ) → k < setting.threads → slice_get threads k ≡ Some untouched)
+    → IsLeftBy setting (record { capacity = setting.ring; threads = threads; asked = 0; next_ticket = 0; queue = [] }) []
 starts setting threads many each = record { threads = many; capacity = refl; each = each; asked = refl; next_ticket = refl; queue_is = refl }
 
 pub slice_get_front : {X : Type 0} (xs : List X) (x : X) (k : ℕ) → k < length xs → slice_get (xs ++ x ∷ []) k ≡ slice_get xs k
@@ -20,7 +22,8 @@ slice_get_front (y ∷ xs) x zero h = refl
 slice_get_front (y ∷ xs) x (suc k) h = slice_get_front xs x k (omega arith)
 
 -- one thread more to which nothing has happened
-pub one_more_untouched : (xs ys : List ThreadView) (x : ThreadView) (n : ℕ) → ys ≡ xs ++ x ∷ [] → x ≡ untouched → length xs ≡ n → ((k : ℕ) → k < n → slice_get xs k ≡ Some untouched) → (k : ℕ) → k < n + 1 → slice_get ys k ≡ Some untouched
+pub one_more_untouched : (xs ys : List ThreadView) (x : ThreadView) (n : ℕ) → ys ≡ xs ++ x ∷ [] → x ≡ untouched → length xs ≡ n
+    → ((k : ℕ) → k < n → slice_get xs k ≡ Some untouched) → (k : ℕ) → k < n + 1 → slice_get ys k ≡ Some untouched
 one_more_untouched xs ys x n is new long each k h = elim (cases_lt k n) [
   | inl below ↦ ap (λ (l : List ThreadView). slice_get l k) is ∙ slice_get_front xs x k (omega (arith, long, below)) ∙ each k below
   | inr above ↦ ap (λ (l : List ThreadView). slice_get l k) is ∙ slice_get_at xs x k (omega (arith, long, above, h)) ∙ ap Some new

@@ -1,5 +1,6 @@
 -- How a machine takes each step.
-use Rattle.std.proofs.Common.{◌≡◌, ℕ, ◌+◌, ◌<◌, ◌≤◌, min, Bool, true, false, cond, List, [], ◌∷◌, ◌++◌, length, take, drop, set, get_or, Option, None, Some, Result, Ok, Err, refl, sym, ap, ◌∙◌, subst, inl, inr, arith, ltb, leb}
+use Rattle.std.proofs.Common.{◌≡◌, ℕ, ◌+◌, ◌<◌, ◌≤◌, min, Bool, true, false, cond, List, [], ◌∷◌, ◌++◌, length, take, drop, set, get_or, Option, None}
+use Rattle.std.proofs.Common.{Some, Result, Ok, Err, refl, sym, ap, ◌∙◌, subst, inl, inr, arith, ltb, leb}
 use Rattle.std.proofs.lemmas.Bool.{false≢true, cases_eq, cases_lt, lt-leb, le-leb}
 use Rattle.std.proofs.lemmas.List.{set-get_or, length-set, get_or-set_same, get_or-set_other}
 use Rattle.std.proofs.lemmas.Option.{get_or_from_slice_get, slice_get_within, slice_get-get_or, slice_get_past, slice_get_read, same_Some}
@@ -16,16 +17,19 @@ use Rattle.recorder_core.specs.declared.pending.Question.{Question}
 use Rattle.recorder_core.specs.declared.step.Done.{Done}
 use Rattle.recorder_core.specs.declared.step.Done.TheVariants.{Ticket, Pushed, Answered, Drained, Closed as CloseDone}
 use Rattle.recorder_core.specs.declared.step.StepRefused.{StepRefused}
-use Rattle.recorder_core.specs.declared.step.StepRefused.TheVariants.{NoThread, Closed, Held, NothingHeld, RingFull, Pending as PendingRefused, NotPending, NoAnswer, AnswerTaken, WrongAnswer, Limit, Memory}
+use Rattle.recorder_core.specs.declared.step.StepRefused.TheVariants.{NoThread, Closed, Held, NothingHeld, RingFull, Pending as PendingRefused}
+use Rattle.recorder_core.specs.declared.step.StepRefused.TheVariants.{NotPending, NoAnswer, AnswerTaken, WrongAnswer, Limit, Memory}
 use Rattle.recorder_core.specs.Setting.{Setting}
 use Rattle.recorder_core.specs.View.{ThreadView, MachineView}
 use Rattle.recorder_core.specs.Seen.{seen, none_other, when_pushing, given_answer}
 use Rattle.recorder_core.specs.Asked.{ask_of, asked_for, call_of, is_limited}
-use Rattle.recorder_core.specs.Schedule.{refusal, accepted, done_of, asks, all_asks, answers, returns, pushes, in_ring, tickets, with_last, question, answered, effect_answer, queue, queue_answer, queue_after, is_closed, is_wrong, return_of, thread_of}
+use Rattle.recorder_core.specs.Schedule.{refusal, accepted, done_of, asks, all_asks, answers, returns, pushes, in_ring, tickets, with_last, question}
+use Rattle.recorder_core.specs.Schedule.{answered, effect_answer, queue, queue_answer, queue_after, is_closed, is_wrong, return_of, thread_of}
 use Rattle.recorder_core.specs.After.{thread_after, IsLeftBy, IsReachable, TakesStep, attempt_at, is_memory}
 use Rattle.recorder_core.proofs.Runs.{MayAsk, may_ask, may_push, may_effect, may_say, may_return}
 use Rattle.recorder_core.proofs.Counts.{Counted, counted}
-use Rattle.recorder_core.proofs.Threads.{with_answer, other_thread, own_ask, own_push, own_effect, own_say, own_return, own_drain, own_close, answer_of_pending, seen_held, seen_none_held, seen_ring, seen_pending, seen_given}
+use Rattle.recorder_core.proofs.Threads.{with_answer, other_thread, own_ask, own_push, own_effect, own_say, own_return, own_drain, own_close}
+use Rattle.recorder_core.proofs.Threads.{answer_of_pending, seen_held, seen_none_held, seen_ring, seen_pending, seen_given}
 use Rattle.recorder_core.proofs.Closing.{accepted_is, refused_is}
 
 pub slice_get-set_same : {X : Type 0} (xs : List X) (i : ℕ) (x : X) → i < length xs → slice_get (set xs i x) i ≡ Some x
@@ -43,17 +47,23 @@ slice_get-set_other xs i j x ne = elim (cases_lt j (length xs)) [
 ]
 
 -- the thread at a place that was looked up
-pub thread_at : (items : List ThreadView) (n i : ℕ) (thread : ThreadView) → n ≡ length items → (true ≡ true → i < n) → thread ≡ get_or items i thread → slice_get items i ≡ Some thread
+pub thread_at : (items : List ThreadView) (n i : ℕ) (thread : ThreadView) → n ≡ length items → (true ≡ true → i < n) → thread ≡ get_or items i thread
+    → slice_get items i ≡ Some thread
 thread_at items n i thread long found is = slice_get_read items n i thread long (found refl) is
 
 -- the thread that a machine holds is what the steps leave
-pub thread_is : (setting : Setting) (old : MachineView) (before : List Step) (u : ℕ) (thread : ThreadView) → IsLeftBy setting old before → slice_get old.threads u ≡ Some thread → (u < setting.threads) × (thread ≡ thread_after setting u before)
+pub thread_is : (setting : Setting) (old : MachineView) (before : List Step) (u : ℕ) (thread : ThreadView) → IsLeftBy setting old before
+    → slice_get old.threads u ≡ Some thread → (u < setting.threads) × (thread ≡ thread_after setting u before)
 thread_is setting old before u thread left is =
     let within : u < setting.threads = omega (arith, slice_get_within old.threads u thread is, left.threads) in
     (within, same_Some thread (thread_after setting u before) (sym is ∙ left.each u within))
 
 -- one thread changed as by its step
-pub put_thread : (setting : Setting) (old : MachineView) (before : List Step) (step : Step) (new : ThreadView) (asked next : ℕ) (items : List ℕ) → IsLeftBy setting old before → thread_of step < setting.threads → new ≡ thread_after setting (thread_of step) (step ∷ before) → asked ≡ all_asks (step ∷ before) → next ≡ tickets (step ∷ before) → items ≡ queue setting (step ∷ before) → IsLeftBy setting (record { capacity = old.capacity; threads = set old.threads (thread_of step) new; asked = asked; next_ticket = next; queue = items }) (step ∷ before)
+pub put_thread : (setting : Setting) (old : MachineView) (before : List Step) (step : Step) (new : ThreadView) (asked next : ℕ) (items : List ℕ)
+    → IsLeftBy setting old before → thread_of step < setting.threads → new ≡ thread_after setting (thread_of step) (step ∷ before)
+    → asked ≡ all_asks (step ∷ before) → next ≡ tickets (step ∷ before) → items ≡ queue setting (step ∷ before)
+    → IsLeftBy setting (record { capacity = old.capacity; threads = set old.threads (thread_of step) new; asked = asked; next_ticket =
+    next; queue = items }) (step ∷ before)
 put_thread setting old before step new asked next items left within is a n q =
     let u = thread_of step in
     record {
@@ -73,7 +83,10 @@ put_thread setting old before step new asked next items left within is a n q =
 abbrev pub AllCounted : Setting → List Step → Type 0
 AllCounted setting before = (t : ℕ) → Counted setting t before
 
-pub step_accepted : (old new : MachineView) (step : Step) (done : Done) → length new.threads ≡ length old.threads → ((setting : Setting) (before : List Step) → AllCounted setting before → IsLeftBy setting old before → (refusal setting before (record { step = step; starved = false }) ≡ None) × (done ≡ done_of setting step before) × IsLeftBy setting new (step ∷ before)) → TakesStep old step (Ok done) new
+pub step_accepted : (old new : MachineView) (step : Step) (done : Done) → length new.threads ≡ length old.threads
+    → ((setting : Setting) (before : List Step) → AllCounted setting before → IsLeftBy setting old before
+    → (refusal setting before (record { step = step; starved = false }) ≡ None) × (done ≡ done_of setting step before)
+    × IsLeftBy setting new (step ∷ before)) → TakesStep old step (Ok done) new
 step_accepted old new step done same h = record {
   answered = λ setting schedule after.
       let f = h setting (accepted setting schedule) (λ t. counted setting t schedule) after in
@@ -85,7 +98,9 @@ step_accepted old new step done same h = record {
   threads = same;
 }
 
-pub step_refused : (old new : MachineView) (step : Step) (r : StepRefused) → new ≡ old → ((setting : Setting) (before : List Step) → AllCounted setting before → IsLeftBy setting old before → refusal setting before (record { step = step; starved = is_memory r }) ≡ Some r) → TakesStep old step (Err r) new
+pub step_refused : (old new : MachineView) (step : Step) (r : StepRefused) → new ≡ old
+    → ((setting : Setting) (before : List Step) → AllCounted setting before → IsLeftBy setting old before
+    → refusal setting before (record { step = step; starved = is_memory r }) ≡ Some r) → TakesStep old step (Err r) new
 step_refused old new step r same h = record {
   answered = λ setting schedule after.
       let f = h setting (accepted setting schedule) (λ t. counted setting t schedule) after in
@@ -102,7 +117,8 @@ pub reachable_on : (old new : MachineView) (step : Step) (result : Result Done S
 reachable_on old new step result takes (setting, schedule, after) = (setting, attempt_at step result ∷ schedule, takes.goes_on setting schedule after)
 
 -- a thread is put back as it was
-pub put_back : (old : MachineView) (i : ℕ) (thread new : ThreadView) → slice_get old.threads i ≡ Some thread → new ≡ thread → (let m : MachineView = record old { threads = set old.threads i new } in m) ≡ old
+pub put_back : (old : MachineView) (i : ℕ) (thread new : ThreadView) → slice_get old.threads i ≡ Some thread → new ≡ thread
+    → (let m : MachineView = record old { threads = set old.threads i new } in m) ≡ old
 put_back old i thread new at kept =
     ap (λ (l : List ThreadView). let m : MachineView = record old { threads = l } in m)
     (ap (set old.threads i) (kept ∙ sym (get_or_from_slice_get old.threads i thread thread at)) ∙ set-get_or old.threads i thread)
@@ -111,7 +127,8 @@ abbrev question_of : Option Pending → Option Question
 question_of None = None
 question_of (Some pending) = Some pending.question
 
-from_map : (a : Option Answer) (o : Option Question) (asked : Question) (b : Bool) → cond b (option_map (with_answer a) o) None ≡ Some (record { question = asked; answer = None }) → o ≡ Some asked
+from_map : (a : Option Answer) (o : Option Question) (asked : Question) (b : Bool)
+    → cond b (option_map (with_answer a) o) None ≡ Some (record { question = asked; answer = None }) → o ≡ Some asked
 from_map a None asked true h = cc
 from_map a (Some q) asked true h = ap question_of h
 from_map a o asked false h = cc
@@ -123,7 +140,8 @@ abbrev or_else : {X : Type 0} → Option X → Option X → Option X
 or_else None o = o
 or_else (Some x) o = Some x
 
-three : {X : Type 0} (a b c : Bool) (x y z : X) (rest : Option X) → cond a (Some x) (cond b (Some y) (cond c (Some z) rest)) ≡ or_else (cond a (Some x) (cond b (Some y) (cond c (Some z) None))) rest
+three : {X : Type 0} (a b c : Bool) (x y z : X) (rest : Option X)
+    → cond a (Some x) (cond b (Some y) (cond c (Some z) rest)) ≡ or_else (cond a (Some x) (cond b (Some y) (cond c (Some z) None))) rest
 three true b c x y z rest = refl
 three false true c x y z rest = refl
 three false false true x y z rest = refl
@@ -134,34 +152,48 @@ module _ (setting : Setting) (u : ℕ) (before : List Step) (k : Counted setting
   known = lt-leb setting.threads u within
 
   refusal_ask : (kind : Kind) → refusal setting before (record { step = ask_of kind u; starved = starved })
-      ≡ or_else (find (seen (thread_after setting u before) none_other) (Closed ∷ Held ∷ PendingRefused ∷ [])) (cond (is_limited (asks u before) (all_asks before)) (Some Limit) None)
-  refusal_ask Enq = rw (known, seen_held setting u before k, (seen_pending setting u before k).0) (three (is_closed u before) (ltb (pushes u before) (asks u before + returns u before)) (ltb (returns u before) (asks u before)) Closed Held PendingRefused (cond (is_limited (asks u before) (all_asks before)) (Some Limit) None))
-  refusal_ask Deq = rw (known, seen_held setting u before k, (seen_pending setting u before k).0) (three (is_closed u before) (ltb (pushes u before) (asks u before + returns u before)) (ltb (returns u before) (asks u before)) Closed Held PendingRefused (cond (is_limited (asks u before) (all_asks before)) (Some Limit) None))
+      ≡ or_else (find (seen (thread_after setting u before) none_other) (Closed ∷ Held ∷ PendingRefused ∷ []))
+          (cond (is_limited (asks u before) (all_asks before)) (Some Limit) None)
+  refusal_ask Enq = rw (known, seen_held setting u before k, (seen_pending setting u before k).0)
+      (three (is_closed u before) (ltb (pushes u before) (asks u before + returns u before))
+      (ltb (returns u before) (asks u before)) Closed Held PendingRefused (cond (is_limited (asks u before) (all_asks before)) (Some Limit) None))
+  refusal_ask Deq = rw (known, seen_held setting u before k, (seen_pending setting u before k).0)
+      (three (is_closed u before) (ltb (pushes u before) (asks u before + returns u before))
+      (ltb (returns u before) (asks u before)) Closed Held PendingRefused (cond (is_limited (asks u before) (all_asks before)) (Some Limit) None))
 
   refusal_push : (capacity : ℕ) → capacity ≡ setting.ring → refusal setting before (record { step = Push u; starved = starved })
-      ≡ find (seen (thread_after setting u before) (when_pushing (leb capacity (length (thread_after setting u before).ring)) starved)) (Closed ∷ NothingHeld ∷ RingFull ∷ Memory ∷ [])
+      ≡ find (seen (thread_after setting u before) (when_pushing (leb capacity (length (thread_after setting u before).ring)) starved))
+          (Closed ∷ NothingHeld ∷ RingFull ∷ Memory ∷ [])
   refusal_push capacity same = rw (known, seen_none_held setting u before k, seen_ring setting u before k, same) refl
 
   refusal_effect : refusal setting before (record { step = Effect u; starved = starved })
       ≡ or_else (find (seen (thread_after setting u before) none_other) (Closed ∷ NotPending ∷ AnswerTaken ∷ [])) (cond starved (Some Memory) None)
-  refusal_effect = rw (known, (seen_pending setting u before k).1, (seen_given setting u before k).0) (three (is_closed u before) (leb (asks u before) (returns u before)) (ltb (returns u before) (answers u before)) Closed NotPending AnswerTaken (cond starved (Some Memory) None))
+  refusal_effect = rw (known, (seen_pending setting u before k).1, (seen_given setting u before k).0)
+      (three (is_closed u before) (leb (asks u before) (returns u before)) (ltb (returns u before) (answers u before)) Closed NotPending AnswerTaken
+      (cond starved (Some Memory) None))
 
   refusal_say : (answer : Answer) → refusal setting before (record { step = Say u answer; starved = starved })
-      ≡ or_else (find (seen (thread_after setting u before) none_other) (Closed ∷ NotPending ∷ AnswerTaken ∷ [])) (cond (is_wrong answer (question u before)) (Some WrongAnswer) None)
-  refusal_say answer = rw (known, (seen_pending setting u before k).1, (seen_given setting u before k).0) (three (is_closed u before) (leb (asks u before) (returns u before)) (ltb (returns u before) (answers u before)) Closed NotPending AnswerTaken (cond (is_wrong answer (question u before)) (Some WrongAnswer) None))
+      ≡ or_else (find (seen (thread_after setting u before) none_other) (Closed ∷ NotPending ∷ AnswerTaken ∷ []))
+          (cond (is_wrong answer (question u before)) (Some WrongAnswer) None)
+  refusal_say answer = rw (known, (seen_pending setting u before k).1, (seen_given setting u before k).0)
+      (three (is_closed u before) (leb (asks u before) (returns u before)) (ltb (returns u before) (answers u before)) Closed NotPending AnswerTaken
+      (cond (is_wrong answer (question u before)) (Some WrongAnswer) None))
 
-  refusal_return : refusal setting before (record { step = Ret u; starved = starved }) ≡ find (seen (thread_after setting u before) none_other) (Closed ∷ Held ∷ NotPending ∷ NoAnswer ∷ [])
+  refusal_return : refusal setting before (record { step = Ret u; starved = starved }) ≡ find (seen (thread_after setting u before) none_other)
+      (Closed ∷ Held ∷ NotPending ∷ NoAnswer ∷ [])
   refusal_return = rw (known, seen_held setting u before k, (seen_pending setting u before k).1, (seen_given setting u before k).1) refl
 
   refusal_drain : (n : ℕ) → refusal setting before (record { step = Drain u n; starved = starved }) ≡ cond starved (Some Memory) None
   refusal_drain n = rw known refl
 
-  refusal_close : refusal setting before (record { step = Close u; starved = starved }) ≡ find (seen (thread_after setting u before) none_other) (Closed ∷ Held ∷ PendingRefused ∷ [])
+  refusal_close : refusal setting before (record { step = Close u; starved = starved }) ≡ find (seen (thread_after setting u before) none_other)
+      (Closed ∷ Held ∷ PendingRefused ∷ [])
   refusal_close = rw (known, seen_held setting u before k, (seen_pending setting u before k).0) refl
 
 -- ---- what the schedule says, by what the thread at place u holds
 
-module _ (old : MachineView) (u : ℕ) (thread : ThreadView) (at : slice_get old.threads u ≡ Some thread) (setting : Setting) (before : List Step) (all : AllCounted setting before) (left : IsLeftBy setting old before) where
+module _ (old : MachineView) (u : ℕ) (thread : ThreadView) (at : slice_get old.threads u ≡ Some thread) (setting : Setting) (before : List Step)
+    (all : AllCounted setting before) (left : IsLeftBy setting old before) where
   shown : (u < setting.threads) × (thread ≡ thread_after setting u before)
   shown = thread_is setting old before u thread left at
 
@@ -173,11 +205,13 @@ module _ (old : MachineView) (u : ℕ) (thread : ThreadView) (at : slice_get old
       refusal setting before (record { step = ask_of kind u; starved = starved }) ≡ or_else o (cond (is_limited thread.asked old.asked) (Some Limit) None)
   says_ask kind starved o is =
       refusal_ask setting u before (all u) shown.0 starved kind
-      ∙ ap (λ (x : Option StepRefused). or_else x (cond (is_limited (asks u before) (all_asks before)) (Some Limit) None)) (by_view (λ x. find (seen x none_other) (Closed ∷ Held ∷ PendingRefused ∷ [])) o is)
+      ∙ ap (λ (x : Option StepRefused). or_else x (cond (is_limited (asks u before) (all_asks before)) (Some Limit) None))
+          (by_view (λ x. find (seen x none_other) (Closed ∷ Held ∷ PendingRefused ∷ [])) o is)
       ∙ ap (λ (n : ℕ). or_else o (cond (is_limited (asks u before) n) (Some Limit) None)) (sym left.asked)
       ∙ ap (λ (x : ThreadView). or_else o (cond (is_limited x.asked old.asked) (Some Limit) None)) (sym shown.1)
 
-  says_push : (starved : Bool) (o : Option StepRefused) → o ≡ find (seen thread (when_pushing (leb old.capacity (length thread.ring)) starved)) (Closed ∷ NothingHeld ∷ RingFull ∷ Memory ∷ []) →
+  says_push : (starved : Bool) (o : Option StepRefused) → o ≡ find (seen thread (when_pushing (leb old.capacity (length thread.ring)) starved))
+      (Closed ∷ NothingHeld ∷ RingFull ∷ Memory ∷ []) →
       refusal setting before (record { step = Push u; starved = starved }) ≡ o
   says_push starved o is =
       refusal_push setting u before (all u) shown.0 starved old.capacity left.capacity
@@ -187,13 +221,15 @@ module _ (old : MachineView) (u : ℕ) (thread : ThreadView) (at : slice_get old
       refusal setting before (record { step = Effect u; starved = starved }) ≡ or_else o (cond starved (Some Memory) None)
   says_effect starved o is =
       refusal_effect setting u before (all u) shown.0 starved
-      ∙ ap (λ (x : Option StepRefused). or_else x (cond starved (Some Memory) None)) (by_view (λ x. find (seen x none_other) (Closed ∷ NotPending ∷ AnswerTaken ∷ [])) o is)
+      ∙ ap (λ (x : Option StepRefused). or_else x (cond starved (Some Memory) None))
+          (by_view (λ x. find (seen x none_other) (Closed ∷ NotPending ∷ AnswerTaken ∷ [])) o is)
 
   says_say : (told : Answer) (starved : Bool) (o : Option StepRefused) → o ≡ find (seen thread none_other) (Closed ∷ NotPending ∷ AnswerTaken ∷ []) →
       refusal setting before (record { step = Say u told; starved = starved }) ≡ or_else o (cond (is_wrong told (question u before)) (Some WrongAnswer) None)
   says_say told starved o is =
       refusal_say setting u before (all u) shown.0 starved told
-      ∙ ap (λ (x : Option StepRefused). or_else x (cond (is_wrong told (question u before)) (Some WrongAnswer) None)) (by_view (λ x. find (seen x none_other) (Closed ∷ NotPending ∷ AnswerTaken ∷ [])) o is)
+      ∙ ap (λ (x : Option StepRefused). or_else x (cond (is_wrong told (question u before)) (Some WrongAnswer) None))
+          (by_view (λ x. find (seen x none_other) (Closed ∷ NotPending ∷ AnswerTaken ∷ [])) o is)
 
   says_return : (starved : Bool) (o : Option StepRefused) → o ≡ find (seen thread none_other) (Closed ∷ Held ∷ NotPending ∷ NoAnswer ∷ []) →
       refusal setting before (record { step = Ret u; starved = starved }) ≡ o
@@ -213,12 +249,14 @@ module _ (old : MachineView) (u : ℕ) (thread : ThreadView) (at : slice_get old
   -- the question that the thread shows is the one it asked last
   asked_is : (asked : Question) → thread.pending ≡ Some (record { question = asked; answer = None }) → question u before ≡ Some asked
   asked_is asked is =
-      from_map (cond (ltb (returns u before) (answers u before)) (answered setting u before) None) (question u before) asked (ltb (returns u before) (asks u before))
+      from_map (cond (ltb (returns u before) (answers u before)) (answered setting u before) None) (question u before) asked
+          (ltb (returns u before) (asks u before))
       (sym (ap (λ (x : ThreadView). x.pending) shown.1) ∙ is)
 
 -- ---- asks, of either kind
 
-may_ask_of : (setting : Setting) (before : List Step) (u : ℕ) (kind : Kind) → refusal setting before (record { step = ask_of kind u; starved = false }) ≡ None → MayAsk setting u before
+may_ask_of : (setting : Setting) (before : List Step) (u : ℕ) (kind : Kind)
+    → refusal setting before (record { step = ask_of kind u; starved = false }) ≡ None → MayAsk setting u before
 may_ask_of setting before u Enq none = may_ask setting before u false none
 may_ask_of setting before u Deq none = may_ask setting before u false none
 
@@ -226,10 +264,13 @@ done_ask : (setting : Setting) (before : List Step) (u : ℕ) (kind : Kind) → 
 done_ask setting before u Enq = refl
 done_ask setting before u Deq = refl
 
-put_ask : (setting : Setting) (old : MachineView) (before : List Step) (u : ℕ) (kind : Kind) (new : ThreadView) → IsLeftBy setting old before → u < setting.threads → new ≡ thread_after setting u (ask_of kind u ∷ before) →
+put_ask : (setting : Setting) (old : MachineView) (before : List Step) (u : ℕ) (kind : Kind) (new : ThreadView) → IsLeftBy setting old before
+    → u < setting.threads → new ≡ thread_after setting u (ask_of kind u ∷ before) →
     IsLeftBy setting (record old { threads = set old.threads u new; asked = old.asked + 1; next_ticket = old.next_ticket + 1 }) (ask_of kind u ∷ before)
-put_ask setting old before u Enq new left within is = put_thread setting old before (AskEnq u) new _ _ _ left within is (omega (arith, left.asked)) (omega (arith, left.next_ticket)) left.queue_is
-put_ask setting old before u Deq new left within is = put_thread setting old before (AskDeq u) new _ _ _ left within is (omega (arith, left.asked)) (omega (arith, left.next_ticket)) left.queue_is
+put_ask setting old before u Enq new left within is = put_thread setting old before (AskEnq u) new _ _ _ left within is (omega (arith, left.asked))
+    (omega (arith, left.next_ticket)) left.queue_is
+put_ask setting old before u Deq new left within is = put_thread setting old before (AskDeq u) new _ _ _ left within is (omega (arith, left.asked))
+    (omega (arith, left.next_ticket)) left.queue_is
 
 -- ---- what each step makes of the thread
 
@@ -250,12 +291,16 @@ module _ (old : MachineView) (u i : ℕ) (thread new : ThreadView) (same : i ≡
 
   pub ask_taken : (kind : Kind) → None ≡ find (seen thread none_other) (Closed ∷ Held ∷ PendingRefused ∷ []) → is_limited thread.asked old.asked ≡ false →
       new ≡ after_ask thread (asked_for kind u thread.asked) (record { ticket = old.next_ticket; thread = u; what = call_of (asked_for kind u thread.asked) }) →
-      TakesStep old (ask_of kind u) (Ok (Ticket old.next_ticket)) (record old { threads = set old.threads i new; asked = old.asked + 1; next_ticket = old.next_ticket + 1 })
-  ask_taken kind is few changed = rw same (step_accepted old _ (ask_of kind u) (Ticket old.next_ticket) (length-set old.threads u new) (λ setting before all left.
+      TakesStep old (ask_of kind u) (Ok (Ticket old.next_ticket)) (record old
+          { threads = set old.threads i new; asked = old.asked + 1; next_ticket = old.next_ticket + 1 })
+  ask_taken kind is few changed = rw same (step_accepted old _ (ask_of kind u) (Ticket old.next_ticket) (length-set old.threads u new)
+      (λ setting before all left.
       let none = says_ask old u thread at setting before all left kind false None is ∙ ap (λ (b : Bool). cond b (Some Limit) None) few in
       let f = thread_is setting old before u thread left at in
-      let P : ThreadView → ℕ → ThreadView = λ x n. after_ask x (asked_for kind u x.asked) (record { ticket = n; thread = u; what = call_of (asked_for kind u x.asked) }) in
-      let is' = changed ∙ ap (λ (x : ThreadView). P x old.next_ticket) f.1 ∙ ap (P (thread_after setting u before)) left.next_ticket ∙ sym (own_ask setting u before (all u) (may_ask_of setting before u kind none) kind) in
+      let P : ThreadView → ℕ → ThreadView = λ x n. after_ask x (asked_for kind u x.asked)
+          (record { ticket = n; thread = u; what = call_of (asked_for kind u x.asked) }) in
+      let is' = changed ∙ ap (λ (x : ThreadView). P x old.next_ticket) f.1 ∙ ap (P (thread_after setting u before)) left.next_ticket
+          ∙ sym (own_ask setting u before (all u) (may_ask_of setting before u kind none) kind) in
       (none, ap Ticket left.next_ticket ∙ done_ask setting before u kind, put_ask setting old before u kind new left f.0 is')))
 
   pub push_taken : None ≡ find (seen thread (when_pushing (leb old.capacity (length thread.ring)) false)) (Closed ∷ NothingHeld ∷ RingFull ∷ Memory ∷ []) →
@@ -266,51 +311,63 @@ module _ (old : MachineView) (u i : ℕ) (thread new : ThreadView) (same : i ≡
       let f = thread_is setting old before u thread left at in
       let own = own_push setting u before (all u) (may_push setting before u false none) in
       let P : ThreadView → ThreadView = λ x. record x { held = None; ring = with_last x.ring x.held } in
-      (none, refl, put_thread setting old before (Push u) new old.asked old.next_ticket old.queue left f.0 (changed ∙ ap P f.1 ∙ sym own) left.asked left.next_ticket left.queue_is)))
+      (none, refl, put_thread setting old before (Push u) new old.asked old.next_ticket old.queue left f.0
+          (changed ∙ ap P f.1 ∙ sym own) left.asked left.next_ticket left.queue_is)))
 
   pub effect_taken : (asked : Question) (answer : Answer) (items : List ℕ) → None ≡ find (seen thread none_other) (Closed ∷ NotPending ∷ AnswerTaken ∷ []) →
-      thread.pending ≡ Some (record { question = asked; answer = None }) → answer ≡ queue_answer asked old.queue → items ≡ queue_after asked old.queue → new ≡ after_answer thread asked answer →
+      thread.pending ≡ Some (record { question = asked; answer = None }) → answer ≡ queue_answer asked old.queue → items ≡ queue_after asked old.queue
+          → new ≡ after_answer thread asked answer →
       TakesStep old (Effect u) (Ok (Answered answer)) (record old { threads = set old.threads i new; queue = items })
-  effect_taken asked answer items is shows gives leaves changed = rw same (step_accepted old _ (Effect u) (Answered answer) (length-set old.threads u new) (λ setting before all left.
+  effect_taken asked answer items is shows gives leaves changed =
+      rw same (step_accepted old _ (Effect u) (Answered answer) (length-set old.threads u new) (λ setting before all left.
       let none = says_effect old u thread at setting before all left false None is in
       let f = thread_is setting old before u thread left at in
       let q = asked_is old u thread at setting before all left asked shows in
       let a : answer ≡ effect_answer setting u before = rw (q, ← left.queue_is) gives in
       let own = own_effect setting u before (all u) (may_effect setting before u false none) asked q in
       let is' = changed ∙ ap (λ (x : ThreadView). after_answer x asked answer) f.1 ∙ ap (after_answer (thread_after setting u before) asked) a ∙ sym own in
-      (none, ap Answered a, put_thread setting old before (Effect u) new old.asked old.next_ticket items left f.0 is' left.asked left.next_ticket (rw (q, ← left.queue_is) leaves))))
+      (none, ap Answered a, put_thread setting old before (Effect u) new old.asked old.next_ticket items left f.0 is' left.asked left.next_ticket
+          (rw (q, ← left.queue_is) leaves))))
 
   pub say_taken : (asked : Question) (told : Answer) → None ≡ find (seen thread none_other) (Closed ∷ NotPending ∷ AnswerTaken ∷ []) →
       thread.pending ≡ Some (record { question = asked; answer = None }) → is_wrong told (Some asked) ≡ false → new ≡ after_answer thread asked told →
       TakesStep old (Say u told) (Ok (Answered told)) (record old { threads = set old.threads i new })
-  say_taken asked told is shows right changed = rw same (step_accepted old _ (Say u told) (Answered told) (length-set old.threads u new) (λ setting before all left.
+  say_taken asked told is shows right changed = rw same (step_accepted old _ (Say u told) (Answered told) (length-set old.threads u new)
+      (λ setting before all left.
       let f = thread_is setting old before u thread left at in
       let q = asked_is old u thread at setting before all left asked shows in
-      let none = says_say old u thread at setting before all left told false None is ∙ ap (λ (b : Bool). cond b (Some WrongAnswer) None) (ap (is_wrong told) q ∙ right) in
+      let none = says_say old u thread at setting before all left told false None is
+          ∙ ap (λ (b : Bool). cond b (Some WrongAnswer) None) (ap (is_wrong told) q ∙ right) in
       let own = own_say setting u before (all u) (may_say setting before u told false none).0 asked told q in
       let is' = changed ∙ ap (λ (x : ThreadView). after_answer x asked told) f.1 ∙ sym own in
       (none, refl, put_thread setting old before (Say u told) new old.asked old.next_ticket old.queue left f.0 is' left.asked left.next_ticket left.queue_is)))
 
-  pub return_taken : (answer : Answer) → None ≡ find (seen thread none_other) (Closed ∷ Held ∷ NotPending ∷ NoAnswer ∷ []) → given_answer thread.pending ≡ Some answer →
+  pub return_taken : (answer : Answer) → None ≡ find (seen thread none_other) (Closed ∷ Held ∷ NotPending ∷ NoAnswer ∷ [])
+      → given_answer thread.pending ≡ Some answer →
       new ≡ after_return thread (record { ticket = old.next_ticket; thread = u; what = return_of answer }) →
       TakesStep old (Ret u) (Ok (Ticket old.next_ticket)) (record old { threads = set old.threads i new; next_ticket = old.next_ticket + 1 })
-  return_taken answer is shows changed = rw same (step_accepted old _ (Ret u) (Ticket old.next_ticket) (length-set old.threads u new) (λ setting before all left.
+  return_taken answer is shows changed = rw same (step_accepted old _ (Ret u) (Ticket old.next_ticket) (length-set old.threads u new)
+      (λ setting before all left.
       let none = says_return old u thread at setting before all left false None is in
       let f = thread_is setting old before u thread left at in
       let m = may_return setting before u false none in
       let a = answer_of_pending setting u before (all u) m answer (ap (λ (x : ThreadView). given_answer x.pending) (sym f.1) ∙ shows) in
       let P : ThreadView → ℕ → ThreadView = λ x n. after_return x (record { ticket = n; thread = u; what = return_of answer }) in
-      let is' = changed ∙ ap (λ (x : ThreadView). P x old.next_ticket) f.1 ∙ ap (P (thread_after setting u before)) left.next_ticket ∙ sym (own_return setting u before (all u) m answer a) in
-      (none, ap Ticket left.next_ticket, put_thread setting old before (Ret u) new old.asked _ old.queue left f.0 is' left.asked (omega (arith, left.next_ticket)) left.queue_is)))
+      let is' = changed ∙ ap (λ (x : ThreadView). P x old.next_ticket) f.1 ∙ ap (P (thread_after setting u before)) left.next_ticket
+          ∙ sym (own_return setting u before (all u) m answer a) in
+      (none, ap Ticket left.next_ticket, put_thread setting old before (Ret u) new old.asked _ old.queue left f.0 is' left.asked
+          (omega (arith, left.next_ticket)) left.queue_is)))
 
-  pub drain_taken : (n m : ℕ) → m ≡ min n (length thread.ring) → new ≡ record thread { ring = drop m thread.ring; collected = thread.collected ++ take m thread.ring } →
+  pub drain_taken : (n m : ℕ) → m ≡ min n (length thread.ring) → new
+      ≡ record thread { ring = drop m thread.ring; collected = thread.collected ++ take m thread.ring } →
       TakesStep old (Drain u n) (Ok (Drained m)) (record old { threads = set old.threads i new })
   drain_taken n m count changed = rw same (step_accepted old _ (Drain u n) (Drained m) (length-set old.threads u new) (λ setting before all left.
       let f = thread_is setting old before u thread left at in
       let e : m ≡ min n (in_ring u before) = count ∙ ap (λ (x : ThreadView). min n (length x.ring)) f.1 ∙ ap (min n) (seen_ring setting u before (all u)) in
       let P : ThreadView → ℕ → ThreadView = λ x v. record x { ring = drop v x.ring; collected = x.collected ++ take v x.ring } in
       let is' = changed ∙ ap (λ (x : ThreadView). P x m) f.1 ∙ ap (P (thread_after setting u before)) e ∙ sym (own_drain setting u before (all u) n) in
-      (says_drain old u thread at setting before all left n false, ap Drained e, put_thread setting old before (Drain u n) new old.asked old.next_ticket old.queue left f.0 is' left.asked left.next_ticket left.queue_is)))
+      (says_drain old u thread at setting before all left n false, ap Drained e, put_thread setting old before
+          (Drain u n) new old.asked old.next_ticket old.queue left f.0 is' left.asked left.next_ticket left.queue_is)))
 
   pub close_taken : None ≡ find (seen thread none_other) (Closed ∷ Held ∷ PendingRefused ∷ []) → new ≡ record thread { closed = true } →
       TakesStep old (Close u) (Ok CloseDone) (record old { threads = set old.threads i new })
@@ -318,49 +375,63 @@ module _ (old : MachineView) (u i : ℕ) (thread new : ThreadView) (same : i ≡
       let f = thread_is setting old before u thread left at in
       let P : ThreadView → ThreadView = λ x. record x { closed = true } in
       let is' = changed ∙ ap P f.1 ∙ sym (own_close setting u before (all u)) in
-      (says_close old u thread at setting before all left false None is, refl, put_thread setting old before (Close u) new old.asked old.next_ticket old.queue left f.0 is' left.asked left.next_ticket left.queue_is)))
+      (says_close old u thread at setting before all left false None is, refl, put_thread setting old before
+          (Close u) new old.asked old.next_ticket old.queue left f.0 is' left.asked left.next_ticket left.queue_is)))
 
 -- ---- refused steps
 
 module _ (old : MachineView) (u i : ℕ) (thread new : ThreadView) (same : i ≡ u) (at' : slice_get old.threads i ≡ Some thread) (kept : new ≡ thread) where
-  refused_at : (step : Step) (r : StepRefused) → ((setting : Setting) (before : List Step) → AllCounted setting before → IsLeftBy setting old before → refusal setting before (record { step = step; starved = is_memory r }) ≡ Some r) →
+  refused_at : (step : Step) (r : StepRefused) → ((setting : Setting) (before : List Step) → AllCounted setting before → IsLeftBy setting old before
+      → refusal setting before (record { step = step; starved = is_memory r }) ≡ Some r) →
       TakesStep old step (Err r) (record old { threads = set old.threads i new })
   refused_at step r h = step_refused old _ step r (put_back old i thread new at' kept) h
 
   at_place : slice_get old.threads u ≡ Some thread
   at_place = rw same at at'
 
-  pub ask_refused : (kind : Kind) (r : StepRefused) → Some r ≡ find (seen thread none_other) (Closed ∷ Held ∷ PendingRefused ∷ []) → TakesStep old (ask_of kind u) (Err r) (record old { threads = set old.threads i new })
-  ask_refused kind r is = refused_at (ask_of kind u) r (λ setting before all left. says_ask old u thread at_place setting before all left kind (is_memory r) (Some r) is)
+  pub ask_refused : (kind : Kind) (r : StepRefused) → Some r ≡ find (seen thread none_other) (Closed ∷ Held ∷ PendingRefused ∷ [])
+      → TakesStep old (ask_of kind u) (Err r) (record old { threads = set old.threads i new })
+  ask_refused kind r is = refused_at (ask_of kind u) r (λ setting before all left. says_ask old u thread at_place setting before all left kind
+      (is_memory r) (Some r) is)
 
-  pub ask_limited : (kind : Kind) → None ≡ find (seen thread none_other) (Closed ∷ Held ∷ PendingRefused ∷ []) → is_limited thread.asked old.asked ≡ true → TakesStep old (ask_of kind u) (Err Limit) (record old { threads = set old.threads i new })
-  ask_limited kind is many = refused_at (ask_of kind u) Limit (λ setting before all left. says_ask old u thread at_place setting before all left kind false None is ∙ ap (λ (b : Bool). cond b (Some Limit) None) many)
+  pub ask_limited : (kind : Kind) → None ≡ find (seen thread none_other) (Closed ∷ Held ∷ PendingRefused ∷ [])
+      → is_limited thread.asked old.asked ≡ true → TakesStep old (ask_of kind u) (Err Limit) (record old { threads = set old.threads i new })
+  ask_limited kind is many = refused_at (ask_of kind u) Limit (λ setting before all left. says_ask old u thread at_place setting before all left kind
+      false None is ∙ ap (λ (b : Bool). cond b (Some Limit) None) many)
 
-  pub push_refused : (r : StepRefused) → Some r ≡ find (seen thread (when_pushing (leb old.capacity (length thread.ring)) (is_memory r))) (Closed ∷ NothingHeld ∷ RingFull ∷ Memory ∷ []) → TakesStep old (Push u) (Err r) (record old { threads = set old.threads i new })
+  pub push_refused : (r : StepRefused) → Some r ≡ find (seen thread (when_pushing (leb old.capacity (length thread.ring)) (is_memory r)))
+      (Closed ∷ NothingHeld ∷ RingFull ∷ Memory ∷ []) → TakesStep old (Push u) (Err r) (record old { threads = set old.threads i new })
   push_refused r is = refused_at (Push u) r (λ setting before all left. says_push old u thread at_place setting before all left (is_memory r) (Some r) is)
 
-  pub effect_refused : (r : StepRefused) → Some r ≡ find (seen thread none_other) (Closed ∷ NotPending ∷ AnswerTaken ∷ []) → TakesStep old (Effect u) (Err r) (record old { threads = set old.threads i new })
+  pub effect_refused : (r : StepRefused) → Some r ≡ find (seen thread none_other) (Closed ∷ NotPending ∷ AnswerTaken ∷ [])
+      → TakesStep old (Effect u) (Err r) (record old { threads = set old.threads i new })
   effect_refused r is = refused_at (Effect u) r (λ setting before all left. says_effect old u thread at_place setting before all left (is_memory r) (Some r) is)
 
-  pub effect_starved : None ≡ find (seen thread none_other) (Closed ∷ NotPending ∷ AnswerTaken ∷ []) → TakesStep old (Effect u) (Err Memory) (record old { threads = set old.threads i new })
+  pub effect_starved : None ≡ find (seen thread none_other) (Closed ∷ NotPending ∷ AnswerTaken ∷ [])
+      → TakesStep old (Effect u) (Err Memory) (record old { threads = set old.threads i new })
   effect_starved is = refused_at (Effect u) Memory (λ setting before all left. says_effect old u thread at_place setting before all left true None is)
 
-  pub say_refused : (told : Answer) (r : StepRefused) → Some r ≡ find (seen thread none_other) (Closed ∷ NotPending ∷ AnswerTaken ∷ []) → TakesStep old (Say u told) (Err r) (record old { threads = set old.threads i new })
-  say_refused told r is = refused_at (Say u told) r (λ setting before all left. says_say old u thread at_place setting before all left told (is_memory r) (Some r) is)
+  pub say_refused : (told : Answer) (r : StepRefused) → Some r ≡ find (seen thread none_other) (Closed ∷ NotPending ∷ AnswerTaken ∷ [])
+      → TakesStep old (Say u told) (Err r) (record old { threads = set old.threads i new })
+  say_refused told r is = refused_at (Say u told) r (λ setting before all left. says_say old u thread at_place setting before all left told
+      (is_memory r) (Some r) is)
 
-  pub say_wrong : (asked : Question) (told : Answer) → None ≡ find (seen thread none_other) (Closed ∷ NotPending ∷ AnswerTaken ∷ []) → thread.pending ≡ Some (record { question = asked; answer = None }) → is_wrong told (Some asked) ≡ true →
+  pub say_wrong : (asked : Question) (told : Answer) → None ≡ find (seen thread none_other) (Closed ∷ NotPending ∷ AnswerTaken ∷ [])
+      → thread.pending ≡ Some (record { question = asked; answer = None }) → is_wrong told (Some asked) ≡ true →
       TakesStep old (Say u told) (Err WrongAnswer) (record old { threads = set old.threads i new })
   say_wrong asked told is shows wrong = refused_at (Say u told) WrongAnswer (λ setting before all left.
       says_say old u thread at_place setting before all left told false None is
       ∙ ap (λ (b : Bool). cond b (Some WrongAnswer) None) (ap (is_wrong told) (asked_is old u thread at_place setting before all left asked shows) ∙ wrong))
 
-  pub return_refused : (r : StepRefused) → Some r ≡ find (seen thread none_other) (Closed ∷ Held ∷ NotPending ∷ NoAnswer ∷ []) → TakesStep old (Ret u) (Err r) (record old { threads = set old.threads i new })
+  pub return_refused : (r : StepRefused) → Some r ≡ find (seen thread none_other) (Closed ∷ Held ∷ NotPending ∷ NoAnswer ∷ [])
+      → TakesStep old (Ret u) (Err r) (record old { threads = set old.threads i new })
   return_refused r is = refused_at (Ret u) r (λ setting before all left. says_return old u thread at_place setting before all left (is_memory r) (Some r) is)
 
   pub drain_starved : (n : ℕ) → TakesStep old (Drain u n) (Err Memory) (record old { threads = set old.threads i new })
   drain_starved n = refused_at (Drain u n) Memory (λ setting before all left. says_drain old u thread at_place setting before all left n true)
 
-  pub close_refused : (r : StepRefused) → Some r ≡ find (seen thread none_other) (Closed ∷ Held ∷ PendingRefused ∷ []) → TakesStep old (Close u) (Err r) (record old { threads = set old.threads i new })
+  pub close_refused : (r : StepRefused) → Some r ≡ find (seen thread none_other) (Closed ∷ Held ∷ PendingRefused ∷ [])
+      → TakesStep old (Close u) (Err r) (record old { threads = set old.threads i new })
   close_refused r is = refused_at (Close u) r (λ setting before all left. says_close old u thread at_place setting before all left (is_memory r) (Some r) is)
 
 -- a place that was looked up in vain
@@ -369,5 +440,7 @@ past_end n i none = elim (cases_lt i n) [ inl within ↦ absurd (false≢true (n
 
 -- an ask of a thread that is not there
 pub ask_unknown : (old : MachineView) (u : ℕ) (kind : Kind) → length old.threads ≤ u → TakesStep old (ask_of kind u) (Err NoThread) old
-ask_unknown old u Enq h = step_refused old old (AskEnq u) NoThread refl (λ setting before all left. let e : leb setting.threads u ≡ true = le-leb _ _ (omega (arith, h, left.threads)) in rw e refl)
-ask_unknown old u Deq h = step_refused old old (AskDeq u) NoThread refl (λ setting before all left. let e : leb setting.threads u ≡ true = le-leb _ _ (omega (arith, h, left.threads)) in rw e refl)
+ask_unknown old u Enq h = step_refused old old (AskEnq u) NoThread refl
+    (λ setting before all left. let e : leb setting.threads u ≡ true = le-leb _ _ (omega (arith, h, left.threads)) in rw e refl)
+ask_unknown old u Deq h = step_refused old old (AskDeq u) NoThread refl
+    (λ setting before all left. let e : leb setting.threads u ≡ true = le-leb _ _ (omega (arith, h, left.threads)) in rw e refl)

@@ -1,6 +1,7 @@
 -- What each step does to what a machine holds for a thread.
 use Prim.Native.Nat.compare
-use Rattle.std.proofs.Common.{◌≡◌, ℕ, zero, suc, ◌+◌, ◌<◌, ◌≤◌, min, Bool, true, false, not, cond, List, [], ◌∷◌, ◌++◌, length, take, drop, Option, None, Some, refl, sym, ap, ◌∙◌, inl, inr, arith, eqb, ltb, leb, is_some, length-take, length-drop}
+use Rattle.std.proofs.Common.{◌≡◌, ℕ, zero, suc, ◌+◌, ◌<◌, ◌≤◌, min, Bool, true, false, not, cond, List, [], ◌∷◌, ◌++◌, length, take, drop, Option}
+use Rattle.std.proofs.Common.{None, Some, refl, sym, ap, ◌∙◌, inl, inr, arith, eqb, ltb, leb, is_some, length-take, length-drop}
 use Rattle.std.proofs.lemmas.Bool.{ne_eqb, cases_eq, cases_lt, lt-ltb, le-ltb, le-leb, lt-leb, ltb-true}
 use Rattle.std.proofs.Math.Seq.{take-add}
 use Rattle.std.proofs.lemmas.List.{take-append-le, drop-append-le, drop-drop, take-take}
@@ -21,7 +22,8 @@ use Rattle.event_records.specs.Question.{value_name}
 use Rattle.event_records.specs.declared.kind.Kind.{Kind}
 use Rattle.event_records.specs.declared.kind.Kind.TheVariants.{Enq, Deq}
 use Rattle.recorder_core.specs.Asked.{ask_of, asked_for, call_of}
-use Rattle.recorder_core.specs.Schedule.{asks, answers, returns, pushes, drained, in_ring, tickets, events, with_last, question, answered, effect_answer, return_of, thread_of}
+use Rattle.recorder_core.specs.Schedule.{asks, answers, returns, pushes, drained, in_ring, tickets, events, with_last, question, answered}
+use Rattle.recorder_core.specs.Schedule.{effect_answer, return_of, thread_of}
 use Rattle.recorder_core.specs.After.{pending, thread_after}
 use Rattle.recorder_core.proofs.Runs.{same_number, MayAsk, MayPush, MayAnswer, MayReturn}
 use Rattle.recorder_core.proofs.Counts.{Counted, has_answer}
@@ -30,7 +32,8 @@ use Rattle.recorder_core.proofs.Counts.{Counted, has_answer}
 abbrev pub with_answer : Option Answer → Question → Pending
 with_answer a q = record { question = q; answer = a }
 
-pub same_view : (a b : ThreadView) → a.closed ≡ b.closed → a.asked ≡ b.asked → a.pending ≡ b.pending → a.held ≡ b.held → a.ring ≡ b.ring → a.collected ≡ b.collected → a ≡ b
+pub same_view : (a b : ThreadView) → a.closed ≡ b.closed → a.asked ≡ b.asked → a.pending ≡ b.pending → a.held ≡ b.held → a.ring ≡ b.ring
+    → a.collected ≡ b.collected → a ≡ b
 same_view a b p q r s t u =
     ap (λ (x : Bool). record a { closed = x }) p
     ∙ ap (λ (x : ℕ). record a { closed = b.closed; asked = x }) q
@@ -89,7 +92,8 @@ has_question t (Drain u k ∷ before) h = has_question t before h
 has_question t (Close u ∷ before) h = has_question t before h
 
 -- a step of another thread changes nothing
-pub other_thread : (setting : Setting) (t : ℕ) (step : Step) (before : List Step) → (thread_of step ≡ t → ⊥) → thread_after setting t (step ∷ before) ≡ thread_after setting t before
+pub other_thread : (setting : Setting) (t : ℕ) (step : Step) (before : List Step) → (thread_of step ≡ t → ⊥)
+    → thread_after setting t (step ∷ before) ≡ thread_after setting t before
 other_thread setting t (AskEnq u) before ne = rw (ne_eqb u t ne) refl
 other_thread setting t (AskDeq u) before ne = rw (ne_eqb u t ne) refl
 other_thread setting t (Push u) before ne = rw (ne_eqb u t ne) refl
@@ -101,14 +105,16 @@ other_thread setting t (Close u) before ne = rw (ne_eqb u t ne) refl
 
 module _ (setting : Setting) (u : ℕ) (before : List Step) (k : Counted setting u before) where
   -- an event more changes neither what is collected nor what is in the ring
-  ring_kept : (event : Event) → drop (drained u before) (take (pushes u before) (events setting u before ++ event ∷ [])) ≡ drop (drained u before) (take (pushes u before) (events setting u before))
+  ring_kept : (event : Event) → drop (drained u before) (take (pushes u before) (events setting u before ++ event ∷ [])) ≡ drop (drained u before)
+      (take (pushes u before) (events setting u before))
   ring_kept event = ap (drop (drained u before)) (take-append-le (pushes u before) (events setting u before) (event ∷ []) (omega arith))
 
   collected_kept : (event : Event) → take (drained u before) (events setting u before ++ event ∷ []) ≡ take (drained u before) (events setting u before)
   collected_kept event = take-append-le (drained u before) (events setting u before) (event ∷ []) (omega arith)
 
   new_pending : (asked : Question) → MayAsk setting u before →
-      cond (ltb (returns u before) (suc (asks u before))) (option_map (with_answer (cond (ltb (returns u before) (answers u before)) (answered setting u before) None)) (Some asked)) None
+      cond (ltb (returns u before) (suc (asks u before))) (option_map
+          (with_answer (cond (ltb (returns u before) (answers u before)) (answered setting u before) None)) (Some asked)) None
       ≡ Some (record { question = asked; answer = None })
   new_pending asked m =
       let e1 : ltb (returns u before) (suc (asks u before)) ≡ true = lt-ltb (returns u before) (suc (asks u before)) (omega arith) in
@@ -137,7 +143,8 @@ module _ (setting : Setting) (u : ℕ) (before : List Step) (k : Counted setting
       refl)
 
   own_answer : MayAnswer setting u before → (asked : Question) (answer : Answer) → question u before ≡ Some asked →
-      cond (ltb (returns u before) (asks u before)) (option_map (with_answer (cond (ltb (returns u before) (suc (answers u before))) (Some answer) None)) (question u before)) None
+      cond (ltb (returns u before) (asks u before)) (option_map (with_answer
+          (cond (ltb (returns u before) (suc (answers u before))) (Some answer) None)) (question u before)) None
       ≡ Some (record { question = asked; answer = Some answer })
   own_answer m asked answer is =
       let e1 : ltb (returns u before) (asks u before) ≡ true = lt-ltb (returns u before) (asks u before) m.one_pending in
@@ -145,25 +152,30 @@ module _ (setting : Setting) (u : ℕ) (before : List Step) (k : Counted setting
       rw (e1, e2, is) refl
 
   pub own_effect : MayAnswer setting u before → (asked : Question) → question u before ≡ Some asked →
-      thread_after setting u (Effect u ∷ before) ≡ record (thread_after setting u before) { pending = Some (record { question = asked; answer = Some (effect_answer setting u before) }) }
+      thread_after setting u (Effect u ∷ before) ≡ record (thread_after setting u before)
+          { pending = Some (record { question = asked; answer = Some (effect_answer setting u before) }) }
   own_effect m asked is = rw (same_number u) (same_view _ _ refl refl (own_answer m asked (effect_answer setting u before) is) refl refl refl)
 
   pub own_say : MayAnswer setting u before → (asked : Question) (answer : Answer) → question u before ≡ Some asked →
-      thread_after setting u (Say u answer ∷ before) ≡ record (thread_after setting u before) { pending = Some (record { question = asked; answer = Some answer }) }
+      thread_after setting u (Say u answer ∷ before) ≡ record (thread_after setting u before)
+          { pending = Some (record { question = asked; answer = Some answer }) }
   own_say m asked answer is = rw (same_number u) (same_view _ _ refl refl (own_answer m asked answer is) refl refl refl)
 
   -- the answer of the pending operation
-  pub answer_of_pending : MayReturn setting u before → (answer : Answer) → given_answer (pending setting u before) ≡ Some answer → answered setting u before ≡ Some answer
+  pub answer_of_pending : MayReturn setting u before → (answer : Answer) → given_answer (pending setting u before) ≡ Some answer
+      → answered setting u before ≡ Some answer
   answer_of_pending m answer is =
       let e1 : ltb (returns u before) (asks u before) ≡ true = lt-ltb (returns u before) (asks u before) m.one_pending in
       let e2 : ltb (returns u before) (answers u before) ≡ true = lt-ltb (returns u before) (answers u before) m.has_answer in
       of_map (question u before) (rw (e1, e2) at is)
     where
-      of_map : (o : Option Question) → given_answer (option_map (with_answer (answered setting u before)) o) ≡ Some answer → answered setting u before ≡ Some answer
+      of_map : (o : Option Question) → given_answer (option_map (with_answer (answered setting u before)) o) ≡ Some answer
+          → answered setting u before ≡ Some answer
       of_map None h = cc
       of_map (Some q) h = h
 
-  pub own_return : MayReturn setting u before → (answer : Answer) → answered setting u before ≡ Some answer → thread_after setting u (Ret u ∷ before) ≡ record (thread_after setting u before) {
+  pub own_return : MayReturn setting u before → (answer : Answer) → answered setting u before ≡ Some answer
+      → thread_after setting u (Ret u ∷ before) ≡ record (thread_after setting u before) {
     pending = None;
     held = Some (record { ticket = tickets before; thread = u; what = return_of answer });
   }
@@ -195,13 +207,15 @@ module _ (setting : Setting) (u : ℕ) (before : List Step) (k : Counted setting
   seen_none_held = is_none-slice_get (events setting u before) (pushes u before) ∙ ap (λ (n : ℕ). leb n (pushes u before)) k.events_are
 
   pub seen_ring : length (thread_after setting u before).ring ≡ in_ring u before
-  seen_ring = omega (arith, length-drop (drained u before) (take (pushes u before) (events setting u before)), length-take (pushes u before) (events setting u before))
+  seen_ring = omega (arith, length-drop (drained u before) (take (pushes u before) (events setting u before)), length-take (pushes u before)
+      (events setting u before))
 
   is_some-mapped : {X Y : Type 0} (f : X → Y) (o : Option X) → is_some o ≡ true → (is_some (option_map f o) ≡ true) × (is_none (option_map f o) ≡ false)
   is_some-mapped f None h = cc
   is_some-mapped f (Some x) h = (refl, refl)
 
-  pub seen_pending : (is_some (thread_after setting u before).pending ≡ ltb (returns u before) (asks u before)) × (is_none (thread_after setting u before).pending ≡ leb (asks u before) (returns u before))
+  pub seen_pending : (is_some (thread_after setting u before).pending ≡ ltb (returns u before) (asks u before))
+      × (is_none (thread_after setting u before).pending ≡ leb (asks u before) (returns u before))
   seen_pending = elim (cases_lt (returns u before) (asks u before)) [
     | inl less ↦
         let e1 : ltb (returns u before) (asks u before) ≡ true = lt-ltb (returns u before) (asks u before) less in
@@ -214,12 +228,14 @@ module _ (setting : Setting) (u : ℕ) (before : List Step) (k : Counted setting
         rw (e1, e2) (refl, refl)
   ]
 
-  given-mapped : (f : Question → Pending) (a : Option Answer) → ((q : Question) → (f q).answer ≡ a) → (o : Option Question) → is_some o ≡ true → given_answer (option_map f o) ≡ a
+  given-mapped : (f : Question → Pending) (a : Option Answer) → ((q : Question) → (f q).answer ≡ a) → (o : Option Question) → is_some o ≡ true
+      → given_answer (option_map f o) ≡ a
   given-mapped f a h None s = cc
   given-mapped f a h (Some q) s = h q
 
   -- the answer that the pending operation has
-  pub given : returns u before < asks u before → given_answer (thread_after setting u before).pending ≡ cond (ltb (returns u before) (answers u before)) (answered setting u before) None
+  pub given : returns u before < asks u before → given_answer (thread_after setting u before).pending ≡ cond
+      (ltb (returns u before) (answers u before)) (answered setting u before) None
   given less =
       let e1 : ltb (returns u before) (asks u before) ≡ true = lt-ltb (returns u before) (asks u before) less in
       let some : is_some (question u before) ≡ true = has_question u before (omega arith) in
@@ -235,11 +251,14 @@ module _ (setting : Setting) (u : ℕ) (before : List Step) (k : Counted setting
     | inr more ↦ rw (le-ltb a b more, le-leb b a more) refl
   ]
 
-  pub seen_given : (is_some (given_answer (thread_after setting u before).pending) ≡ ltb (returns u before) (answers u before)) × (is_none (given_answer (thread_after setting u before).pending) ≡ leb (answers u before) (returns u before))
+  pub seen_given : (is_some (given_answer (thread_after setting u before).pending) ≡ ltb (returns u before) (answers u before))
+      × (is_none (given_answer (thread_after setting u before).pending) ≡ leb (answers u before) (returns u before))
   seen_given = elim (cases_lt (returns u before) (asks u before)) [
     | inl less ↦
         let g = given less in
-        let p = some_or_none (ltb (returns u before) (answers u before)) (answered setting u before) (λ e. has_answer setting u before (let f : returns u before < answers u before = ltb-true (returns u before) (answers u before) e in omega arith)) in
+        let p = some_or_none (ltb (returns u before) (answers u before)) (answered setting u before)
+            (λ e. has_answer setting u before (let f : returns u before < answers u before = ltb-true (returns u before) (answers u before) e in
+            omega arith)) in
         (ap is_some g ∙ p.0, ap is_none g ∙ p.1 ∙ not-ltb (returns u before) (answers u before))
     | inr more ↦
         let e1 : ltb (returns u before) (asks u before) ≡ false = le-ltb (returns u before) (asks u before) more in

@@ -25,7 +25,8 @@ found_among : {X : Type 0} (p : X → Bool) (xs : List X) (x : X) → find p xs 
 found_among p [] x is = cc
 found_among {X} p (y ∷ xs) x is = by_head (p y) refl (found_among p xs x) is
   where
-    by_head : (b : Bool) → p y ≡ b → (find p xs ≡ Some x → Contains xs x × (p x ≡ true)) → cond b (Some y) (find p xs) ≡ Some x → Contains (y ∷ xs) x × (p x ≡ true)
+    by_head : (b : Bool) → p y ≡ b → (find p xs ≡ Some x → Contains xs x × (p x ≡ true)) → cond b (Some y) (find p xs) ≡ Some x
+        → Contains (y ∷ xs) x × (p x ≡ true)
     by_head true passes more e = let same : y ≡ x = cc in (subst (λ (z : X). Contains (y ∷ xs) z) same (contains_head y xs), ap p (sym same) ∙ passes)
     by_head false passes more e = let m = more e in (contains_tail y xs x m.0, m.1)
 
@@ -37,7 +38,8 @@ whats_of CallDeq RetEmpty kind is = let same : Empty ≡ kind = same_Some Empty 
 whats_of _ _ kind is = cc
 
 -- the call and the return of an operation
-made_by : (call answer : Event) (o : Operation) → operation_of call (Some answer) ≡ Some o → answer.thread ≡ call.thread → (call ≡ operation_call o) × (answer ≡ operation_return o)
+made_by : (call answer : Event) (o : Operation) → operation_of call (Some answer) ≡ Some o → answer.thread ≡ call.thread
+    → (call ≡ operation_call o) × (answer ≡ operation_return o)
 made_by call answer o is threads = by_kind (kind_of call.what answer.what) refl is
   where
     as_operation : Option OpKind → Option Operation
@@ -56,18 +58,21 @@ made_by call answer o is threads = by_kind (kind_of call.what answer.what) refl 
         )
 
 -- both are events of the history
-pub operation_events : (events : List Event) (o : Operation) → Contains (operations_of events) o → Contains events (operation_call o) × Contains events (operation_return o)
+pub operation_events : (events : List Event) (o : Operation) → Contains (operations_of events) o
+    → Contains events (operation_call o) × Contains events (operation_return o)
 operation_events [] o among = absurd (none_in_nil o among)
 operation_events (e ∷ later) o among = by_made (operation_of e (find (λ r. nat_eq r.thread e.thread) later)) refl (operation_events later o) among
   where
-    first : (found : Option Event) → find (λ r. nat_eq r.thread e.thread) later ≡ found → operation_of e found ≡ Some o → Contains (e ∷ later) (operation_call o) × Contains (e ∷ later) (operation_return o)
+    first : (found : Option Event) → find (λ r. nat_eq r.thread e.thread) later ≡ found → operation_of e found ≡ Some o
+        → Contains (e ∷ later) (operation_call o) × Contains (e ∷ later) (operation_return o)
     first None is made = cc
     first (Some answer) is made =
         let f = found_among (λ (r : Event). nat_eq r.thread e.thread) later answer is in
         let m = made_by e answer o made (eqb-true answer.thread e.thread f.1) in
         (subst (Contains (e ∷ later)) m.0 (contains_head e later), subst (Contains (e ∷ later)) m.1 (contains_tail e later answer f.0))
 
-    by_made : (made : Option Operation) → operation_of e (find (λ r. nat_eq r.thread e.thread) later) ≡ made → (Contains (operations_of later) o → Contains later (operation_call o) × Contains later (operation_return o)) →
+    by_made : (made : Option Operation) → operation_of e (find (λ r. nat_eq r.thread e.thread) later) ≡ made
+        → (Contains (operations_of later) o → Contains later (operation_call o) × Contains later (operation_return o)) →
         Contains (cons_option made (operations_of later)) o → Contains (e ∷ later) (operation_call o) × Contains (e ∷ later) (operation_return o)
     by_made None is more there = let m = more there in (contains_tail e later (operation_call o) m.0, contains_tail e later (operation_return o) m.1)
     by_made (Some p) is more there = elim (contains_cons p (operations_of later) o there) [
@@ -86,10 +91,12 @@ module _ (setting : Setting) (schedule : List Attempt) (merged : List Event) (is
       let l = list_at (λ t. collected_in setting schedule t) setting.threads j.0 j.1 j.2 in
       (j.0, collected_is_event setting schedule j.0 e (subst (λ (list : List Event). Contains list e) l.1 j.3))
 
-  pub precedes_as_stands : (x y : Operation) → Contains (operations_of merged) x → Contains (operations_of merged) y → Precedes x y ↔ ReturnsBeforeAsk setting schedule x y
+  pub precedes_as_stands : (x y : Operation) → Contains (operations_of merged) x → Contains (operations_of merged) y
+      → Precedes x y ↔ ReturnsBeforeAsk setting schedule x y
   precedes_as_stands x y in_x in_y =
       let ret = placed (operation_return x) (operation_events merged x in_x).1 in
       let call = placed (operation_call y) (operation_events merged y in_y).0 in (
-        lower_stands_before setting schedule (operation_return x) (operation_call y) (place_of setting ret.0 schedule (operation_return x) ret.1) (place_of setting call.0 schedule (operation_call y) call.1),
+        lower_stands_before setting schedule (operation_return x) (operation_call y) (place_of setting ret.0 schedule (operation_return x) ret.1)
+            (place_of setting call.0 schedule (operation_call y) call.1),
         stands_before_is_lower setting schedule (operation_return x) (operation_call y),
       )

@@ -18,7 +18,8 @@ turns_split (e ∷ []) later turns both = absurd turns
 turns_split (e ∷ f ∷ events) later turns both = turns_split events later turns.1 both.1
 
 -- and what begins with the call that is pending
-pub turns_from_call : (events : List Event) (call : Event) (later : List Event) → TakesTurns events → TakesTurns ((events ++ call ∷ []) ++ later) → TakesTurns (call ∷ later)
+pub turns_from_call : (events : List Event) (call : Event) (later : List Event) → TakesTurns events → TakesTurns ((events ++ call ∷ []) ++ later)
+    → TakesTurns (call ∷ later)
 turns_from_call events call later turns both = turns_split events (call ∷ later) turns (rw append_assoc at both)
 
 pub turns_even : (events : List Event) → TakesTurns events → (h : ℕ) × (length events ≡ 2 * h)

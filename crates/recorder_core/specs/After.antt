@@ -1,5 +1,6 @@
 -- What a machine holds after a schedule.
-use Rattle.std.specs.Prelude.{◌≡◌, ℕ, ◌<◌, Bool, true, false, nat_lt, if◌then◌else◌, List, ◌∷◌, length, take, drop, Option, None, Some, Result, Ok, Err, OnErr, slice_get}
+use Rattle.std.specs.Prelude.{◌≡◌, ℕ, ◌<◌, Bool, true, false, nat_lt, if◌then◌else◌, List, ◌∷◌, length, take, drop, Option, None, Some, Result, Ok}
+use Rattle.std.specs.Prelude.{Err, OnErr, slice_get}
 use Rattle.std.specs.Option.{option_map}
 use Rattle.recorder_core.specs.declared.step.Step.{Step}
 use Rattle.recorder_core.specs.declared.pending.Pending.{Pending}
@@ -7,14 +8,16 @@ use Rattle.recorder_core.specs.declared.step.Done.{Done}
 use Rattle.recorder_core.specs.declared.step.StepRefused.{StepRefused}
 use Rattle.recorder_core.specs.declared.step.StepRefused.TheVariants.{Memory}
 use Rattle.recorder_core.specs.Setting.{Setting}
-use Rattle.recorder_core.specs.Schedule.{Attempt, accepted, answer_to, asks, all_asks, answers, returns, pushes, drained, tickets, events, question, answered, is_closed, queue}
+use Rattle.recorder_core.specs.Schedule.{Attempt, accepted, answer_to, asks, all_asks, answers, returns, pushes, drained, tickets, events, question}
+use Rattle.recorder_core.specs.Schedule.{answered, is_closed, queue}
 use Rattle.recorder_core.specs.View.{ThreadView, MachineView}
 
 -- the operation of t that has no return yet, with its answer if it has one
 abbrev pub pending : Setting → ℕ → List Step → Option Pending
 pending setting t steps =
     if nat_lt (returns t steps) (asks t steps)
-    then option_map (λ asked. record { question = asked; answer = if nat_lt (returns t steps) (answers t steps) then answered setting t steps else None }) (question t steps)
+    then option_map (λ asked. record { question = asked; answer =
+        if nat_lt (returns t steps) (answers t steps) then answered setting t steps else None }) (question t steps)
     else None
 
 -- what a machine holds for t after these accepted steps: of its events the first are collected,

@@ -1,5 +1,6 @@
 -- Recorded lists, schedules that collect them, and the histories to which they merge.
-use Rattle.std.specs.Prelude.{◌≡◌, ℕ, ◌+◌, ◌*◌, ◌≤◌, Bool, true, false, not, IsTrue, List, [], ◌∷◌, ◌++◌, length, map, All, filter_map, flat_map, slice_get, Option, Some, None, IsPermutation}
+use Rattle.std.specs.Prelude.{◌≡◌, ℕ, ◌+◌, ◌*◌, ◌≤◌, Bool, true, false, not, IsTrue, List, [], ◌∷◌, ◌++◌, length, map, All, filter_map, flat_map}
+use Rattle.std.specs.Prelude.{slice_get, Option, Some, None, IsPermutation}
 use Rattle.std.specs.List.{range_with_len, list_all}
 use Rattle.std.specs.Option.{option_map}
 use Rattle.event_records.specs.declared.event.Event.{Event}

@@ -2,7 +2,8 @@
 -- In every list of attempts or of steps the latest stands first, so the rest of a list is what came before.
 -- Whatever a thread's queue, answers and events are is read off the accepted steps by counts and filters: there is no ring,
 -- no held event and no state.
-use Rattle.std.specs.Prelude.{ℕ, ◌+◌, ◌-◌, min, Bool, true, false, not, ◌||◌, ◌==◌, nat_lt, nat_le, if◌then◌else◌, List, [], ◌∷◌, ◌++◌, length, filter, find, drop, Option, None, Some, Result, Ok, Err}
+use Rattle.std.specs.Prelude.{ℕ, ◌+◌, ◌-◌, min, Bool, true, false, not, ◌||◌, ◌==◌, nat_lt, nat_le, if◌then◌else◌, List, [], ◌∷◌, ◌++◌, length}
+use Rattle.std.specs.Prelude.{filter, find, drop, Option, None, Some, Result, Ok, Err}
 use Rattle.std.specs.List.{list_any}
 use Rattle.std.specs.Option.{option_map, option_map_or, is_none}
 use Rattle.event_records.specs.declared.event.Event.{Event}
@@ -20,7 +21,8 @@ use Rattle.recorder_core.specs.declared.step.Done.{Done}
 use Rattle.recorder_core.specs.declared.step.Done.TheVariants.{Ticket, Pushed, Answered, Drained, Closed as CloseDone}
 use Rattle.recorder_core.specs.Setting.{Setting}
 use Rattle.recorder_core.specs.declared.step.StepRefused.{StepRefused}
-use Rattle.recorder_core.specs.declared.step.StepRefused.TheVariants.{NoThread, Closed, Held, NothingHeld, RingFull, Pending, NotPending, NoAnswer, AnswerTaken, WrongAnswer, Limit, Memory}
+use Rattle.recorder_core.specs.declared.step.StepRefused.TheVariants.{NoThread, Closed, Held, NothingHeld, RingFull, Pending, NotPending, NoAnswer}
+use Rattle.recorder_core.specs.declared.step.StepRefused.TheVariants.{AnswerTaken, WrongAnswer, Limit, Memory}
 
 -- a step that is tried, and whether its growth is refused; only a push, an effect and a drain grow
 pub record Attempt : Type 0 where

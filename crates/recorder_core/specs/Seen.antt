@@ -4,7 +4,8 @@ use Rattle.std.specs.Option.{is_none}
 use Rattle.recorder_core.specs.declared.pending.Pending.{Pending}
 use Rattle.recorder_core.specs.declared.step.Answer.{Answer}
 use Rattle.recorder_core.specs.declared.step.StepRefused.{StepRefused}
-use Rattle.recorder_core.specs.declared.step.StepRefused.TheVariants.{Closed, Held, NothingHeld, RingFull, Pending as PendingRefused, NotPending, NoAnswer, AnswerTaken, Memory}
+use Rattle.recorder_core.specs.declared.step.StepRefused.TheVariants.{Closed, Held, NothingHeld, RingFull, Pending as PendingRefused, NotPending}
+use Rattle.recorder_core.specs.declared.step.StepRefused.TheVariants.{NoAnswer, AnswerTaken, Memory}
 use Rattle.recorder_core.specs.View.{ThreadView}
 
 -- the answer that an operation has, if there is one

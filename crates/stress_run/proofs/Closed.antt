@@ -1,5 +1,6 @@
 -- What is closed, and which fault stands, with one worker more.
-use Rattle.std.proofs.Common.{◌≡◌, ℕ, ◌+◌, List, [], ◌∷◌, ◌++◌, All, flat_map, IsPermutation, false, Option, Some, None, IfNone, IfSome, refl, ap, sym, subst, ◌∙◌, arith, append-nil, append_assoc, ◌⊎◌, inl, inr}
+use Rattle.std.proofs.Common.{◌≡◌, ℕ, ◌+◌, List, [], ◌∷◌, ◌++◌, All, flat_map, IsPermutation, false, Option, Some, None, IfNone, IfSome, refl, ap}
+use Rattle.std.proofs.Common.{sym, subst, ◌∙◌, arith, append-nil, append_assoc, ◌⊎◌, inl, inr}
 use Rattle.std.proofs.lemmas.List.{map-append}
 use Rattle.std.proofs.lemmas.List.Elements.{All-nil, All-push, All-weaker, Contains-push, Contains-append_left}
 use Rattle.std.proofs.lemmas.Bool.{false≢true}
@@ -24,7 +25,8 @@ closed_none rest = record {
   drawn = subst (λ l. IsPermutation l rest.drawn) (sym (append-nil rest.drawn)) (IsPermutation-refl rest.drawn);
 }
 
-pub closed_more : (rest : PassView) (workers : List WorkerView) (tokens : List TokenView) (pass : PassView) (w : WorkerView) (tokens' : List TokenView) (pass' : PassView)
+pub closed_more : (rest : PassView) (workers : List WorkerView) (tokens : List TokenView) (pass : PassView) (w : WorkerView)
+    (tokens' : List TokenView) (pass' : PassView)
     → AreClosed rest workers tokens pass → w.stopped ≡ false → tokens' ≡ tokens ++ token_of w ∷ [] → pass'.key ≡ pass.key → pass'.left ≡ pass.left + w.pass.left
     → IsPermutation (pass.drawn ++ w.pass.drawn) pass'.drawn → AreClosed rest (workers ++ w ∷ []) tokens' pass'
 closed_more rest workers tokens pass w tokens' pass' p runs token key left drawn = record {
@@ -32,7 +34,9 @@ closed_more rest workers tokens pass w tokens' pass' p runs token key left drawn
   tokens_are = token ∙ ap (λ l. l ++ token_of w ∷ []) p.tokens_are ∙ sym (map-append token_of workers (w ∷ []));
   key = key ∙ p.key;
   left = let was = p.left in let more = sum_by-append left_of workers (w ∷ []) in let one = sum_by-cons left_of w [] in omega (arith, left, was, more, one);
-  drawn = subst (λ l. IsPermutation l pass'.drawn) (sym all) (IsPermutation-trans ((rest.drawn ++ flat_map drawn_of workers) ++ w.pass.drawn) (pass.drawn ++ w.pass.drawn) pass'.drawn (IsPermutation-append (rest.drawn ++ flat_map drawn_of workers) pass.drawn w.pass.drawn w.pass.drawn p.drawn (IsPermutation-refl w.pass.drawn)) drawn);
+  drawn = subst (λ l. IsPermutation l pass'.drawn) (sym all) (IsPermutation-trans ((rest.drawn ++ flat_map drawn_of workers) ++ w.pass.drawn)
+      (pass.drawn ++ w.pass.drawn) pass'.drawn (IsPermutation-append
+      (rest.drawn ++ flat_map drawn_of workers) pass.drawn w.pass.drawn w.pass.drawn p.drawn (IsPermutation-refl w.pass.drawn)) drawn);
 }
   where
     left_of : WorkerView → ℕ
@@ -42,7 +46,8 @@ closed_more rest workers tokens pass w tokens' pass' p runs token key left drawn
     drawn_of v = v.pass.drawn
 
     all : rest.drawn ++ flat_map drawn_of (workers ++ w ∷ []) ≡ (rest.drawn ++ flat_map drawn_of workers) ++ w.pass.drawn
-    all = ap (λ l. rest.drawn ++ l) (flat_map-append drawn_of workers (w ∷ []) ∙ ap (λ l. flat_map drawn_of workers ++ l) (append-nil w.pass.drawn)) ∙ sym (append_assoc rest.drawn (flat_map drawn_of workers) w.pass.drawn)
+    all = ap (λ l. rest.drawn ++ l) (flat_map-append drawn_of workers (w ∷ []) ∙ ap (λ l. flat_map drawn_of workers ++ l) (append-nil w.pass.drawn))
+        ∙ sym (append_assoc rest.drawn (flat_map drawn_of workers) w.pass.drawn)
 
 pub at_none : {F : Type 0} (o : Option F) (Q : Type 0) → (o ≡ None → Q) → IfNone o Q
 at_none None Q f = f refl
@@ -54,7 +59,8 @@ none_of (Some x) P e p = cc
 
 -- of the workers that are done: where no fault stands they are closed, and else it stands, and is not after that which stood first nor
 -- after their stalls
-pub record IsClosing (rest : PassView) (done : List WorkerView) (standing : Option RunFault) (tokens : List TokenView) (pass : PassView) (fault : Option RunFault) : Type 0 where
+pub record IsClosing (rest : PassView) (done : List WorkerView) (standing : Option RunFault) (tokens : List TokenView) (pass : PassView)
+    (fault : Option RunFault) : Type 0 where
   pub closed : IfNone fault ((standing ≡ None) × AreClosed rest done tokens pass)
   pub first : IfSome standing (λ before. IfSome fault (λ f. IsNotAfter f before))
   pub stalls : IfSome fault (λ f. All (IsNotAfterStall f) done)
@@ -68,20 +74,27 @@ no_some : (f : RunFault) → Some f ≡ None → ⊥
 no_some f e = cc
 
 module _ (rest : PassView) (done : List WorkerView) (w : WorkerView) where
-  still_first : (standing fault fault' : Option RunFault) → (fault ≡ None → standing ≡ None) → IfSome standing (λ before. IfSome fault (λ f. IsNotAfter f before)) → IfSome fault (λ before. IfSome fault' (λ f. IsNotAfter f before)) → IfSome standing (λ before. IfSome fault' (λ f. IsNotAfter f before))
+  still_first : (standing fault fault' : Option RunFault) → (fault ≡ None → standing ≡ None)
+      → IfSome standing (λ before. IfSome fault (λ f. IsNotAfter f before)) → IfSome fault (λ before. IfSome fault' (λ f. IsNotAfter f before))
+      → IfSome standing (λ before. IfSome fault' (λ f. IsNotAfter f before))
   still_first None fault fault' none p q = tt
   still_first (Some g) fault None none p q = tt
   still_first (Some g) None (Some f) none p q = absurd (no_some g (none refl))
   still_first (Some g) (Some b) (Some f) none p q = not_after f b g q p
 
-  still_stalls : (fault fault' : Option RunFault) → (fault ≡ None → All (λ v. v.stopped ≡ false) done) → IfSome fault (λ f. All (IsNotAfterStall f) done) → IfSome fault (λ before. IfSome fault' (λ f. IsNotAfter f before)) → IfSome fault' (λ f. IsNotAfterStall f w) → IfSome fault' (λ f. All (IsNotAfterStall f) (done ++ w ∷ []))
+  still_stalls : (fault fault' : Option RunFault) → (fault ≡ None → All (λ v. v.stopped ≡ false) done)
+      → IfSome fault (λ f. All (IsNotAfterStall f) done) → IfSome fault (λ before. IfSome fault' (λ f. IsNotAfter f before))
+      → IfSome fault' (λ f. IsNotAfterStall f w) → IfSome fault' (λ f. All (IsNotAfterStall f) (done ++ w ∷ []))
   still_stalls fault None running p q new = tt
   still_stalls None (Some f) running p q new =
-      All-push (IsNotAfterStall f) done w (All-weaker (λ (v : WorkerView). v.stopped ≡ false) (IsNotAfterStall f) (λ v runs stopped. absurd (false≢true (sym runs ∙ stopped))) done (running refl)) new
+      All-push (IsNotAfterStall f) done w (All-weaker (λ (v : WorkerView). v.stopped ≡ false) (IsNotAfterStall f)
+          (λ v runs stopped. absurd (false≢true (sym runs ∙ stopped))) done (running refl)) new
   still_stalls (Some b) (Some f) running p q new =
-      All-push (IsNotAfterStall f) done w (All-weaker (IsNotAfterStall b) (IsNotAfterStall f) (λ v h stopped. not_after f b (Stalled v.thread) q (h stopped)) done p) new
+      All-push (IsNotAfterStall f) done w (All-weaker (IsNotAfterStall b) (IsNotAfterStall f)
+          (λ v h stopped. not_after f b (Stalled v.thread) q (h stopped)) done p) new
 
-  still_stands : (standing fault fault' : Option RunFault) → IfSome fault (Stands standing done) → IfSome fault' (λ f. (fault ≡ Some f) ⊎ ((f ≡ Memory) ⊎ IsFaultOfWorker f w)) → IfSome fault' (Stands standing (done ++ w ∷ []))
+  still_stands : (standing fault fault' : Option RunFault) → IfSome fault (Stands standing done)
+      → IfSome fault' (λ f. (fault ≡ Some f) ⊎ ((f ≡ Memory) ⊎ IsFaultOfWorker f w)) → IfSome fault' (Stands standing (done ++ w ∷ []))
   still_stands standing fault None p new = tt
   still_stands standing None (Some f) p (inl e) = absurd (no_some f (sym e))
   still_stands standing (Some b) (Some f) p (inl e) =
@@ -98,7 +111,8 @@ module _ (rest : PassView) (done : List WorkerView) (w : WorkerView) where
   still_stands standing fault (Some f) p (inr (inr own)) =
       inr (inr (w, Contains-push done w, own))
 
-  pub closing_more : (standing : Option RunFault) (tokens : List TokenView) (pass : PassView) (fault : Option RunFault) (tokens' : List TokenView) (pass' : PassView) (fault' : Option RunFault)
+  pub closing_more : (standing : Option RunFault) (tokens : List TokenView) (pass : PassView) (fault : Option RunFault) (tokens' : List TokenView)
+      (pass' : PassView) (fault' : Option RunFault)
       → IsClosing rest done standing tokens pass fault
       → pass'.key ≡ pass.key
       → IfSome fault (λ before. IfSome fault' (λ f. IsNotAfter f before))
@@ -113,7 +127,8 @@ module _ (rest : PassView) (done : List WorkerView) (w : WorkerView) where
     closed = at_none fault' _ (λ none.
         let run = none_of fault' _ none runs in
         let was = none_of fault _ run.0 p.closed in
-        (was.0, closed_more rest done tokens pass w tokens' pass' was.1 run.1 (none_of fault' _ none token) key (none_of fault' _ none left) (none_of fault' _ none drawn)));
+        (was.0, closed_more rest done tokens pass w tokens' pass' was.1 run.1 (none_of fault' _ none token) key (none_of fault' _ none left)
+            (none_of fault' _ none drawn)));
     first = still_first standing fault fault' (λ none. (none_of fault _ none p.closed).0) p.first not_later;
     stalls = still_stalls fault fault' (λ none. let was = none_of fault _ none p.closed in was.1.running) p.stalls not_later stall;
     stands = still_stands standing fault fault' p.stands stands;

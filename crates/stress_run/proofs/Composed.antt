@@ -1,5 +1,6 @@
 -- What a worker did first and what it did next, as one list of operations.
-use Rattle.std.proofs.Common.{◌≡◌, ℕ, zero, suc, ◌+◌, ◌*◌, List, [], ◌∷◌, ◌++◌, length, map, refl, ap, sym, ◌∙◌, arith, subst, append_assoc, append-nil, length-append, take, drop, take-append-drop, get_or, ◌<◌, ◌≤◌, inl, inr, true, false}
+use Rattle.std.proofs.Common.{◌≡◌, ℕ, zero, suc, ◌+◌, ◌*◌, List, [], ◌∷◌, ◌++◌, length, map, refl, ap, sym, ◌∙◌, arith, subst, append_assoc}
+use Rattle.std.proofs.Common.{append-nil, length-append, take, drop, take-append-drop, get_or, ◌<◌, ◌≤◌, inl, inr, true, false}
 use Rattle.std.proofs.lemmas.List.{map-append, length-map, get_or_append_left}
 use Rattle.std.proofs.lemmas.Grind.{flat_map-append}
 use Rattle.std.proofs.lemmas.List.Elements.{All-append, All-tail}
@@ -53,7 +54,8 @@ rising-join (x ∷ z ∷ xs) ys r s above (suc k) h =
 
 module _ (may : Question → Answer → Type 0) where
   pub same_then : (w v u : WorkerView) → SameWorker w v → SameWorker v u → SameWorker w u
-  same_then w v u p q = record { thread = q.thread ∙ p.thread; ring = q.ring ∙ p.ring; capacity = q.capacity ∙ p.capacity; tries = q.tries ∙ p.tries; key = q.key ∙ p.key; share = q.share ∙ p.share }
+  same_then w v u p q = record { thread = q.thread ∙ p.thread; ring = q.ring ∙ p.ring; capacity = q.capacity ∙ p.capacity; tries =
+      q.tries ∙ p.tries; key = q.key ∙ p.key; share = q.share ∙ p.share }
 
   numbered_then : (ks ls : List Kind) (first next : ℕ) (os ps : List Operation)
       → map asked_number os ≡ range_with_len first (length ks) → map asked_number ps ≡ range_with_len next (length ls) → next ≡ first + length ks
@@ -83,7 +85,8 @@ module _ (may : Question → Answer → Type 0) where
   works_then ks ls w v u p q =
       let os = p.operates.operations in
       let ps = q.operates.operations in
-      let later : AreAbove (w.pass.drawn ++ map ticket_of p.events) (map ticket_of q.events) = subst (λ (held : List ℕ). AreAbove held (map ticket_of q.events)) p.drawn q.above in
+      let later : AreAbove (w.pass.drawn ++ map ticket_of p.events) (map ticket_of q.events) =
+          subst (λ (held : List ℕ). AreAbove held (map ticket_of q.events)) p.drawn q.above in
       let moved : All (IsAsked may w.thread w.pass.key) ps =
       let P : _ → Type 0 = λ t. All (IsAsked may t w.pass.key) ps in
       let Q : _ → Type 0 = λ k. All (IsAsked may v.thread k) ps in
@@ -99,15 +102,22 @@ module _ (may : Question → Answer → Type 0) where
           planned = map-append asked_kind os ps ∙ ap (λ l. l ++ map asked_kind ps) p.operates.planned ∙ ap (λ l. ks ++ l) q.operates.planned;
           numbered = numbered_then ks ls w.asked v.asked os ps p.operates.numbered q.operates.numbered p.asked;
           all_asked = All-append (IsAsked may w.thread w.pass.key) os ps p.operates.all_asked moved;
-          recorded = ap (λ l. l ++ q.events) p.operates.recorded ∙ ap (λ l. flat_map events_of os ++ l) q.operates.recorded ∙ sym (flat_map-append events_of os ps);
+          recorded = ap (λ l. l ++ q.events) p.operates.recorded ∙ ap (λ l. flat_map events_of os ++ l) q.operates.recorded
+              ∙ sym (flat_map-append events_of os ps);
         };
         sent = q.sent ∙ ap (λ l. l ++ q.events) p.sent ∙ append_assoc w.sent p.events q.events;
-        drawn = q.drawn ∙ ap (λ l. l ++ map ticket_of q.events) p.drawn ∙ append_assoc w.pass.drawn (map ticket_of p.events) (map ticket_of q.events) ∙ ap (λ l. w.pass.drawn ++ l) (sym (map-append ticket_of p.events q.events));
-        rising = subst IsStrictlyIncreasing (sym (map-append ticket_of p.events q.events)) (rising-join (map ticket_of p.events) (map ticket_of q.events) p.rising q.rising (λ k d h. All-right (λ t. t < get_or (map ticket_of q.events) k d) w.pass.drawn (map ticket_of p.events) (later k d h)));
-        above = subst (AreAbove w.pass.drawn) (sym (map-append ticket_of p.events q.events)) (All-append (λ (ticket : ℕ). All (λ t. t < ticket) w.pass.drawn) (map ticket_of p.events) (map ticket_of q.events) p.above (λ k d h. All-left (λ t. t < get_or (map ticket_of q.events) k d) w.pass.drawn (map ticket_of p.events) (later k d h)));
+        drawn = q.drawn ∙ ap (λ l. l ++ map ticket_of q.events) p.drawn ∙ append_assoc w.pass.drawn (map ticket_of p.events) (map ticket_of q.events)
+            ∙ ap (λ l. w.pass.drawn ++ l) (sym (map-append ticket_of p.events q.events));
+        rising = subst IsStrictlyIncreasing (sym (map-append ticket_of p.events q.events))
+            (rising-join (map ticket_of p.events) (map ticket_of q.events) p.rising q.rising
+            (λ k d h. All-right (λ t. t < get_or (map ticket_of q.events) k d) w.pass.drawn (map ticket_of p.events) (later k d h)));
+        above = subst (AreAbove w.pass.drawn) (sym (map-append ticket_of p.events q.events))
+            (All-append (λ (ticket : ℕ). All (λ t. t < ticket) w.pass.drawn) (map ticket_of p.events) (map ticket_of q.events) p.above
+            (λ k d h. All-left (λ t. t < get_or (map ticket_of q.events) k d) w.pass.drawn (map ticket_of p.events) (later k d h)));
       }
 
-  pub works_more : (kinds : List Kind) (i : ℕ) (d : Kind) (w v u : WorkerView) → i < length kinds → Works may (take i kinds) w v → Works may (get_or kinds i d ∷ []) v u → Works may (take (i + 1) kinds) w u
+  pub works_more : (kinds : List Kind) (i : ℕ) (d : Kind) (w v u : WorkerView) → i < length kinds → Works may (take i kinds) w v
+      → Works may (get_or kinds i d ∷ []) v u → Works may (take (i + 1) kinds) w u
   works_more kinds i d w v u below p q =
       let f : i + 1 ≡ suc i = omega arith in
       let e = ap (λ n. take n kinds) f ∙ take-suc kinds i d below in
@@ -123,7 +133,8 @@ module _ (may : Question → Answer → Type 0) where
   pub works_or : (kinds : List Kind) (w v : WorkerView) → Works may kinds w v → WorksOrStalls may kinds w v
   works_or kinds w v p = inl p
 
-  pub stalls_at : (kinds : List Kind) (i : ℕ) (d : Kind) (w v u : WorkerView) → i < length kinds → Works may (take i kinds) w v → Stalls (get_or kinds i d) v u → WorksOrStalls may kinds w u
+  pub stalls_at : (kinds : List Kind) (i : ℕ) (d : Kind) (w v u : WorkerView) → i < length kinds → Works may (take i kinds) w v
+      → Stalls (get_or kinds i d) v u → WorksOrStalls may kinds w u
   stalls_at kinds i d w v u inside p q = inr (record {
     made = take i kinds;
     next = get_or kinds i d;
@@ -143,7 +154,8 @@ module _ (may : Question → Answer → Type 0) where
   runs kinds w u (inr s) e = absurd (false≢true (sym e ∙ s.stalls.stopped))
 
   -- a worker that is stopped after its row has sent as many events as its ring has room for, and fewer than its row has
-  pub overflows : (kinds : List Kind) (w u : WorkerView) → WorksOrStalls may kinds w u → w.sent ≡ [] → w.stopped ≡ false → u.stopped ≡ true → w.capacity < 2 * length kinds
+  pub overflows : (kinds : List Kind) (w u : WorkerView) → WorksOrStalls may kinds w u → w.sent ≡ [] → w.stopped ≡ false → u.stopped ≡ true
+      → w.capacity < 2 * length kinds
   overflows kinds w u (inl p) none ran stopped = absurd (false≢true (sym (p.running ∙ ran) ∙ stopped))
   overflows kinds w u (inr s) none ran stopped =
       let made = sent_by s.made w s.until s.works none in

@@ -1,5 +1,6 @@
 -- From workers that made their rows to the events of a run.
-use Rattle.std.proofs.Common.{◌≡◌, ℕ, zero, suc, ◌*◌, ◌<◌, List, [], ◌∷◌, ◌++◌, length, map, All, sum_by, flat_map, get_or, IsPermutation, Contains, Option, Some, None, IfSome, inl, inr, true, false, refl, ap, sym, subst, ◌∙◌, arith}
+use Rattle.std.proofs.Common.{◌≡◌, ℕ, zero, suc, ◌*◌, ◌<◌, List, [], ◌∷◌, ◌++◌, length, map, All, sum_by, flat_map, get_or, IsPermutation, Contains}
+use Rattle.std.proofs.Common.{Option, Some, None, IfSome, inl, inr, true, false, refl, ap, sym, subst, ◌∙◌, arith}
 use Rattle.std.proofs.lemmas.List.{map-append, length-map, get_or_default}
 use Rattle.std.proofs.lemmas.List.Concat.{length-flat_map}
 use Rattle.std.proofs.lemmas.List.FromFn.{length-range_with_len}
@@ -37,7 +38,8 @@ lefts : (rows : List (List Kind)) (after : List WorkerView) → AllZip IsDone ro
 lefts [] [] z = refl
 lefts [] (a ∷ rest) z = absurd z
 lefts (r ∷ rs) [] z = absurd z
-lefts (r ∷ rs) (a ∷ rest) z = let one = sum_by-cons (λ (w : WorkerView). w.pass.left) a rest in let more = lefts rs rest z.1 in let none = z.0.left in omega (arith, one, more, none)
+lefts (r ∷ rs) (a ∷ rest) z = let one = sum_by-cons (λ (w : WorkerView). w.pass.left) a rest in let more = lefts rs rest z.1 in let none = z.0.left in
+    omega (arith, one, more, none)
 
 all_sizes : (rows : List (List Kind)) (after : List WorkerView) → AllZip IsDone rows after → sum_by (λ a. length a.pass.drawn) after ≡ 2 * sum_by length rows
 all_sizes [] [] z = refl
@@ -50,7 +52,8 @@ all_sizes (r ∷ rs) (a ∷ rest) z =
     let all = z.0.size in
     omega (arith, one, row, more, all)
 
-tickets_of : (rows : List (List Kind)) (after : List WorkerView) → AllZip IsDone rows after → flat_map (λ a. a.pass.drawn) after ≡ map ticket_of (flat_map (λ list. list) (map (λ a. a.sent) after))
+tickets_of : (rows : List (List Kind)) (after : List WorkerView) → AllZip IsDone rows after
+    → flat_map (λ a. a.pass.drawn) after ≡ map ticket_of (flat_map (λ list. list) (map (λ a. a.sent) after))
 tickets_of [] [] z = refl
 tickets_of [] (a ∷ rest) z = absurd z
 tickets_of (r ∷ rs) [] z = absurd z
@@ -59,7 +62,8 @@ tickets_of (r ∷ rs) (a ∷ rest) z =
     ∙ ap (λ l. map ticket_of a.sent ++ l) (tickets_of rs rest z.1)
     ∙ sym (map-append ticket_of a.sent (flat_map (λ list. list) (map (λ (w : WorkerView). w.sent) rest)))
 
-same_rings : (workers after : List WorkerView) → AllZip (λ w a. (a.ring ≡ w.ring) × (a.thread ≡ w.thread)) workers after → rings_of_tokens (map token_of after) ≡ rings_of (map end_of workers)
+same_rings : (workers after : List WorkerView) → AllZip (λ w a. (a.ring ≡ w.ring) × (a.thread ≡ w.thread)) workers after
+    → rings_of_tokens (map token_of after) ≡ rings_of (map end_of workers)
 same_rings [] [] z = refl
 same_rings [] (a ∷ rest) z = absurd z
 same_rings (w ∷ ws) [] z = absurd z
@@ -68,11 +72,13 @@ same_rings (w ∷ ws) (a ∷ rest) z = pairs a.ring w.ring a.thread w.thread _ _
     pairs : {X Y : Type 0} (x x' : X) (y y' : Y) (xs xs' : List (X × Y)) → x ≡ x' → y ≡ y' → xs ≡ xs' → (x, y) ∷ xs ≡ (x', y') ∷ xs'
     pairs x x' y y' xs xs' p q r = cc
 
-same_threads : (workers after : List WorkerView) → AllZip (λ w a. (a.ring ≡ w.ring) × (a.thread ≡ w.thread)) workers after → map (λ t. t.thread) (map token_of after) ≡ map (λ w. w.thread) workers
+same_threads : (workers after : List WorkerView) → AllZip (λ w a. (a.ring ≡ w.ring) × (a.thread ≡ w.thread)) workers after
+    → map (λ t. t.thread) (map token_of after) ≡ map (λ w. w.thread) workers
 same_threads [] [] z = refl
 same_threads [] (a ∷ rest) z = absurd z
 same_threads (w ∷ ws) [] z = absurd z
-same_threads (w ∷ ws) (a ∷ rest) z = ap (λ n. n ∷ map (λ (t : TokenView). t.thread) (map token_of rest)) z.0.1 ∙ ap (λ l. w.thread ∷ l) (same_threads ws rest z.1)
+same_threads (w ∷ ws) (a ∷ rest) z = ap (λ n. n ∷ map (λ (t : TokenView). t.thread) (map token_of rest)) z.0.1
+    ∙ ap (λ l. w.thread ∷ l) (same_threads ws rest z.1)
 
 sent_of : (after : List WorkerView) → map (λ token. token.sent) (map token_of after) ≡ map (λ a. a.sent) after
 sent_of [] = refl
@@ -197,7 +203,8 @@ module _ (key : TableId) (sizes : SizesView) (rows : List (List Kind)) (workers 
       fault_is (Uncertified t) e within = absurd (subst (λ (x : RunFault). IsFaultOfWorker x a) e is)
 
     -- what stands after the workers' rows is a fault of the run
-    pub stands_in_run : (standing : Option RunFault) (f : RunFault) → IsWithinLimits sizes.ring sizes.tries → IfSome standing (λ g. g ≡ Memory) → Stands standing after f → All (IsNotAfterStall f) after → IsFaultOfRun may rows sizes f
+    pub stands_in_run : (standing : Option RunFault) (f : RunFault) → IsWithinLimits sizes.ring sizes.tries → IfSome standing (λ g. g ≡ Memory)
+        → Stands standing after f → All (IsNotAfterStall f) after → IsFaultOfRun may rows sizes f
     stands_in_run standing f within memory (inl e) first = subst (IsFaultOfRun may rows sizes) (sym (was standing e memory)) within
       where
         was : (o : Option RunFault) → o ≡ Some f → IfSome o (λ g. g ≡ Memory) → f ≡ Memory
@@ -250,7 +257,8 @@ module _ (key : TableId) (sizes : SizesView) (rows : List (List Kind)) (workers 
               let left = k.left in
               let drawn = k.drawn ∙ ap (λ (v : PassView). v.drawn ++ map ticket_of k.events) new.pass in
               let sent = k.sent ∙ ap (λ l. l ++ k.events) new.sent in
-              record { left = omega (arith, left, had, size, size_new); size = omega (arith, left, had, size, size_new, share, none); drawn = drawn ∙ sym (ap (map ticket_of) sent) }
+              record { left = omega (arith, left, had, size, size_new); size = omega (arith, left, had, size, size_new, share, none); drawn =
+                  drawn ∙ sym (ap (map ticket_of) sent) }
 
       pub whole : share_of pass ≡ 2 * sum_by length rows
       whole =
@@ -271,7 +279,8 @@ module _ (key : TableId) (sizes : SizesView) (rows : List (List Kind)) (workers 
             let inside : t < length after = omega (arith, h, long) in
             ap (λ l. get_or l t []) lists_are ∙ map_at (λ (v : WorkerView). v.sent) after t a [] inside at
 
-        operates_as : (thread thread' : ℕ) (key' : TableId) (first first' : ℕ) (kinds kinds' : List Kind) (events events' : List Event) → thread ≡ thread' → key' ≡ key → first ≡ first' → kinds ≡ kinds' → events ≡ events'
+        operates_as : (thread thread' : ℕ) (key' : TableId) (first first' : ℕ) (kinds kinds' : List Kind) (events events' : List Event)
+            → thread ≡ thread' → key' ≡ key → first ≡ first' → kinds ≡ kinds' → events ≡ events'
             → Operates may thread key' first kinds events → Operates may thread' key first' kinds' events'
         operates_as thread thread' key' first first' kinds kinds' events events' a b c d e o =
             subst (λ (es : List Event). Operates may thread' key first' kinds' es) e
@@ -292,7 +301,8 @@ module _ (key : TableId) (sizes : SizesView) (rows : List (List Kind)) (workers 
             let new = p.place_of.new in
             let sent = k.sent ∙ ap (λ l. l ++ k.events) new.sent in
             operates_as p.w.thread t p.w.pass.key p.w.asked 0 (row_of rows p.w) (get_or rows t []) k.events (get_or lists t [])
-            p.place_of.thread (ap (λ (v : PassView). v.key) new.pass) new.asked (p.place_of.row_is ∙ sym (p.place_of.at_row [])) (sym sent ∙ sym (list_at t z.0 h z.1)) k.operates
+            p.place_of.thread (ap (λ (v : PassView). v.key) new.pass) new.asked (p.place_of.row_is ∙ sym (p.place_of.at_row []))
+                (sym sent ∙ sym (list_at t z.0 h z.1)) k.operates
 
         rising_at : (t : ℕ) → t < length rows → IsStrictlyIncreasing (map ticket_of (get_or lists t []))
         rising_at t h =
@@ -310,7 +320,8 @@ module _ (key : TableId) (sizes : SizesView) (rows : List (List Kind)) (workers 
           operates = operates_at;
           rising = rising_at;
           tickets = subst (λ l. IsPermutation (map ticket_of (flat_map (λ list. list) l)) (numbers_below total)) (sym lists_are)
-              (subst (λ l. IsPermutation l (numbers_below total)) (tickets_of rows after done_each) (subst (IsPermutation (flat_map (λ (a : WorkerView). a.pass.drawn) after)) drawn closed.drawn));
+              (subst (λ l. IsPermutation l (numbers_below total)) (tickets_of rows after done_each)
+                  (subst (IsPermutation (flat_map (λ (a : WorkerView). a.pass.drawn) after)) drawn closed.drawn));
           two_each =
               (let size = whole in
               let left = closed.left in

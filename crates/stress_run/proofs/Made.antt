@@ -1,5 +1,6 @@
 -- A crew with one worker more.
-use Rattle.std.proofs.Common.{◌≡◌, ℕ, suc, ◌+◌, ◌*◌, ◌-◌, ◌<◌, ◌≤◌, List, [], ◌∷◌, ◌++◌, length, map, take, drop, get_or, sum_by, ap, sym, subst, ◌∙◌, arith, add-one, length-append, length-take-le}
+use Rattle.std.proofs.Common.{◌≡◌, ℕ, suc, ◌+◌, ◌*◌, ◌-◌, ◌<◌, ◌≤◌, List, [], ◌∷◌, ◌++◌, length, map, take, drop, get_or, sum_by, ap, sym, subst, ◌∙◌}
+use Rattle.std.proofs.Common.{arith, add-one, length-append, length-take-le}
 use Rattle.std.proofs.Math.Seq.{take-suc, drop-cons}
 use Rattle.std.proofs.lemmas.List.{map-append}
 use Rattle.std.proofs.lemmas.List.Sums.{sum_by-cons}
@@ -13,12 +14,14 @@ use Rattle.recorder_core.proofs.Blocks.{range_more}
 use Rattle.stress_run.proofs.Places.{zip_push}
 
 -- the workers of the first rows are made, and the pass has the shares of the others
-pub record IsMaking (key : TableId) (sizes : SizesView) (rows : List (List Kind)) (place : ℕ) (rest : PassView) (workers : List WorkerView) (ends : List DrainView) : Type 0 where
+pub record IsMaking (key : TableId) (sizes : SizesView) (rows : List (List Kind)) (place : ℕ) (rest : PassView) (workers : List WorkerView)
+    (ends : List DrainView) : Type 0 where
   pub crew : IsCrew key sizes (take place rows) workers
   pub ends_are : ends ≡ map end_of workers
   pub rest_is : rest ≡ record { key = key; left = 2 * sum_by length (drop place rows); drawn = [] }
 
-crew_more : (key : TableId) (sizes : SizesView) (rows : List (List Kind)) (workers : List WorkerView) (row : List Kind) (w : WorkerView) → IsCrew key sizes rows workers → IsNew key sizes row w → w.thread ≡ length rows → IsCrew key sizes (rows ++ row ∷ []) (workers ++ w ∷ [])
+crew_more : (key : TableId) (sizes : SizesView) (rows : List (List Kind)) (workers : List WorkerView) (row : List Kind) (w : WorkerView)
+    → IsCrew key sizes rows workers → IsNew key sizes row w → w.thread ≡ length rows → IsCrew key sizes (rows ++ row ∷ []) (workers ++ w ∷ [])
 crew_more key sizes rows workers row w crew new thread = record {
   threads =
       map-append (λ (v : WorkerView). v.thread) workers (w ∷ [])
@@ -32,9 +35,11 @@ crew_more key sizes rows workers row w crew new thread = record {
     longer : suc (length rows) ≡ length (rows ++ row ∷ [])
     longer = omega (arith, length-append rows (row ∷ []))
 
-module _ (key : TableId) (sizes : SizesView) (rows : List (List Kind)) (place : ℕ) (inside : place < length rows) (rest : PassView) (workers : List WorkerView) (ends : List DrainView) (p : IsMaking key sizes rows place rest workers ends) where
+module _ (key : TableId) (sizes : SizesView) (rows : List (List Kind)) (place : ℕ) (inside : place < length rows) (rest : PassView)
+    (workers : List WorkerView) (ends : List DrainView) (p : IsMaking key sizes rows place rest workers ends) where
   here : (d : List Kind) → sum_by length (drop place rows) ≡ length (get_or rows place d) + sum_by length (drop (place + 1) rows)
-  here d = ap (sum_by length) (drop-cons rows place d inside) ∙ sum_by-cons length (get_or rows place d) (drop (suc place) rows) ∙ ap (λ (n : ℕ). length (get_or rows place d) + sum_by length (drop n rows)) (sym (add-one place))
+  here d = ap (sum_by length) (drop-cons rows place d inside) ∙ sum_by-cons length (get_or rows place d) (drop (suc place) rows)
+      ∙ ap (λ (n : ℕ). length (get_or rows place d) + sum_by length (drop n rows)) (sym (add-one place))
 
   pub key_is : rest.key ≡ key
   key_is = ap (λ (r : PassView). r.key) p.rest_is
@@ -50,8 +55,11 @@ module _ (key : TableId) (sizes : SizesView) (rows : List (List Kind)) (place : 
       → row ≡ get_or rows place row → IsNew key sizes row w → w.thread ≡ place → end ≡ end_of w → rest' ≡ record rest { left = rest.left - 2 * length row }
       → workers' ≡ workers ++ w ∷ [] → ends' ≡ ends ++ end ∷ [] → IsMaking key sizes rows (place + 1) rest' workers' ends'
   made_more row w rest' end workers' ends' is new thread end_is rest_is more more_ends = record {
-    crew = subst (λ ws. IsCrew key sizes (take (place + 1) rows) ws) (sym more) (subst (λ rs. IsCrew key sizes rs (workers ++ w ∷ [])) (sym taken) (crew_more key sizes (take place rows) workers row w p.crew new (thread ∙ sym shown)));
-    ends_are = more_ends ∙ ap (λ l. l ++ end ∷ []) p.ends_are ∙ ap (λ e. map end_of workers ++ e ∷ []) end_is ∙ sym (map-append end_of workers (w ∷ [])) ∙ ap (map end_of) (sym more);
+    crew = subst (λ ws. IsCrew key sizes (take (place + 1) rows) ws) (sym more)
+        (subst (λ rs. IsCrew key sizes rs (workers ++ w ∷ [])) (sym taken)
+        (crew_more key sizes (take place rows) workers row w p.crew new (thread ∙ sym shown)));
+    ends_are = more_ends ∙ ap (λ l. l ++ end ∷ []) p.ends_are ∙ ap (λ e. map end_of workers ++ e ∷ []) end_is
+        ∙ sym (map-append end_of workers (w ∷ [])) ∙ ap (map end_of) (sym more);
     rest_is = rest_is ∙ fields rest _ _ (ap (λ (r : PassView). r.key) p.rest_is) (ap (λ (r : PassView). r.drawn) p.rest_is) left;
   }
     where

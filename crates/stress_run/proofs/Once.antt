@@ -1,5 +1,6 @@
 -- One operation as a worker's whole work.
-use Rattle.std.proofs.Common.{◌≡◌, ℕ, ◌+◌, ◌<◌, ◌≤◌, [], ◌∷◌, ◌++◌, length, All, refl, ap, sym, ◌∙◌, arith, subst, append_assoc, length-append, inr, true, false}
+use Rattle.std.proofs.Common.{◌≡◌, ℕ, ◌+◌, ◌<◌, ◌≤◌, [], ◌∷◌, ◌++◌, length, All, refl, ap, sym, ◌∙◌, arith, subst, append_assoc, length-append, inr}
+use Rattle.std.proofs.Common.{true, false}
 use Rattle.std.proofs.lemmas.List.Elements.{All-push, All-cons}
 use Rattle.std.proofs.lemmas.Bool.{false≢true}
 use Rattle.std.specs.List.Sorted.{IsStrictlyIncreasing}
@@ -24,12 +25,14 @@ module _ (may : Question → Answer → Type 0) where
       → (o.question.thread ≡ w.thread) × (o.question.key ≡ w.pass.key) × (o.question.number ≡ w.asked) × (o.question.kind ≡ k)
       → IsOfKind o.question.kind o.answer
       → may o.question o.answer
-      → (u.thread ≡ w.thread) × (u.ring ≡ w.ring) × (u.asked ≡ w.asked + 1) × (u.sent ≡ w.sent ++ events_of o) × (u.stopped ≡ w.stopped) × (u.capacity ≡ w.capacity) × (u.tries ≡ w.tries)
+      → (u.thread ≡ w.thread) × (u.ring ≡ w.ring) × (u.asked ≡ w.asked + 1) × (u.sent ≡ w.sent ++ events_of o) × (u.stopped ≡ w.stopped)
+          × (u.capacity ≡ w.capacity) × (u.tries ≡ w.tries)
       → DrawsOne w.pass o.question.call p
       → DrawsOne p o.ret u.pass
       → Works may (k ∷ []) w u
   works_one k w u o p q of_kind allowed s d e =
-      let drawn : u.pass.drawn ≡ w.pass.drawn ++ (o.question.call ∷ o.ret ∷ []) = e.drawn ∙ ap (λ l. l ++ o.ret ∷ []) d.drawn ∙ append_assoc w.pass.drawn (o.question.call ∷ []) (o.ret ∷ []) in
+      let drawn : u.pass.drawn ≡ w.pass.drawn ++ (o.question.call ∷ o.ret ∷ []) =
+          e.drawn ∙ ap (λ l. l ++ o.ret ∷ []) d.drawn ∙ append_assoc w.pass.drawn (o.question.call ∷ []) (o.ret ∷ []) in
       let grown = ap length drawn ∙ length-append w.pass.drawn (o.question.call ∷ o.ret ∷ []) in
       let later = subst (All (λ t. t < o.ret)) d.drawn e.above in
       record {
@@ -42,13 +45,18 @@ module _ (may : Question → Answer → Type 0) where
           operations = o ∷ [];
           planned = ap (λ x. x ∷ []) q.3;
           numbered = ap (λ x. x ∷ []) q.2;
-          all_asked = All-push (IsAsked may w.thread w.pass.key) [] o (λ i x h. absurd (omega (arith, h))) (record { of_thread = q.0; of_key = q.1; of_kind = of_kind; allowed = allowed });
+          all_asked = All-push (IsAsked may w.thread w.pass.key) [] o (λ i x h. absurd (omega (arith, h)))
+              (record { of_thread = q.0; of_key = q.1; of_kind = of_kind; allowed = allowed });
           recorded = refl;
         };
         sent = s.3;
         drawn = drawn;
-        rising = rising-join (o.question.call ∷ []) (o.ret ∷ []) (one_rises o.question.call) (one_rises o.ret) (All-cons (λ t. All (λ u. u < t) (o.question.call ∷ [])) o.ret [] (All-right (λ t. t < o.ret) w.pass.drawn (o.question.call ∷ []) later) (λ k x h. absurd (omega (arith, h))));
-        above = All-cons (λ t. All (λ u. u < t) w.pass.drawn) o.question.call (o.ret ∷ []) d.above (All-cons (λ t. All (λ u. u < t) w.pass.drawn) o.ret [] (All-left (λ t. t < o.ret) w.pass.drawn (o.question.call ∷ []) later) (λ k x h. absurd (omega (arith, h))));
+        rising = rising-join (o.question.call ∷ []) (o.ret ∷ []) (one_rises o.question.call) (one_rises o.ret)
+            (All-cons (λ t. All (λ u. u < t) (o.question.call ∷ [])) o.ret [] (All-right (λ t. t < o.ret) w.pass.drawn (o.question.call ∷ []) later)
+            (λ k x h. absurd (omega (arith, h))));
+        above = All-cons (λ t. All (λ u. u < t) w.pass.drawn) o.question.call (o.ret ∷ []) d.above
+            (All-cons (λ t. All (λ u. u < t) w.pass.drawn) o.ret [] (All-left (λ t. t < o.ret) w.pass.drawn (o.question.call ∷ []) later)
+            (λ k x h. absurd (omega (arith, h))));
       }
 
 -- an answer is of a kind where its return answers a call of that kind
@@ -76,7 +84,8 @@ draws_from p p' u u' t t' d a b e =
 
 pub stalls_after : (k : Kind) (w u : WorkerView) (q : Question) (ret : ℕ) (p : PassView)
     → (q.thread ≡ w.thread) × (q.number ≡ w.asked) × (q.kind ≡ k)
-    → (u.thread ≡ w.thread) × (u.ring ≡ w.ring) × (u.sent ≡ w.sent ++ call_event q ∷ []) × (u.stopped ≡ true) × (u.asked ≡ w.asked + 1) × (u.capacity ≡ w.capacity) × (u.tries ≡ w.tries)
+    → (u.thread ≡ w.thread) × (u.ring ≡ w.ring) × (u.sent ≡ w.sent ++ call_event q ∷ []) × (u.stopped ≡ true) × (u.asked ≡ w.asked + 1)
+        × (u.capacity ≡ w.capacity) × (u.tries ≡ w.tries)
     → u.capacity ≤ length u.sent
     → w.stopped ≡ false
     → DrawsOne w.pass q.call p

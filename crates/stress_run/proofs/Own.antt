@@ -20,10 +20,12 @@ module _ (tokens : List TokenView) (own : threads_of_tokens tokens ≡ numbers_b
       let all = length-range_with_len 0 (length tokens) in
       let inside : place < length tokens = omega (arith, front, long, all) in
       let left = get_or-range_with_len 0 (length tokens) place 0 inside in
-      let right = ap (λ (i : ℕ). get_or (numbers_below place ++ f.other ∷ f.rest) i 0) (sym front) ∙ get_or-append_seam (numbers_below place) f.other f.rest 0 in
+      let right = ap (λ (i : ℕ). get_or (numbers_below place ++ f.other ∷ f.rest) i 0) (sym front)
+          ∙ get_or-append_seam (numbers_below place) f.other f.rest 0 in
       let here = ap (λ l. get_or l place 0) same in
       f.foreign (omega (arith, left, right, here))
 
-  pub memory_alone : (error : CollectError) (fault : RunFault) → ((thread : ℕ) → error ≡ OfToken thread → IsFirstForeign tokens thread) → IsFaultOf error fault → fault ≡ Memory
+  pub memory_alone : (error : CollectError) (fault : RunFault) → ((thread : ℕ) → error ≡ OfToken thread → IsFirstForeign tokens thread)
+      → IsFaultOf error fault → fault ≡ Memory
   memory_alone OfMemory fault foreign is = is
   memory_alone (OfToken t) fault foreign is = absurd (none_foreign t (foreign t refl))

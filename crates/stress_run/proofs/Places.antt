@@ -9,7 +9,8 @@ use Rattle.tickets.specs.Views.{numbers_below}
 abbrev pub IsAt : {X : Type 0} → List X → ℕ → X → Type 0
 IsAt {X} xs i x = (d : X) → get_or xs i d ≡ x
 
-pub zip_at : {X Y : Type 0} (R : X → Y → Type 0) (xs : List X) (ys : List Y) (i : ℕ) → AllZip R xs ys → i < length xs → (x : X) × (y : Y) × IsAt xs i x × IsAt ys i y × R x y
+pub zip_at : {X Y : Type 0} (R : X → Y → Type 0) (xs : List X) (ys : List Y) (i : ℕ) → AllZip R xs ys → i < length xs
+    → (x : X) × (y : Y) × IsAt xs i x × IsAt ys i y × R x y
 zip_at R [] ys i z h = absurd (omega (arith, h))
 zip_at R (x ∷ xs) [] i z h = absurd z
 zip_at R (x ∷ xs) (y ∷ ys) zero z h = (x, y, (λ d. refl), (λ d. refl), z.0)
@@ -18,11 +19,13 @@ zip_at R (x ∷ xs) (y ∷ ys) (suc i) z h = zip_at R xs ys i z.1 (omega (arith,
 pub map_at : {X Y : Type 0} (f : X → Y) (xs : List X) (i : ℕ) (x : X) (m : Y) → i < length xs → IsAt xs i x → get_or (map f xs) i m ≡ f x
 map_at f xs i x m h at = get_or-map f xs i x m h ∙ ap f (at x)
 
-pub zip_of : {X Y : Type 0} (R : X → Y → Type 0) (xs : List X) (ys : List Y) → length ys ≡ length xs → ((i : ℕ) (x : X) (y : Y) → i < length xs → IsAt xs i x → IsAt ys i y → R x y) → AllZip R xs ys
+pub zip_of : {X Y : Type 0} (R : X → Y → Type 0) (xs : List X) (ys : List Y) → length ys ≡ length xs
+    → ((i : ℕ) (x : X) (y : Y) → i < length xs → IsAt xs i x → IsAt ys i y → R x y) → AllZip R xs ys
 zip_of R [] [] e k = tt
 zip_of R [] (y ∷ ys) e k = absurd (omega (arith, e))
 zip_of R (x ∷ xs) [] e k = absurd (omega (arith, e))
-zip_of R (x ∷ xs) (y ∷ ys) e k = (k 0 x y (omega arith) (λ d. refl) (λ d. refl), zip_of R xs ys (omega (arith, e)) (λ i a b h p q. k (suc i) a b (omega (arith, h)) p q))
+zip_of R (x ∷ xs) (y ∷ ys) e k = (k 0 x y (omega arith) (λ d. refl) (λ d. refl), zip_of R xs ys (omega (arith, e))
+    (λ i a b h p q. k (suc i) a b (omega (arith, h)) p q))
 
 pub zip_push : {X Y : Type 0} (R : X → Y → Type 0) (xs : List X) (ys : List Y) (x : X) (y : Y) → AllZip R xs ys → R x y → AllZip R (xs ++ x ∷ []) (ys ++ y ∷ [])
 zip_push R [] [] x y z r = (r, tt)

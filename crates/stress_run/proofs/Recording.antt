@@ -1,5 +1,6 @@
 -- The lists of a run are recorded lists, which replay.
-use Rattle.std.proofs.Common.{◌≡◌, ℕ, zero, suc, ◌+◌, ◌*◌, ◌<◌, ◌≤◌, List, [], ◌∷◌, length, map, All, flat_map, get_or, IsPermutation, Some, refl, ap, sym, subst, ◌∙◌, arith}
+use Rattle.std.proofs.Common.{◌≡◌, ℕ, zero, suc, ◌+◌, ◌*◌, ◌<◌, ◌≤◌, List, [], ◌∷◌, length, map, All, flat_map, get_or, IsPermutation, Some, refl, ap}
+use Rattle.std.proofs.Common.{sym, subst, ◌∙◌, arith}
 use Rattle.std.specs.Prelude.{slice_get, IsTrue}
 use Rattle.std.specs.List.{range_with_len}
 use Rattle.std.specs.List.Sorted.{IsStrictlyIncreasing}
@@ -99,7 +100,8 @@ module _ (may : Question → Answer → Type 0) (t : ℕ) (key : TableId) where
       let number : first + 1 + n ≡ first + suc n = omega arith in
       named os (first + 1) n value call (All-tail Asked o os h) (tail_same _ _ _ _ e) later what ∙ ap (value_name t) number
 
-  pub is_list : (kinds : List Kind) (events : List Event) → length kinds ≤ MAX_THREAD_OPERATIONS → Operates may t key 0 kinds events → IsStrictlyIncreasing (tickets_of events) → IsListOf t events
+  pub is_list : (kinds : List Kind) (events : List Event) → length kinds ≤ MAX_THREAD_OPERATIONS → Operates may t key 0 kinds events
+      → IsStrictlyIncreasing (tickets_of events) → IsListOf t events
   is_list kinds events short o rising =
       let os = o.operations in
       let same = o.recorded in
@@ -110,11 +112,13 @@ module _ (may : Question → Answer → Type 0) (t : ℕ) (key : TableId) where
         alternates = record { takes_turns = subst TakesTurns (sym same) (turns os o.all_asked); tickets_rise = rise events rising };
         names = λ n value call at what.
             let number : 0 + n ≡ n = omega arith in
-            named os 0 n value call o.all_asked (o.numbered ∙ ap (range_with_len 0) (sym long)) (subst (λ (es : List Event). slice_get es (2 * n) ≡ Some call) same at) what ∙ ap (value_name t) number;
+            named os 0 n value call o.all_asked (o.numbered ∙ ap (range_with_len 0) (sym long))
+                (subst (λ (es : List Event). slice_get es (2 * n) ≡ Some call) same at) what ∙ ap (value_name t) number;
         not_too_long = omega (arith, size, long, short);
       }
 
-pub are_recorded : (may : Question → Answer → Type 0) (rows : List (List Kind)) (lists : List (List Event)) (total : ℕ) → IsPlan rows → IsRun may rows lists total → AreRecorded lists
+pub are_recorded : (may : Question → Answer → Type 0) (rows : List (List Kind)) (lists : List (List Event)) (total : ℕ) → IsPlan rows
+    → IsRun may rows lists total → AreRecorded lists
 are_recorded may rows lists total plan run =
     let one_each = run.one_each in
     let some = plan.some in
@@ -132,7 +136,8 @@ are_recorded may rows lists total plan run =
       each = λ t events at.
           let inside = slice_get_within lists t events at in
           let row : t < length rows = omega (arith, inside, one_each) in
-          subst (IsListOf t) (get_or_from_slice_get lists t events [] at) (is_list may t run.word (get_or rows t []) (get_or lists t []) (plan.short t [] row) (run.operates t row) (run.rising t row));
+          subst (IsListOf t) (get_or_from_slice_get lists t events [] at)
+              (is_list may t run.word (get_or rows t []) (get_or lists t []) (plan.short t [] row) (run.operates t row) (run.rising t row));
       tickets = subst (λ (n : ℕ). IsPermutation (tickets_of all) (range_with_len 0 n)) sum run.tickets;
       not_too_long = omega (arith, sum, two, small);
     }

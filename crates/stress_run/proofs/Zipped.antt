@@ -3,7 +3,8 @@ use Rattle.std.proofs.Common.{◌≡◌, ℕ, suc, ◌<◌, List, [], ◌∷◌,
 use Rattle.std.specs.List.{AllZip}
 
 module _ {X Y : Type 0} (R : X → Y → Type 0) where
-  pub zip_each : (xs : List X) (ys : List Y) → length ys ≡ length xs → ((i : ℕ) → i < length xs → (x : X) (y : Y) → R (get_or xs i x) (get_or ys i y)) → AllZip R xs ys
+  pub zip_each : (xs : List X) (ys : List Y) → length ys ≡ length xs → ((i : ℕ) → i < length xs → (x : X) (y : Y) → R (get_or xs i x) (get_or ys i y))
+      → AllZip R xs ys
   zip_each [] [] e k = tt
   zip_each [] (y ∷ ys) e k = absurd (omega (arith, e))
   zip_each (x ∷ xs) [] e k = absurd (omega (arith, e))

@@ -23,7 +23,8 @@ drawn_within (v ∷ vs) zero g t e =
     subst (λ (h : Holding). times t h.drawn ≤ times t (v.drawn ++ flat_map drawn_of vs)) is (omega arith)
 drawn_within (v ∷ vs) (suc i) g t e = let rest = drawn_within vs i g t e in let split = times-append t v.drawn (flat_map drawn_of vs) in omega arith
 
-both_within : (views : List Holding) (i j : ℕ) (g h : Holding) (t : ℕ) → i < j → slice_get views i ≡ Some g → slice_get views j ≡ Some h → times t g.drawn + times t h.drawn ≤ times t (flat_map drawn_of views)
+both_within : (views : List Holding) (i j : ℕ) (g h : Holding) (t : ℕ) → i < j → slice_get views i ≡ Some g → slice_get views j ≡ Some h
+    → times t g.drawn + times t h.drawn ≤ times t (flat_map drawn_of views)
 both_within [] i j g h t l e f = absurd (cc)
 both_within (v ∷ vs) i zero g h t l e f = absurd (omega arith)
 both_within (v ∷ vs) zero (suc j) g h t l e f =
@@ -31,7 +32,8 @@ both_within (v ∷ vs) zero (suc j) g h t l e f =
     let rest = drawn_within vs j h t f in
     let is : v ≡ g = cc in
     subst (λ (k : Holding). times t k.drawn + times t h.drawn ≤ times t (v.drawn ++ flat_map drawn_of vs)) is (omega arith)
-both_within (v ∷ vs) (suc i) (suc j) g h t l e f = let rest = both_within vs i j g h t (omega arith) e f in let split = times-append t v.drawn (flat_map drawn_of vs) in omega arith
+both_within (v ∷ vs) (suc i) (suc j) g h t l e f = let rest = both_within vs i j g h t (omega arith) e f in let split =
+    times-append t v.drawn (flat_map drawn_of vs) in omega arith
 
 all_right : (P : ℕ → Type 0) (xs ys : List ℕ) → All P (xs ++ ys) → All P ys
 all_right P [] ys all = all
@@ -39,7 +41,8 @@ all_right P (x ∷ xs) ys all = all_right P xs ys (All-tail P x (xs ++ ys) all)
 
 each_below : (next : ℕ) (views : List Holding) → All (λ t. t < next) (flat_map drawn_of views) → All (λ h. All (λ t. t < next) h.drawn) views
 each_below next [] all = All-nil (λ (h : Holding). All (λ t. t < next) h.drawn)
-each_below next (v ∷ vs) all = All-cons (λ (h : Holding). All (λ t. t < next) h.drawn) v vs (all_left (λ t. t < next) v.drawn (flat_map drawn_of vs) all) (each_below next vs (all_right (λ t. t < next) v.drawn (flat_map drawn_of vs) all))
+each_below next (v ∷ vs) all = All-cons (λ (h : Holding). All (λ t. t < next) h.drawn) v vs
+    (all_left (λ t. t < next) v.drawn (flat_map drawn_of vs) all) (each_below next vs (all_right (λ t. t < next) v.drawn (flat_map drawn_of vs) all))
 
 pub drawn_once : (budget next : ℕ) (passes : List Holding) → IsAccount budget next passes → DrawnOnce next passes
 drawn_once budget next passes a = record {
@@ -49,6 +52,7 @@ drawn_once budget next passes a = record {
       let one = at_least_once g.drawn t here in
       let other = at_least_once h.drawn t there in
       absurd (omega (arith, (times-range t 0 next).0)));
-  below = each_below next passes (All-permutation (λ t. t < next) (numbers_below next) (flat_map drawn_of passes) (IsPermutation-sym (flat_map drawn_of passes) (numbers_below next) a.complete) (below_all next));
+  below = each_below next passes (All-permutation (λ t. t < next) (numbers_below next) (flat_map drawn_of passes)
+      (IsPermutation-sym (flat_map drawn_of passes) (numbers_below next) a.complete) (below_all next));
   count = total budget next passes a;
 }

@@ -1,5 +1,6 @@
 -- Each step keeps the account.
-use Rattle.std.proofs.Common.{◌≡◌, ◌≢◌, ℕ, zero, suc, ◌+◌, ◌-◌, ◌%◌, ◌^◌, ◌<◌, ◌≤◌, List, [], ◌∷◌, ◌++◌, length, get_or, set, All, sum_by, flat_map, IsPermutation, refl, sym, ap, ◌∙◌, subst, arith, length-append, length-set, get_or-set_same, append_assoc}
+use Rattle.std.proofs.Common.{◌≡◌, ◌≢◌, ℕ, zero, suc, ◌+◌, ◌-◌, ◌%◌, ◌^◌, ◌<◌, ◌≤◌, List, [], ◌∷◌, ◌++◌, length, get_or, set, All, sum_by, flat_map}
+use Rattle.std.proofs.Common.{IsPermutation, refl, sym, ap, ◌∙◌, subst, arith, length-append, length-set, get_or-set_same, append_assoc}
 use mathlib.Core.Option.{some, some-injective, some-ne-none}
 use lib.ListN.{get_elem?}
 use Rattle.std.specs.List.Sorted.{IsStrictlyIncreasing}
@@ -8,13 +9,16 @@ use Rattle.std.proofs.lemmas.List.Concat.{flat_map-append, length-flat_map}
 use Rattle.std.proofs.lemmas.List.Elements.{All-nil, All-cons, All-head, All-tail, All-get_or, All-set, All-push}
 use Rattle.std.proofs.lemmas.List.FromFn.{length-range_with_len}
 use Rattle.std.proofs.lemmas.List.Sums.{sum_by-cons, sum_by_push, sum_by-set, get_or-le-sum_by}
-use Rattle.std.proofs.lemmas.List.Sorted.{IsPermutation-refl, IsPermutation-sym, IsPermutation-trans, IsPermutation-append_left, IsPermutation-append_right, IsPermutation-append_comm, IsPermutation-middle, IsPermutation-to_front, IsPermutation-cons, length_permutation, All-permutation}
+use Rattle.std.proofs.lemmas.List.Sorted.{IsPermutation-refl, IsPermutation-sym, IsPermutation-trans, IsPermutation-append_left}
+use Rattle.std.proofs.lemmas.List.Sorted.{IsPermutation-append_right, IsPermutation-append_comm, IsPermutation-middle, IsPermutation-to_front}
+use Rattle.std.proofs.lemmas.List.Sorted.{IsPermutation-cons, length_permutation, All-permutation}
 use Rattle.atomic_table.specs.Table.{Me, keeps, stepped, Allows, Splits, Joins, Seen, Final}
 use Rattle.atomic_table.proofs.Lists.{set_again, set_else}
 use Rattle.tickets.specs.declared.account.Holding.{Holding}
 use Rattle.tickets.specs.Account.{holding, whole_of, IsAccount, KeepsAccount, DrawsNext, LooksAtShare, merged, put_together}
 use Rattle.tickets.specs.Views.{numbers_below}
-use Rattle.tickets.proofs.Rising.{times, times-append, times-permutation, times-range, range-push, range-below, rises, increasing, RisesFrom-push, all_below, IsPermutation-merged, RisesFrom-merged}
+use Rattle.tickets.proofs.Rising.{times, times-append, times-permutation, times-range, range-push, range-below, rises, increasing, RisesFrom-push}
+use Rattle.tickets.proofs.Rising.{all_below, IsPermutation-merged, RisesFrom-merged}
 
 abbrev pub drawn_of : Holding → List ℕ
 drawn_of h = h.drawn
@@ -42,7 +46,8 @@ record OneApart (views : List Holding) (i : ℕ) (v : Holding) : Type 0 where
 
 -- more numbers before a list with a part in front
 behind : (xs all ys zs : List ℕ) → IsPermutation all (ys ++ zs) → IsPermutation (xs ++ all) (ys ++ (xs ++ zs))
-behind xs all ys zs p = IsPermutation-trans (xs ++ all) (xs ++ (ys ++ zs)) (ys ++ (xs ++ zs)) (IsPermutation-append_right xs all (ys ++ zs) p) (to_front xs ys zs)
+behind xs all ys zs p = IsPermutation-trans (xs ++ all) (xs ++ (ys ++ zs)) (ys ++ (xs ++ zs)) (IsPermutation-append_right xs all (ys ++ zs) p)
+    (to_front xs ys zs)
 
 behind_two : (xs all ys zs rest : List ℕ) → IsPermutation all (ys ++ (zs ++ rest)) → IsPermutation (xs ++ all) (ys ++ (zs ++ (xs ++ rest)))
 behind_two xs all ys zs rest p = IsPermutation-trans (xs ++ all) (ys ++ (xs ++ (zs ++ rest))) (ys ++ (zs ++ (xs ++ rest))) (behind xs all ys (zs ++ rest) p)
@@ -52,7 +57,8 @@ one_apart : (views : List Holding) (i : ℕ) (v : Holding) → get_elem? views i
 one_apart [] i v e = absurd (some-ne-none v (sym e))
 one_apart (x ∷ xs) zero v e = record {
   others = flat_map drawn_of xs;
-  before = subst (λ (h : Holding). IsPermutation (x.drawn ++ flat_map drawn_of xs) (h.drawn ++ flat_map drawn_of xs)) (some-injective x v e) (IsPermutation-refl (x.drawn ++ flat_map drawn_of xs));
+  before = subst (λ (h : Holding). IsPermutation (x.drawn ++ flat_map drawn_of xs) (h.drawn ++ flat_map drawn_of xs)) (some-injective x v e)
+      (IsPermutation-refl (x.drawn ++ flat_map drawn_of xs));
   after = λ w. IsPermutation-refl (w.drawn ++ flat_map drawn_of xs);
 }
 one_apart (x ∷ xs) (suc i) v e = let r = one_apart xs i v e in record {
@@ -72,12 +78,14 @@ two_apart [] i j v w e f apart = absurd (some-ne-none v (sym e))
 two_apart (x ∷ xs) zero zero v w e f apart = absurd (apart refl)
 two_apart (x ∷ xs) zero (suc j) v w e f apart = let r = one_apart xs j w f in record {
   others = r.others;
-  before = subst (λ (h : Holding). IsPermutation (x.drawn ++ flat_map drawn_of xs) (h.drawn ++ (w.drawn ++ r.others))) (some-injective x v e) (IsPermutation-append_right x.drawn (flat_map drawn_of xs) (w.drawn ++ r.others) r.before);
+  before = subst (λ (h : Holding). IsPermutation (x.drawn ++ flat_map drawn_of xs) (h.drawn ++ (w.drawn ++ r.others))) (some-injective x v e)
+      (IsPermutation-append_right x.drawn (flat_map drawn_of xs) (w.drawn ++ r.others) r.before);
   after = λ m s. IsPermutation-append_right m.drawn (flat_map drawn_of (set xs j s)) (s.drawn ++ r.others) (r.after s);
 }
 two_apart (x ∷ xs) (suc i) zero v w e f apart = let r = one_apart xs i v e in record {
   others = r.others;
-  before = subst (λ (h : Holding). IsPermutation (x.drawn ++ flat_map drawn_of xs) (v.drawn ++ (h.drawn ++ r.others))) (some-injective x w f) (behind x.drawn (flat_map drawn_of xs) v.drawn r.others r.before);
+  before = subst (λ (h : Holding). IsPermutation (x.drawn ++ flat_map drawn_of xs) (v.drawn ++ (h.drawn ++ r.others))) (some-injective x w f)
+      (behind x.drawn (flat_map drawn_of xs) v.drawn r.others r.before);
   after = λ m s. behind s.drawn (flat_map drawn_of (set xs i m)) m.drawn r.others (r.after m);
 }
 two_apart (x ∷ xs) (suc i) (suc j) v w e f apart = let r = two_apart xs i j v w e f (λ q. apart (ap suc q)) in record {
@@ -88,7 +96,8 @@ two_apart (x ∷ xs) (suc i) (suc j) v w e f apart = let r = two_apart xs i j v 
 
 -- ---- shares and counts
 
-shares-set : (views : List Holding) (i : ℕ) (v w : Holding) → get_elem? views i ≡ some v → sum_by whole_of (set views i w) + whole_of v ≡ sum_by whole_of views + whole_of w
+shares-set : (views : List Holding) (i : ℕ) (v w : Holding) → get_elem? views i ≡ some v
+    → sum_by whole_of (set views i w) + whole_of v ≡ sum_by whole_of views + whole_of w
 shares-set views i v w at = let p = place_in views i v at in
     subst (λ (h : Holding). sum_by whole_of (set views i w) + whole_of h ≡ sum_by whole_of views + whole_of w) (p.1 v) (sum_by-set whole_of views i w v p.0)
 
@@ -96,7 +105,8 @@ share_within : (views : List Holding) (i : ℕ) (v : Holding) → get_elem? view
 share_within views i v at = let p = place_in views i v at in
     subst (λ (h : Holding). whole_of h ≤ sum_by whole_of views) (p.1 v) (get_or-le-sum_by whole_of views i v p.0)
 
-counts-set : (views : List Holding) (i : ℕ) (v w : Holding) → get_elem? views i ≡ some v → sum_by count_of (set views i w) + count_of v ≡ sum_by count_of views + count_of w
+counts-set : (views : List Holding) (i : ℕ) (v w : Holding) → get_elem? views i ≡ some v
+    → sum_by count_of (set views i w) + count_of v ≡ sum_by count_of views + count_of w
 counts-set views i v w at = let p = place_in views i v at in
     subst (λ (h : Holding). sum_by count_of (set views i w) + count_of h ≡ sum_by count_of views + count_of w) (p.1 v) (sum_by-set count_of views i w v p.0)
 
@@ -104,8 +114,10 @@ counts_within : (views : List Holding) → sum_by count_of views ≤ sum_by whol
 counts_within [] = omega arith
 counts_within (x ∷ xs) = let rest = counts_within xs in let counts = sum_by-cons count_of x xs in let shares = sum_by-cons whole_of x xs in omega arith
 
-rising_at : (views : List Holding) (i : ℕ) (v : Holding) → get_elem? views i ≡ some v → All (λ h. IsStrictlyIncreasing h.drawn) views → IsStrictlyIncreasing v.drawn
-rising_at views i v at all = let p = place_in views i v at in subst (λ (h : Holding). IsStrictlyIncreasing h.drawn) (p.1 v) (All-get_or (λ (h : Holding). IsStrictlyIncreasing h.drawn) views i v p.0 all)
+rising_at : (views : List Holding) (i : ℕ) (v : Holding) → get_elem? views i ≡ some v → All (λ h. IsStrictlyIncreasing h.drawn) views
+    → IsStrictlyIncreasing v.drawn
+rising_at views i v at all = let p = place_in views i v at in
+    subst (λ (h : Holding). IsStrictlyIncreasing h.drawn) (p.1 v) (All-get_or (λ (h : Holding). IsStrictlyIncreasing h.drawn) views i v p.0 all)
 
 none_rise : IsStrictlyIncreasing []
 none_rise k l = absurd (omega arith)
@@ -125,7 +137,8 @@ below_all n = subst (λ (m : ℕ). All (λ t. t < m) (numbers_below n)) (omega a
 
 module _ (budget : ℕ) where
   pub total : (next : ℕ) (views : List Holding) → IsAccount budget next views → sum_by count_of views ≡ next
-  total next views a = sym (length-flat_map drawn_of views) ∙ sym (length_permutation (flat_map drawn_of views) (numbers_below next) a.complete) ∙ length-range_with_len 0 next
+  total next views a = sym (length-flat_map drawn_of views) ∙ sym (length_permutation (flat_map drawn_of views) (numbers_below next) a.complete)
+      ∙ length-range_with_len 0 next
 
   -- a pass that may still draw keeps the next number below the budget
   room : (next : ℕ) (views : List Holding) (i : ℕ) (v : Holding) → IsAccount budget next views → get_elem? views i ≡ some v → 0 < v.left → next < budget
@@ -139,10 +152,12 @@ module _ (budget : ℕ) where
       omega arith
 
   -- the table after the word became x
-  kept : (words : List ℕ) (x : ℕ) (views : List Holding) → length words ≡ 1 → IsAccount budget x views → (length (set words 0 x) ≡ 1) × IsAccount budget (get_or (set words 0 x) 0 0) views
+  kept : (words : List ℕ) (x : ℕ) (views : List Holding) → length words ≡ 1 → IsAccount budget x views
+      → (length (set words 0 x) ≡ 1) × IsAccount budget (get_or (set words 0 x) 0 0) views
   kept words x views wide a = (length-set words 0 x ∙ wide, subst (λ (z : ℕ). IsAccount budget z views) (sym (get_or-set_same words 0 x 0 (omega arith))) a)
 
-  account_drawn : (n : ℕ) (views : List Holding) (i : ℕ) (v : Holding) → IsAccount budget n views → get_elem? views i ≡ some v → 0 < v.left → All (λ t. t < n) v.drawn
+  account_drawn : (n : ℕ) (views : List Holding) (i : ℕ) (v : Holding) → IsAccount budget n views → get_elem? views i ≡ some v → 0 < v.left
+      → All (λ t. t < n) v.drawn
       → IsAccount budget (suc n) (set views i (holding (v.left - 1) (v.drawn ++ n ∷ [])))
   account_drawn n views i v a at some_left below =
       let w = holding (v.left - 1) (v.drawn ++ n ∷ []) in
@@ -152,19 +167,24 @@ module _ (budget : ℕ) where
       let is = a.shared_out in
       let all = flat_map drawn_of views in
       let moved = subst (IsPermutation (flat_map drawn_of (set views i w))) (append_assoc v.drawn (n ∷ []) apart.others) (apart.after w) in
-      let first = IsPermutation-trans (flat_map drawn_of (set views i w)) (v.drawn ++ n ∷ apart.others) (n ∷ (v.drawn ++ apart.others)) moved (IsPermutation-middle v.drawn n apart.others) in
+      let first = IsPermutation-trans (flat_map drawn_of (set views i w)) (v.drawn ++ n ∷ apart.others) (n ∷ (v.drawn ++ apart.others)) moved
+          (IsPermutation-middle v.drawn n apart.others) in
       let old = IsPermutation-trans (v.drawn ++ apart.others) all (numbers_below n) (IsPermutation-sym all (v.drawn ++ apart.others) apart.before) a.complete in
-      let second = IsPermutation-trans (flat_map drawn_of (set views i w)) (n ∷ (v.drawn ++ apart.others)) (n ∷ numbers_below n) first (IsPermutation-cons n (v.drawn ++ apart.others) (numbers_below n) old) in
-      let third = IsPermutation-trans (flat_map drawn_of (set views i w)) (n ∷ numbers_below n) (numbers_below n ++ n ∷ []) second (IsPermutation-sym (numbers_below n ++ n ∷ []) (n ∷ numbers_below n) (IsPermutation-to_front (numbers_below n) n)) in
+      let second = IsPermutation-trans (flat_map drawn_of (set views i w)) (n ∷ (v.drawn ++ apart.others)) (n ∷ numbers_below n) first
+          (IsPermutation-cons n (v.drawn ++ apart.others) (numbers_below n) old) in
+      let third = IsPermutation-trans (flat_map drawn_of (set views i w)) (n ∷ numbers_below n) (numbers_below n ++ n ∷ []) second
+          (IsPermutation-sym (numbers_below n ++ n ∷ []) (n ∷ numbers_below n) (IsPermutation-to_front (numbers_below n) n)) in
       let pushed : numbers_below n ++ n ∷ [] ≡ numbers_below (suc n) = sym (range-push 0 n ∙ ap (λ (k : ℕ). numbers_below n ++ k ∷ []) (omega arith)) in
       record {
         limited = a.limited;
         shared_out = omega arith;
-        rising = All-set (λ (h : Holding). IsStrictlyIncreasing h.drawn) views i w (increasing 0 (v.drawn ++ n ∷ []) (RisesFrom-push 0 n v.drawn (rises v.drawn (rising_at views i v at a.rising)) below (omega arith))) a.rising;
+        rising = All-set (λ (h : Holding). IsStrictlyIncreasing h.drawn) views i w
+            (increasing 0 (v.drawn ++ n ∷ []) (RisesFrom-push 0 n v.drawn (rises v.drawn (rising_at views i v at a.rising)) below (omega arith))) a.rising;
         complete = subst (IsPermutation (flat_map drawn_of (set views i w))) pushed third;
       }
 
-  pub draws : (slots id : ℕ) (me : Me (Unit {0}) Holding) → 0 < me.0.left → Allows (KeepsAccount budget) slots id me 0 (λ n. (n + 1) % 2 ^ 64) (λ found after. DrawsNext me.0 found after.0 × (after.1 ≡ me.1))
+  pub draws : (slots id : ℕ) (me : Me (Unit {0}) Holding) → 0 < me.0.left
+      → Allows (KeepsAccount budget) slots id me 0 (λ n. (n + 1) % 2 ^ 64) (λ found after. DrawsNext me.0 found after.0 × (after.1 ≡ me.1))
   draws slots id me some_left s r _ at small =
       let v = me.0 in
       let n : ℕ = get_or s.words 0 0 in
@@ -177,7 +197,8 @@ module _ (budget : ℕ) where
       let below = all_left (λ t. t < n) v.drawn apart.others (All-permutation (λ t. t < n) (numbers_below n) (v.drawn ++ apart.others) same (below_all n)) in
       let next : suc n ≡ (n + 1) % 18446744073709551616 = omega arith in
       let w = holding (v.left - 1) (v.drawn ++ n ∷ []) in
-      (w, keeps, tt, subst (λ (z : ℕ). KeepsAccount budget (stepped s 0 z id me.1 w keeps)) next (kept s.words (suc n) (set s.views id w) r.0 (account_drawn n s.views id v a at some_left below)), ((omega arith, refl, below, omega arith), refl))
+      (w, keeps, tt, subst (λ (z : ℕ). KeepsAccount budget (stepped s 0 z id me.1 w keeps)) next
+          (kept s.words (suc n) (set s.views id w) r.0 (account_drawn n s.views id v a at some_left below)), ((omega arith, refl, below, omega arith), refl))
 
   pub splits : (id : ℕ) (v : Holding) (n : ℕ) → n ≤ v.left → Splits (KeepsAccount budget) id v (holding (v.left - n) v.drawn) (holding n [])
   splits id v n fits s r at =
@@ -189,14 +210,17 @@ module _ (budget : ℕ) where
       let pushed = sum_by_push whole_of (set s.views id w) new in
       let is = a.shared_out in
       let all = flat_map drawn_of s.views in
-      let same = IsPermutation-trans (flat_map drawn_of (set s.views id w)) (v.drawn ++ apart.others) all (apart.after w) (IsPermutation-sym all (v.drawn ++ apart.others) apart.before) in
+      let same = IsPermutation-trans (flat_map drawn_of (set s.views id w)) (v.drawn ++ apart.others) all (apart.after w)
+          (IsPermutation-sym all (v.drawn ++ apart.others) apart.before) in
       let done = IsPermutation-trans (flat_map drawn_of (set s.views id w)) all (numbers_below (get_or s.words 0 0)) same a.complete in
-      let longer : flat_map drawn_of (set s.views id w) ≡ flat_map drawn_of (set s.views id w ++ new ∷ []) = sym (flat_map-append drawn_of (set s.views id w) (new ∷ []) ∙ append-nil (flat_map drawn_of (set s.views id w))) in (
+      let longer : flat_map drawn_of (set s.views id w) ≡ flat_map drawn_of (set s.views id w ++ new ∷ []) =
+          sym (flat_map-append drawn_of (set s.views id w) (new ∷ []) ∙ append-nil (flat_map drawn_of (set s.views id w))) in (
         r.0,
         record {
           limited = a.limited;
           shared_out = omega arith;
-          rising = All-push (λ (h : Holding). IsStrictlyIncreasing h.drawn) (set s.views id w) new (All-set (λ (h : Holding). IsStrictlyIncreasing h.drawn) s.views id w (rising_at s.views id v at a.rising) a.rising) none_rise;
+          rising = All-push (λ (h : Holding). IsStrictlyIncreasing h.drawn) (set s.views id w) new
+              (All-set (λ (h : Holding). IsStrictlyIncreasing h.drawn) s.views id w (rising_at s.views id v at a.rising) a.rising) none_rise;
           complete = subst (λ (l : List ℕ). IsPermutation l (numbers_below (get_or s.words 0 0))) longer done;
         },
       )
@@ -218,33 +242,41 @@ module _ (budget : ℕ) where
       let second = shares-set (set views id m) other w spent there in
       let is = a.shared_out in
       let once : (x : ℕ) → times x v.drawn + times x w.drawn ≤ 1 = λ x.
-      (let outer = times-append x v.drawn (w.drawn ++ two.others) in let inner = times-append x w.drawn two.others in let same = times-permutation x all (v.drawn ++ (w.drawn ++ two.others)) two.before in
+      (let outer = times-append x v.drawn (w.drawn ++ two.others) in let inner = times-append x w.drawn two.others in let same =
+          times-permutation x all (v.drawn ++ (w.drawn ++ two.others)) two.before in
       let known = times-permutation x all (numbers_below next) a.complete in omega (arith, (times-range x 0 next).0)) in
       let rise = increasing 0 (merged v.drawn w.drawn) (RisesFrom-merged v.drawn w.drawn (rises w.drawn (rising_at views other w here a.rising)) once) in
       let after = flat_map drawn_of (set (set views id m) other spent) in
       let to_parts = IsPermutation-trans after (merged v.drawn w.drawn ++ two.others) ((v.drawn ++ w.drawn) ++ two.others) (two.after m spent)
-      (IsPermutation-append_left two.others (merged v.drawn w.drawn) (v.drawn ++ w.drawn) (IsPermutation-sym (v.drawn ++ w.drawn) (merged v.drawn w.drawn) both)) in
-      let to_old = IsPermutation-trans after (v.drawn ++ (w.drawn ++ two.others)) all (subst (IsPermutation after) (append_assoc v.drawn w.drawn two.others) to_parts) (IsPermutation-sym all (v.drawn ++ (w.drawn ++ two.others)) two.before) in (
+      (IsPermutation-append_left two.others (merged v.drawn w.drawn) (v.drawn ++ w.drawn)
+          (IsPermutation-sym (v.drawn ++ w.drawn) (merged v.drawn w.drawn) both)) in
+      let to_old = IsPermutation-trans after (v.drawn ++ (w.drawn ++ two.others)) all
+          (subst (IsPermutation after) (append_assoc v.drawn w.drawn two.others) to_parts)
+          (IsPermutation-sym all (v.drawn ++ (w.drawn ++ two.others)) two.before) in (
         r.0,
         record {
           limited = a.limited;
           shared_out = omega arith;
-          rising = All-set (λ (h : Holding). IsStrictlyIncreasing h.drawn) (set views id m) other spent none_rise (All-set (λ (h : Holding). IsStrictlyIncreasing h.drawn) views id m rise a.rising);
+          rising = All-set (λ (h : Holding). IsStrictlyIncreasing h.drawn) (set views id m) other spent none_rise
+              (All-set (λ (h : Holding). IsStrictlyIncreasing h.drawn) views id m rise a.rising);
           complete = IsPermutation-trans after all (numbers_below next) to_old a.complete;
         },
       )
 
-  pub looks : (slots id : ℕ) (me : Me (Unit {0}) Holding) → Allows (KeepsAccount budget) slots id me 0 (λ n. n) (λ found after. LooksAtShare me.0 × (after ≡ me))
+  pub looks : (slots id : ℕ) (me : Me (Unit {0}) Holding) → Allows (KeepsAccount budget) slots id me 0 (λ n. n)
+      (λ found after. LooksAtShare me.0 × (after ≡ me))
   looks slots id me s r _ at _ =
       let a = r.1 in
       let n : ℕ = get_or s.words 0 0 in
       let within = share_within s.views id me.0 at in
       let limit = a.limited in
       let is = a.shared_out in
-      (me.0, keeps, tt, kept s.words n (set s.views id me.0) r.0 (subst (IsAccount budget n) (sym (set_again s.views id me.0 at)) a), ((omega arith, rising_at s.views id me.0 at a.rising), refl))
+      (me.0, keeps, tt, kept s.words n (set s.views id me.0) r.0 (subst (IsAccount budget n) (sym (set_again s.views id me.0 at)) a),
+          ((omega arith, rising_at s.views id me.0 at a.rising), refl))
 
   -- the pass that has the whole budget holds each number below the word once
-  pub closes : (id : ℕ) (v : Holding) (words : List ℕ) (slots : List (Unit {0})) (next : ℕ) → whole_of v ≡ budget → Final (Seen (KeepsAccount budget) id v) words slots → get_elem? words 0 ≡ some next → v.drawn ≡ numbers_below next
+  pub closes : (id : ℕ) (v : Holding) (words : List ℕ) (slots : List (Unit {0})) (next : ℕ) → whole_of v ≡ budget
+      → Final (Seen (KeepsAccount budget) id v) words slots → get_elem? words 0 ≡ some next → v.drawn ≡ numbers_below next
   closes id v words slots next whole f found =
       let s = f.0 in
       let a = f.1.0.1 in
@@ -258,8 +290,10 @@ module _ (budget : ℕ) where
       let counted = length-flat_map drawn_of (set s.views id none) in
       let long = length_permutation (flat_map drawn_of (set s.views id none)) apart.others (apart.after none) in
       let empty = nothing apart.others (omega arith) in
-      let alone = subst (λ (l : List ℕ). IsPermutation (flat_map drawn_of s.views) l) (ap (λ (l : List ℕ). v.drawn ++ l) empty ∙ append-nil v.drawn) apart.before in
-      let mine = IsPermutation-trans v.drawn (flat_map drawn_of s.views) (numbers_below (get_or s.words 0 0)) (IsPermutation-sym (flat_map drawn_of s.views) v.drawn alone) a.complete in
+      let alone = subst (λ (l : List ℕ). IsPermutation (flat_map drawn_of s.views) l)
+          (ap (λ (l : List ℕ). v.drawn ++ l) empty ∙ append-nil v.drawn) apart.before in
+      let mine = IsPermutation-trans v.drawn (flat_map drawn_of s.views) (numbers_below (get_or s.words 0 0))
+          (IsPermutation-sym (flat_map drawn_of s.views) v.drawn alone) a.complete in
       all_below (get_or s.words 0 0) v.drawn (rising_at s.views id v at a.rising) mine ∙ ap numbers_below last
     where
       word_at : (l : List ℕ) (n : ℕ) → get_elem? l 0 ≡ some n → get_or l 0 0 ≡ n

@@ -1,5 +1,6 @@
 -- The account of all passes together, which holds between any two steps.
-use Rattle.std.specs.Prelude.{◌≡◌, ℕ, ◌+◌, ◌<◌, ◌≤◌, List, [], ◌∷◌, ◌++◌, length, sum_by, flat_map, All, Contains, IsPermutation, slice_index, slice_get, Some, cond, nat_lt}
+use Rattle.std.specs.Prelude.{◌≡◌, ℕ, ◌+◌, ◌<◌, ◌≤◌, List, [], ◌∷◌, ◌++◌, length, sum_by, flat_map, All, Contains, IsPermutation, slice_index}
+use Rattle.std.specs.Prelude.{slice_get, Some, cond, nat_lt}
 use Rattle.std.specs.List.Sorted.{IsStrictlyIncreasing}
 use Rattle.atomic_table.specs.Table.{State}
 use Rattle.tickets.specs.declared.TheConstants.{TICKET_LIMIT}

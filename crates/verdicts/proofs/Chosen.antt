@@ -8,29 +8,34 @@ use Rattle.history_merge.specs.Complete.{AreComplete}
 use Rattle.history_merge.proofs.Distinct.{same_call, same_return, same_value_call, same_enqueue, CallsFor}
 use Rattle.value_match.specs.declared.life.Life.{Life}
 use Rattle.value_match.specs.Lives.{call_or_never, dequeue_call, enqueue_return, enqueue_of}
-use Rattle.value_match.specs.Violations.{Breach, fresh, repeat, order, witness, IsBreachOf, IsClear, NoFreshViolation, NoRepeatViolation, IsFreshViolation, IsNeverEnqueued, IsEnqueuedTooLate, IsOrderViolation}
-use Rattle.value_match.specs.Choice.{IsChosenBreach, IsChosenFresh, IsChosenRepeat, IsChosenOrderViolation, IsChosenWitness, IsChosenCoverFrom, IsNextOfCover, StaysAtLeast}
+use Rattle.value_match.specs.Violations.{Breach, fresh, repeat, order, witness, IsBreachOf, IsClear, NoFreshViolation, NoRepeatViolation}
+use Rattle.value_match.specs.Violations.{IsFreshViolation, IsNeverEnqueued, IsEnqueuedTooLate, IsOrderViolation}
+use Rattle.value_match.specs.Choice.{IsChosenBreach, IsChosenFresh, IsChosenRepeat, IsChosenOrderViolation, IsChosenWitness, IsChosenCoverFrom}
+use Rattle.value_match.specs.Choice.{IsNextOfCover, StaysAtLeast}
 use Rattle.value_match.proofs.Lives.{one_life_of_enqueue}
 use Rattle.empty_witness.proofs.Covers.{chosen_cover_violates}
 
 are_clear : (operations : List Operation) → AreComplete operations → NoFreshViolation operations → NoRepeatViolation operations → IsClear operations
 are_clear operations complete no_fresh no_repeat = record { complete = complete; no_fresh = no_fresh; no_repeat = no_repeat }
 
-pub chosen_is_breach : (operations : List Operation) (breach : Breach) → AreComplete operations → IsChosenBreach operations breach → IsBreachOf operations breach
+pub chosen_is_breach : (operations : List Operation) (breach : Breach) → AreComplete operations → IsChosenBreach operations breach
+    → IsBreachOf operations breach
 chosen_is_breach operations (fresh deq enq) complete chosen = chosen.violates
 chosen_is_breach operations (repeat enq first second) complete chosen = chosen.1.violates
 chosen_is_breach operations (order enq_a enq_b deq_b deq_a) complete chosen = chosen.2.violates
 chosen_is_breach operations (witness empty cover) complete chosen =
     chosen_cover_violates operations empty cover (are_clear operations complete chosen.0 chosen.1) chosen.3.answers_empty chosen.3.cover_is_chosen
 
-dequeued_value : (operations : List Operation) (deq : Operation) (enq : Option Operation) → IsFreshViolation operations deq enq → (v : ℕ) × Did operations deq (Deq v)
+dequeued_value : (operations : List Operation) (deq : Operation) (enq : Option Operation) → IsFreshViolation operations deq enq
+    → (v : ℕ) × Did operations deq (Deq v)
 dequeued_value operations deq None violation = (violation.value, violation.dequeues)
 dequeued_value operations deq (Some e) violation = (violation.value, violation.dequeues)
 
 one_kind : (o : Operation) (v w : ℕ) → o.kind ≡ Deq v → o.kind ≡ Deq w → v ≡ w
 one_kind o v w is_v is_w = let kinds : Deq v ≡ Deq w = sym is_v ∙ is_w in cc
 
-late_call : (operations : List Operation) (deq enq : Operation) (late : IsEnqueuedTooLate operations deq enq) → Contains operations enq × CallsFor enq late.value
+late_call : (operations : List Operation) (deq enq : Operation) (late : IsEnqueuedTooLate operations deq enq)
+    → Contains operations enq × CallsFor enq late.value
 late_call operations deq enq late = elim late.enqueues [ inl refused ↦ (refused.0, inr refused.1) | inr accepted ↦ (accepted.0.0, inl accepted.0.1) ]
 
 not_never : (operations : List Operation) (deq enq : Operation) → IsNeverEnqueued operations deq → IsEnqueuedTooLate operations deq enq → ⊥
@@ -41,7 +46,8 @@ not_never operations deq enq never late =
       | inr accepted ↦ never.not_accepted enq accepted.0.0 (accepted.0.1 ∙ ap (λ v. Enq v) values)
     ]
 
-one_enqueue : (operations : List Operation) (deq : Operation) (enq enq' : Option Operation) → AreComplete operations → IsFreshViolation operations deq enq → IsFreshViolation operations deq enq' → enq ≡ enq'
+one_enqueue : (operations : List Operation) (deq : Operation) (enq enq' : Option Operation) → AreComplete operations
+    → IsFreshViolation operations deq enq → IsFreshViolation operations deq enq' → enq ≡ enq'
 one_enqueue operations deq None None complete x y = refl
 one_enqueue operations deq None (Some e) complete x y = absurd (not_never operations deq e x y)
 one_enqueue operations deq (Some e) None complete x y = absurd (not_never operations deq e y x)
@@ -51,21 +57,25 @@ one_enqueue operations deq (Some e) (Some e') complete x y =
     let call' = late_call operations deq e' y in
     ap (λ o. Some o) (same_value_call operations e e' x.value complete call.0 call'.0 call.1 (subst (CallsFor e') values call'.1))
 
-one_fresh : (operations : List Operation) (deq deq' : Operation) (enq enq' : Option Operation) → AreComplete operations → IsChosenFresh operations deq enq → IsChosenFresh operations deq' enq' → fresh deq enq ≡ fresh deq' enq'
+one_fresh : (operations : List Operation) (deq deq' : Operation) (enq enq' : Option Operation) → AreComplete operations
+    → IsChosenFresh operations deq enq → IsChosenFresh operations deq' enq' → fresh deq enq ≡ fresh deq' enq'
 one_fresh operations deq deq' enq enq' complete x y =
     let le = x.first deq' enq' y.violates in
     let ge = y.first deq enq x.violates in
-    let one = same_return operations deq deq' complete (dequeued_value operations deq enq x.violates).1.0 (dequeued_value operations deq' enq' y.violates).1.0 (omega arith) in
+    let one = same_return operations deq deq' complete (dequeued_value operations deq enq x.violates).1.0
+        (dequeued_value operations deq' enq' y.violates).1.0 (omega arith) in
     let enqs = one_enqueue operations deq enq enq' complete x.violates (subst (λ d. IsFreshViolation operations d enq') (sym one) y.violates) in
     cc
 
-one_repeat : (operations : List Operation) (enq enq' first first' second second' : Operation) → AreComplete operations → IsChosenRepeat operations enq first second → IsChosenRepeat operations enq' first' second' → repeat enq first second ≡ repeat enq' first' second'
+one_repeat : (operations : List Operation) (enq enq' first first' second second' : Operation) → AreComplete operations
+    → IsChosenRepeat operations enq first second → IsChosenRepeat operations enq' first' second' → repeat enq first second ≡ repeat enq' first' second'
 one_repeat operations enq enq' first first' second second' complete x y =
     let le = x.soonest enq' first' second' y.violates in
     let ge = y.soonest enq first second x.violates in
     let seconds = same_return operations second second' complete x.violates.dequeues_again.0 y.violates.dequeues_again.0 (omega arith) in
     let v = x.violates.value in
-    let values : y.violates.value ≡ v = one_kind second' y.violates.value v y.violates.dequeues_again.1 (subst (λ o. o.kind ≡ Deq v) seconds x.violates.dequeues_again.1) in
+    let values : y.violates.value ≡ v = one_kind second' y.violates.value v y.violates.dequeues_again.1
+        (subst (λ o. o.kind ≡ Deq v) seconds x.violates.dequeues_again.1) in
     let enqueues' : Did operations enq' (Enq v) = subst (λ w. Did operations enq' (Enq w)) values y.violates.enqueues in
     let dequeues' : Did operations first' (Deq v) = subst (λ w. Did operations first' (Deq w)) values y.violates.dequeues in
     let enqs = same_enqueue operations enq enq' v complete x.violates.enqueues enqueues' in
@@ -73,13 +83,16 @@ one_repeat operations enq enq' first first' second second' complete x y =
     let firsts = same_first v x.violates.enqueues x.violates.dequeues dequeues' x.violates.in_order y.violates.in_order cases in
     cc
   where
-    same_first : (v : ℕ) → Did operations enq (Enq v) → Did operations first (Deq v) → Did operations first' (Deq v) → first.ret < second.ret → first'.ret < second'.ret
+    same_first : (v : ℕ) → Did operations enq (Enq v) → Did operations first (Deq v) → Did operations first' (Deq v) → first.ret < second.ret
+        → first'.ret < second'.ret
         → (first.ret < first'.ret) ⊎ ((first.ret ≡ first'.ret) ⊎ (first'.ret < first.ret)) → first ≡ first'
     same_first v did did_first did_first' before before' (inl less) =
-        let sooner = y.soonest enq first first' (record { value = v; enqueues = did; dequeues = did_first; dequeues_again = did_first'; in_order = less }) in absurd (omega arith)
+        let sooner = y.soonest enq first first' (record { value = v; enqueues = did; dequeues = did_first; dequeues_again = did_first'; in_order =
+            less }) in absurd (omega arith)
     same_first v did did_first did_first' before before' (inr (inl same)) = same_return operations first first' complete did_first.0 did_first'.0 same
     same_first v did did_first did_first' before before' (inr (inr more)) =
-        let sooner = x.soonest enq first' first (record { value = v; enqueues = did; dequeues = did_first'; dequeues_again = did_first; in_order = more }) in absurd (omega arith)
+        let sooner = x.soonest enq first' first (record { value = v; enqueues = did; dequeues = did_first'; dequeues_again = did_first; in_order =
+            more }) in absurd (omega arith)
 
 -- values that stay at least as long as each other leave and enter at the same tickets
 both_stay : (x y : Life) → StaysAtLeast x y → StaysAtLeast y x → (dequeue_call x ≡ dequeue_call y) × (enqueue_return x ≡ enqueue_return y)
@@ -90,7 +103,8 @@ both_stay x y first second =
     (sym calls, omega arith)
 
 one_dequeue : (operations : List Operation) (deq_b : Operation) (a b : ℕ) (d d' : Option Operation) → AreComplete operations → a ≡ b
-    → MatchOption d (NoneDid operations (Deq a)) (λ d. Did operations d (Deq a) × Precedes deq_b d) → MatchOption d' (NoneDid operations (Deq b)) (λ d. Did operations d (Deq b) × Precedes deq_b d)
+    → MatchOption d (NoneDid operations (Deq a)) (λ d. Did operations d (Deq a) × Precedes deq_b d)
+        → MatchOption d' (NoneDid operations (Deq b)) (λ d. Did operations d (Deq b) × Precedes deq_b d)
     → call_or_never d ≡ call_or_never d' → d ≡ d'
 one_dequeue operations deq_b a b None None complete values x y calls = refl
 one_dequeue operations deq_b a b None (Some d) complete values x y calls = absurd (x d y.0.0 (y.0.1 ∙ ap (λ v. Deq v) (sym values)))
@@ -98,57 +112,70 @@ one_dequeue operations deq_b a b (Some d) None complete values x y calls = absur
 one_dequeue operations deq_b a b (Some d) (Some d') complete values x y calls = ap (λ o. Some o) (same_call operations d d' complete x.0.0 y.0.0 calls)
 
 pub one_order : (operations : List Operation) (enq_a enq_b deq_b enq_a' enq_b' deq_b' : Operation) (deq_a deq_a' : Option Operation) → AreComplete operations
-    → IsChosenOrderViolation operations enq_a enq_b deq_b deq_a → IsChosenOrderViolation operations enq_a' enq_b' deq_b' deq_a' → order enq_a enq_b deq_b deq_a ≡ order enq_a' enq_b' deq_b' deq_a'
+    → IsChosenOrderViolation operations enq_a enq_b deq_b deq_a → IsChosenOrderViolation operations enq_a' enq_b' deq_b' deq_a'
+        → order enq_a enq_b deq_b deq_a ≡ order enq_a' enq_b' deq_b' deq_a'
 one_order operations enq_a enq_b deq_b enq_a' enq_b' deq_b' deq_a deq_a' complete x y =
     let le = x.first enq_a' enq_b' deq_b' deq_a' y.violates in
     let ge = y.first enq_a enq_b deq_b deq_a x.violates in
     let deqs = same_return operations deq_b deq_b' complete x.violates.dequeues_b.0 y.violates.dequeues_b.0 (omega arith) in
     let b = x.violates.b in
     let values : y.violates.b ≡ b = one_kind deq_b' y.violates.b b y.violates.dequeues_b.1 (subst (λ o. o.kind ≡ Deq b) deqs x.violates.dequeues_b.1) in
-    let enqs = same_enqueue operations enq_b enq_b' b complete x.violates.enqueues_b (subst (λ w. Did operations enq_b' (Enq w)) values y.violates.enqueues_b) in
-    let there = subst (λ d. IsOrderViolation operations enq_a' enq_b d deq_a') (sym deqs) (subst (λ e. IsOrderViolation operations enq_a' e deq_b' deq_a') (sym enqs) y.violates) in
-    let back = subst (λ d. IsOrderViolation operations enq_a enq_b' d deq_a) deqs (subst (λ e. IsOrderViolation operations enq_a e deq_b deq_a) enqs x.violates) in
-    let both = both_stay (record { enqueue = enq_a; dequeue = deq_a }) (record { enqueue = enq_a'; dequeue = deq_a' }) (x.longest enq_a' deq_a' there) (y.longest enq_a deq_a back) in
+    let enqs = same_enqueue operations enq_b enq_b' b complete x.violates.enqueues_b
+        (subst (λ w. Did operations enq_b' (Enq w)) values y.violates.enqueues_b) in
+    let there = subst (λ d. IsOrderViolation operations enq_a' enq_b d deq_a') (sym deqs)
+        (subst (λ e. IsOrderViolation operations enq_a' e deq_b' deq_a') (sym enqs) y.violates) in
+    let back = subst (λ d. IsOrderViolation operations enq_a enq_b' d deq_a) deqs
+        (subst (λ e. IsOrderViolation operations enq_a e deq_b deq_a) enqs x.violates) in
+    let both = both_stay (record { enqueue = enq_a; dequeue = deq_a }) (record { enqueue = enq_a'; dequeue = deq_a' }) (x.longest enq_a' deq_a' there)
+        (y.longest enq_a deq_a back) in
     let firsts = same_return operations enq_a enq_a' complete x.violates.enqueues_a.0 y.violates.enqueues_a.0 both.1 in
     let kinds : Enq x.violates.a ≡ Enq y.violates.a = sym x.violates.enqueues_a.1 ∙ ap (λ o. o.kind) firsts ∙ y.violates.enqueues_a.1 in
     let alike : x.violates.a ≡ y.violates.a = value kinds in
-    let later = subst (λ d. MatchOption deq_a' (NoneDid operations (Deq y.violates.a)) (λ e. Did operations e (Deq y.violates.a) × Precedes d e)) (sym deqs) y.violates.dequeued_later in
+    let later = subst (λ d. MatchOption deq_a' (NoneDid operations (Deq y.violates.a)) (λ e. Did operations e (Deq y.violates.a) × Precedes d e))
+        (sym deqs) y.violates.dequeued_later in
     let lasts = one_dequeue operations deq_b x.violates.a y.violates.a deq_a deq_a' complete alike x.violates.dequeued_later later both.0 in
     cc
   where
     value : {v w : ℕ} → Enq v ≡ Enq w → v ≡ w
     value e = cc
 
-one_next : (operations : List Operation) (frontier : ℕ) (x y : Life) → IsClear operations → IsNextOfCover operations frontier x → IsNextOfCover operations frontier y → x ≡ y
+one_next : (operations : List Operation) (frontier : ℕ) (x y : Life) → IsClear operations → IsNextOfCover operations frontier x
+    → IsNextOfCover operations frontier y → x ≡ y
 one_next operations frontier x y clear next_x next_y =
     let both = both_stay x y (next_x.longest y next_y.is_life next_y.before_frontier) (next_y.longest x next_x.is_life next_x.before_frontier) in
     let enqs = same_return operations (enqueue_of x) (enqueue_of y) clear.complete next_x.is_life.1.0 next_y.is_life.1.0 both.1 in
     one_life_of_enqueue operations x y clear next_x.is_life next_y.is_life enqs
 
-pub one_cover : (operations : List Operation) (empty : Operation) (frontier : ℕ) (xs ys : List Life) → IsClear operations → IsChosenCoverFrom operations empty frontier xs → IsChosenCoverFrom operations empty frontier ys → xs ≡ ys
+pub one_cover : (operations : List Operation) (empty : Operation) (frontier : ℕ) (xs ys : List Life) → IsClear operations
+    → IsChosenCoverFrom operations empty frontier xs → IsChosenCoverFrom operations empty frontier ys → xs ≡ ys
 one_cover operations empty frontier [] ys clear chosen chosen' = absurd chosen
 one_cover operations empty frontier (x ∷ xs) [] clear chosen chosen' = absurd chosen'
 one_cover operations empty frontier (x ∷ xs) (y ∷ ys) clear chosen chosen' =
     let heads = one_next operations frontier x y clear chosen.0 chosen'.0 in
-    let tail' = subst (λ l. MatchBool (nat_lt empty.ret (dequeue_call l)) (ys ≡ []) (IsChosenCoverFrom operations empty (dequeue_call l) ys)) (sym heads) chosen'.1 in
+    let tail' = subst (λ l. MatchBool (nat_lt empty.ret (dequeue_call l)) (ys ≡ []) (IsChosenCoverFrom operations empty (dequeue_call l) ys))
+        (sym heads) chosen'.1 in
     let tails = go (nat_lt empty.ret (dequeue_call x)) chosen.1 tail' (λ more more'. one_cover operations empty (dequeue_call x) xs ys clear more more') in
     cc
   where
-    go : (b : Bool) → MatchBool b (xs ≡ []) (IsChosenCoverFrom operations empty (dequeue_call x) xs) → MatchBool b (ys ≡ []) (IsChosenCoverFrom operations empty (dequeue_call x) ys)
+    go : (b : Bool) → MatchBool b (xs ≡ []) (IsChosenCoverFrom operations empty (dequeue_call x) xs)
+        → MatchBool b (ys ≡ []) (IsChosenCoverFrom operations empty (dequeue_call x) ys)
         → (IsChosenCoverFrom operations empty (dequeue_call x) xs → IsChosenCoverFrom operations empty (dequeue_call x) ys → xs ≡ ys) → xs ≡ ys
     go true ends ends' more = ends ∙ sym ends'
     go false further further' more = more further further'
 
-pub one_witness : (operations : List Operation) (empty empty' : Operation) (cover cover' : List Life) → IsClear operations → IsChosenWitness operations empty cover → IsChosenWitness operations empty' cover' → witness empty cover ≡ witness empty' cover'
+pub one_witness : (operations : List Operation) (empty empty' : Operation) (cover cover' : List Life) → IsClear operations
+    → IsChosenWitness operations empty cover → IsChosenWitness operations empty' cover' → witness empty cover ≡ witness empty' cover'
 one_witness operations empty empty' cover cover' clear x y =
     let le = x.first empty' y.answers_empty y.is_covered in
     let ge = y.first empty x.answers_empty x.is_covered in
     let one = same_return operations empty empty' clear.complete x.answers_empty.0 y.answers_empty.0 (omega arith) in
-    let covers = one_cover operations empty empty.call cover cover' clear x.cover_is_chosen (subst (λ o. IsChosenCoverFrom operations o o.call cover') (sym one) y.cover_is_chosen) in
+    let covers = one_cover operations empty empty.call cover cover' clear x.cover_is_chosen
+        (subst (λ o. IsChosenCoverFrom operations o o.call cover') (sym one) y.cover_is_chosen) in
     cc
 
 -- a history has one chosen violation
-pub one_chosen_breach : (operations : List Operation) (x y : Breach) → AreComplete operations → IsChosenBreach operations x → IsChosenBreach operations y → x ≡ y
+pub one_chosen_breach : (operations : List Operation) (x y : Breach) → AreComplete operations → IsChosenBreach operations x
+    → IsChosenBreach operations y → x ≡ y
 one_chosen_breach operations (fresh deq enq) (fresh deq' enq') complete x y = one_fresh operations deq deq' enq enq' complete x y
 one_chosen_breach operations (fresh deq enq) (repeat e f s) complete x y = absurd (y.0 deq enq x.violates)
 one_chosen_breach operations (fresh deq enq) (order a b d c) complete x y = absurd (y.0 deq enq x.violates)
@@ -164,4 +191,5 @@ one_chosen_breach operations (order a b d c) (witness o lives) complete x y = ab
 one_chosen_breach operations (witness o lives) (fresh deq enq) complete x y = absurd (x.0 deq enq y.violates)
 one_chosen_breach operations (witness o lives) (repeat e f s) complete x y = absurd (x.1 e f s y.1.violates)
 one_chosen_breach operations (witness o lives) (order a b d c) complete x y = absurd (x.2 a b d c y.2.violates)
-one_chosen_breach operations (witness o lives) (witness o' lives') complete x y = one_witness operations o o' lives lives' (are_clear operations complete x.0 x.1) x.3 y.3
+one_chosen_breach operations (witness o lives) (witness o' lives') complete x y =
+    one_witness operations o o' lives lives' (are_clear operations complete x.0 x.1) x.3 y.3

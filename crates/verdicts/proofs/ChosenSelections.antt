@@ -31,7 +31,8 @@ one_maybe_at operations (Some place) None y at_x at_y = absurd at_x
 one_maybe_at operations (Some place) (Some x) None at_x at_y = absurd at_y
 one_maybe_at operations (Some place) (Some x) (Some y) at_x at_y = ap (λ o. Some o) (one_at operations place x y at_x at_y)
 
-one_cover : (operations : List Operation) (steps : List CoverStep) (xs ys : List Life) → NamesCover operations steps xs → NamesCover operations steps ys → xs ≡ ys
+one_cover : (operations : List Operation) (steps : List CoverStep) (xs ys : List Life) → NamesCover operations steps xs
+    → NamesCover operations steps ys → xs ≡ ys
 one_cover operations [] [] [] names_x names_y = refl
 one_cover operations [] [] (y ∷ ys) names_x names_y = absurd names_y
 one_cover operations [] (x ∷ xs) ys names_x names_y = absurd names_x
@@ -79,7 +80,8 @@ module _ (operations : List Operation) (complete : AreComplete operations) (valu
   covered_in_whole : (o : Operation) → IsCovered small o → IsCovered operations o
   covered_in_whole o covered c window = let z = covered c window in (z.0, life_in_whole operations values calls z.0 z.1, z.2)
 
-  cover_stays : (empty : Operation) (cover : List Life) (frontier : ℕ) → IsChosenCoverFrom operations empty frontier cover → ((life : Life) → Contains cover life → IsLife small life) → IsChosenCoverFrom small empty frontier cover
+  cover_stays : (empty : Operation) (cover : List Life) (frontier : ℕ) → IsChosenCoverFrom operations empty frontier cover
+      → ((life : Life) → Contains cover life → IsLife small life) → IsChosenCoverFrom small empty frontier cover
   cover_stays empty [] frontier chosen each = chosen
   cover_stays empty (life ∷ rest) frontier chosen each = (
     record {
@@ -87,10 +89,12 @@ module _ (operations : List Operation) (complete : AreComplete operations) (valu
       before_frontier = chosen.0.before_frontier;
       longest = λ other is before. chosen.0.longest other (life_in_whole operations values calls other is) before;
     },
-    further (nat_lt empty.ret (dequeue_call life)) chosen.1 (λ chosen'. cover_stays empty rest (dequeue_call life) chosen' (λ x among. each x (one_deeper life rest x among))),
+    further (nat_lt empty.ret (dequeue_call life)) chosen.1 (λ chosen'. cover_stays empty rest (dequeue_call life) chosen'
+        (λ x among. each x (one_deeper life rest x among))),
   )
     where
-      further : (b : Bool) → MatchBool b (rest ≡ []) (IsChosenCoverFrom operations empty (dequeue_call life) rest) → (IsChosenCoverFrom operations empty (dequeue_call life) rest → IsChosenCoverFrom small empty (dequeue_call life) rest)
+      further : (b : Bool) → MatchBool b (rest ≡ []) (IsChosenCoverFrom operations empty (dequeue_call life) rest)
+          → (IsChosenCoverFrom operations empty (dequeue_call life) rest → IsChosenCoverFrom small empty (dequeue_call life) rest)
           → MatchBool b (rest ≡ []) (IsChosenCoverFrom small empty (dequeue_call life) rest)
       further true ends more = ends
       further false chosen' more = more chosen'
@@ -103,7 +107,8 @@ module _ (operations : List Operation) (complete : AreComplete operations) (valu
   }
 
   -- the chosen violation is the chosen one of the selection by its lines
-  pub stays_chosen : (breach : Breach) → IsChosenBreach operations breach → SelectsNamed (lines_of breach) values calls → IsBreachOf small breach → IsChosenBreach small breach
+  pub stays_chosen : (breach : Breach) → IsChosenBreach operations breach → SelectsNamed (lines_of breach) values calls → IsBreachOf small breach
+      → IsChosenBreach small breach
   stays_chosen (fresh deq enq) chosen named is = record { violates = is; first = λ deq' enq' is'. chosen.first deq' enq' (in_whole (fresh deq' enq') is') }
   stays_chosen (repeat enq first second) chosen named is = (
     λ deq' enq' is'. chosen.0 deq' enq' (in_whole (fresh deq' enq') is'),
@@ -137,9 +142,11 @@ shortest operations (fresh deq enq) complete chosen = tt
 shortest operations (repeat enq first second) complete chosen = tt
 shortest operations (order enq_a enq_b deq_b deq_a) complete chosen = tt
 shortest operations (witness empty cover) complete chosen =
-    λ other is. chosen_cover_is_shortest operations empty cover other (record { complete = complete; no_fresh = chosen.0; no_repeat = chosen.1 }) chosen.3.cover_is_chosen is
+    λ other is. chosen_cover_is_shortest operations empty cover other
+        (record { complete = complete; no_fresh = chosen.0; no_repeat = chosen.1 }) chosen.3.cover_is_chosen is
 
 -- the chosen violation has a shortest cover
-pub has_shortest_cover : (operations : List Operation) (named : Violation) → AreComplete operations → IsChosenViolation operations named → HasShortestCover operations named
+pub has_shortest_cover : (operations : List Operation) (named : Violation) → AreComplete operations → IsChosenViolation operations named
+    → HasShortestCover operations named
 has_shortest_cover operations named complete chosen breach names =
     subst (IsShortestCover operations) (names_one operations named chosen.0 breach chosen.1 names) (shortest operations chosen.0 complete chosen.2)

@@ -45,7 +45,8 @@ abbrev pub IsDequeuedLater : List Operation → Operation → ℕ → Option Ope
 IsDequeuedLater operations deq_b a deq_a = MatchOption deq_a (NoneDid operations (Deq a)) (λ d. Did operations d (Deq a) × Precedes deq_b d)
 
 pub is_order : (operations : List Operation) (enq_a enq_b deq_b : Operation) (deq_a : Option Operation) (a b : ℕ) → enq_a.kind ≡ Enq a → enq_b.kind ≡ Enq b
-    → (Did operations enq_a (Enq a) × Did operations enq_b (Enq b) × Did operations deq_b (Deq b) × Precedes enq_a enq_b × IsDequeuedLater operations deq_b a deq_a)
+    → (Did operations enq_a (Enq a) × Did operations enq_b (Enq b) × Did operations deq_b (Deq b) × Precedes enq_a enq_b
+        × IsDequeuedLater operations deq_b a deq_a)
     ↔ IsOrderViolation operations enq_a enq_b deq_b deq_a
 is_order operations enq_a enq_b deq_b deq_a a b is_a is_b = (
   λ h. record { a = a; b = b; enqueues_a = h.0; enqueues_b = h.1; dequeues_b = h.2; enqueued_first = h.3; dequeued_later = h.4 },
@@ -62,7 +63,8 @@ is_order operations enq_a enq_b deq_b deq_a a b is_a is_b = (
 
 -- ---- lines of a length are those of one violation
 
-pub one_line_fresh : (operations lines : List Operation) (d : Operation) → 1 ≤ length lines → length lines < 2 → IsNeverEnqueued operations (get_or lines 0 d) ↔ ShowsViolation operations VFresh lines
+pub one_line_fresh : (operations lines : List Operation) (d : Operation) → 1 ≤ length lines → length lines < 2
+    → IsNeverEnqueued operations (get_or lines 0 d) ↔ ShowsViolation operations VFresh lines
 one_line_fresh operations [] d long short = absurd (omega arith)
 one_line_fresh operations (deq ∷ x ∷ lines) d long short = absurd (omega arith)
 one_line_fresh operations (deq ∷ []) d long short = (λ never. (fresh deq None, refl, refl, never), back)
@@ -74,7 +76,8 @@ one_line_fresh operations (deq ∷ []) d long short = (λ never. (fresh deq None
     back (order a b o c, kind, same, is) = cc
     back (witness o cover, kind, same, is) = cc
 
-pub two_lines_fresh : (operations lines : List Operation) (d : Operation) → 2 ≤ length lines → length lines < 3 → IsEnqueuedTooLate operations (get_or lines 0 d) (get_or lines 1 d) ↔ ShowsViolation operations VFresh lines
+pub two_lines_fresh : (operations lines : List Operation) (d : Operation) → 2 ≤ length lines → length lines < 3
+    → IsEnqueuedTooLate operations (get_or lines 0 d) (get_or lines 1 d) ↔ ShowsViolation operations VFresh lines
 two_lines_fresh operations [] d long short = absurd (omega arith)
 two_lines_fresh operations (deq ∷ []) d long short = absurd (omega arith)
 two_lines_fresh operations (deq ∷ enq ∷ x ∷ lines) d long short = absurd (omega arith)
@@ -101,14 +104,17 @@ three_lines_repeat operations (enq ∷ first ∷ second ∷ []) d long short = (
     back (fresh o e, kind, same, is) = cc
     back (repeat e f s, kind, same, is) =
         let a : e ≡ enq = cc in let b : f ≡ first = cc in let c : s ≡ second = cc in
-        subst (IsRepeatViolation operations enq first) c (subst (λ x. IsRepeatViolation operations enq x s) b (subst (λ x. IsRepeatViolation operations x f s) a is))
+        subst (IsRepeatViolation operations enq first) c (subst (λ x. IsRepeatViolation operations enq x s) b
+            (subst (λ x. IsRepeatViolation operations x f s) a is))
     back (order a b o c, kind, same, is) = cc
     back (witness o cover, kind, same, is) = cc
 
 -- an order violation by its lines
-shown_order : (operations : List Operation) (a b o x y z : Operation) (c w : Option Operation) → a ≡ x → b ≡ y → o ≡ z → c ≡ w → IsOrderViolation operations a b o c → IsOrderViolation operations x y z w
+shown_order : (operations : List Operation) (a b o x y z : Operation) (c w : Option Operation) → a ≡ x → b ≡ y → o ≡ z → c ≡ w
+    → IsOrderViolation operations a b o c → IsOrderViolation operations x y z w
 shown_order operations a b o x y z c w same_a same_b same_o same_c is =
-    subst (IsOrderViolation operations x y z) same_c (subst (λ v. IsOrderViolation operations x y v c) same_o (subst (λ v. IsOrderViolation operations x v o c) same_b (subst (λ v. IsOrderViolation operations v b o c) same_a is)))
+    subst (IsOrderViolation operations x y z) same_c (subst (λ v. IsOrderViolation operations x y v c) same_o
+        (subst (λ v. IsOrderViolation operations x v o c) same_b (subst (λ v. IsOrderViolation operations v b o c) same_a is)))
 
 pub three_lines_order : (operations lines : List Operation) (d : Operation) → 3 ≤ length lines → length lines < 4
     → IsOrderViolation operations (get_or lines 0 d) (get_or lines 1 d) (get_or lines 2 d) None ↔ ShowsViolation operations VOrd lines
@@ -144,7 +150,8 @@ four_lines_order operations (x ∷ y ∷ z ∷ w ∷ []) d long short = (λ is. 
 -- the first line of a witness is the empty answer, the others are those of its cover
 lines_of_witness : (operations : List Operation) (empty : Operation) (lines : List Operation)
     → (Did operations empty Empty × ShowsCover operations empty empty lines) ↔ ShowsViolation operations VWit (empty ∷ lines)
-lines_of_witness operations empty lines = (λ (did, (cover, same, covers)). (witness empty cover, refl, ap (λ xs. empty ∷ xs) same, record { answers_empty = did; covers = covers }), back)
+lines_of_witness operations empty lines = (λ (did, (cover, same, covers)).
+    (witness empty cover, refl, ap (λ xs. empty ∷ xs) same, record { answers_empty = did; covers = covers }), back)
   where
     back : ShowsViolation operations VWit (empty ∷ lines) → Did operations empty Empty × ShowsCover operations empty empty lines
     back (fresh o e, kind, same, is) = cc
@@ -156,6 +163,7 @@ lines_of_witness operations empty lines = (λ (did, (cover, same, covers)). (wit
         (subst (λ x. Did operations x Empty) one is.answers_empty, (cover, rest, subst (λ x. CoversFrom operations x x cover) one is.covers))
 
 pub lines_of_witness_at : (operations lines : List Operation) (d : Operation) → 1 ≤ length lines
-    → (Did operations (get_or lines 0 d) Empty × ShowsCover operations (get_or lines 0 d) (get_or lines 0 d) (drop 1 lines)) ↔ ShowsViolation operations VWit lines
+    → (Did operations (get_or lines 0 d) Empty × ShowsCover operations (get_or lines 0 d) (get_or lines 0 d) (drop 1 lines)) ↔ ShowsViolation
+        operations VWit lines
 lines_of_witness_at operations [] d long = absurd (omega arith)
 lines_of_witness_at operations (empty ∷ lines) d long = lines_of_witness operations empty lines

@@ -15,9 +15,11 @@ pub record HasExtended (lines : List Operation) (n greatest : ℕ) : Type 0 wher
   pub is_one : (greatest ≡ 0) ⊎ ((k : ℕ) × (k < n) × ((d : Operation) → (get_or lines k d).call ≡ greatest))
 
 pub extended_none : (lines : List Operation) → HasExtended lines 0 0
-extended_none lines = record { none_precedes = λ i j d below within. absurd (omega arith); at_most = λ k d within. absurd (omega arith); is_one = inl (omega arith) }
+extended_none lines = record { none_precedes = λ i j d below within. absurd (omega arith); at_most = λ k d within. absurd (omega arith); is_one =
+    inl (omega arith) }
 
-extended_more : (lines : List Operation) (n greatest : ℕ) (line : Operation) → ((d : Operation) → get_or lines n d ≡ line) → greatest ≤ line.ret → HasExtended lines n greatest → HasExtended lines (n + 1) (max greatest line.call)
+extended_more : (lines : List Operation) (n greatest : ℕ) (line : Operation) → ((d : Operation) → get_or lines n d ≡ line) → greatest ≤ line.ret
+    → HasExtended lines n greatest → HasExtended lines (n + 1) (max greatest line.call)
 extended_more lines n greatest line here past h = record { none_precedes = none; at_most = below; is_one = one }
   where
     none : (i j : ℕ) (d : Operation) → i < j → j < n + 1 → ¬ (Precedes (get_or lines j d) (get_or lines i d))
@@ -46,7 +48,8 @@ extended_more lines n greatest line here past h = record { none_precedes = none;
     ]
 
 -- a line that returned before the greatest call precedes an earlier one
-not_extended : (lines : List Operation) (n greatest : ℕ) (line : Operation) → n < length lines → ((d : Operation) → get_or lines n d ≡ line) → line.ret < greatest → HasExtended lines n greatest
+not_extended : (lines : List Operation) (n greatest : ℕ) (line : Operation) → n < length lines → ((d : Operation) → get_or lines n d ≡ line)
+    → line.ret < greatest → HasExtended lines n greatest
     → ¬ (AllPairs (λ earlier later. ¬ (Precedes later earlier)) lines)
 not_extended lines n greatest line within here before h extends = elim h.is_one [
   | inl none ↦ omega arith
@@ -55,8 +58,11 @@ not_extended lines n greatest line within here before h extends = elim h.is_one 
       extends found.0 n line found.1 within precedes
 ]
 
-pub extended_at : (lines : List Operation) (n greatest : ℕ) (d : Operation) → n < length lines → greatest ≤ (get_or lines n d).ret → HasExtended lines n greatest → HasExtended lines (n + 1) (max greatest (get_or lines n d).call)
+pub extended_at : (lines : List Operation) (n greatest : ℕ) (d : Operation) → n < length lines → greatest ≤ (get_or lines n d).ret
+    → HasExtended lines n greatest → HasExtended lines (n + 1) (max greatest (get_or lines n d).call)
 extended_at lines n greatest d within past h = extended_more lines n greatest (get_or lines n d) (λ other. get_or_default lines n other d within) past h
 
-pub not_extended_at : (lines : List Operation) (n greatest : ℕ) (d : Operation) → n < length lines → (get_or lines n d).ret < greatest → HasExtended lines n greatest → ¬ (AllPairs (λ earlier later. ¬ (Precedes later earlier)) lines)
-not_extended_at lines n greatest d within before h = not_extended lines n greatest (get_or lines n d) within (λ other. get_or_default lines n other d within) before h
+pub not_extended_at : (lines : List Operation) (n greatest : ℕ) (d : Operation) → n < length lines → (get_or lines n d).ret < greatest
+    → HasExtended lines n greatest → ¬ (AllPairs (λ earlier later. ¬ (Precedes later earlier)) lines)
+not_extended_at lines n greatest d within before h = not_extended lines n greatest (get_or lines n d) within
+    (λ other. get_or_default lines n other d within) before h

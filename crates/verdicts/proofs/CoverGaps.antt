@@ -17,16 +17,20 @@ below_if_not_same m n le differs = let cases : (m < n) ⊎ (m ≡ n) = grind ari
 
 module _ (operations : List Operation) (empty : Operation) where
   -- where a value of the cover is not the last, the others are chosen from its dequeue on
-  others_chosen : (life : Life) (rest : List Life) (y : Life) → Contains rest y → (b : Bool) → nat_lt empty.ret (dequeue_call life) ≡ b → MatchBool b (rest ≡ []) (IsChosenCoverFrom operations empty (dequeue_call life) rest)
+  others_chosen : (life : Life) (rest : List Life) (y : Life) → Contains rest y → (b : Bool) → nat_lt empty.ret (dequeue_call life) ≡ b
+      → MatchBool b (rest ≡ []) (IsChosenCoverFrom operations empty (dequeue_call life) rest)
       → (dequeue_call life ≤ empty.ret) × IsChosenCoverFrom operations empty (dequeue_call life) rest
   others_chosen life rest y among true test ends = absurd (not_in_none y (subst (λ lives. Contains lives y) ends among))
   others_chosen life rest y among false test further = (ltb-false empty.ret (dequeue_call life) test, further)
 
-  pub chosen_are_lives : (cover : List Life) (frontier : ℕ) (y : Life) → IsChosenCoverFrom operations empty frontier cover → Contains cover y → IsLife operations y
+  pub chosen_are_lives : (cover : List Life) (frontier : ℕ) (y : Life) → IsChosenCoverFrom operations empty frontier cover → Contains cover y
+      → IsLife operations y
   chosen_are_lives [] frontier y chosen among = absurd chosen
-  chosen_are_lives (life ∷ rest) frontier y chosen among = by_place (λ chosen' later. chosen_are_lives rest (dequeue_call life) y chosen' later) (contains_cons life rest y among)
+  chosen_are_lives (life ∷ rest) frontier y chosen among = by_place (λ chosen' later. chosen_are_lives rest (dequeue_call life) y chosen' later)
+      (contains_cons life rest y among)
     where
-      by_place : (IsChosenCoverFrom operations empty (dequeue_call life) rest → Contains rest y → IsLife operations y) → (life ≡ y) ⊎ Contains rest y → IsLife operations y
+      by_place : (IsChosenCoverFrom operations empty (dequeue_call life) rest → Contains rest y → IsLife operations y) → (life ≡ y) ⊎ Contains rest y
+          → IsLife operations y
       by_place more (inl same) = subst (IsLife operations) same chosen.0.is_life
       by_place more (inr later) = more (others_chosen life rest y later (nat_lt empty.ret (dequeue_call life)) refl chosen.1).1 later
 
@@ -37,9 +41,11 @@ module _ (operations : List Operation) (empty : Operation) where
       pub after_call : empty.call ≤ before.call
       pub before_return : before.call < empty.ret
 
-    enters_before : (before : Operation) (life : Life) → IsCalledInside before → IsLife operations life → Covers life before.call → enqueue_return life < before.call
+    enters_before : (before : Operation) (life : Life) → IsCalledInside before → IsLife operations life → Covers life before.call
+        → enqueue_return life < before.call
     enters_before before life inside is covers =
-        below_if_not_same (enqueue_return life) before.call covers.0 (return_differs_from_call operations (enqueue_of life) before clear.complete is.1.0 inside.among)
+        below_if_not_same (enqueue_return life) before.call covers.0 (return_differs_from_call operations
+            (enqueue_of life) before clear.complete is.1.0 inside.among)
 
     next_stays : (before : Operation) (life : Life) → IsCalledInside before → IsNextOfCover operations before.call life → before.call < dequeue_call life
     next_stays before life inside next =
@@ -53,7 +59,8 @@ module _ (operations : List Operation) (empty : Operation) where
       pub inside : IsCalledInside d
       pub further : IsChosenCoverFrom operations empty d.call rest
 
-    pub handover : (before : Operation) (life : Life) (rest : List Life) (y : Life) → IsCalledInside before → IsChosenCoverFrom operations empty before.call (life ∷ rest) → Contains rest y → (d : Operation) × IsHandover life rest d
+    pub handover : (before : Operation) (life : Life) (rest : List Life) (y : Life) → IsCalledInside before
+        → IsChosenCoverFrom operations empty before.call (life ∷ rest) → Contains rest y → (d : Operation) × IsHandover life rest d
     handover before life rest y inside chosen among =
         let others = others_chosen life rest y among (nat_lt empty.ret (dequeue_call life)) refl chosen.1 in
         let range = return_in_range operations empty clear.complete did.0 in
@@ -61,7 +68,8 @@ module _ (operations : List Operation) (empty : Operation) where
         let found = dequeued_if_called life (omega (arith, others.0)) in
         let d = found.0 in
         let calls : dequeue_call life ≡ d.call = ap call_or_never found.1 in
-        let did_d = subst (λ o. MatchOption o (NoneDid operations (Deq chosen.0.is_life.0)) (λ d. Did operations d (Deq chosen.0.is_life.0))) found.1 chosen.0.is_life.2 in
+        let did_d = subst (λ o. MatchOption o (NoneDid operations (Deq chosen.0.is_life.0)) (λ d. Did operations d (Deq chosen.0.is_life.0))) found.1
+            chosen.0.is_life.2 in
         let differs = return_differs_from_call operations empty d clear.complete did.0 did_d.0 in
         let below : d.call < empty.ret = below_if_not_same d.call empty.ret (omega (arith, others.0)) (λ same. differs (sym same)) in (
           d,
@@ -72,11 +80,14 @@ module _ (operations : List Operation) (empty : Operation) where
           },
         )
 
-    pub all_stay : (cover : List Life) (before : Operation) (y : Life) → IsCalledInside before → IsChosenCoverFrom operations empty before.call cover → Contains cover y → before.call < dequeue_call y
+    pub all_stay : (cover : List Life) (before : Operation) (y : Life) → IsCalledInside before → IsChosenCoverFrom operations empty before.call cover
+        → Contains cover y → before.call < dequeue_call y
     all_stay [] before y inside chosen among = absurd chosen
-    all_stay (life ∷ rest) before y inside chosen among = by_place (λ d inside' chosen' later. all_stay rest d y inside' chosen' later) (contains_cons life rest y among)
+    all_stay (life ∷ rest) before y inside chosen among = by_place (λ d inside' chosen' later. all_stay rest d y inside' chosen' later)
+        (contains_cons life rest y among)
       where
-        by_place : ((d : Operation) → IsCalledInside d → IsChosenCoverFrom operations empty d.call rest → Contains rest y → d.call < dequeue_call y) → (life ≡ y) ⊎ Contains rest y → before.call < dequeue_call y
+        by_place : ((d : Operation) → IsCalledInside d → IsChosenCoverFrom operations empty d.call rest → Contains rest y → d.call < dequeue_call y)
+            → (life ≡ y) ⊎ Contains rest y → before.call < dequeue_call y
         by_place more (inl same) = subst (λ x. before.call < dequeue_call x) same (next_stays before life inside chosen.0)
         by_place more (inr later) =
             let next = handover before life rest y inside chosen later in
@@ -90,9 +101,11 @@ module _ (operations : List Operation) (empty : Operation) where
       pub before_return : c < empty.ret
       pub no_other : (y : Life) → Contains cover y → Covers y c → y ≡ x
 
-    left_by : (cover : List Life) (before : Operation) (x : Life) → IsCalledInside before → IsChosenCoverFrom operations empty before.call cover → Contains cover x → (c : ℕ) × IsLeftBy cover before.call x c
+    left_by : (cover : List Life) (before : Operation) (x : Life) → IsCalledInside before → IsChosenCoverFrom operations empty before.call cover
+        → Contains cover x → (c : ℕ) × IsLeftBy cover before.call x c
     left_by [] before x inside chosen among = absurd chosen
-    left_by (life ∷ rest) before x inside chosen among = by_place (λ d inside' chosen' later. left_by rest d x inside' chosen' later) (contains_cons life rest x among)
+    left_by (life ∷ rest) before x inside chosen among = by_place (λ d inside' chosen' later. left_by rest d x inside' chosen' later)
+        (contains_cons life rest x among)
       where
         -- no later value was there when the first took over
         not_yet : (y : Life) → Contains rest y → Covers y before.call → ⊥
@@ -107,13 +120,15 @@ module _ (operations : List Operation) (empty : Operation) where
         first_only same y covers (inl here) = let back = sym here in cc
         first_only same y covers (inr later) = absurd (not_yet y later covers)
 
-        not_first : (d : Operation) → dequeue_call life ≡ d.call → (c : ℕ) → IsLeftBy rest d.call x c → (y : Life) → Covers y c → (life ≡ y) ⊎ Contains rest y → y ≡ x
+        not_first : (d : Operation) → dequeue_call life ≡ d.call → (c : ℕ) → IsLeftBy rest d.call x c → (y : Life) → Covers y c
+            → (life ≡ y) ⊎ Contains rest y → y ≡ x
         not_first d calls c left y covers (inl here) =
             let gone : c < dequeue_call life = subst (λ z. c < dequeue_call z) (sym here) covers.1 in
             absurd (omega (arith, left.after))
         not_first d calls c left y covers (inr later) = left.no_other y later covers
 
-        by_place : ((d : Operation) → IsCalledInside d → IsChosenCoverFrom operations empty d.call rest → Contains rest x → (c : ℕ) × IsLeftBy rest d.call x c) → (life ≡ x) ⊎ Contains rest x
+        by_place : ((d : Operation) → IsCalledInside d → IsChosenCoverFrom operations empty d.call rest → Contains rest x
+            → (c : ℕ) × IsLeftBy rest d.call x c) → (life ≡ x) ⊎ Contains rest x
             → (c : ℕ) × IsLeftBy (life ∷ rest) before.call x c
         by_place more (inl same) = (
           before.call,

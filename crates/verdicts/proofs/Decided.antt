@@ -19,34 +19,42 @@ use Rattle.verdicts.specs.Verdicts.{IsDecided}
 use Rattle.verdicts.proofs.Excludes.{breach_excludes_order}
 use Rattle.verdicts.proofs.Chosen.{chosen_is_breach}
 
-pub no_is_decided : (operations : List Operation) (violation : Violation) → AreComplete operations → IsChosenViolation operations violation → IsDecided operations (No violation)
+pub no_is_decided : (operations : List Operation) (violation : Violation) → AreComplete operations → IsChosenViolation operations violation
+    → IsDecided operations (No violation)
 no_is_decided operations violation complete chosen =
     let breach = chosen_is_breach operations chosen.0 complete chosen.2 in
     record { chosen = chosen; evidence = (chosen.0, chosen.1, breach); exact = λ linear. breach_excludes_order operations chosen.0 complete breach linear }
 
 pub yes_is_decided : (operations : List Operation) (places : List ℕ) → AreChosenAndLegal operations places → IsDecided operations (Yes places)
-yes_is_decided operations places chosen = record { chosen = (chosen.0, chosen.1, chosen.2); evidence = (chosen.0, chosen.1, chosen.3); exact = (chosen.0, chosen.3) }
+yes_is_decided operations places chosen = record { chosen = (chosen.0, chosen.1, chosen.2); evidence = (chosen.0, chosen.1, chosen.3); exact =
+    (chosen.0, chosen.3) }
 
 -- the chosen pair is the chosen violation where the first two kinds are absent
-pub pair_is_chosen : (operations : List Operation) (pair : OrderPair) → IsClear operations → IsChosenPair operations pair → IsChosenViolation operations (violation.Order pair.enq_a pair.enq_b pair.deq_b pair.deq_a)
+pub pair_is_chosen : (operations : List Operation) (pair : OrderPair) → IsClear operations → IsChosenPair operations pair
+    → IsChosenViolation operations (violation.Order pair.enq_a pair.enq_b pair.deq_b pair.deq_a)
 pair_is_chosen operations pair clear is =
     (order is.enq_a is.enq_b is.deq_b is.deq_a, (is.at_a, is.at_b, is.dequeued_b, is.dequeued_a), (clear.no_fresh, clear.no_repeat, is.is_chosen))
 
 -- the chosen empty answer with its cover is the chosen violation where the first three kinds are absent
-pub witness_is_chosen : (operations : List Operation) (empty : ℕ) (cover : List CoverStep) → IsClear operations → NoOrderViolation operations → IsWitnessAnswer operations (found.Covered empty cover)
+pub witness_is_chosen : (operations : List Operation) (empty : ℕ) (cover : List CoverStep) → IsClear operations → NoOrderViolation operations
+    → IsWitnessAnswer operations (found.Covered empty cover)
     → IsChosenViolation operations (violation.Witness empty cover)
 witness_is_chosen operations empty cover clear none is = (witness is.0 is.1, (is.2, is.3), (clear.no_fresh, clear.no_repeat, none, is.4))
 
 -- what matching answers where it refuses is the chosen violation
-pub refused_is_chosen : (operations : List Operation) (answer : Matched) (violation : Violation) → IsMatchedOf operations answer → (answer ≡ matched.Fresh violation) ⊎ (answer ≡ matched.Repeat violation) → IsChosenViolation operations violation
+pub refused_is_chosen : (operations : List Operation) (answer : Matched) (violation : Violation) → IsMatchedOf operations answer
+    → (answer ≡ matched.Fresh violation) ⊎ (answer ≡ matched.Repeat violation) → IsChosenViolation operations violation
 refused_is_chosen operations answer violation is (inl same) = let h = subst (IsMatchedOf operations) same is in (fresh h.0 h.1, h.2, h.3)
 refused_is_chosen operations answer violation is (inr same) = let h = subst (IsMatchedOf operations) same is in (repeat h.0 h.1 h.2, h.3, h.4)
 
 -- so the no is decided
-pub refused_is_decided : (operations : List Operation) (answer : Matched) (violation : Violation) → AreComplete operations → IsMatchedOf operations answer → (answer ≡ matched.Fresh violation) ⊎ (answer ≡ matched.Repeat violation)
+pub refused_is_decided : (operations : List Operation) (answer : Matched) (violation : Violation) → AreComplete operations
+    → IsMatchedOf operations answer → (answer ≡ matched.Fresh violation) ⊎ (answer ≡ matched.Repeat violation)
     → IsDecided operations (No violation)
-refused_is_decided operations answer violation complete is refused = no_is_decided operations violation complete (refused_is_chosen operations answer violation is refused)
+refused_is_decided operations answer violation complete is refused =
+    no_is_decided operations violation complete (refused_is_chosen operations answer violation is refused)
 
-pub order_is_absent : (operations : List Operation) (answer : Option OrderPair) → IsOrderAnswer operations answer → ((pair : OrderPair) → answer ≡ Some pair → ⊥) → NoOrderViolation operations
+pub order_is_absent : (operations : List Operation) (answer : Option OrderPair) → IsOrderAnswer operations answer
+    → ((pair : OrderPair) → answer ≡ Some pair → ⊥) → NoOrderViolation operations
 order_is_absent operations None none not = none
 order_is_absent operations (Some pair) is not = absurd (not pair refl)

@@ -54,32 +54,40 @@ module _ (thread : ℕ) (x : Event) (later : List Event) (own : x.thread ≡ thr
       let a = answered (projection thread later) refl turns in
       record { operation = a.operation; among = among_first made (operations_of later) a.operation a.is; at = inl a.called }
 
-  answer_is_held : (e : Event) → TakesTurns (x ∷ projection thread later) → find (λ r. nat_eq r.thread thread) later ≡ Some e → IsHeld (cons_option made (operations_of later)) e.ticket
+  answer_is_held : (e : Event) → TakesTurns (x ∷ projection thread later) → find (λ r. nat_eq r.thread thread) later ≡ Some e
+      → IsHeld (cons_option made (operations_of later)) e.ticket
   answer_is_held e turns found =
       let a = answered (projection thread later) refl turns in
       let one : a.answer ≡ e = let both : Some a.answer ≡ Some e = sym a.found ∙ found in cc in
       record { operation = a.operation; among = among_first made (operations_of later) a.operation a.is; at = inr (a.returned ∙ ap (λ r. r.ticket) one) }
 
-held_or_answers : (thread : ℕ) (events : List Event) (pending : Option Event) (e : Event) → TurnsAfter pending (projection thread events) → Contains events e → e.thread ≡ thread
+held_or_answers : (thread : ℕ) (events : List Event) (pending : Option Event) (e : Event) → TurnsAfter pending (projection thread events)
+    → Contains events e → e.thread ≡ thread
     → AnswersWaiting thread pending events e ⊎ IsHeld (operations_of events) e.ticket
 held_or_answers thread [] pending e turns among own = absurd (not_in_none e among)
 held_or_answers thread (x ∷ later) pending e turns among own =
-    pick (nat_eq x.thread thread) refl pending turns (contains_cons x later e among) (λ pending' turns' there. held_or_answers thread later pending' e turns' there own)
+    pick (nat_eq x.thread thread) refl pending turns (contains_cons x later e among)
+        (λ pending' turns' there. held_or_answers thread later pending' e turns' there own)
   where
     -- an event of another thread comes first
     passed : (pending : Option Event) → nat_eq x.thread thread ≡ false → AnswersWaiting thread pending later e → AnswersWaiting thread pending (x ∷ later) e
     passed None test waits = waits
     passed (Some call) test waits = rw test waits
 
-    pick : (b : Bool) → nat_eq x.thread thread ≡ b → (pending : Option Event) → TurnsAfter pending (cond b (x ∷ projection thread later) (projection thread later)) → (x ≡ e) ⊎ Contains later e
-        → ((pending' : Option Event) → TurnsAfter pending' (projection thread later) → Contains later e → AnswersWaiting thread pending' later e ⊎ IsHeld (operations_of later) e.ticket)
-        → AnswersWaiting thread pending (x ∷ later) e ⊎ IsHeld (cons_option (operation_of x (find (λ r. nat_eq r.thread x.thread) later)) (operations_of later)) e.ticket
+    pick : (b : Bool) → nat_eq x.thread thread ≡ b → (pending : Option Event)
+        → TurnsAfter pending (cond b (x ∷ projection thread later) (projection thread later)) → (x ≡ e) ⊎ Contains later e
+        → ((pending' : Option Event) → TurnsAfter pending' (projection thread later) → Contains later e
+            → AnswersWaiting thread pending' later e ⊎ IsHeld (operations_of later) e.ticket)
+        → AnswersWaiting thread pending (x ∷ later) e ⊎ IsHeld (cons_option (operation_of x (find (λ r. nat_eq r.thread x.thread) later))
+            (operations_of later)) e.ticket
     pick false test pending turns' (inl here) rest = let clash : true ≡ false = sym (eq-eqb x.thread thread (ap (λ r. r.thread) here ∙ own)) ∙ test in cc
     pick false test pending turns' (inr there) rest = elim (rest pending turns' there) [
       | inl waits ↦ inl (passed pending test waits)
       | inr held ↦ inr (held_later (operation_of x (find (λ r. nat_eq r.thread x.thread) later)) (operations_of later) e.ticket held)
     ]
-    pick true test None turns' (inl here) rest = inr (subst (λ r. IsHeld (cons_option (operation_of x (find (λ r. nat_eq r.thread x.thread) later)) (operations_of later)) r.ticket) here (call_is_held thread x later (eqb-true x.thread thread test) turns'))
+    pick true test None turns' (inl here) rest = inr (subst (λ r. IsHeld
+        (cons_option (operation_of x (find (λ r. nat_eq r.thread x.thread) later)) (operations_of later)) r.ticket) here
+        (call_is_held thread x later (eqb-true x.thread thread test) turns'))
     pick true test None turns' (inr there) rest = elim (rest (Some x) turns' there) [
       | inl found ↦ inr (answer_is_held thread x later (eqb-true x.thread thread test) e turns' found)
       | inr held ↦ inr (held_later (operation_of x (find (λ r. nat_eq r.thread x.thread) later)) (operations_of later) e.ticket held)
@@ -92,13 +100,15 @@ held_or_answers thread (x ∷ later) pending e turns among own =
 
 -- each event of a complete history is held by one of its operations
 pub each_is_held : (events : List Event) (e : Event) → IsCompleteHistory events → Contains events e → IsHeld (operations_of events) e.ticket
-each_is_held events e complete among = elim (held_or_answers e.thread events None e (complete.threads_take_turns e.thread) among refl) [ inl none ↦ absurd none | inr held ↦ held ]
+each_is_held events e complete among = elim (held_or_answers e.thread events None e (complete.threads_take_turns e.thread) among refl)
+    [ inl none ↦ absurd none | inr held ↦ held ]
 
 -- and where an operation holds a ticket there is an event at it
 pub event_held : (events : List Event) (ticket : ℕ) → IsHeld (operations_of events) ticket → (e : Event) × Contains events e × (e.ticket ≡ ticket)
 event_held events ticket held = by_ticket (traced events held.operation held.among) held.at
   where
-    by_ticket : IsTraced events held.operation → (held.operation.call ≡ ticket) ⊎ (held.operation.ret ≡ ticket) → (e : Event) × Contains events e × (e.ticket ≡ ticket)
+    by_ticket : IsTraced events held.operation → (held.operation.call ≡ ticket) ⊎ (held.operation.ret ≡ ticket)
+        → (e : Event) × Contains events e × (e.ticket ≡ ticket)
     by_ticket trace (inl called) = (trace.call, contains_at events trace.called_at trace.call trace.at_call, sym trace.made.called ∙ called)
     by_ticket trace (inr returned) = (trace.answer, contains_at events trace.returned_at trace.answer trace.at_return, sym trace.made.returned ∙ returned)
 
@@ -111,14 +121,17 @@ one_event events e r complete in_e in_r same =
     one_at events at_r.0 e r (subst (λ i. slice_get events i ≡ Some e) here at_e.1) at_r.1
 
 -- two parts of one complete history are one, where they are complete and have the same operations
-pub part_is_one : (events xs ys : List Event) → IsCompleteHistory events → ArePartOf events xs → ArePartOf events ys → IsCompleteHistory xs → IsCompleteHistory ys → operations_of xs ≡ operations_of ys → xs ≡ ys
+pub part_is_one : (events xs ys : List Event) → IsCompleteHistory events → ArePartOf events xs → ArePartOf events ys → IsCompleteHistory xs
+    → IsCompleteHistory ys → operations_of xs ≡ operations_of ys → xs ≡ ys
 part_is_one events xs ys complete part_x part_y complete_x complete_y same =
-    same_lists (λ e. e.ticket) xs ys complete_x.tickets_rise complete_y.tickets_rise (into xs ys part_x part_y complete_x same) (into ys xs part_y part_x complete_y (sym same))
+    same_lists (λ e. e.ticket) xs ys complete_x.tickets_rise complete_y.tickets_rise (into xs ys part_x part_y complete_x same)
+        (into ys xs part_y part_x complete_y (sym same))
   where
     of_whole : (zs : List Event) → ArePartOf events zs → (e : Event) → Contains zs e → Contains events e
     of_whole zs part e among = (passed_filter part.0 events e (subst (λ es. Contains es e) part.1 among)).0
 
-    into : (zs ws : List Event) → ArePartOf events zs → ArePartOf events ws → IsCompleteHistory zs → operations_of zs ≡ operations_of ws → (e : Event) → Contains zs e → Contains ws e
+    into : (zs ws : List Event) → ArePartOf events zs → ArePartOf events ws → IsCompleteHistory zs → operations_of zs ≡ operations_of ws → (e : Event)
+        → Contains zs e → Contains ws e
     into zs ws part_z part_w complete_z equal e among =
         let held = each_is_held zs e complete_z among in
         let other = event_held ws e.ticket (subst (λ os. IsHeld os e.ticket) equal held) in

@@ -11,11 +11,13 @@ use Rattle.history_merge.specs.Complete.{AreComplete}
 use Rattle.history_merge.specs.Queue.{accept, accept_all, IsAccepted}
 use Rattle.history_merge.specs.Legal.{IsLegalOrder}
 use Rattle.history_merge.proofs.Runs.{enqueued, dequeued, enqueued_is_dequeued, IsQueueBefore, queue_before}
-use Rattle.history_merge.proofs.Places.{Member, Member-right, StandsBefore, enqueue_of_member, dequeue_of_member, split_at_enqueue, split_at_dequeue, count, count-append, count_here, count-le-calls, calls_of_kind, same_place, same_front}
+use Rattle.history_merge.proofs.Places.{Member, Member-right, StandsBefore, enqueue_of_member, dequeue_of_member, split_at_enqueue, split_at_dequeue}
+use Rattle.history_merge.proofs.Places.{count, count-append, count_here, count-le-calls, calls_of_kind, same_place, same_front}
 use Rattle.history_merge.proofs.Distinct.{place_of as listed_place, contains_at, pairs_at}
 use Rattle.history_merge.proofs.Completeness.{called_once, returns_after_call, calls-IsPermutation}
 use Rattle.value_match.specs.declared.life.Life.{Life}
-use Rattle.value_match.specs.Violations.{Breach, fresh, repeat, order, witness, IsBreachOf, IsNeverEnqueued, IsEnqueuedTooLate, IsRepeatViolation, IsOrderViolation, CoversFrom}
+use Rattle.value_match.specs.Violations.{Breach, fresh, repeat, order, witness, IsBreachOf, IsNeverEnqueued, IsEnqueuedTooLate, IsRepeatViolation}
+use Rattle.value_match.specs.Violations.{IsOrderViolation, CoversFrom}
 use Rattle.verdicts.specs.Laws.{BreachExcludesOrder}
 use Rattle.value_match.specs.Lives.{dequeue_of, enqueue_of}
 use Rattle.linearizer.proofs.EachPosition.{some_injective}
@@ -25,7 +27,8 @@ kind_at [] i o at = cc
 kind_at (x ∷ xs) zero o at = let same : x ≡ o = cc in ap (λ y. Some y.kind) same
 kind_at (x ∷ xs) (suc i) o at = kind_at xs i o at
 
-operation_at : (xs : List Operation) (i : ℕ) (k : OpKind) → slice_get (map (λ o. o.kind) xs) i ≡ Some k → (o : Operation) × (slice_get xs i ≡ Some o) × (o.kind ≡ k)
+operation_at : (xs : List Operation) (i : ℕ) (k : OpKind) → slice_get (map (λ o. o.kind) xs) i ≡ Some k
+    → (o : Operation) × (slice_get xs i ≡ Some o) × (o.kind ≡ k)
 operation_at [] i k at = cc
 operation_at (x ∷ xs) zero k at = let same : x.kind ≡ k = cc in (x, refl, same)
 operation_at (x ∷ xs) (suc i) k at = operation_at xs i k at
@@ -61,7 +64,8 @@ module _ (operations listed : List Operation) (complete : AreComplete operations
 
   -- an operation does not stand before one that precedes it
   not_later : (i j : ℕ) (x y : Operation) → slice_get listed i ≡ Some x → slice_get listed j ≡ Some y → i < j → ¬ (Precedes y x)
-  not_later i j x y at_i at_j below before = pairs_at (λ earlier later. ¬ (Precedes later earlier)) listed i j x y legal.extends_precedence below at_i at_j before
+  not_later i j x y at_i at_j below before = pairs_at (λ earlier later. ¬ (Precedes later earlier)) listed i j x y legal.extends_precedence below at_i
+      at_j before
 
   call_has_one_place : (i j v : ℕ) (x y : Operation) → slice_get listed i ≡ Some x → slice_get listed j ≡ Some y
       → calls_of_kind v x.kind ≡ 1 → calls_of_kind v y.kind ≡ 1 → i ≡ j
@@ -76,18 +80,21 @@ module _ (operations listed : List Operation) (complete : AreComplete operations
       let left = left_queue [] (kinds_of listed) legal.is_accepted in
       queue_before (kinds_of listed) [] left.0 j o.kind left.1 (kind_at listed j o at)
 
-  gone_through : (j : ℕ) (o : Operation) (at : slice_get listed j ≡ Some o) → enqueued (take j (kinds_of listed)) ≡ dequeued (take j (kinds_of listed)) ++ (before j o at).queue
+  gone_through : (j : ℕ) (o : Operation) (at : slice_get listed j ≡ Some o)
+      → enqueued (take j (kinds_of listed)) ≡ dequeued (take j (kinds_of listed)) ++ (before j o at).queue
   gone_through j o at = enqueued_is_dequeued (take j (kinds_of listed)) [] (before j o at).queue (before j o at).reached
 
   -- what was taken out and what comes next, at a dequeue
-  gone_at_dequeue : (j v : ℕ) (o : Operation) → slice_get listed j ≡ Some o → o.kind ≡ Deq v → (rest : List ℕ) × (enqueued (take j (kinds_of listed)) ≡ dequeued (take j (kinds_of listed)) ++ v ∷ rest)
+  gone_at_dequeue : (j v : ℕ) (o : Operation) → slice_get listed j ≡ Some o → o.kind ≡ Deq v
+      → (rest : List ℕ) × (enqueued (take j (kinds_of listed)) ≡ dequeued (take j (kinds_of listed)) ++ v ∷ rest)
   gone_at_dequeue j v o at is =
       let accepted : accept (before j o at).queue (Deq v) ≡ Some (before j o at).next = rw (← is) (before j o at).accepted in
       let front = dequeued_front (before j o at).queue (before j o at).next v accepted in
       ((before j o at).next, gone_through j o at ∙ ap (λ q. dequeued (take j (kinds_of listed)) ++ q) front)
 
   -- before a dequeue stands an enqueue of its value
-  enqueue_before : (j v : ℕ) (o : Operation) → slice_get listed j ≡ Some o → o.kind ≡ Deq v → (i : ℕ) × (x : Operation) × (i < j) × (slice_get listed i ≡ Some x) × (x.kind ≡ Enq v)
+  enqueue_before : (j v : ℕ) (o : Operation) → slice_get listed j ≡ Some o → o.kind ≡ Deq v
+      → (i : ℕ) × (x : Operation) × (i < j) × (slice_get listed i ≡ Some x) × (x.kind ≡ Enq v)
   enqueue_before j v o at is =
       let gone = gone_at_dequeue j v o at is in
       let member : Member v (enqueued (take j (kinds_of listed))) = rw gone.1 (Member-right v (dequeued (take j (kinds_of listed))) (v ∷ gone.0) (inl refl)) in
@@ -138,13 +145,15 @@ module _ (operations listed : List Operation) (complete : AreComplete operations
       elim violation.enqueues [
         | inl refused ↦
             let there = place_of enq refused.0 in
-            let same = call_has_one_place first.0 there.0 v first.1 enq first.3 there.1 (calls_it v first.1.kind (inl first.4)) (calls_it v enq.kind (inr refused.1)) in
+            let same = call_has_one_place first.0 there.0 v first.1 enq first.3 there.1 (calls_it v first.1.kind (inl first.4))
+                (calls_it v enq.kind (inr refused.1)) in
             let kinds_differ : first.1 ≡ enq = some_injective (sym first.3 ∙ ap (slice_get listed) same ∙ there.1) in
             let clash : Enq v ≡ Not v = sym first.4 ∙ ap (λ o. o.kind) kinds_differ ∙ refused.1 in
             cc
         | inr late ↦
             let there = place_of enq late.0.0 in
-            let same = call_has_one_place first.0 there.0 v first.1 enq first.3 there.1 (calls_it v first.1.kind (inl first.4)) (calls_it v enq.kind (inl late.0.1)) in
+            let same = call_has_one_place first.0 there.0 v first.1 enq first.3 there.1 (calls_it v first.1.kind (inl first.4))
+                (calls_it v enq.kind (inl late.0.1)) in
             not_later there.0 place.0 enq deq there.1 place.1 (omega (arith, first.2)) late.1
       ]
 
@@ -172,8 +181,10 @@ module _ (operations listed : List Operation) (complete : AreComplete operations
       let moved = calls-IsPermutation b operations listed legal.holds_each_once in
       let few = count-le-calls (kinds_of listed) k b in
       let all = ap (count b) put_b.1 in
-      let fronts = same_front (enqueued (take j (kinds_of listed))) put_b.0 (dequeued (take k (kinds_of listed))) gone.0 b (sym put_b.1 ∙ gone.1) (omega arith) in
-      let member : Member a (dequeued (take k (kinds_of listed))) = rw (← fronts, put_a.1) (Member-right a (enqueued (take i (kinds_of listed))) (a ∷ put_a.0) (inl refl)) in
+      let fronts = same_front (enqueued (take j (kinds_of listed))) put_b.0 (dequeued (take k (kinds_of listed))) gone.0 b (sym put_b.1 ∙ gone.1)
+          (omega arith) in
+      let member : Member a (dequeued (take k (kinds_of listed))) =
+          rw (← fronts, put_a.1) (Member-right a (enqueued (take i (kinds_of listed))) (a ∷ put_a.0) (inl refl)) in
       dequeue_of_member (kinds_of listed) k a member
 
   enqueues_differ : (i j : ℕ) (x y : Operation) → slice_get listed i ≡ Some x → slice_get listed j ≡ Some y → Precedes x y → i < j
@@ -192,7 +203,8 @@ module _ (operations listed : List Operation) (complete : AreComplete operations
       ]
 
   -- a dequeue of a that stands before that of b is not the later one, and there is no other
-  not_dequeued_later : (a : ℕ) (deq_b : Operation) (later : Option Operation) → MatchOption later (NoneDid operations (Deq a)) (λ d. Did operations d (Deq a) × Precedes deq_b d)
+  not_dequeued_later : (a : ℕ) (deq_b : Operation) (later : Option Operation)
+      → MatchOption later (NoneDid operations (Deq a)) (λ d. Did operations d (Deq a) × Precedes deq_b d)
       → (i k : ℕ) (o : Operation) → i < k → slice_get listed i ≡ Some o → o.kind ≡ Deq a → slice_get listed k ≡ Some deq_b → ⊥
   not_dequeued_later a deq_b None none i k o below at is at_k = none o (is_operation i o at) is
   not_dequeued_later a deq_b (Some d) said i k o below at is at_k =
@@ -207,13 +219,16 @@ module _ (operations listed : List Operation) (complete : AreComplete operations
       let z = place_of deq_b violation.dequeues_b.0 in
       let first = enqueues_differ x.0 y.0 enq_a enq_b x.1 y.1 violation.enqueued_first in
       let put = enqueue_before z.0 violation.b deq_b z.1 violation.dequeues_b.1 in
-      let same = call_has_one_place put.0 y.0 violation.b put.1 enq_b put.3 y.1 (calls_it violation.b put.1.kind (inl put.4)) (calls_it violation.b enq_b.kind (inl violation.enqueues_b.1)) in
-      let stands = dequeued_before x.0 y.0 z.0 violation.a violation.b enq_a enq_b deq_b x.1 violation.enqueues_a.1 y.1 violation.enqueues_b.1 z.1 violation.dequeues_b.1 first (omega (arith, put.2)) in
+      let same = call_has_one_place put.0 y.0 violation.b put.1 enq_b put.3 y.1 (calls_it violation.b put.1.kind (inl put.4))
+          (calls_it violation.b enq_b.kind (inl violation.enqueues_b.1)) in
+      let stands = dequeued_before x.0 y.0 z.0 violation.a violation.b enq_a enq_b deq_b x.1 violation.enqueues_a.1 y.1 violation.enqueues_b.1 z.1
+          violation.dequeues_b.1 first (omega (arith, put.2)) in
       let found = operation_at listed stands.0 (Deq violation.a) stands.2 in
       not_dequeued_later violation.a deq_b deq_a violation.dequeued_later stands.0 z.0 found.0 stands.1 found.1 found.2 z.1
 
   -- nothing that was put in before an empty answer is still there, so its dequeue stands before the answer
-  gone_at_empty : (j v : ℕ) (o : Operation) → slice_get listed j ≡ Some o → o.kind ≡ Empty → (i : ℕ) (x : Operation) → slice_get listed i ≡ Some x → x.kind ≡ Enq v → i < j
+  gone_at_empty : (j v : ℕ) (o : Operation) → slice_get listed j ≡ Some o → o.kind ≡ Empty → (i : ℕ) (x : Operation) → slice_get listed i ≡ Some x
+      → x.kind ≡ Enq v → i < j
       → StandsBefore (kinds_of listed) j (Deq v)
   gone_at_empty j v o at is i x at_x is_x below =
       let accepted : accept (before j o at).queue Empty ≡ Some (before j o at).next = rw (← is) (before j o at).accepted in
@@ -221,7 +236,8 @@ module _ (operations listed : List Operation) (complete : AreComplete operations
       let enq : slice_get (kinds_of listed) i ≡ Some (Enq v) = kind_at listed i x at_x ∙ ap (λ kind. Some kind) is_x in
       let put = split_at_enqueue (kinds_of listed) i j v below enq in
       let gone = gone_through j o at ∙ ap (λ q. dequeued (take j (kinds_of listed)) ++ q) none ∙ append-nil (dequeued (take j (kinds_of listed))) in
-      let member : Member v (dequeued (take j (kinds_of listed))) = rw (← gone, put.1) (Member-right v (enqueued (take i (kinds_of listed))) (v ∷ put.0) (inl refl)) in
+      let member : Member v (dequeued (take j (kinds_of listed))) =
+          rw (← gone, put.1) (Member-right v (enqueued (take i (kinds_of listed))) (v ∷ put.0) (inl refl)) in
       dequeue_of_member (kinds_of listed) j v member
 
   -- the dequeue that stands before the empty answer is the named one, and so comes no later
@@ -252,7 +268,8 @@ module _ (operations listed : List Operation) (complete : AreComplete operations
       let found = operation_at listed stands.0 (Deq v) stands.2 in
       step (dequeue_of life) covers.0.2 covers.2 stands.0 found.0 stands.1 found.1 found.2 (excludes_cover j empty at is (next ∷ rest))
     where
-      step : (dequeue : Option Operation) → MatchOption dequeue (NoneDid operations (Deq covers.0.0)) (λ d. Did operations d (Deq covers.0.0)) → MatchOption dequeue ⊥ (λ d. CoversFrom operations empty d (next ∷ rest))
+      step : (dequeue : Option Operation) → MatchOption dequeue (NoneDid operations (Deq covers.0.0)) (λ d. Did operations d (Deq covers.0.0))
+          → MatchOption dequeue ⊥ (λ d. CoversFrom operations empty d (next ∷ rest))
           → (i : ℕ) (o : Operation) → i < j → slice_get listed i ≡ Some o → o.kind ≡ Deq covers.0.0
           → ((p : ℕ) (prior : Operation) → slice_get listed p ≡ Some prior → p ≤ j → CoversFrom operations empty prior (next ∷ rest) → ⊥) → ⊥
       step None none unnamed i o below_j at_i is_i more = unnamed

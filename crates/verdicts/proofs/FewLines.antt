@@ -1,5 +1,6 @@
 -- A verdict shows each operation once, so it has at most half as many lines as the history has events.
-use Rattle.std.proofs.Common.{◌≡◌, ℕ, zero, suc, ◌+◌, ◌<◌, ◌≤◌, ◌⊎◌, Bool, true, false, List, [], ◌∷◌, ◌++◌, length, map, Option, Some, None, refl, sym, ◌∙◌, ap, subst, inl, inr, arith}
+use Rattle.std.proofs.Common.{◌≡◌, ℕ, zero, suc, ◌+◌, ◌<◌, ◌≤◌, ◌⊎◌, Bool, true, false, List, [], ◌∷◌, ◌++◌, length, map, Option, Some, None, refl}
+use Rattle.std.proofs.Common.{sym, ◌∙◌, ap, subst, inl, inr, arith}
 use Rattle.std.specs.Prelude.{AllPairs, Contains, MatchOption, nat_eq, flat_map, option_to_list, ⊤}
 use Rattle.std.specs.List.{AllByRecursion, IsDistinct}
 use Rattle.std.specs.Set.{is_member}
@@ -14,7 +15,8 @@ use Rattle.history_merge.specs.declared.operation.OpKind.TheVariants.{Enq, Deq, 
 use Rattle.history_merge.specs.Complete.{AreComplete, IsCompleteHistory}
 use Rattle.history_merge.specs.Legal.{ArePlacesOf}
 use Rattle.history_merge.specs.Operations.{Did, NoneDid, operations_of}
-use Rattle.history_merge.proofs.Distinct.{contains_cons, not_in_none, place_of, contains_at, pairs_at, traced, same_call, same_return, return_differs_from_call, call_before_return}
+use Rattle.history_merge.proofs.Distinct.{contains_cons, not_in_none, place_of, contains_at, pairs_at, traced, same_call, same_return}
+use Rattle.history_merge.proofs.Distinct.{return_differs_from_call, call_before_return}
 use Rattle.value_match.specs.declared.life.Life.{Life}
 use Rattle.value_match.specs.Lives.{IsLife, IsCovered, dequeue_call, call_or_never, dequeue_of, enqueue_of, operations_of_life}
 use Rattle.value_match.specs.Violations.{Breach, fresh, repeat, order, witness, IsClear, lines_of}
@@ -67,7 +69,8 @@ none_equal x (y ∷ ys) not = (differs (nat_eq x y) refl, none_equal x ys (λ am
     differs false same = same
 
 module _ (operations : List Operation) (complete : AreComplete operations) where
-  call_apart : (o : Operation) (rest : List Operation) → Contains operations o → ((x : Operation) → Contains rest x → Contains operations x) → (Contains rest o → ⊥) → Contains (o.ret ∷ tickets_of rest) o.call → ⊥
+  call_apart : (o : Operation) (rest : List Operation) → Contains operations o → ((x : Operation) → Contains rest x → Contains operations x)
+      → (Contains rest o → ⊥) → Contains (o.ret ∷ tickets_of rest) o.call → ⊥
   call_apart o rest here among not in_tickets = elim (contains_cons o.ret (tickets_of rest) o.call in_tickets) [
     | inl same ↦ return_differs_from_call operations o o complete here here same
     | inr later ↦ by_ticket (ticket_from rest o.call later)
@@ -77,14 +80,16 @@ module _ (operations : List Operation) (complete : AreComplete operations) where
       by_ticket (x, in_rest, inl called) = not (subst (Contains rest) (same_call operations x o complete (among x in_rest) here called) in_rest)
       by_ticket (x, in_rest, inr returned) = return_differs_from_call operations x o complete (among x in_rest) here returned
 
-  return_apart : (o : Operation) (rest : List Operation) → Contains operations o → ((x : Operation) → Contains rest x → Contains operations x) → (Contains rest o → ⊥) → Contains (tickets_of rest) o.ret → ⊥
+  return_apart : (o : Operation) (rest : List Operation) → Contains operations o → ((x : Operation) → Contains rest x → Contains operations x)
+      → (Contains rest o → ⊥) → Contains (tickets_of rest) o.ret → ⊥
   return_apart o rest here among not later = by_ticket (ticket_from rest o.ret later)
     where
       by_ticket : (x : Operation) × Contains rest x × ((x.call ≡ o.ret) ⊎ (x.ret ≡ o.ret)) → ⊥
       by_ticket (x, in_rest, inl called) = return_differs_from_call operations o x complete here (among x in_rest) (sym called)
       by_ticket (x, in_rest, inr returned) = not (subst (Contains rest) (same_return operations x o complete (among x in_rest) here returned) in_rest)
 
-  distinct_tickets : (listed : List Operation) → ((x : Operation) → Contains listed x → Contains operations x) → Apart listed → IsDistinct nat_eq (tickets_of listed)
+  distinct_tickets : (listed : List Operation) → ((x : Operation) → Contains listed x → Contains operations x) → Apart listed
+      → IsDistinct nat_eq (tickets_of listed)
   unfolding IsDistinct
   distinct_tickets [] among apart = tt
   distinct_tickets (o ∷ rest) among apart =
@@ -95,10 +100,12 @@ module _ (operations : List Operation) (complete : AreComplete operations) where
       )
 
 -- operations of a history, each once, are at most half as many as its events
-few_apart : (events : List Event) (listed : List Operation) → IsCompleteHistory events → ((x : Operation) → Contains listed x → Contains (operations_of events) x) → Apart listed → length listed + length listed ≤ length events
+few_apart : (events : List Event) (listed : List Operation) → IsCompleteHistory events
+    → ((x : Operation) → Contains listed x → Contains (operations_of events) x) → Apart listed → length listed + length listed ≤ length events
 few_apart events listed complete among apart =
     let tickets : List ℕ = map (λ e. e.ticket) events in
-    let few = length-le_from_is_member nat_eq_equiv (tickets_of listed) tickets (distinct_tickets (operations_of events) (events, complete, refl) listed among apart) member in
+    let few = length-le_from_is_member nat_eq_equiv (tickets_of listed) tickets
+        (distinct_tickets (operations_of events) (events, complete, refl) listed among apart) member in
     let twice = double listed in
     let each : length (map (λ e. e.ticket) events) ≡ length events = simp length-map in
     omega arith
@@ -106,24 +113,29 @@ few_apart events listed complete among apart =
     of_event : (t : ℕ) → (o : Operation) × Contains listed o × ((o.call ≡ t) ⊎ (o.ret ≡ t)) → Contains (map (λ e. e.ticket) events) t
     of_event t (o, in_list, inl called) =
         let seen = traced events o (among o in_list) in
-        subst (Contains (map (λ e. e.ticket) events)) (sym seen.made.called ∙ called) (mapped_to (λ e. e.ticket) events seen.call (contains_at events seen.called_at seen.call seen.at_call))
+        subst (Contains (map (λ e. e.ticket) events)) (sym seen.made.called ∙ called)
+            (mapped_to (λ e. e.ticket) events seen.call (contains_at events seen.called_at seen.call seen.at_call))
     of_event t (o, in_list, inr returned) =
         let seen = traced events o (among o in_list) in
-        subst (Contains (map (λ e. e.ticket) events)) (sym seen.made.returned ∙ returned) (mapped_to (λ e. e.ticket) events seen.answer (contains_at events seen.returned_at seen.answer seen.at_return))
+        subst (Contains (map (λ e. e.ticket) events)) (sym seen.made.returned ∙ returned)
+            (mapped_to (λ e. e.ticket) events seen.answer (contains_at events seen.returned_at seen.answer seen.at_return))
 
     member : (t : ℕ) → is_member nat_eq (tickets_of listed) t ≡ true → is_member nat_eq (map (λ e. e.ticket) events) t ≡ true
-    member t is = (is_member-Decides unsigned_Decides (map (λ e. e.ticket) events) t).1 (of_event t (ticket_from listed t ((is_member-Decides unsigned_Decides (tickets_of listed) t).0 is)))
+    member t is = (is_member-Decides unsigned_Decides (map (λ e. e.ticket) events) t).1
+        (of_event t (ticket_from listed t ((is_member-Decides unsigned_Decides (tickets_of listed) t).0 is)))
 
 apart_from_rise : (operations : List Operation) → AllPairs (λ x y. x.call < y.call) operations → Apart operations
 apart_from_rise [] rise = tt
 apart_from_rise (o ∷ rest) rise = (
-  λ among. let place = place_of rest o among in let less = pairs_at (λ x y. x.call < y.call) (o ∷ rest) zero (suc place.0) o o rise (omega arith) refl place.1 in absurd (omega arith),
+  λ among. let place = place_of rest o among in let less = pairs_at (λ x y. x.call < y.call) (o ∷ rest) zero (suc place.0) o o rise
+      (omega arith) refl place.1 in absurd (omega arith),
   apart_from_rise rest (AllPairs-tail (λ x y. x.call < y.call) o rest rise),
 )
 
 -- ---- covers
 
-lines_from : (e : Operation) (d : Option Operation) (rest : List Operation) (o : Operation) → Contains ((e ∷ option_to_list d) ++ rest) o → (e ≡ o) ⊎ ((d ≡ Some o) ⊎ Contains rest o)
+lines_from : (e : Operation) (d : Option Operation) (rest : List Operation) (o : Operation) → Contains ((e ∷ option_to_list d) ++ rest) o
+    → (e ≡ o) ⊎ ((d ≡ Some o) ⊎ Contains rest o)
 lines_from e None rest o among = elim (contains_cons e rest o among) [ inl here ↦ inl here | inr later ↦ inr (inr later) ]
 lines_from e (Some d) rest o among = elim (contains_cons e (d ∷ rest) o among) [
   | inl here ↦ inl here
@@ -131,7 +143,8 @@ lines_from e (Some d) rest o among = elim (contains_cons e (d ∷ rest) o among)
 ]
 
 -- a line of a cover is the enqueue or the dequeue of one of its values
-line_from : (cover : List Life) (o : Operation) → Contains (flat_map operations_of_life cover) o → (life : Life) × Contains cover life × ((enqueue_of life ≡ o) ⊎ (dequeue_of life ≡ Some o))
+line_from : (cover : List Life) (o : Operation) → Contains (flat_map operations_of_life cover) o
+    → (life : Life) × Contains cover life × ((enqueue_of life ≡ o) ⊎ (dequeue_of life ≡ Some o))
 line_from [] o among = absurd (not_in_none o among)
 line_from (life ∷ rest) o among = elim (lines_from (enqueue_of life) (dequeue_of life) (flat_map operations_of_life rest) o among) [
   | inl here ↦ (life, (zero, omega arith, refl), inl here)
@@ -139,7 +152,8 @@ line_from (life ∷ rest) o among = elim (lines_from (enqueue_of life) (dequeue_
   | inr (inr later) ↦ let found = line_from rest o later in (found.0, one_deeper life rest found.0 found.1, found.2)
 ]
 
-apart_life : (e : Operation) (d : Option Operation) (rest : List Operation) → (Contains rest e → ⊥) → ((o : Operation) → d ≡ Some o → (o ≡ e → ⊥) × (Contains rest o → ⊥)) → Apart rest → Apart ((e ∷ option_to_list d) ++ rest)
+apart_life : (e : Operation) (d : Option Operation) (rest : List Operation) → (Contains rest e → ⊥)
+    → ((o : Operation) → d ≡ Some o → (o ≡ e → ⊥) × (Contains rest o → ⊥)) → Apart rest → Apart ((e ∷ option_to_list d) ++ rest)
 apart_life e None rest no_e no_d apart = (no_e, apart)
 apart_life e (Some d) rest no_e no_d apart = (
   λ among. elim (contains_cons d rest e among) [ inl same ↦ (no_d d refl).0 same | inr later ↦ no_e later ],
@@ -150,15 +164,18 @@ apart_life e (Some d) rest no_e no_d apart = (
 life_enqueues : (operations : List Operation) (life : Life) (o : Operation) → IsLife operations life → enqueue_of life ≡ o → (v : ℕ) × (o.kind ≡ Enq v)
 life_enqueues operations life o is same = (is.0, ap (λ x. x.kind) (sym same) ∙ is.1.1)
 
-life_dequeues : (operations : List Operation) (life : Life) (o : Operation) → IsLife operations life → dequeue_of life ≡ Some o → (v : ℕ) × Did operations o (Deq v)
+life_dequeues : (operations : List Operation) (life : Life) (o : Operation) → IsLife operations life → dequeue_of life ≡ Some o
+    → (v : ℕ) × Did operations o (Deq v)
 life_dequeues operations life o is same = (is.0, subst (λ d. MatchOption d (NoneDid operations (Deq is.0)) (λ x. Did operations x (Deq is.0))) same is.2)
 
 differ : (o : Operation) (v w : ℕ) → o.kind ≡ Enq v → o.kind ≡ Deq w → ⊥
 differ o v w enqueues dequeues = let kinds : Enq v ≡ Deq w = sym enqueues ∙ dequeues in cc
 
-module _ (operations : List Operation) (empty : Operation) (clear : IsClear operations) (did : Did operations empty Empty) (covered : IsCovered operations empty) where
+module _ (operations : List Operation) (empty : Operation) (clear : IsClear operations) (did : Did operations empty Empty)
+    (covered : IsCovered operations empty) where
   -- the lines of the first value of a cover are none of the others'
-  first_apart : (life : Life) (rest : List Life) → IsLife operations life → ((y : Life) → Contains rest y → IsLife operations y) → ((y : Life) → Contains rest y → dequeue_call life < dequeue_call y)
+  first_apart : (life : Life) (rest : List Life) → IsLife operations life → ((y : Life) → Contains rest y → IsLife operations y)
+      → ((y : Life) → Contains rest y → dequeue_call life < dequeue_call y)
       → Apart (flat_map operations_of_life rest) → Apart (flat_map operations_of_life (life ∷ rest))
   first_apart life rest is are later apart = apart_life (enqueue_of life) (dequeue_of life) (flat_map operations_of_life rest) no_enqueue no_dequeue apart
     where
@@ -166,14 +183,16 @@ module _ (operations : List Operation) (empty : Operation) (clear : IsClear oper
       by_enqueue (y, among, inl same) =
           let one = one_life_of_enqueue operations y life clear (are y among) is same in
           let calls = ap dequeue_call one in let less = later y among in omega arith
-      by_enqueue (y, among, inr same) = let dequeues = life_dequeues operations y (enqueue_of life) (are y among) same in differ (enqueue_of life) is.0 dequeues.0 is.1.1 dequeues.1.1
+      by_enqueue (y, among, inr same) = let dequeues = life_dequeues operations y (enqueue_of life) (are y among) same in
+          differ (enqueue_of life) is.0 dequeues.0 is.1.1 dequeues.1.1
 
       no_enqueue : Contains (flat_map operations_of_life rest) (enqueue_of life) → ⊥
       no_enqueue among = by_enqueue (line_from rest (enqueue_of life) among)
 
       by_dequeue : (o : Operation) → dequeue_of life ≡ Some o → (y : Life) × Contains rest y × ((enqueue_of y ≡ o) ⊎ (dequeue_of y ≡ Some o)) → ⊥
       by_dequeue o at (y, among, inl same) =
-          let enqueues = life_enqueues operations y o (are y among) same in let dequeues = life_dequeues operations life o is at in differ o enqueues.0 dequeues.0 enqueues.1 dequeues.1.1
+          let enqueues = life_enqueues operations y o (are y among) same in let dequeues = life_dequeues operations life o is at in
+              differ o enqueues.0 dequeues.0 enqueues.1 dequeues.1.1
       by_dequeue o at (y, among, inr same) = let calls = ap call_or_never (at ∙ sym same) in let less = later y among in omega arith
 
       no_dequeue : (o : Operation) → dequeue_of life ≡ Some o → (o ≡ enqueue_of life → ⊥) × (Contains (flat_map operations_of_life rest) o → ⊥)
@@ -182,17 +201,21 @@ module _ (operations : List Operation) (empty : Operation) (clear : IsClear oper
         λ among. by_dequeue o at (line_from rest o among),
       )
 
-  cover_apart : (cover : List Life) (before : Operation) → IsCalledInside operations empty clear did covered before → IsChosenCoverFrom operations empty before.call cover → Apart (flat_map operations_of_life cover)
+  cover_apart : (cover : List Life) (before : Operation) → IsCalledInside operations empty clear did covered before
+      → IsChosenCoverFrom operations empty before.call cover → Apart (flat_map operations_of_life cover)
   cover_apart [] before inside chosen = absurd chosen
-  cover_apart (life ∷ []) before inside chosen = first_apart life [] chosen.0.is_life (λ y among. absurd (not_in_none y among)) (λ y among. absurd (not_in_none y among)) tt
+  cover_apart (life ∷ []) before inside chosen = first_apart life [] chosen.0.is_life (λ y among. absurd (not_in_none y among))
+      (λ y among. absurd (not_in_none y among)) tt
   cover_apart (life ∷ next ∷ rest) before inside chosen =
       let after = handover operations empty clear did covered before life (next ∷ rest) next inside chosen (zero, omega arith, refl) in
       first_apart life (next ∷ rest) chosen.0.is_life
       (λ y among. chosen_are_lives operations empty (next ∷ rest) after.0.call y after.1.further among)
-      (λ y among. let stays = all_stay operations empty clear did covered (next ∷ rest) after.0 y after.1.inside after.1.further among in omega (arith, after.1.calls))
+      (λ y among. let stays = all_stay operations empty clear did covered (next ∷ rest) after.0 y after.1.inside after.1.further among in
+          omega (arith, after.1.calls))
       (cover_apart (next ∷ rest) after.0 after.1.inside after.1.further)
 
-  among_lines : (cover : List Life) → ((y : Life) → Contains cover y → IsLife operations y) → (o : Operation) → Contains (flat_map operations_of_life cover) o → Contains operations o × ((o.kind ≡ Empty) → ⊥)
+  among_lines : (cover : List Life) → ((y : Life) → Contains cover y → IsLife operations y) → (o : Operation)
+      → Contains (flat_map operations_of_life cover) o → Contains operations o × ((o.kind ≡ Empty) → ⊥)
   among_lines cover are o among = by_line (line_from cover o among)
     where
       by_line : (y : Life) × Contains cover y × ((enqueue_of y ≡ o) ⊎ (dequeue_of y ≡ Some o)) → Contains operations o × ((o.kind ≡ Empty) → ⊥)
@@ -206,7 +229,8 @@ module _ (operations : List Operation) (empty : Operation) (clear : IsClear oper
 -- ---- verdicts
 
 module _ (events : List Event) (complete : IsCompleteHistory events) where
-  witness_lines : (empty : Operation) (cover : List Life) → IsChosenBreach (operations_of events) (witness empty cover) → length (lines_of (witness empty cover)) + length (lines_of (witness empty cover)) ≤ length events
+  witness_lines : (empty : Operation) (cover : List Life) → IsChosenBreach (operations_of events) (witness empty cover)
+      → length (lines_of (witness empty cover)) + length (lines_of (witness empty cover)) ≤ length events
   witness_lines empty cover chosen =
       let operations = operations_of events in
       let whole : AreComplete operations = (events, complete, refl) in
@@ -219,7 +243,8 @@ module _ (events : List Event) (complete : IsCompleteHistory events) where
       let are = λ (y : Life) (among : Contains cover y). chosen_are_lives operations empty cover empty.call y chosen.3.cover_is_chosen among in
       let lines = among_lines operations empty clear did covered cover are in
       few_apart events (lines_of (witness empty cover)) complete
-      (λ o among. elim (contains_cons empty (flat_map operations_of_life cover) o among) [ inl same ↦ subst (Contains operations) same did.0 | inr later ↦ (lines o later).0 ])
+      (λ o among. elim (contains_cons empty (flat_map operations_of_life cover) o among)
+          [ inl same ↦ subst (Contains operations) same did.0 | inr later ↦ (lines o later).0 ])
       (λ among. (lines empty among).1 did.1, apart)
 
   few_chosen : (breach : Breach) → length events ≤ MAX_EVENTS → IsChosenBreach (operations_of events) breach → length (lines_of breach) ≤ MAX_OPERATIONS
@@ -232,7 +257,8 @@ module _ (events : List Event) (complete : IsCompleteHistory events) where
 
   few_operations : length events ≤ MAX_EVENTS → length (operations_of events) ≤ MAX_OPERATIONS
   few_operations few =
-      let half = few_apart events (operations_of events) complete (λ o among. among) (apart_from_rise (operations_of events) (operations_rise (operations_of events) (events, complete, refl))) in
+      let half = few_apart events (operations_of events) complete (λ o among. among)
+          (apart_from_rise (operations_of events) (operations_rise (operations_of events) (events, complete, refl))) in
       omega (arith, half, few)
 
   as_many : (places : List ℕ) (listed : List Operation) → ArePlacesOf (operations_of events) places listed → length places ≡ length listed

@@ -1,5 +1,6 @@
 -- Some operations of a complete history, with both their events, make a complete history.
-use Rattle.std.proofs.Common.{◌≡◌, ◌≢◌, ℕ, zero, suc, ◌<◌, ◌≤◌, Bool, true, false, cond, List, [], ◌∷◌, Option, Some, None, refl, sym, ◌∙◌, ap, subst, arith, nat_eq}
+use Rattle.std.proofs.Common.{◌≡◌, ◌≢◌, ℕ, zero, suc, ◌<◌, ◌≤◌, Bool, true, false, cond, List, [], ◌∷◌, Option, Some, None, refl, sym, ◌∙◌, ap, subst}
+use Rattle.std.proofs.Common.{arith, nat_eq}
 use Rattle.std.specs.Prelude.{All, AllPairs, Contains, filter, filter_map, find, IsTrue, MatchBool, ⊤}
 use Rattle.std.specs.List.{cons_option}
 use Rattle.std.proofs.lemmas.Bool.{eqb-true, eq-eqb}
@@ -50,7 +51,8 @@ answered_kind CallDeq RetEmpty is = (Empty, refl)
 answered_kind _ _ is = cc
 
 -- a call and a return of its kind are an operation
-pub operation_made : (call answer : Event) → answers call.what answer.what ≡ true → (o : Operation) × (operation_of call (Some answer) ≡ Some o) × (o.call ≡ call.ticket) × (o.ret ≡ answer.ticket)
+pub operation_made : (call answer : Event) → answers call.what answer.what ≡ true
+    → (o : Operation) × (operation_of call (Some answer) ≡ Some o) × (o.call ≡ call.ticket) × (o.ret ≡ answer.ticket)
 operation_made call answer is =
     let kind = answered_kind call.what answer.what is in
     (record { call = call.ticket; ret = answer.ticket; thread = call.thread; kind = kind.0 }, rw (kind.1, operation_of) refl, refl, refl)
@@ -76,14 +78,16 @@ TurnsAfter (Some call) events = TakesTurns (call ∷ events)
 abbrev EachTurns : List Event → Type 0
 EachTurns events = (thread : ℕ) → (pending : Option Event) × TurnsAfter pending (projection thread events)
 
-turns_later : (e : Event) (events : List Event) (pending : Option Event) → TurnsAfter pending (e ∷ events) → (pending' : Option Event) × TurnsAfter pending' events
+turns_later : (e : Event) (events : List Event) (pending : Option Event) → TurnsAfter pending (e ∷ events)
+    → (pending' : Option Event) × TurnsAfter pending' events
 turns_later e events None turns = (Some e, turns)
 turns_later e events (Some call) turns = (None, turns.1)
 
 each_turns_later : (e : Event) (later : List Event) → EachTurns (e ∷ later) → EachTurns later
 each_turns_later e later each thread = pick (nat_eq e.thread thread) (each thread).0 (each thread).1
   where
-    pick : (b : Bool) (pending : Option Event) → TurnsAfter pending (cond b (e ∷ projection thread later) (projection thread later)) → (pending' : Option Event) × TurnsAfter pending' (projection thread later)
+    pick : (b : Bool) (pending : Option Event) → TurnsAfter pending (cond b (e ∷ projection thread later) (projection thread later))
+        → (pending' : Option Event) × TurnsAfter pending' (projection thread later)
     pick true pending turns = turns_later e (projection thread later) pending turns
     pick false pending turns = (pending, turns)
 
@@ -97,8 +101,10 @@ among_first None later o same = cc
 among_first (Some x) later o same = let here : x ≡ o = cc in (zero, omega arith, here)
 
 -- an event that begins no operation, whatever follows it in its thread, is a return
-begins_none : (e : Event) (later : List Event) (found : Option Event) → EachTurns (e ∷ later) → operation_of e (find (λ r. nat_eq r.thread e.thread) later) ≡ None → operation_of e found ≡ None
-begins_none e later found each none = pick (each e.thread).0 (subst (λ b. TurnsAfter (each e.thread).0 (cond b (e ∷ projection e.thread later) (projection e.thread later))) (eq-eqb e.thread e.thread refl) (each e.thread).1)
+begins_none : (e : Event) (later : List Event) (found : Option Event) → EachTurns (e ∷ later)
+    → operation_of e (find (λ r. nat_eq r.thread e.thread) later) ≡ None → operation_of e found ≡ None
+begins_none e later found each none = pick (each e.thread).0 (subst
+    (λ b. TurnsAfter (each e.thread).0 (cond b (e ∷ projection e.thread later) (projection e.thread later))) (eq-eqb e.thread e.thread refl) (each e.thread).1)
   where
     unanswered : (events : List Event) → projection e.thread later ≡ events → TakesTurns (e ∷ events) → ⊥
     unanswered [] same turns = turns
@@ -124,13 +130,15 @@ module _ (keeps : ℕ → Bool) (test : Operation → Bool) where
   kept_later made later both o among = both o (among_later made later o among)
 
   -- the operations of the kept events are the operations that pass
-  kept_operations : (events : List Event) → EachTurns events → KeepsBoth keeps test (operations_of events) → operations_of (kept_events events) ≡ filter test (operations_of events)
+  kept_operations : (events : List Event) → EachTurns events → KeepsBoth keeps test (operations_of events)
+      → operations_of (kept_events events) ≡ filter test (operations_of events)
   kept_operations [] each both = refl
   kept_operations (e ∷ later) each both =
       let made = operation_of e (find (λ r. nat_eq r.thread e.thread) later) in
       join made refl (keeps e.ticket) refl both (kept_operations later (each_turns_later e later each) (kept_later made (operations_of later) both))
     where
-      join : (made : Option Operation) → operation_of e (find (λ r. nat_eq r.thread e.thread) later) ≡ made → (k : Bool) → keeps e.ticket ≡ k → KeepsBoth keeps test (cons_option made (operations_of later))
+      join : (made : Option Operation) → operation_of e (find (λ r. nat_eq r.thread e.thread) later) ≡ made → (k : Bool) → keeps e.ticket ≡ k
+          → KeepsBoth keeps test (cons_option made (operations_of later))
           → operations_of (kept_events later) ≡ filter test (operations_of later)
           → operations_of (cond k (e ∷ kept_events later) (kept_events later)) ≡ filter test (cons_option made (operations_of later))
       join None none false is both' rest = rest
@@ -143,11 +151,13 @@ module _ (keeps : ℕ → Bool) (test : Operation → Bool) where
           rw passes (by_test k made.0 made.1 answered)
         where
           by_test : (k : Bool) (answer : Event) → find (λ r. nat_eq r.thread e.thread) later ≡ Some answer → keeps answer.ticket ≡ k
-              → operations_of (cond k (e ∷ kept_events later) (kept_events later)) ≡ cond k (o ∷ filter test (operations_of later)) (filter test (operations_of later))
+              → operations_of (cond k (e ∷ kept_events later) (kept_events later)) ≡ cond k (o ∷ filter test (operations_of later))
+                  (filter test (operations_of later))
           by_test false answer found kept = rest
           by_test true answer found kept =
               let found' = find_kept (λ r. nat_eq r.thread e.thread) (λ r. keeps r.ticket) later answer found kept in
-              let here : operation_of e (find (λ r. nat_eq r.thread e.thread) (kept_events later)) ≡ Some o = ap (operation_of e) found' ∙ ap (operation_of e) (sym found) ∙ same in
+              let here : operation_of e (find (λ r. nat_eq r.thread e.thread) (kept_events later)) ≡ Some o =
+                  ap (operation_of e) found' ∙ ap (operation_of e) (sym found) ∙ same in
               rw (here, rest) refl
 
   -- the next event of this thread is kept as the waiting call is
@@ -164,7 +174,8 @@ module _ (keeps : ℕ → Bool) (test : Operation → Bool) where
   KeptTurns (Some call) events = MatchBool (keeps call.ticket) (TakesTurns (call ∷ events)) (TakesTurns events)
 
   -- a call is kept as its return is
-  answer_as_kept : (e : Event) (later : List Event) (thread : ℕ) → e.thread ≡ thread → TakesTurns (e ∷ projection thread later) → KeepsBoth keeps test (operations_of (e ∷ later)) → NextAsKept thread e later
+  answer_as_kept : (e : Event) (later : List Event) (thread : ℕ) → e.thread ≡ thread → TakesTurns (e ∷ projection thread later)
+      → KeepsBoth keeps test (operations_of (e ∷ later)) → NextAsKept thread e later
   answer_as_kept e later thread own turns both r found = by_next (projection thread later) refl turns
     where
       by_next : (events : List Event) → projection thread later ≡ events → TakesTurns (e ∷ events) → keeps r.ticket ≡ keeps e.ticket
@@ -178,16 +189,19 @@ module _ (keeps : ℕ → Bool) (test : Operation → Bool) where
           let kept = both made.0 (among_first (operation_of e (find (λ r. nat_eq r.thread e.thread) later)) (operations_of later) made.0 here) in
           ap (λ x. keeps x.ticket) (sym one) ∙ ap keeps (sym made.3) ∙ kept.1 ∙ sym kept.0 ∙ ap keeps made.2
 
-  kept_turns : (thread : ℕ) (events : List Event) (pending : Option Event) → TurnsAfter pending (projection thread events) → KeepsBoth keeps test (operations_of events) → IsAsKept thread pending events
+  kept_turns : (thread : ℕ) (events : List Event) (pending : Option Event) → TurnsAfter pending (projection thread events)
+      → KeepsBoth keeps test (operations_of events) → IsAsKept thread pending events
       → KeptTurns pending (projection thread (kept_events events))
   kept_turns thread [] None turns both next = tt
   kept_turns thread [] (Some call) turns both next = elim turns [ ]
   kept_turns thread (e ∷ later) pending turns both next =
       own (nat_eq e.thread thread) refl pending turns next
-      (λ pending' turns' next'. kept_turns thread later pending' turns' (kept_later (operation_of e (find (λ r. nat_eq r.thread e.thread) later)) (operations_of later) both) next')
+      (λ pending' turns' next'. kept_turns thread later pending' turns'
+          (kept_later (operation_of e (find (λ r. nat_eq r.thread e.thread) later)) (operations_of later) both) next')
     where
       -- an event of another thread is passed over
-      other : (k : Bool) → nat_eq e.thread thread ≡ false → projection thread (cond k (e ∷ kept_events later) (kept_events later)) ≡ projection thread (kept_events later)
+      other : (k : Bool) → nat_eq e.thread thread ≡ false → projection thread (cond k (e ∷ kept_events later) (kept_events later)) ≡ projection thread
+          (kept_events later)
       other true test = rw test refl
       other false test = refl
 
@@ -196,59 +210,72 @@ module _ (keeps : ℕ → Bool) (test : Operation → Bool) where
       not_next (Some call) test next = λ r found. next r (rw test found)
 
       -- an event of this thread waits for its return, if it is kept
-      begins : (k : Bool) → nat_eq e.thread thread ≡ true → MatchBool k (TakesTurns (e ∷ projection thread (kept_events later))) (TakesTurns (projection thread (kept_events later)))
+      begins : (k : Bool) → nat_eq e.thread thread ≡ true → MatchBool k (TakesTurns (e ∷ projection thread (kept_events later)))
+          (TakesTurns (projection thread (kept_events later)))
           → TakesTurns (projection thread (cond k (e ∷ kept_events later) (kept_events later)))
       begins true test turns = rw test turns
       begins false test turns = turns
 
       -- or answers the waiting call, and is kept as that is
       ends : (call : Event) (k : Bool) → nat_eq e.thread thread ≡ true → IsTrue (answers call.what e.what) → TakesTurns (projection thread (kept_events later))
-          → MatchBool k (TakesTurns (call ∷ projection thread (cond k (e ∷ kept_events later) (kept_events later)))) (TakesTurns (projection thread (cond k (e ∷ kept_events later) (kept_events later))))
+          → MatchBool k (TakesTurns (call ∷ projection thread (cond k (e ∷ kept_events later) (kept_events later))))
+              (TakesTurns (projection thread (cond k (e ∷ kept_events later) (kept_events later))))
       ends call true test answered turns = rw test (answered, turns)
       ends call false test answered turns = turns
 
-      own : (b : Bool) → nat_eq e.thread thread ≡ b → (pending : Option Event) → TurnsAfter pending (cond b (e ∷ projection thread later) (projection thread later)) → IsAsKept thread pending (e ∷ later)
-          → ((pending' : Option Event) → TurnsAfter pending' (projection thread later) → IsAsKept thread pending' later → KeptTurns pending' (projection thread (kept_events later)))
+      own : (b : Bool) → nat_eq e.thread thread ≡ b → (pending : Option Event)
+          → TurnsAfter pending (cond b (e ∷ projection thread later) (projection thread later)) → IsAsKept thread pending (e ∷ later)
+          → ((pending' : Option Event) → TurnsAfter pending' (projection thread later) → IsAsKept thread pending' later
+              → KeptTurns pending' (projection thread (kept_events later)))
           → KeptTurns pending (projection thread (cond (keeps e.ticket) (e ∷ kept_events later) (kept_events later)))
-      own false test pending turns' next' rest = subst (KeptTurns pending) (sym (other (keeps e.ticket) test)) (rest pending turns' (not_next pending test next'))
+      own false test pending turns' next' rest = subst (KeptTurns pending) (sym (other (keeps e.ticket) test))
+          (rest pending turns' (not_next pending test next'))
       own true test None turns' next' rest =
           begins (keeps e.ticket) test (rest (Some e) turns' (answer_as_kept e later thread (eqb-true e.thread thread test) turns' both))
       own true test (Some call) turns' next' rest =
           let as_call : keeps e.ticket ≡ keeps call.ticket = next' e (rw test refl) in
-          subst (λ k. MatchBool k (TakesTurns (call ∷ projection thread (cond (keeps e.ticket) (e ∷ kept_events later) (kept_events later)))) (TakesTurns (projection thread (cond (keeps e.ticket) (e ∷ kept_events later) (kept_events later))))) as_call
+          subst (λ k. MatchBool k (TakesTurns (call ∷ projection thread (cond (keeps e.ticket) (e ∷ kept_events later) (kept_events later))))
+              (TakesTurns (projection thread (cond (keeps e.ticket) (e ∷ kept_events later) (kept_events later))))) as_call
           (ends call (keeps e.ticket) test turns'.0 (rest None turns'.1 tt))
 
 each_turns : (events : List Event) → IsCompleteHistory events → EachTurns events
 each_turns events complete thread = (None, complete.threads_take_turns thread)
 
 -- what holds of all values of a list holds of those of its kept elements
-All-kept : {X Y : Type 0} (P : Y → Type 0) (f : X → Option Y) (keeps : X → Bool) (xs : List X) → All P (filter_map f xs) → All P (filter_map f (filter keeps xs))
+All-kept : {X Y : Type 0} (P : Y → Type 0) (f : X → Option Y) (keeps : X → Bool) (xs : List X) → All P (filter_map f xs)
+    → All P (filter_map f (filter keeps xs))
 All-kept P f keeps [] all = all
 All-kept {X} {Y} P f keeps (x ∷ xs) all = pick (f x) refl (keeps x) all (All-kept P f keeps xs)
   where
-    pick : (o : Option Y) → f x ≡ o → (k : Bool) → All P (cons_option o (filter_map f xs)) → (All P (filter_map f xs) → All P (filter_map f (filter keeps xs))) → All P (filter_map f (cond k (x ∷ filter keeps xs) (filter keeps xs)))
+    pick : (o : Option Y) → f x ≡ o → (k : Bool) → All P (cons_option o (filter_map f xs))
+        → (All P (filter_map f xs) → All P (filter_map f (filter keeps xs))) → All P (filter_map f (cond k (x ∷ filter keeps xs) (filter keeps xs)))
     pick None is false all' rest = rest all'
     pick None is true all' rest = rw is (rest all')
     pick (Some y) is false all' rest = rest (All-tail P y (filter_map f xs) all')
-    pick (Some y) is true all' rest = rw is (All-cons P y (filter_map f (filter keeps xs)) (All-head P y (filter_map f xs) all') (rest (All-tail P y (filter_map f xs) all')))
+    pick (Some y) is true all' rest = rw is (All-cons P y (filter_map f (filter keeps xs)) (All-head P y (filter_map f xs) all')
+        (rest (All-tail P y (filter_map f xs) all')))
 
 pairs_after_first : {Y : Type 0} (R : Y → Y → Type 0) (y : Y) (ys : List Y) → AllPairs R (y ∷ ys) → All (R y) ys
 pairs_after_first R y ys pairs k d below = pairs zero (suc k) d (omega arith) (omega arith)
 
-AllPairs-kept : {X Y : Type 0} (R : Y → Y → Type 0) (f : X → Option Y) (keeps : X → Bool) (xs : List X) → AllPairs R (filter_map f xs) → AllPairs R (filter_map f (filter keeps xs))
+AllPairs-kept : {X Y : Type 0} (R : Y → Y → Type 0) (f : X → Option Y) (keeps : X → Bool) (xs : List X) → AllPairs R (filter_map f xs)
+    → AllPairs R (filter_map f (filter keeps xs))
 AllPairs-kept R f keeps [] pairs = pairs
 AllPairs-kept {X} {Y} R f keeps (x ∷ xs) pairs = pick (f x) refl (keeps x) pairs (AllPairs-kept R f keeps xs)
   where
-    pick : (o : Option Y) → f x ≡ o → (k : Bool) → AllPairs R (cons_option o (filter_map f xs)) → (AllPairs R (filter_map f xs) → AllPairs R (filter_map f (filter keeps xs)))
+    pick : (o : Option Y) → f x ≡ o → (k : Bool) → AllPairs R (cons_option o (filter_map f xs))
+        → (AllPairs R (filter_map f xs) → AllPairs R (filter_map f (filter keeps xs)))
         → AllPairs R (filter_map f (cond k (x ∷ filter keeps xs) (filter keeps xs)))
     pick None is false pairs' rest = rest pairs'
     pick None is true pairs' rest = rw is (rest pairs')
     pick (Some y) is false pairs' rest = rest (AllPairs-tail R y (filter_map f xs) pairs')
     pick (Some y) is true pairs' rest =
-        rw is (AllPairs-cons R y (filter_map f (filter keeps xs)) (All-kept (R y) f keeps xs (pairs_after_first R y (filter_map f xs) pairs')) (rest (AllPairs-tail R y (filter_map f xs) pairs')))
+        rw is (AllPairs-cons R y (filter_map f (filter keeps xs)) (All-kept (R y) f keeps xs (pairs_after_first R y (filter_map f xs) pairs'))
+            (rest (AllPairs-tail R y (filter_map f xs) pairs')))
 
 -- where both events of an operation are kept, or neither, the kept events are a complete history
-pub kept_is_complete : (keeps : ℕ → Bool) (test : Operation → Bool) (events : List Event) → IsCompleteHistory events → KeepsBoth keeps test (operations_of events) → IsCompleteHistory (filter (λ e. keeps e.ticket) events)
+pub kept_is_complete : (keeps : ℕ → Bool) (test : Operation → Bool) (events : List Event) → IsCompleteHistory events
+    → KeepsBoth keeps test (operations_of events) → IsCompleteHistory (filter (λ e. keeps e.ticket) events)
 kept_is_complete keeps test events complete both = record {
   tickets_rise = AllPairs-filter (λ x y. x.ticket < y.ticket) (λ e. keeps e.ticket) events complete.tickets_rise;
   tickets_in_range = All-filter (λ e. keeps e.ticket) (λ e. e.ticket ≤ MAX_TICKET) events complete.tickets_in_range;
@@ -258,6 +285,7 @@ kept_is_complete keeps test events complete both = record {
 }
 
 -- and its operations are those that are kept
-pub operations_of_kept : (keeps : ℕ → Bool) (test : Operation → Bool) (events : List Event) → IsCompleteHistory events → KeepsBoth keeps test (operations_of events)
+pub operations_of_kept : (keeps : ℕ → Bool) (test : Operation → Bool) (events : List Event) → IsCompleteHistory events
+    → KeepsBoth keeps test (operations_of events)
     → operations_of (filter (λ e. keeps e.ticket) events) ≡ filter test (operations_of events)
 operations_of_kept keeps test events complete both = kept_operations keeps test events (each_turns events complete) both

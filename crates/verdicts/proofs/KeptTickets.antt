@@ -22,14 +22,17 @@ true_either true b is = inl refl
 true_either false b is = inr is
 
 -- a ticket is held where it is that of a call or a return
-held : (operations : List Operation) (o : Operation) (ticket : ℕ) → Contains operations o → (o.call ≡ ticket) ⊎ (o.ret ≡ ticket) → holds_ticket operations ticket ≡ true
-held operations o ticket among is = list_any-from_Any (λ o. nat_eq o.call ticket || nat_eq o.ret ticket) operations (among.0, o, among.1, among.2, either_true (nat_eq o.call ticket) (nat_eq o.ret ticket) (tests is))
+held : (operations : List Operation) (o : Operation) (ticket : ℕ) → Contains operations o → (o.call ≡ ticket) ⊎ (o.ret ≡ ticket)
+    → holds_ticket operations ticket ≡ true
+held operations o ticket among is = list_any-from_Any (λ o. nat_eq o.call ticket || nat_eq o.ret ticket) operations
+    (among.0, o, among.1, among.2, either_true (nat_eq o.call ticket) (nat_eq o.ret ticket) (tests is))
   where
     tests : (o.call ≡ ticket) ⊎ (o.ret ≡ ticket) → (nat_eq o.call ticket ≡ true) ⊎ (nat_eq o.ret ticket ≡ true)
     tests (inl called) = inl (eq-eqb o.call ticket called)
     tests (inr returned) = inr (eq-eqb o.ret ticket returned)
 
-holder : (operations : List Operation) (ticket : ℕ) → holds_ticket operations ticket ≡ true → (o : Operation) × Contains operations o × ((o.call ≡ ticket) ⊎ (o.ret ≡ ticket))
+holder : (operations : List Operation) (ticket : ℕ) → holds_ticket operations ticket ≡ true
+    → (o : Operation) × Contains operations o × ((o.call ≡ ticket) ⊎ (o.ret ≡ ticket))
 holder operations ticket holds =
     let found = Any-from_list_any (λ o. nat_eq o.call ticket || nat_eq o.ret ticket) operations holds in
     (found.1, (found.0, found.2, found.3), facts found.1 (true_either (nat_eq found.1.call ticket) (nat_eq found.1.ret ticket) found.4))
@@ -40,14 +43,17 @@ holder operations ticket holds =
 
 module _ (operations : List Operation) (complete : AreComplete operations) (test : Operation → Bool) where
   -- who holds a ticket of an operation is that operation
-  one_holder : (x o : Operation) (ticket : ℕ) → Contains operations x → Contains operations o → (x.call ≡ ticket) ⊎ (x.ret ≡ ticket) → (o.call ≡ ticket) ⊎ (o.ret ≡ ticket) → x ≡ o
+  one_holder : (x o : Operation) (ticket : ℕ) → Contains operations x → Contains operations o → (x.call ≡ ticket) ⊎ (x.ret ≡ ticket)
+      → (o.call ≡ ticket) ⊎ (o.ret ≡ ticket) → x ≡ o
   one_holder x o ticket in_x in_o (inl is_x) (inl is_o) = same_call operations x o complete in_x in_o (is_x ∙ sym is_o)
   one_holder x o ticket in_x in_o (inl is_x) (inr is_o) = absurd (return_differs_from_call operations o x complete in_o in_x (is_o ∙ sym is_x))
   one_holder x o ticket in_x in_o (inr is_x) (inl is_o) = absurd (return_differs_from_call operations x o complete in_x in_o (is_x ∙ sym is_o))
   one_holder x o ticket in_x in_o (inr is_x) (inr is_o) = same_return operations x o complete in_x in_o (is_x ∙ sym is_o)
 
-  held_as_tested : (o : Operation) (ticket : ℕ) → Contains operations o → (o.call ≡ ticket) ⊎ (o.ret ≡ ticket) → (passes holds : Bool) → test o ≡ passes → holds_ticket (filter test operations) ticket ≡ holds → holds ≡ passes
-  held_as_tested o ticket among is true holds passes held' = sym held' ∙ held (filter test operations) o ticket (passes_filter test operations o passes among) is
+  held_as_tested : (o : Operation) (ticket : ℕ) → Contains operations o → (o.call ≡ ticket) ⊎ (o.ret ≡ ticket) → (passes holds : Bool)
+      → test o ≡ passes → holds_ticket (filter test operations) ticket ≡ holds → holds ≡ passes
+  held_as_tested o ticket among is true holds passes held' = sym held'
+      ∙ held (filter test operations) o ticket (passes_filter test operations o passes among) is
   held_as_tested o ticket among is false false passes held' = refl
   held_as_tested o ticket among is false true passes held' =
       let found = holder (filter test operations) ticket held' in
@@ -57,19 +63,24 @@ module _ (operations : List Operation) (complete : AreComplete operations) (test
       cc
 
   pub tickets_keep_both : KeepsBoth (holds_ticket (filter test operations)) test operations
-  tickets_keep_both o among = (held_as_tested o o.call among (inl refl) (test o) (holds_ticket (filter test operations) o.call) refl refl, held_as_tested o o.ret among (inr refl) (test o) (holds_ticket (filter test operations) o.ret) refl refl)
+  tickets_keep_both o among = (held_as_tested o o.call among (inl refl) (test o) (holds_ticket (filter test operations) o.call) refl refl,
+      held_as_tested o o.ret among (inr refl) (test o) (holds_ticket (filter test operations) o.ret) refl refl)
 
 -- the events at the tickets of some operations
 abbrev pub events_at_tickets_of : List Operation → List Event → List Event
 events_at_tickets_of selected events = filter (λ e. holds_ticket selected e.ticket) events
 
-pub selected_events_are_complete : (test : Operation → Bool) (events : List Event) → IsCompleteHistory events → IsCompleteHistory (events_at_tickets_of (filter test (operations_of events)) events)
+pub selected_events_are_complete : (test : Operation → Bool) (events : List Event) → IsCompleteHistory events
+    → IsCompleteHistory (events_at_tickets_of (filter test (operations_of events)) events)
 selected_events_are_complete test events complete =
-    kept_is_complete (holds_ticket (filter test (operations_of events))) test events complete (tickets_keep_both (operations_of events) (events, complete, refl) test)
+    kept_is_complete (holds_ticket (filter test (operations_of events))) test events complete
+        (tickets_keep_both (operations_of events) (events, complete, refl) test)
 
-pub operations_of_selected : (test : Operation → Bool) (events : List Event) → IsCompleteHistory events → operations_of (events_at_tickets_of (filter test (operations_of events)) events) ≡ filter test (operations_of events)
+pub operations_of_selected : (test : Operation → Bool) (events : List Event) → IsCompleteHistory events
+    → operations_of (events_at_tickets_of (filter test (operations_of events)) events) ≡ filter test (operations_of events)
 operations_of_selected test events complete =
-    operations_of_kept (holds_ticket (filter test (operations_of events))) test events complete (tickets_keep_both (operations_of events) (events, complete, refl) test)
+    operations_of_kept (holds_ticket (filter test (operations_of events))) test events complete
+        (tickets_keep_both (operations_of events) (events, complete, refl) test)
 
 -- some operations of a complete history are those of a complete history
 pub selected_are_complete : (test : Operation → Bool) (operations : List Operation) → AreComplete operations → AreComplete (filter test operations)

@@ -15,7 +15,8 @@ use Rattle.empty_witness.proofs.Answers.{is_empty_did}
 use Rattle.linearizer.proofs.LegalOrder.{chosen_order_is_legal}
 use Rattle.linearizer.proofs.OneOrder.{chosen_order_exists}
 
-gaps_of : (operations answers : List Operation) → IsClear operations → NoWitnessViolation operations → ((o : Operation) → Contains answers o → Did operations o Empty) → (gaps : List ℕ) × AllZip (λ o c. IsLeastFreeGap operations o c) answers gaps
+gaps_of : (operations answers : List Operation) → IsClear operations → NoWitnessViolation operations
+    → ((o : Operation) → Contains answers o → Did operations o Empty) → (gaps : List ℕ) × AllZip (λ o c. IsLeastFreeGap operations o c) answers gaps
 gaps_of operations [] clear none each = ([], search rules)
 gaps_of operations (o ∷ answers) clear none each =
     let did = each o (zero, omega arith, refl) in
@@ -30,7 +31,8 @@ free_gaps_exist operations clear none =
     gaps_of operations (filter is_empty_answer operations) clear none
     (λ o among. is_empty_did operations o among)
 
-pub linearizable_without_violations : (operations : List Operation) → IsClear operations → NoOrderViolation operations → NoWitnessViolation operations → IsLinearizable operations
+pub linearizable_without_violations : (operations : List Operation) → IsClear operations → NoOrderViolation operations → NoWitnessViolation operations
+    → IsLinearizable operations
 linearizable_without_violations operations clear no_order no_witness =
     let gaps = free_gaps_exist operations clear no_witness in
     let chosen = chosen_order_exists operations gaps.0 clear no_order gaps.1 in

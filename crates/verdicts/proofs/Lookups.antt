@@ -1,5 +1,6 @@
 -- Operations looked up by their calls.
-use Rattle.std.proofs.Common.{◌≡◌, ◌≢◌, ℕ, ◌<◌, ◌≤◌, ◌↔◌, Bool, true, false, IsTrue, MatchBool, List, length, get_or, Result, Ok, Err, Decides, refl, sym, ◌∙◌, ap, inl, inr, arith, rules}
+use Rattle.std.proofs.Common.{◌≡◌, ◌≢◌, ℕ, ◌<◌, ◌≤◌, ◌↔◌, Bool, true, false, IsTrue, MatchBool, List, length, get_or, Result, Ok, Err, Decides, refl}
+use Rattle.std.proofs.Common.{sym, ◌∙◌, ap, inl, inr, arith, rules}
 use Rattle.std.specs.Prelude.{Contains, MatchResult}
 use Rattle.std.specs.List.{HoldsAt, AllWithin}
 use Rattle.std.specs.List.Sorted.{IsSearchInRange, IsBinarySearchResult, IsNonDecreasingBy}
@@ -19,7 +20,8 @@ pub eq-Decides : (x y : Operation) → Decides (ghosts.eq x y) (x ≡ y)
 eq-Decides x y = search rules
 
 -- calls that rise are no lower further on
-calls_do_not_fall : (operations : List Operation) (i j : ℕ) (d : Operation) → CallsRise operations → i ≤ j → j < length operations → (get_or operations i d).call ≤ (get_or operations j d).call
+calls_do_not_fall : (operations : List Operation) (i j : ℕ) (d : Operation) → CallsRise operations → i ≤ j → j < length operations
+    → (get_or operations i d).call ≤ (get_or operations j d).call
 calls_do_not_fall operations i j d rise le within =
     elim (cases_lt i j) [
       | inl less ↦ let below = rise i j d less within in omega arith
@@ -30,8 +32,10 @@ comparisons_rise : (operations : List Operation) (call : ℕ) → CallsRise oper
 comparisons_rise operations call rise i j d le within = let calls = calls_do_not_fall operations i j d rise le within in grind (arith, nat_tests)
 
 -- a search by call finds the place of the operation with that call, or there is none
-pub searched_by_call : (operations : List Operation) (call : ℕ) (r : Result ℕ ℕ) → CallsRise operations → IsSearchInRange r (length operations) → IsBinarySearchResult (λ o. nat_cmp o.call call) operations r
-    → MatchResult r (λ i. (i < length operations) × ((d : Operation) → (get_or operations i d).call ≡ call)) (λ _. (k : ℕ) (d : Operation) → k < length operations → (get_or operations k d).call ≢ call)
+pub searched_by_call : (operations : List Operation) (call : ℕ) (r : Result ℕ ℕ) → CallsRise operations → IsSearchInRange r (length operations)
+    → IsBinarySearchResult (λ o. nat_cmp o.call call) operations r
+    → MatchResult r (λ i. (i < length operations) × ((d : Operation) → (get_or operations i d).call ≡ call))
+        (λ _. (k : ℕ) (d : Operation) → k < length operations → (get_or operations k d).call ≢ call)
 searched_by_call operations call (Ok i) rise in_range equal = (in_range, λ d. ranked _ call _ (sym (equal d)))
 searched_by_call operations call (Err i) rise in_range parted =
     let parts = parted (comparisons_rise operations call rise) in
@@ -41,7 +45,8 @@ searched_by_call operations call (Err i) rise in_range parted =
     ]
 
 -- operations with one call stand at one place
-pub one_place_of_call : (operations : List Operation) (i j : ℕ) (d : Operation) → CallsRise operations → i < length operations → j < length operations → (get_or operations i d).call ≡ (get_or operations j d).call → i ≡ j
+pub one_place_of_call : (operations : List Operation) (i j : ℕ) (d : Operation) → CallsRise operations → i < length operations → j < length operations
+    → (get_or operations i d).call ≡ (get_or operations j d).call → i ≡ j
 one_place_of_call operations i j d rise within_i within_j same =
     elim (cases_order i j) [
       | inl here ↦ here
@@ -50,7 +55,8 @@ one_place_of_call operations i j d rise within_i within_j same =
     ]
 
 -- an operation is among them where it stands at the place of its call
-pub stands_at_its_call : (operations : List Operation) (o d : Operation) (i : ℕ) → CallsRise operations → i < length operations → (get_or operations i d).call ≡ o.call → (get_or operations i d ≡ o) ↔ Contains operations o
+pub stands_at_its_call : (operations : List Operation) (o d : Operation) (i : ℕ) → CallsRise operations → i < length operations
+    → (get_or operations i d).call ≡ o.call → (get_or operations i d ≡ o) ↔ Contains operations o
 stands_at_its_call operations o d i rise within same = (
   λ here. (i, within, sym (get_or_default operations i d o within) ∙ here),
   λ among.
@@ -61,7 +67,8 @@ stands_at_its_call operations o d i rise within same = (
 
 -- a test of each operation tells whether one did this
 pub none_did_from_cases : (operations : List Operation) (kind : OpKind) (r : Bool)
-    → MatchBool r (AllWithin (λ o. o.kind ≡ kind → ⊥) operations 0 (length operations)) ((k : ℕ) × (k < length operations) × HoldsAt (λ o. o.kind ≡ kind) operations k) → IsTrue r ↔ NoneDid operations kind
+    → MatchBool r (AllWithin (λ o. o.kind ≡ kind → ⊥) operations 0 (length operations))
+        ((k : ℕ) × (k < length operations) × HoldsAt (λ o. o.kind ≡ kind) operations k) → IsTrue r ↔ NoneDid operations kind
 none_did_from_cases operations kind true none = (λ t o among did. none among.0 o (omega arith) among.1 (ap (λ x. x.kind) among.2 ∙ did), λ n. refl)
 none_did_from_cases operations kind false some = (
   λ f. cc,

@@ -21,7 +21,8 @@ use Rattle.verdicts.proofs.CoverGaps.{gap_without, chosen_are_lives}
 use Rattle.verdicts.proofs.Exactly.{linearizable_exactly}
 use Rattle.verdicts.proofs.Excludes.{breach_excludes_order}
 use Rattle.verdicts.proofs.KeptTickets.{selected_are_complete}
-use Rattle.verdicts.proofs.NamedLines.{HasValue, IsOpOf, IsOpOfTwo, IsOpOfLife, fresh_lines, repeat_lines, order_lines, cover_lines, selects_as_value, lines_are_selected, selected_for}
+use Rattle.verdicts.proofs.NamedLines.{HasValue, IsOpOf, IsOpOfTwo, IsOpOfLife, fresh_lines, repeat_lines, order_lines, cover_lines, selects_as_value}
+use Rattle.verdicts.proofs.NamedLines.{lines_are_selected, selected_for}
 use Rattle.verdicts.proofs.Selections.{breach_in_whole, breach_in_selected, life_in_whole}
 
 -- a filter keeps all, or some element fails its test
@@ -29,7 +30,8 @@ pub all_or_one : {X : Type 0} (p : X → Bool) (xs : List X) → (filter p xs �
 all_or_one p [] = inl refl
 all_or_one {X} p (x ∷ xs) = pick (p x) refl (all_or_one p xs)
   where
-    pick : (b : Bool) → p x ≡ b → (filter p xs ≡ xs) ⊎ ((y : X) × Contains xs y × (p y ≡ false)) → (cond b (x ∷ filter p xs) (filter p xs) ≡ x ∷ xs) ⊎ ((y : X) × Contains (x ∷ xs) y × (p y ≡ false))
+    pick : (b : Bool) → p x ≡ b → (filter p xs ≡ xs) ⊎ ((y : X) × Contains xs y × (p y ≡ false))
+        → (cond b (x ∷ filter p xs) (filter p xs) ≡ x ∷ xs) ⊎ ((y : X) × Contains (x ∷ xs) y × (p y ≡ false))
     pick true is (inl all) = inl (ap (λ ys. x ∷ ys) all)
     pick true is (inr one) = inr (one.0, one_deeper x xs one.0 one.1, one.2)
     pick false is rest = inr (x, (zero, omega arith, refl), is)
@@ -54,7 +56,8 @@ some_operation operations (order enq_a enq_b deq_b deq_a) is = (enq_a, is.enqueu
 some_operation operations (witness empty cover) is = (empty, is.answers_empty.0)
 
 -- two different values are out of order
-not_itself : (operations : List Operation) (enq_a enq_b deq_b : Operation) (deq_a : Option Operation) (is : IsOrderViolation operations enq_a enq_b deq_b deq_a) → AreComplete operations → is.a ≡ is.b → ⊥
+not_itself : (operations : List Operation) (enq_a enq_b deq_b : Operation) (deq_a : Option Operation)
+    (is : IsOrderViolation operations enq_a enq_b deq_b deq_a) → AreComplete operations → is.a ≡ is.b → ⊥
 not_itself operations enq_a enq_b deq_b deq_a is complete same =
     let one = same_enqueue operations enq_a enq_b is.b complete (subst (λ v. Did operations enq_a (Enq v)) same is.enqueues_a) is.enqueues_b in
     let ordered = call_before_return operations enq_b complete is.enqueues_b.0 in
@@ -112,25 +115,31 @@ module _ (operations : List Operation) (complete : AreComplete operations) (valu
           | inr of_b ↦ let clash : None ≡ Some b = sym (ap value_of did.1) ∙ of_b in cc
         ]
 
-        both_same : (x y : Operation) (v w : ℕ) → Did smaller x (Enq v) → Did smaller y (Enq w) → HasValue missing a ⊎ HasValue missing b → HasValue x a ⊎ HasValue x b → HasValue y a ⊎ HasValue y b → v ≡ w
+        both_same : (x y : Operation) (v w : ℕ) → Did smaller x (Enq v) → Did smaller y (Enq w) → HasValue missing a ⊎ HasValue missing b
+            → HasValue x a ⊎ HasValue x b → HasValue y a ⊎ HasValue y b → v ≡ w
         both_same x y v w did_x did_y (inl gone) (inl is_x) is_y = absurd (none_of_its_value x a gone is_x did_x.0)
         both_same x y v w did_x did_y (inl gone) (inr is_x) (inl is_y) = absurd (none_of_its_value y a gone is_y did_y.0)
-        both_same x y v w did_x did_y (inl gone) (inr is_x) (inr is_y) = let same : Some v ≡ Some w = sym (ap value_of did_x.1) ∙ is_x ∙ sym is_y ∙ ap value_of did_y.1 in cc
+        both_same x y v w did_x did_y (inl gone) (inr is_x) (inr is_y) = let same : Some v ≡ Some w =
+            sym (ap value_of did_x.1) ∙ is_x ∙ sym is_y ∙ ap value_of did_y.1 in cc
         both_same x y v w did_x did_y (inr gone) (inr is_x) is_y = absurd (none_of_its_value x b gone is_x did_x.0)
         both_same x y v w did_x did_y (inr gone) (inl is_x) (inr is_y) = absurd (none_of_its_value y b gone is_y did_y.0)
-        both_same x y v w did_x did_y (inr gone) (inl is_x) (inl is_y) = let same : Some v ≡ Some w = sym (ap value_of did_x.1) ∙ is_x ∙ sym is_y ∙ ap value_of did_y.1 in cc
+        both_same x y v w did_x did_y (inr gone) (inl is_x) (inl is_y) = let same : Some v ≡ Some w =
+            sym (ap value_of did_x.1) ∙ is_x ∙ sym is_y ∙ ap value_of did_y.1 in cc
 
         no_order : (enq_a enq_b deq_b : Operation) (deq_a : Option Operation) → IsOrderViolation smaller enq_a enq_b deq_b deq_a → ⊥
         no_order enq_a enq_b deq_b deq_a is =
-            let same = both_same enq_a enq_b is.a is.b is.enqueues_a is.enqueues_b (has_one missing was) (has_one enq_a (in_small enq_a is.enqueues_a.0).0) (has_one enq_b (in_small enq_b is.enqueues_b.0).0) in
+            let same = both_same enq_a enq_b is.a is.b is.enqueues_a is.enqueues_b (has_one missing was)
+                (has_one enq_a (in_small enq_a is.enqueues_a.0).0) (has_one enq_b (in_small enq_b is.enqueues_b.0).0) in
             let smaller_complete = selected_are_complete (selects values' calls') small (selected_are_complete (selects values calls) operations complete) in
             not_itself smaller enq_a enq_b deq_b deq_a is smaller_complete same
 
-    module _ (empty : Operation) (cover : List Life) (clear : IsClear operations) (chosen : IsChosenWitness operations empty cover) (named : SelectsNamed (lines_of (witness empty cover)) values calls) where
+    module _ (empty : Operation) (cover : List Life) (clear : IsClear operations) (chosen : IsChosenWitness operations empty cover)
+        (named : SelectsNamed (lines_of (witness empty cover)) values calls) where
       line_is : (l : Operation) → Contains (lines_of (witness empty cover)) l → (empty ≡ l) ⊎ IsOpOfLife operations cover l
       line_is l at = elim (contains_cons empty (flat_map operations_of_life cover) l at) [
         | inl same ↦ inl same
-        | inr later ↦ inr (cover_lines operations cover (λ life among. chosen_are_lives operations empty cover empty.call life chosen.cover_is_chosen among) l later)
+        | inr later ↦ inr (cover_lines operations cover (λ life among. chosen_are_lives operations empty cover empty.call life chosen.cover_is_chosen
+            among) l later)
       ]
 
       are_lines : (l : Operation) → Contains (lines_of (witness empty cover)) l → Contains operations l
@@ -147,7 +156,8 @@ module _ (operations : List Operation) (complete : AreComplete operations) (valu
           ]
 
       -- the others have values of the cover
-      has_value_of_cover : (o : Operation) (v : ℕ) → Contains small o → HasValue o v → (life : Life) × Contains cover life × Did operations (enqueue_of life) (Enq v)
+      has_value_of_cover : (o : Operation) (v : ℕ) → Contains small o → HasValue o v
+          → (life : Life) × Contains cover life × Did operations (enqueue_of life) (Enq v)
       has_value_of_cover o v among is =
           let line = selected_for (lines_of (witness empty cover)) values calls named operations o complete are_lines among in
           elim (line_is line.0 line.1.among) [
@@ -175,7 +185,8 @@ module _ (operations : List Operation) (complete : AreComplete operations) (valu
           let is_z = life_in_whole operations values calls z.0 (life_in_whole small values' calls' z.0 z.1) in
           let y = has_value_of_cover (enqueue_of z.0) is_z.0 (in_small (enqueue_of z.0) z.1.1.0).0 (enqueued_value (enqueue_of z.0) is_z.0 is_z.1.1) in
           let enqueues = same_enqueue operations (enqueue_of z.0) (enqueue_of y.0) is_z.0 complete is_z.1 y.2 in
-          let one = one_life_of_enqueue operations z.0 y.0 clear is_z (chosen_are_lives operations empty cover empty.call y.0 chosen.cover_is_chosen y.1) enqueues in
+          let one = one_life_of_enqueue operations z.0 y.0 clear is_z (chosen_are_lives operations empty cover empty.call y.0 chosen.cover_is_chosen
+              y.1) enqueues in
           let only = alone_at x.0 y.0 z.0 gap.0 one z.2 (gap.3 y.0 y.1) in
           let has_v = of_same_life z.0 x.0 v only x.2.1 in
           none_of_its_value (enqueue_of z.0) v is_missing has_v z.1.1.0
@@ -194,8 +205,10 @@ module _ (operations : List Operation) (complete : AreComplete operations) (valu
               cc
 
     -- so what is left has no violation
-    none_is_left : (breach : Breach) → IsChosenBreach operations breach → SelectsNamed (lines_of breach) values calls → (other : Breach) → IsBreachOf smaller other → ⊥
-    none_is_left (fresh deq enq) chosen named other is = let of_value = fresh_lines operations deq enq chosen.violates in nothing_left (lines_of (fresh deq enq)) named of_value.0 of_value.1 other is
+    none_is_left : (breach : Breach) → IsChosenBreach operations breach → SelectsNamed (lines_of breach) values calls → (other : Breach)
+        → IsBreachOf smaller other → ⊥
+    none_is_left (fresh deq enq) chosen named other is = let of_value = fresh_lines operations deq enq chosen.violates in
+        nothing_left (lines_of (fresh deq enq)) named of_value.0 of_value.1 other is
     none_is_left (repeat enq first second) chosen named other is =
         nothing_left (lines_of (repeat enq first second)) named chosen.1.violates.value (repeat_lines operations enq first second chosen.1.violates) other is
     none_is_left (order enq_a enq_b deq_b deq_a) chosen named other is = by_kind other is
@@ -221,18 +234,23 @@ module _ (operations : List Operation) (complete : AreComplete operations) (valu
 
     smaller_is_linearizable : (breach : Breach) → IsChosenBreach operations breach → SelectsNamed (lines_of breach) values calls → IsLinearizable smaller
     smaller_is_linearizable breach chosen named =
-        (linearizable_exactly smaller (selected_are_complete (selects values' calls') small (selected_are_complete (selects values calls) operations complete))).1 (none_is_left breach chosen named)
+        (linearizable_exactly smaller (selected_are_complete (selects values' calls') small
+            (selected_are_complete (selects values calls) operations complete))).1 (none_is_left breach chosen named)
 
-module _ (operations : List Operation) (complete : AreComplete operations) (breach : Breach) (chosen : IsChosenBreach operations breach) (values calls : ℕ → Bool) (named : SelectsNamed (lines_of breach) values calls) where
+module _ (operations : List Operation) (complete : AreComplete operations) (breach : Breach) (chosen : IsChosenBreach operations breach)
+    (values calls : ℕ → Bool) (named : SelectsNamed (lines_of breach) values calls) where
   -- the chosen violation is one of the selection by its lines
   pub stays_violation : IsBreachOf (filter (selects values calls) operations) breach
-  stays_violation = breach_in_selected operations values calls breach (chosen_is_breach operations breach complete chosen) (lines_are_selected (lines_of breach) values calls named)
+  stays_violation = breach_in_selected operations values calls breach (chosen_is_breach operations breach complete chosen)
+      (lines_are_selected (lines_of breach) values calls named)
 
   pub selection_is_minimal : IsMinimal (filter (selects values calls) operations)
   selection_is_minimal = (
-    λ linear. breach_excludes_order (filter (selects values calls) operations) breach (selected_are_complete (selects values calls) operations complete) stays_violation linear,
+    λ linear. breach_excludes_order (filter (selects values calls) operations) breach
+        (selected_are_complete (selects values calls) operations complete) stays_violation linear,
     λ selected closed differs. elim (all_or_one (selects closed.0 closed.1) (filter (selects values calls) operations)) [
       | inl all ↦ absurd (differs (closed.2 ∙ all))
-      | inr one ↦ subst IsLinearizable (sym closed.2) (smaller_is_linearizable operations complete values calls closed.0 closed.1 one.0 one.1 one.2 breach chosen named)
+      | inr one ↦ subst IsLinearizable (sym closed.2) (smaller_is_linearizable operations complete values calls closed.0 closed.1 one.0 one.1 one.2
+          breach chosen named)
     ],
   )

@@ -30,32 +30,39 @@ pub op_of : (operations : List Operation) (o : Operation) (kind : OpKind) (v : �
 op_of operations o kind v did is = (did.0, ap value_of did.1 ∙ is)
 
 -- what holds of one or two, three operations, holds of each in their list
-each_of : (P : Operation → Type 0) (x : Operation) (xs : List Operation) → P x → ((o : Operation) → Contains xs o → P o) → (o : Operation) → Contains (x ∷ xs) o → P o
+each_of : (P : Operation → Type 0) (x : Operation) (xs : List Operation) → P x → ((o : Operation) → Contains xs o → P o) → (o : Operation)
+    → Contains (x ∷ xs) o → P o
 each_of P x xs here later o among = elim (contains_cons x xs o among) [ inl same ↦ subst P same here | inr more ↦ later o more ]
 
 none_of : (P : Operation → Type 0) (o : Operation) → Contains [] o → P o
 none_of P o among = absurd (not_in_none o among)
 
-pub fresh_lines : (operations : List Operation) (deq : Operation) (enq : Option Operation) → IsFreshViolation operations deq enq → (v : ℕ) × ((o : Operation) → Contains (deq ∷ option_to_list enq) o → IsOpOf operations v o)
-fresh_lines operations deq None is = (is.value, each_of (IsOpOf operations is.value) deq [] (op_of operations deq (Deq is.value) is.value is.dequeues refl) (none_of (IsOpOf operations is.value)))
+pub fresh_lines : (operations : List Operation) (deq : Operation) (enq : Option Operation) → IsFreshViolation operations deq enq
+    → (v : ℕ) × ((o : Operation) → Contains (deq ∷ option_to_list enq) o → IsOpOf operations v o)
+fresh_lines operations deq None is = (is.value, each_of (IsOpOf operations is.value) deq []
+    (op_of operations deq (Deq is.value) is.value is.dequeues refl) (none_of (IsOpOf operations is.value)))
 fresh_lines operations deq (Some enq) is =
-    (is.value, each_of (IsOpOf operations is.value) deq (enq ∷ []) (op_of operations deq (Deq is.value) is.value is.dequeues refl) (each_of (IsOpOf operations is.value) enq [] (by_call is.enqueues) (none_of (IsOpOf operations is.value))))
+    (is.value, each_of (IsOpOf operations is.value) deq (enq ∷ []) (op_of operations deq (Deq is.value) is.value is.dequeues refl)
+        (each_of (IsOpOf operations is.value) enq [] (by_call is.enqueues) (none_of (IsOpOf operations is.value))))
   where
     by_call : Did operations enq (Not is.value) ⊎ (Did operations enq (Enq is.value) × Precedes deq enq) → IsOpOf operations is.value enq
     by_call (inl refused) = op_of operations enq (Not is.value) is.value refused refl
     by_call (inr late) = op_of operations enq (Enq is.value) is.value late.0 refl
 
-pub repeat_lines : (operations : List Operation) (enq first second : Operation) (is : IsRepeatViolation operations enq first second) → (o : Operation) → Contains (enq ∷ first ∷ second ∷ []) o → IsOpOf operations is.value o
+pub repeat_lines : (operations : List Operation) (enq first second : Operation) (is : IsRepeatViolation operations enq first second) → (o : Operation)
+    → Contains (enq ∷ first ∷ second ∷ []) o → IsOpOf operations is.value o
 repeat_lines operations enq first second is =
     let P = IsOpOf operations is.value in
     each_of P enq (first ∷ second ∷ []) (op_of operations enq (Enq is.value) is.value is.enqueues refl)
-    (each_of P first (second ∷ []) (op_of operations first (Deq is.value) is.value is.dequeues refl) (each_of P second [] (op_of operations second (Deq is.value) is.value is.dequeues_again refl) (none_of P)))
+    (each_of P first (second ∷ []) (op_of operations first (Deq is.value) is.value is.dequeues refl)
+        (each_of P second [] (op_of operations second (Deq is.value) is.value is.dequeues_again refl) (none_of P)))
 
 -- one of the operations, of one of two values
 abbrev pub IsOpOfTwo : List Operation → ℕ → ℕ → Operation → Type 0
 IsOpOfTwo operations a b o = IsOpOf operations a o ⊎ IsOpOf operations b o
 
-pub order_lines : (operations : List Operation) (enq_a enq_b deq_b : Operation) (deq_a : Option Operation) (is : IsOrderViolation operations enq_a enq_b deq_b deq_a)
+pub order_lines : (operations : List Operation) (enq_a enq_b deq_b : Operation) (deq_a : Option Operation)
+    (is : IsOrderViolation operations enq_a enq_b deq_b deq_a)
     → (o : Operation) → Contains (enq_a ∷ enq_b ∷ deq_b ∷ option_to_list deq_a) o → IsOpOfTwo operations is.a is.b o
 order_lines operations enq_a enq_b deq_b deq_a is =
     let P = IsOpOfTwo operations is.a is.b in
@@ -63,9 +70,11 @@ order_lines operations enq_a enq_b deq_b deq_a is =
     (each_of P enq_b (deq_b ∷ option_to_list deq_a) (inr (op_of operations enq_b (Enq is.b) is.b is.enqueues_b refl))
     (each_of P deq_b (option_to_list deq_a) (inr (op_of operations deq_b (Deq is.b) is.b is.dequeues_b refl)) (last deq_a is.dequeued_later)))
   where
-    last : (d : Option Operation) → MatchOption d (NoneDid operations (Deq is.a)) (λ d. Did operations d (Deq is.a) × Precedes deq_b d) → (o : Operation) → Contains (option_to_list d) o → IsOpOfTwo operations is.a is.b o
+    last : (d : Option Operation) → MatchOption d (NoneDid operations (Deq is.a)) (λ d. Did operations d (Deq is.a) × Precedes deq_b d)
+        → (o : Operation) → Contains (option_to_list d) o → IsOpOfTwo operations is.a is.b o
     last None none = none_of (IsOpOfTwo operations is.a is.b)
-    last (Some d) did = each_of (IsOpOfTwo operations is.a is.b) d [] (inl (op_of operations d (Deq is.a) is.a did.0 refl)) (none_of (IsOpOfTwo operations is.a is.b))
+    last (Some d) did = each_of (IsOpOfTwo operations is.a is.b) d [] (inl (op_of operations d (Deq is.a) is.a did.0 refl))
+        (none_of (IsOpOfTwo operations is.a is.b))
 
 -- one of the operations, of the value of a life
 pub record IsOpOfLife (operations : List Operation) (cover : List Life) (o : Operation) : Type 0 where
@@ -81,22 +90,27 @@ cover_lines operations cover lives o at =
     let is = lives found.0 found.1 in
     record { life = found.0; among = found.1; is_life = is; is_of = of_life found.0 is found.2 }
   where
-    dequeue : (v : ℕ) (d : Option Operation) → MatchOption d (NoneDid operations (Deq v)) (λ d. Did operations d (Deq v)) → (o : Operation) → Contains (option_to_list d) o → IsOpOf operations v o
+    dequeue : (v : ℕ) (d : Option Operation) → MatchOption d (NoneDid operations (Deq v)) (λ d. Did operations d (Deq v)) → (o : Operation)
+        → Contains (option_to_list d) o → IsOpOf operations v o
     dequeue v None none = none_of (IsOpOf operations v)
     dequeue v (Some d) did = each_of (IsOpOf operations v) d [] (op_of operations d (Deq v) v did refl) (none_of (IsOpOf operations v))
 
     of_life : (life : Life) (is : IsLife operations life) → Contains (operations_of_life life) o → IsOpOf operations is.0 o
-    of_life life is at' = each_of (IsOpOf operations is.0) (enqueue_of life) (option_to_list (dequeue_of life)) (op_of operations (enqueue_of life) (Enq is.0) is.0 is.1 refl) (dequeue is.0 (dequeue_of life) is.2) o at'
+    of_life life is at' = each_of (IsOpOf operations is.0) (enqueue_of life) (option_to_list (dequeue_of life))
+        (op_of operations (enqueue_of life) (Enq is.0) is.0 is.1 refl) (dequeue is.0 (dequeue_of life) is.2) o at'
 
 -- the lines of a chosen violation are operations
-pub lines_are_operations : (operations : List Operation) (breach : Breach) → IsBreachOf operations breach → IsChosenBreach operations breach → (o : Operation) → Contains (lines_of breach) o → Contains operations o
+pub lines_are_operations : (operations : List Operation) (breach : Breach) → IsBreachOf operations breach → IsChosenBreach operations breach
+    → (o : Operation) → Contains (lines_of breach) o → Contains operations o
 lines_are_operations operations (fresh deq enq) is chosen o at = ((fresh_lines operations deq enq is).1 o at).0
 lines_are_operations operations (repeat enq first second) is chosen o at = (repeat_lines operations enq first second is o at).0
-lines_are_operations operations (order enq_a enq_b deq_b deq_a) is chosen o at = elim (order_lines operations enq_a enq_b deq_b deq_a is o at) [ inl of_a ↦ of_a.0 | inr of_b ↦ of_b.0 ]
+lines_are_operations operations (order enq_a enq_b deq_b deq_a) is chosen o at =
+    elim (order_lines operations enq_a enq_b deq_b deq_a is o at) [ inl of_a ↦ of_a.0 | inr of_b ↦ of_b.0 ]
 lines_are_operations operations (witness empty cover) is chosen o at =
     elim (contains_cons empty (flat_map operations_of_life cover) o at) [
       | inl same ↦ subst (Contains operations) same is.answers_empty.0
-      | inr later ↦ (cover_lines operations cover (λ life among. chosen_are_lives operations empty cover empty.call life chosen.3.cover_is_chosen among) o later).is_of.0
+      | inr later ↦ (cover_lines operations cover (λ life among. chosen_are_lives operations empty cover empty.call life chosen.3.cover_is_chosen
+          among) o later).is_of.0
     ]
 
 -- whether an operation of a value is selected depends on the value alone
@@ -121,7 +135,8 @@ module _ (lines : List Operation) (values calls : ℕ → Bool) (named : Selects
     pub same_value : value_of line.kind ≡ value_of o.kind
     pub itself : value_of o.kind ≡ None → line ≡ o
 
-  pub selected_for : (operations : List Operation) (o : Operation) → AreComplete operations → ((l : Operation) → Contains lines l → Contains operations l) → Contains (filter (selects values calls) operations) o
+  pub selected_for : (operations : List Operation) (o : Operation) → AreComplete operations
+      → ((l : Operation) → Contains lines l → Contains operations l) → Contains (filter (selects values calls) operations) o
       → (line : Operation) × IsSelectedFor o line
   selected_for operations o complete are among = by_value (value_of o.kind) refl
     where

@@ -15,13 +15,15 @@ use Rattle.value_match.specs.Violations.{Breach, fresh, repeat, order, witness, 
 use Rattle.value_match.proofs.Lists.{one_more}
 use Rattle.verdicts.specs.Shown.{places_of, places_of_step, AreLinesOf}
 
-maybe_places : (operations : List Operation) (place : Option ℕ) (o : Option Operation) → IsMaybeAt operations place o → ArePlacesOf operations (option_to_list place) (option_to_list o)
+maybe_places : (operations : List Operation) (place : Option ℕ) (o : Option Operation) → IsMaybeAt operations place o
+    → ArePlacesOf operations (option_to_list place) (option_to_list o)
 maybe_places operations None None at = refl
 maybe_places operations None (Some o) at = absurd at
 maybe_places operations (Some place) None at = absurd at
 maybe_places operations (Some place) (Some o) at = ap (λ x. x ∷ []) at
 
-places-append : (operations : List Operation) (ps qs : List ℕ) (xs ys : List Operation) → ArePlacesOf operations ps xs → ArePlacesOf operations qs ys → ArePlacesOf operations (ps ++ qs) (xs ++ ys)
+places-append : (operations : List Operation) (ps qs : List ℕ) (xs ys : List Operation) → ArePlacesOf operations ps xs → ArePlacesOf operations qs ys
+    → ArePlacesOf operations (ps ++ qs) (xs ++ ys)
 places-append operations [] qs [] ys first rest = rest
 places-append operations [] qs (x ∷ xs) ys first rest = cc
 places-append operations (p ∷ ps) qs [] ys first rest = cc
@@ -32,7 +34,8 @@ places-append operations (p ∷ ps) qs (x ∷ xs) ys first rest =
     cc
 
 -- one more place, with the operation there
-pub places_more : (operations : List Operation) (places : List ℕ) (listed : List Operation) (i place read : ℕ) (d : Operation) → i < length places → read ≡ get_or places i read → place ≡ read → All (λ p. p < length operations) places
+pub places_more : (operations : List Operation) (places : List ℕ) (listed : List Operation) (i place read : ℕ) (d : Operation) → i < length places
+    → read ≡ get_or places i read → place ≡ read → All (λ p. p < length operations) places
     → ArePlacesOf operations (take i places) listed → ArePlacesOf operations (take (i + 1) places) (listed ++ get_or operations place d ∷ [])
 places_more operations places listed i place read d within is same in_range so_far =
     let below = in_range i read within in
@@ -42,17 +45,20 @@ places_more operations places listed i place read d within is same in_range so_f
     subst (λ ps. ArePlacesOf operations ps (listed ++ get_or operations place d ∷ [])) (sym (one_more places i place within is'))
     (places-append operations (take i places) (place ∷ []) listed (get_or operations place d ∷ []) so_far here)
 
-cover_places : (operations : List Operation) (steps : List CoverStep) (cover : List Life) → NamesCover operations steps cover → ArePlacesOf operations (flat_map places_of_step steps) (flat_map operations_of_life cover)
+cover_places : (operations : List Operation) (steps : List CoverStep) (cover : List Life) → NamesCover operations steps cover
+    → ArePlacesOf operations (flat_map places_of_step steps) (flat_map operations_of_life cover)
 cover_places operations [] [] names = refl
 cover_places operations [] (life ∷ cover) names = absurd names
 cover_places operations (step ∷ steps) [] names = absurd names
 cover_places operations (step ∷ steps) (life ∷ cover) names =
     places-append operations (places_of_step step) (flat_map places_of_step steps) (operations_of_life life) (flat_map operations_of_life cover)
-    (places-append operations (step.enqueue ∷ []) (option_to_list step.dequeue) (enqueue_of life ∷ []) (option_to_list (dequeue_of life)) (ap (λ x. x ∷ []) names.0.0) (maybe_places operations step.dequeue (dequeue_of life) names.0.1))
+    (places-append operations (step.enqueue ∷ []) (option_to_list step.dequeue) (enqueue_of life ∷ []) (option_to_list (dequeue_of life))
+        (ap (λ x. x ∷ []) names.0.0) (maybe_places operations step.dequeue (dequeue_of life) names.0.1))
     (cover_places operations steps cover names.1)
 
 -- the places are those of the lines, one by one
-pub places_of_lines : (operations : List Operation) (named : Violation) (breach : Breach) → Names operations named breach → ArePlacesOf operations (places_of named) (lines_of breach)
+pub places_of_lines : (operations : List Operation) (named : Violation) (breach : Breach) → Names operations named breach
+    → ArePlacesOf operations (places_of named) (lines_of breach)
 places_of_lines operations (violation.Fresh deq enq) (fresh d e) names =
     places-append operations (deq ∷ []) (option_to_list enq) (d ∷ []) (option_to_list e) (ap (λ x. x ∷ []) names.0) (maybe_places operations enq e names.1)
 places_of_lines operations (violation.Fresh deq enq) _ names = absurd names
@@ -61,14 +67,17 @@ places_of_lines operations (violation.Repeat enq first second) _ names = absurd 
 places_of_lines operations (violation.Order enq_a enq_b deq_b deq_a) (order a b d e) names =
     let first = names.0 in let second = names.1 in let third = names.2 in
     let three : ArePlacesOf operations (enq_a ∷ enq_b ∷ deq_b ∷ []) (a ∷ b ∷ d ∷ []) = cc in
-    places-append operations (enq_a ∷ enq_b ∷ deq_b ∷ []) (option_to_list deq_a) (a ∷ b ∷ d ∷ []) (option_to_list e) three (maybe_places operations deq_a e names.3)
+    places-append operations (enq_a ∷ enq_b ∷ deq_b ∷ []) (option_to_list deq_a) (a ∷ b ∷ d ∷ []) (option_to_list e) three
+        (maybe_places operations deq_a e names.3)
 places_of_lines operations (violation.Order enq_a enq_b deq_b deq_a) _ names = absurd names
 places_of_lines operations (violation.Witness empty cover) (witness o lives) names =
-    places-append operations (empty ∷ []) (flat_map places_of_step cover) (o ∷ []) (flat_map operations_of_life lives) (ap (λ x. x ∷ []) names.0) (cover_places operations cover lives names.1)
+    places-append operations (empty ∷ []) (flat_map places_of_step cover) (o ∷ []) (flat_map operations_of_life lives) (ap (λ x. x ∷ []) names.0)
+        (cover_places operations cover lives names.1)
 places_of_lines operations (violation.Witness empty cover) _ names = absurd names
 
 -- such places are in the list
-pub in_range : (operations : List Operation) (places : List ℕ) (listed : List Operation) → ArePlacesOf operations places listed → All (λ place. place < length operations) places
+pub in_range : (operations : List Operation) (places : List ℕ) (listed : List Operation) → ArePlacesOf operations places listed
+    → All (λ place. place < length operations) places
 in_range operations [] listed named = All-nil (λ place. place < length operations)
 in_range operations (p ∷ places) [] named = cc
 in_range operations (p ∷ places) (o ∷ listed) named =
@@ -76,11 +85,13 @@ in_range operations (p ∷ places) (o ∷ listed) named =
     let later : map (slice_get operations) places ≡ map (λ o. Some o) listed = cc in
     All-cons (λ place. place < length operations) p places (slice_get_within operations p o here) (in_range operations places listed later)
 
-pub lines_in_range : (operations : List Operation) (named : Violation) → ((breach : Breach) × Names operations named breach) → All (λ place. place < length operations) (places_of named)
+pub lines_in_range : (operations : List Operation) (named : Violation) → ((breach : Breach) × Names operations named breach)
+    → All (λ place. place < length operations) (places_of named)
 lines_in_range operations named some = in_range operations (places_of named) (lines_of some.0) (places_of_lines operations named some.0 some.1)
 
 -- and name one list
-one_list : (operations : List Operation) (places : List ℕ) (xs ys : List Operation) → ArePlacesOf operations places xs → ArePlacesOf operations places ys → xs ≡ ys
+one_list : (operations : List Operation) (places : List ℕ) (xs ys : List Operation) → ArePlacesOf operations places xs
+    → ArePlacesOf operations places ys → xs ≡ ys
 one_list operations places [] [] named_x named_y = refl
 one_list operations [] [] (y ∷ ys) named_x named_y = cc
 one_list operations (p ∷ places) [] (y ∷ ys) named_x named_y = cc
@@ -93,6 +104,8 @@ one_list operations (p ∷ places) (x ∷ xs) (y ∷ ys) named_x named_y =
     let rest = one_list operations places xs ys later_x later_y in
     cc
 
-pub named_are_lines : (operations : List Operation) (named : Violation) (places : List ℕ) (listed : List Operation) → places ≡ places_of named → ArePlacesOf operations places listed → AreLinesOf operations named listed
+pub named_are_lines : (operations : List Operation) (named : Violation) (places : List ℕ) (listed : List Operation) → places ≡ places_of named
+    → ArePlacesOf operations places listed → AreLinesOf operations named listed
 named_are_lines operations named places listed same at breach names =
-    one_list operations (places_of named) listed (lines_of breach) (subst (λ ps. ArePlacesOf operations ps listed) same at) (places_of_lines operations named breach names)
+    one_list operations (places_of named) listed (lines_of breach) (subst (λ ps. ArePlacesOf operations ps listed) same at)
+        (places_of_lines operations named breach names)

@@ -34,11 +34,14 @@ one_place_at : (operations : List Operation) (p q : ℕ) (o : Operation) → Are
 one_place_at operations p q o complete at_p at_q =
     elim (cases_order p q) [
       | inl same ↦ same
-      | inr (inl less) ↦ let calls = pairs_at (λ x y. x.call < y.call) operations p q o o (operations_rise operations complete) less at_p at_q in absurd (omega arith)
-      | inr (inr more) ↦ let calls = pairs_at (λ x y. x.call < y.call) operations q p o o (operations_rise operations complete) more at_q at_p in absurd (omega arith)
+      | inr (inl less) ↦ let calls = pairs_at (λ x y. x.call < y.call) operations p q o o (operations_rise operations complete) less at_p at_q in
+          absurd (omega arith)
+      | inr (inr more) ↦ let calls = pairs_at (λ x y. x.call < y.call) operations q p o o (operations_rise operations complete) more at_q at_p in
+          absurd (omega arith)
     ]
 
-maybe_one_place : (operations : List Operation) (p q : Option ℕ) (o : Option Operation) → AreComplete operations → IsMaybeAt operations p o → IsMaybeAt operations q o → p ≡ q
+maybe_one_place : (operations : List Operation) (p q : Option ℕ) (o : Option Operation) → AreComplete operations → IsMaybeAt operations p o
+    → IsMaybeAt operations q o → p ≡ q
 maybe_one_place operations None None o complete at_p at_q = refl
 maybe_one_place operations None (Some q) None complete at_p at_q = absurd at_q
 maybe_one_place operations None (Some q) (Some o) complete at_p at_q = absurd at_p
@@ -48,7 +51,8 @@ maybe_one_place operations (Some p) (Some q) None complete at_p at_q = absurd at
 maybe_one_place operations (Some p) (Some q) (Some o) complete at_p at_q = ap (λ place. Some place) (one_place_at operations p q o complete at_p at_q)
 
 -- operations stand at one list of places
-one_list_of_places : (operations : List Operation) (ps qs : List ℕ) (listed : List Operation) → AreComplete operations → ArePlacesOf operations ps listed → ArePlacesOf operations qs listed → ps ≡ qs
+one_list_of_places : (operations : List Operation) (ps qs : List ℕ) (listed : List Operation) → AreComplete operations
+    → ArePlacesOf operations ps listed → ArePlacesOf operations qs listed → ps ≡ qs
 one_list_of_places operations [] [] listed complete at_ps at_qs = refl
 one_list_of_places operations [] (q ∷ qs) [] complete at_ps at_qs = cc
 one_list_of_places operations [] (q ∷ qs) (o ∷ listed) complete at_ps at_qs = cc
@@ -60,15 +64,19 @@ one_list_of_places operations (p ∷ ps) (q ∷ qs) (o ∷ listed) complete at_p
     let here_q : slice_get operations q ≡ Some o = cc in
     let later_p : map (slice_get operations) ps ≡ map (λ o. Some o) listed = cc in
     let later_q : map (slice_get operations) qs ≡ map (λ o. Some o) listed = cc in
-    ap₂ (λ (x : ℕ) (xs : List ℕ). x ∷ xs) (one_place_at operations p q o complete here_p here_q) (one_list_of_places operations ps qs listed complete later_p later_q)
+    ap₂ (λ (x : ℕ) (xs : List ℕ). x ∷ xs) (one_place_at operations p q o complete here_p here_q)
+        (one_list_of_places operations ps qs listed complete later_p later_q)
 
 one_step : (operations : List Operation) (p q : CoverStep) (life : Life) → AreComplete operations
-    → IsAt operations p.enqueue (enqueue_of life) × IsMaybeAt operations p.dequeue (dequeue_of life) → IsAt operations q.enqueue (enqueue_of life) × IsMaybeAt operations q.dequeue (dequeue_of life) → p ≡ q
+    → IsAt operations p.enqueue (enqueue_of life) × IsMaybeAt operations p.dequeue (dequeue_of life)
+        → IsAt operations q.enqueue (enqueue_of life) × IsMaybeAt operations q.dequeue (dequeue_of life) → p ≡ q
 one_step operations p q life complete at_p at_q =
     let step : ℕ → Option ℕ → CoverStep = λ e d. record { enqueue = e; dequeue = d } in
-    ap₂ step (one_place_at operations p.enqueue q.enqueue (enqueue_of life) complete at_p.0 at_q.0) (maybe_one_place operations p.dequeue q.dequeue (dequeue_of life) complete at_p.1 at_q.1)
+    ap₂ step (one_place_at operations p.enqueue q.enqueue (enqueue_of life) complete at_p.0 at_q.0)
+        (maybe_one_place operations p.dequeue q.dequeue (dequeue_of life) complete at_p.1 at_q.1)
 
-one_named_cover : (operations : List Operation) (ps qs : List CoverStep) (lives : List Life) → AreComplete operations → NamesCover operations ps lives → NamesCover operations qs lives → ps ≡ qs
+one_named_cover : (operations : List Operation) (ps qs : List CoverStep) (lives : List Life) → AreComplete operations → NamesCover operations ps lives
+    → NamesCover operations qs lives → ps ≡ qs
 one_named_cover operations [] [] lives complete names_p names_q = refl
 one_named_cover operations [] (q ∷ qs) [] complete names_p names_q = absurd names_q
 one_named_cover operations [] (q ∷ qs) (life ∷ lives) complete names_p names_q = absurd names_p
@@ -76,12 +84,15 @@ one_named_cover operations (p ∷ ps) [] [] complete names_p names_q = absurd na
 one_named_cover operations (p ∷ ps) [] (life ∷ lives) complete names_p names_q = absurd names_q
 one_named_cover operations (p ∷ ps) (q ∷ qs) [] complete names_p names_q = absurd names_p
 one_named_cover operations (p ∷ ps) (q ∷ qs) (life ∷ lives) complete names_p names_q =
-    ap₂ (λ (x : CoverStep) (xs : List CoverStep). x ∷ xs) (one_step operations p q life complete names_p.0 names_q.0) (one_named_cover operations ps qs lives complete names_p.1 names_q.1)
+    ap₂ (λ (x : CoverStep) (xs : List CoverStep). x ∷ xs) (one_step operations p q life complete names_p.0 names_q.0)
+        (one_named_cover operations ps qs lives complete names_p.1 names_q.1)
 
 -- the operations of a violation are named by one list of places
-one_named : (operations : List Operation) (x y : Violation) (breach : Breach) → AreComplete operations → Names operations x breach → Names operations y breach → x ≡ y
+one_named : (operations : List Operation) (x y : Violation) (breach : Breach) → AreComplete operations → Names operations x breach
+    → Names operations y breach → x ≡ y
 one_named operations (violation.Fresh d e) (violation.Fresh d' e') (fresh deq enq) complete at at' =
-    ap₂ (λ (p : ℕ) (q : Option ℕ). violation.Fresh p q) (one_place_at operations d d' deq complete at.0 at'.0) (maybe_one_place operations e e' enq complete at.1 at'.1)
+    ap₂ (λ (p : ℕ) (q : Option ℕ). violation.Fresh p q) (one_place_at operations d d' deq complete at.0 at'.0)
+        (maybe_one_place operations e e' enq complete at.1 at'.1)
 one_named operations (violation.Fresh d e) y (fresh deq enq) complete at at' = absurd at'
 one_named operations (violation.Fresh d e) y _ complete at at' = absurd at
 one_named operations (violation.Repeat e d f) (violation.Repeat e' d' f') (repeat enq first second) complete at at' =
@@ -100,23 +111,28 @@ one_named operations (violation.Order a b d c) (violation.Order a' b' d' c') (or
 one_named operations (violation.Order a b d c) y (order enq_a enq_b deq_b deq_a) complete at at' = absurd at'
 one_named operations (violation.Order a b d c) y _ complete at at' = absurd at
 one_named operations (violation.Witness o cover) (violation.Witness o' cover') (witness empty lives) complete at at' =
-    ap₂ (λ (p : ℕ) (steps : List CoverStep). violation.Witness p steps) (one_place_at operations o o' empty complete at.0 at'.0) (one_named_cover operations cover cover' lives complete at.1 at'.1)
+    ap₂ (λ (p : ℕ) (steps : List CoverStep). violation.Witness p steps) (one_place_at operations o o' empty complete at.0 at'.0)
+        (one_named_cover operations cover cover' lives complete at.1 at'.1)
 one_named operations (violation.Witness o cover) y (witness empty lives) complete at at' = absurd at'
 one_named operations (violation.Witness o cover) y _ complete at at' = absurd at
 
 -- so are those of two violations that are one
-one_violation : (operations : List Operation) (x y : Violation) (b c : Breach) → AreComplete operations → b ≡ c → Names operations x b → Names operations y c → x ≡ y
+one_violation : (operations : List Operation) (x y : Violation) (b c : Breach) → AreComplete operations → b ≡ c → Names operations x b
+    → Names operations y c → x ≡ y
 one_violation operations x y b c complete same at at' = one_named operations x y c complete (subst (Names operations x) same at) at'
 
 -- a complete history has one chosen violation
-pub chosen_violation_is_one : (operations : List Operation) (x y : Violation) → AreComplete operations → IsChosenViolation operations x → IsChosenViolation operations y → x ≡ y
+pub chosen_violation_is_one : (operations : List Operation) (x y : Violation) → AreComplete operations → IsChosenViolation operations x
+    → IsChosenViolation operations y → x ≡ y
 chosen_violation_is_one operations x y complete chosen_x chosen_y =
-    one_violation operations x y chosen_x.0 chosen_y.0 complete (one_chosen_breach operations chosen_x.0 chosen_y.0 complete chosen_x.2 chosen_y.2) chosen_x.1 chosen_y.1
+    one_violation operations x y chosen_x.0 chosen_y.0 complete (one_chosen_breach operations chosen_x.0 chosen_y.0 complete chosen_x.2 chosen_y.2)
+        chosen_x.1 chosen_y.1
 
 pub verdict_is_one : VerdictIsOne
 verdict_is_one operations (Yes ps) (Yes qs) complete x y =
     let none = λ (b : Breach) (violates : IsBreachOf operations b). breach_excludes_order operations b complete violates x.exact in
-    let clear : IsClear operations = record { complete = complete; no_fresh = λ deq enq. none (fresh deq enq); no_repeat = λ enq first second. none (repeat enq first second) } in
+    let clear : IsClear operations = record { complete = complete; no_fresh = λ deq enq. none (fresh deq enq); no_repeat =
+        λ enq first second. none (repeat enq first second) } in
     let orders = chosen_order_is_one operations x.chosen.0 y.chosen.0 clear x.chosen.2 y.chosen.2 in
     ap (λ places. Yes places) (one_list_of_places operations ps qs y.chosen.0 complete (subst (ArePlacesOf operations ps) orders x.chosen.1) y.chosen.1)
 verdict_is_one operations (Yes ps) (No v) complete x y = absurd (y.exact x.exact)
@@ -163,7 +179,8 @@ pair_is_one operations (Some p) (Some q) complete x y =
     let breaches : b ≡ c = one_order operations x.enq_a x.enq_b x.deq_b y.enq_a y.enq_b y.deq_b x.deq_a y.deq_a complete x.is_chosen y.is_chosen in
     let v : Violation = violation.Order p.enq_a p.enq_b p.deq_b p.deq_a in
     let w : Violation = violation.Order q.enq_a q.enq_b q.deq_b q.deq_a in
-    let violations = one_violation operations v w b c complete breaches (x.at_a, x.at_b, x.dequeued_b, x.dequeued_a) (y.at_a, y.at_b, y.dequeued_b, y.dequeued_a) in
+    let violations = one_violation operations v w b c complete breaches (x.at_a, x.at_b, x.dequeued_b, x.dequeued_a)
+        (y.at_a, y.at_b, y.dequeued_b, y.dequeued_a) in
     ap (λ pair. Some pair) (ap pair_of violations)
 
 one_least_gap : (operations : List Operation) (o : Operation) (c d : ℕ) → IsLeastFreeGap operations o c → IsLeastFreeGap operations o d → c ≡ d
@@ -188,7 +205,8 @@ gap_is_one operations place (gap.Covered steps) (gap.Covered steps') clear x y =
     let lives = one_cover operations y.0 y.0.call x.1 y.1 clear (subst (λ o. IsChosenCover operations o x.1) same x.5) y.5 in
     ap (λ steps. gap.Covered steps) (one_named_cover operations steps steps' y.1 clear.complete (subst (NamesCover operations steps) lives x.3) y.3)
 
-one_list_of_gaps : (operations answers : List Operation) (cs ds : List ℕ) → AllZip (λ o c. IsLeastFreeGap operations o c) answers cs → AllZip (λ o c. IsLeastFreeGap operations o c) answers ds → cs ≡ ds
+one_list_of_gaps : (operations answers : List Operation) (cs ds : List ℕ) → AllZip (λ o c. IsLeastFreeGap operations o c) answers cs
+    → AllZip (λ o c. IsLeastFreeGap operations o c) answers ds → cs ≡ ds
 one_list_of_gaps operations [] [] [] x y = refl
 one_list_of_gaps operations [] [] (d ∷ ds) x y = absurd y
 one_list_of_gaps operations [] (c ∷ cs) ds x y = absurd x
@@ -198,7 +216,8 @@ one_list_of_gaps operations (o ∷ answers) (c ∷ cs) (d ∷ ds) x y =
     ap₂ (λ (n : ℕ) (ns : List ℕ). n ∷ ns) (one_least_gap operations o c d x.0 y.0) (one_list_of_gaps operations answers cs ds x.1 y.1)
 
 -- where each empty answer has a free gap, none is covered
-none_covered : (operations : List Operation) (gaps : List ℕ) (o : Operation) → AllZip (λ o c. IsLeastFreeGap operations o c) (filter is_empty_answer operations) gaps → Did operations o Empty → IsCovered operations o → ⊥
+none_covered : (operations : List Operation) (gaps : List ℕ) (o : Operation)
+    → AllZip (λ o c. IsLeastFreeGap operations o c) (filter is_empty_answer operations) gaps → Did operations o Empty → IsCovered operations o → ⊥
 none_covered operations gaps o each did covered =
     let passes : is_empty_answer o ≡ true = rw did.1 refl in
     let place = place_of (filter is_empty_answer operations) o (passes_filter is_empty_answer operations o passes did.0) in
@@ -206,7 +225,8 @@ none_covered operations gaps o each did covered =
     free_or_covered operations o free.0 free.2 covered
 
 pub witness_is_one : WitnessIsOne
-witness_is_one operations (found.Gaps cs) (found.Gaps ds) clear x y = ap (λ gaps. found.Gaps gaps) (one_list_of_gaps operations (filter is_empty_answer operations) cs ds x y)
+witness_is_one operations (found.Gaps cs) (found.Gaps ds) clear x y =
+    ap (λ gaps. found.Gaps gaps) (one_list_of_gaps operations (filter is_empty_answer operations) cs ds x y)
 witness_is_one operations (found.Gaps cs) (found.Covered place cover) clear x y = absurd (none_covered operations cs y.0 x y.4.answers_empty y.4.is_covered)
 witness_is_one operations (found.Covered place cover) (found.Gaps cs) clear x y = absurd (none_covered operations cs x.0 y x.4.answers_empty x.4.is_covered)
 witness_is_one operations (found.Covered p steps) (found.Covered q steps') clear x y =

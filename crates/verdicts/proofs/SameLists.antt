@@ -13,19 +13,22 @@ KeysRise key xs = AllPairs (λ x y. key x < key y) xs
 
 -- the first key is below the others
 below_later : {X : Type 0} (key : X → ℕ) (x : X) (xs : List X) (y : X) → KeysRise key (x ∷ xs) → Contains xs y → key x < key y
-below_later key x xs y rises among = let place = place_of xs y among in pairs_at (λ x y. key x < key y) (x ∷ xs) zero (suc place.0) x y rises (omega arith) refl place.1
+below_later key x xs y rises among = let place = place_of xs y among in
+    pairs_at (λ x y. key x < key y) (x ∷ xs) zero (suc place.0) x y rises (omega arith) refl place.1
 
 -- an element of a list that isn't the first is among the others
 among_later : {X : Type 0} (key : X → ℕ) (y z : X) (ys : List X) → key y < key z → Contains (y ∷ ys) z → Contains ys z
 among_later key y z ys above among = elim (contains_cons y ys z among) [ inl same ↦ let keys = ap key same in absurd (omega arith) | inr later ↦ later ]
 
-pub same_lists : {X : Type 0} (key : X → ℕ) (xs ys : List X) → KeysRise key xs → KeysRise key ys → ((z : X) → Contains xs z → Contains ys z) → ((z : X) → Contains ys z → Contains xs z) → xs ≡ ys
+pub same_lists : {X : Type 0} (key : X → ℕ) (xs ys : List X) → KeysRise key xs → KeysRise key ys → ((z : X) → Contains xs z → Contains ys z)
+    → ((z : X) → Contains ys z → Contains xs z) → xs ≡ ys
 same_lists key [] [] rises rises' into back = refl
 same_lists key [] (y ∷ ys) rises rises' into back = absurd (not_in_none y (back y (zero, omega arith, refl)))
 same_lists key (x ∷ xs) [] rises rises' into back = absurd (not_in_none x (into x (zero, omega arith, refl)))
 same_lists {X} key (x ∷ xs) (y ∷ ys) rises rises' into back =
     let heads = first (contains_cons y ys x (into x (zero, omega arith, refl))) (contains_cons x xs y (back y (zero, omega arith, refl))) in
-    let tails = same_lists key xs ys (AllPairs-tail (λ x y. key x < key y) x xs rises) (AllPairs-tail (λ x y. key x < key y) y ys rises') (further heads) (backward heads) in
+    let tails = same_lists key xs ys (AllPairs-tail (λ x y. key x < key y) x xs rises) (AllPairs-tail (λ x y. key x < key y) y ys rises')
+        (further heads) (backward heads) in
     cc
   where
     first : (y ≡ x) ⊎ Contains ys x → (x ≡ y) ⊎ Contains xs y → x ≡ y
@@ -46,19 +49,22 @@ same_lists {X} key (x ∷ xs) (y ∷ ys) rises rises' into back =
 -- a list sorted by a key, of the elements of one of which the keys rise, is that one
 sorted_is_same : {X : Type 0} (key : X → ℕ) (xs ys : List X) → KeysRise key xs → IsPermutation xs ys → IsNonDecreasingBy key ys → ys ≡ xs
 sorted_is_same {X} key xs ys rises moved sorted =
-    same_lists key ys xs rises' rises (λ z among. Contains-permutation ys xs z (IsPermutation-sym xs ys moved) among) (λ z among. Contains-permutation xs ys z moved among)
+    same_lists key ys xs rises' rises (λ z among. Contains-permutation ys xs z (IsPermutation-sym xs ys moved) among)
+        (λ z among. Contains-permutation xs ys z moved among)
   where
     rises' : KeysRise key ys
     rises' i j d less within =
         let le = sorted i j d (omega arith) within in
         elim (cases_order (key (get_or ys i d)) (key (get_or ys j d))) [
-          | inl same ↦ let here = one_place key xs ys i j (get_or ys i d) (get_or ys j d) rises moved (slice_get-get_or ys i d (omega arith)) (slice_get-get_or ys j d within) same in absurd (omega arith)
+          | inl same ↦ let here = one_place key xs ys i j (get_or ys i d) (get_or ys j d) rises moved (slice_get-get_or ys i d (omega arith))
+              (slice_get-get_or ys j d within) same in absurd (omega arith)
           | inr (inl below) ↦ below
           | inr (inr above) ↦ absurd (omega arith)
         ]
 
 -- a list, sorted by a key, is one of which the keys rise exactly where it has the same elements
-pub sorted_tells : {X : Type 0} (key : X → ℕ) (xs ys sorted : List X) → KeysRise key xs → IsPermutation ys sorted → IsNonDecreasingBy key sorted → (sorted ≡ xs) ↔ IsPermutation xs ys
+pub sorted_tells : {X : Type 0} (key : X → ℕ) (xs ys sorted : List X) → KeysRise key xs → IsPermutation ys sorted → IsNonDecreasingBy key sorted
+    → (sorted ≡ xs) ↔ IsPermutation xs ys
 sorted_tells {X} key xs ys sorted rises moved in_order = (
   λ same. subst (λ zs. IsPermutation zs ys) same (IsPermutation-sym ys sorted moved),
   λ whole. sorted_is_same key xs sorted rises (IsPermutation-trans xs ys sorted whole moved) in_order,

@@ -17,10 +17,12 @@ first_line : (o : Operation) (lines : List Operation) → Contains (o ∷ lines)
 first_line o lines = (zero, omega arith, refl)
 
 -- the enqueue of each value of a cover is a line
-pub line_of_life : (empty : Operation) (cover : List Life) (life : Life) → Contains cover life → Contains (empty ∷ flat_map operations_of_life cover) (enqueue_of life)
+pub line_of_life : (empty : Operation) (cover : List Life) (life : Life) → Contains cover life
+    → Contains (empty ∷ flat_map operations_of_life cover) (enqueue_of life)
 line_of_life empty cover life among =
     let lines = flat_map operations_of_life cover in
-    one_deeper empty lines (enqueue_of life) (into_flat_map operations_of_life cover life (enqueue_of life) among (first_line (enqueue_of life) (option_to_list (dequeue_of life))))
+    one_deeper empty lines (enqueue_of life) (into_flat_map operations_of_life cover life (enqueue_of life) among
+        (first_line (enqueue_of life) (option_to_list (dequeue_of life))))
 
 module _ (operations : List Operation) (values empties : ℕ → Bool) where
   abbrev selected : List Operation
@@ -41,22 +43,26 @@ module _ (operations : List Operation) (values empties : ℕ → Bool) where
 
   -- no operation of a selected value is left out
   none_did_in_whole : (v : ℕ) (kind : OpKind) → values v ≡ true → value_of kind ≡ Some v → NoneDid selected kind → NoneDid operations kind
-  none_did_in_whole v kind selects_it is none o among did = none o (passes_filter (selects values empties) operations o (selects_by_value o v kind did is ∙ selects_it) among) did
+  none_did_in_whole v kind selects_it is none o among did = none o
+      (passes_filter (selects values empties) operations o (selects_by_value o v kind did is ∙ selects_it) among) did
 
   none_did_in_selected : (kind : OpKind) → NoneDid operations kind → NoneDid selected kind
   none_did_in_selected kind none o among did = none o (passed_filter (selects values empties) operations o among).0 did
 
-  dequeue_in_whole : (v : ℕ) (d : Option Operation) → values v ≡ true → MatchOption d (NoneDid selected (Deq v)) (λ d. Did selected d (Deq v)) → MatchOption d (NoneDid operations (Deq v)) (λ d. Did operations d (Deq v))
+  dequeue_in_whole : (v : ℕ) (d : Option Operation) → values v ≡ true → MatchOption d (NoneDid selected (Deq v)) (λ d. Did selected d (Deq v))
+      → MatchOption d (NoneDid operations (Deq v)) (λ d. Did operations d (Deq v))
   dequeue_in_whole v None selects_it none = none_did_in_whole v (Deq v) selects_it refl none
   dequeue_in_whole v (Some d) selects_it did = did_in_whole d (Deq v) did
 
-  dequeue_in_selected : (v : ℕ) (d : Option Operation) → values v ≡ true → MatchOption d (NoneDid operations (Deq v)) (λ d. Did operations d (Deq v)) → MatchOption d (NoneDid selected (Deq v)) (λ d. Did selected d (Deq v))
+  dequeue_in_selected : (v : ℕ) (d : Option Operation) → values v ≡ true → MatchOption d (NoneDid operations (Deq v)) (λ d. Did operations d (Deq v))
+      → MatchOption d (NoneDid selected (Deq v)) (λ d. Did selected d (Deq v))
   dequeue_in_selected v None selects_it none = none_did_in_selected (Deq v) none
   dequeue_in_selected v (Some d) selects_it did = did_in_selected d (Deq v) did (selects_by_value d v (Deq v) did.1 refl ∙ selects_it)
 
   pub life_in_whole : (life : Life) → IsLife selected life → IsLife operations life
   life_in_whole life is =
-      (is.0, did_in_whole (enqueue_of life) (Enq is.0) is.1, dequeue_in_whole is.0 (dequeue_of life) (value_is_selected (enqueue_of life) is.0 (Enq is.0) is.1 refl) is.2)
+      (is.0, did_in_whole (enqueue_of life) (Enq is.0) is.1, dequeue_in_whole is.0 (dequeue_of life)
+          (value_is_selected (enqueue_of life) is.0 (Enq is.0) is.1 refl) is.2)
 
   pub life_in_selected : (life : Life) → IsLife operations life → selects values empties (enqueue_of life) ≡ true → IsLife selected life
   life_in_selected life is selects_it =
@@ -66,23 +72,28 @@ module _ (operations : List Operation) (values empties : ℕ → Bool) where
   cover_in_whole : (empty before : Operation) (cover : List Life) → CoversFrom selected empty before cover → CoversFrom operations empty before cover
   cover_in_whole empty before [] covers = covers
   cover_in_whole empty before (life ∷ []) covers = (life_in_whole life covers.0, covers.1, covers.2)
-  cover_in_whole empty before (life ∷ next ∷ rest) covers = (life_in_whole life covers.0, covers.1, further (dequeue_of life) covers.2 (λ d. cover_in_whole empty d (next ∷ rest)))
+  cover_in_whole empty before (life ∷ next ∷ rest) covers = (life_in_whole life covers.0, covers.1, further (dequeue_of life) covers.2
+      (λ d. cover_in_whole empty d (next ∷ rest)))
     where
-      further : (dequeue : Option Operation) → MatchOption dequeue ⊥ (λ d. CoversFrom selected empty d (next ∷ rest)) → ((d : Operation) → CoversFrom selected empty d (next ∷ rest) → CoversFrom operations empty d (next ∷ rest))
+      further : (dequeue : Option Operation) → MatchOption dequeue ⊥ (λ d. CoversFrom selected empty d (next ∷ rest))
+          → ((d : Operation) → CoversFrom selected empty d (next ∷ rest) → CoversFrom operations empty d (next ∷ rest))
           → MatchOption dequeue ⊥ (λ d. CoversFrom operations empty d (next ∷ rest))
       further None covers' more = covers'
       further (Some d) covers' more = more d covers'
 
-  cover_in_selected : (empty before : Operation) (cover : List Life) → CoversFrom operations empty before cover → ((life : Life) → Contains cover life → selects values empties (enqueue_of life) ≡ true) → CoversFrom selected empty before cover
+  cover_in_selected : (empty before : Operation) (cover : List Life) → CoversFrom operations empty before cover
+      → ((life : Life) → Contains cover life → selects values empties (enqueue_of life) ≡ true) → CoversFrom selected empty before cover
   cover_in_selected empty before [] covers each = covers
   cover_in_selected empty before (life ∷ []) covers each = (life_in_selected life covers.0 (each life (zero, omega arith, refl)), covers.1, covers.2)
   cover_in_selected empty before (life ∷ next ∷ rest) covers each = (
     life_in_selected life covers.0 (each life (zero, omega arith, refl)),
     covers.1,
-    further (dequeue_of life) covers.2 (λ d covers'. cover_in_selected empty d (next ∷ rest) covers' (λ x among. each x (one_deeper life (next ∷ rest) x among))),
+    further (dequeue_of life) covers.2 (λ d covers'. cover_in_selected empty d (next ∷ rest) covers'
+        (λ x among. each x (one_deeper life (next ∷ rest) x among))),
   )
     where
-      further : (dequeue : Option Operation) → MatchOption dequeue ⊥ (λ d. CoversFrom operations empty d (next ∷ rest)) → ((d : Operation) → CoversFrom operations empty d (next ∷ rest) → CoversFrom selected empty d (next ∷ rest))
+      further : (dequeue : Option Operation) → MatchOption dequeue ⊥ (λ d. CoversFrom operations empty d (next ∷ rest))
+          → ((d : Operation) → CoversFrom operations empty d (next ∷ rest) → CoversFrom selected empty d (next ∷ rest))
           → MatchOption dequeue ⊥ (λ d. CoversFrom selected empty d (next ∷ rest))
       further None covers' more = covers'
       further (Some d) covers' more = more d covers'
@@ -100,7 +111,8 @@ module _ (operations : List Operation) (values empties : ℕ → Bool) where
   late_in_whole : (deq enq : Operation) → IsEnqueuedTooLate selected deq enq → IsEnqueuedTooLate operations deq enq
   late_in_whole deq enq is = record { value = is.value; dequeues = did_in_whole deq (Deq is.value) is.dequeues; enqueues = by_call is.enqueues }
     where
-      by_call : Did selected enq (Not is.value) ⊎ (Did selected enq (Enq is.value) × Precedes deq enq) → Did operations enq (Not is.value) ⊎ (Did operations enq (Enq is.value) × Precedes deq enq)
+      by_call : Did selected enq (Not is.value) ⊎ (Did selected enq (Enq is.value) × Precedes deq enq)
+          → Did operations enq (Not is.value) ⊎ (Did operations enq (Enq is.value) × Precedes deq enq)
       by_call (inl refused) = inl (did_in_whole enq (Not is.value) refused)
       by_call (inr late) = inr (did_in_whole enq (Enq is.value) late.0, late.1)
 
@@ -125,13 +137,16 @@ module _ (operations : List Operation) (values empties : ℕ → Bool) where
     dequeued_later = later deq_a is.dequeued_later;
   }
     where
-      later : (d : Option Operation) → MatchOption d (NoneDid selected (Deq is.a)) (λ d. Did selected d (Deq is.a) × Precedes deq_b d) → MatchOption d (NoneDid operations (Deq is.a)) (λ d. Did operations d (Deq is.a) × Precedes deq_b d)
+      later : (d : Option Operation) → MatchOption d (NoneDid selected (Deq is.a)) (λ d. Did selected d (Deq is.a) × Precedes deq_b d)
+          → MatchOption d (NoneDid operations (Deq is.a)) (λ d. Did operations d (Deq is.a) × Precedes deq_b d)
       later None none = none_did_in_whole is.a (Deq is.a) (value_is_selected enq_a is.a (Enq is.a) is.enqueues_a refl) refl none
       later (Some d) did = (did_in_whole d (Deq is.a) did.0, did.1)
-  breach_in_whole (witness empty cover) is = record { answers_empty = did_in_whole empty Empty is.answers_empty; covers = cover_in_whole empty empty cover is.covers }
+  breach_in_whole (witness empty cover) is = record { answers_empty = did_in_whole empty Empty is.answers_empty; covers =
+      cover_in_whole empty empty cover is.covers }
 
   -- a violation whose operations are selected is one of the selection
-  pub breach_in_selected : (breach : Breach) → IsBreachOf operations breach → ((o : Operation) → Contains (lines_of breach) o → selects values empties o ≡ true) → IsBreachOf selected breach
+  pub breach_in_selected : (breach : Breach) → IsBreachOf operations breach
+      → ((o : Operation) → Contains (lines_of breach) o → selects values empties o ≡ true) → IsBreachOf selected breach
   breach_in_selected (fresh deq None) is each = record {
     value = is.value;
     dequeues = did_in_selected deq (Deq is.value) is.dequeues (each deq (first_line deq []));
@@ -147,7 +162,8 @@ module _ (operations : List Operation) (values empties : ℕ → Bool) where
       selects_it : selects values empties enq ≡ true
       selects_it = each enq (suc zero, omega arith, refl)
 
-      by_call : Did operations enq (Not is.value) ⊎ (Did operations enq (Enq is.value) × Precedes deq enq) → Did selected enq (Not is.value) ⊎ (Did selected enq (Enq is.value) × Precedes deq enq)
+      by_call : Did operations enq (Not is.value) ⊎ (Did operations enq (Enq is.value) × Precedes deq enq)
+          → Did selected enq (Not is.value) ⊎ (Did selected enq (Enq is.value) × Precedes deq enq)
       by_call (inl refused) = inl (did_in_selected enq (Not is.value) refused selects_it)
       by_call (inr late) = inr (did_in_selected enq (Enq is.value) late.0 selects_it, late.1)
   breach_in_selected (repeat enq first second) is each = record {
@@ -170,7 +186,8 @@ module _ (operations : List Operation) (values empties : ℕ → Bool) where
       value_a : values is.a ≡ true
       value_a = sym (selects_by_value enq_a is.a (Enq is.a) is.enqueues_a.1 refl) ∙ each enq_a (zero, omega arith, refl)
 
-      later : (d : Option Operation) → MatchOption d (NoneDid operations (Deq is.a)) (λ d. Did operations d (Deq is.a) × Precedes deq_b d) → MatchOption d (NoneDid selected (Deq is.a)) (λ d. Did selected d (Deq is.a) × Precedes deq_b d)
+      later : (d : Option Operation) → MatchOption d (NoneDid operations (Deq is.a)) (λ d. Did operations d (Deq is.a) × Precedes deq_b d)
+          → MatchOption d (NoneDid selected (Deq is.a)) (λ d. Did selected d (Deq is.a) × Precedes deq_b d)
       later None none = none_did_in_selected (Deq is.a) none
       later (Some d) did = (did_in_selected d (Deq is.a) did.0 (selects_by_value d is.a (Deq is.a) did.0.1 refl ∙ value_a), did.1)
   breach_in_selected (witness empty cover) is each = record {

@@ -21,9 +21,12 @@ use Rattle.verdicts.proofs.NamedLines.{lines_are_operations}
 
 -- what the steps of the selection give
 pub selected_by_lines : (events seen selected : List Event) (operations lines read : List Operation) (violation : Violation) (values calls tickets : ℕ → Bool)
-    → operations ≡ operations_of events → seen ≡ events → read ≡ lines → IsChosenViolation (operations_of events) violation → AreLinesOf operations violation lines → SelectsNamed read values calls
-    → ((t : ℕ) → tickets t ≡ holds_ticket (filter (selects values calls) operations) t) → selected ≡ filter (λ e. tickets e.ticket) seen → AreSelectedEvents events violation selected
-selected_by_lines events seen selected operations lines read violation values calls tickets same_operations same_events same_lines chosen shown named same kept =
+    → operations ≡ operations_of events → seen ≡ events → read ≡ lines → IsChosenViolation (operations_of events) violation
+        → AreLinesOf operations violation lines → SelectsNamed read values calls
+    → ((t : ℕ) → tickets t ≡ holds_ticket (filter (selects values calls) operations) t) → selected ≡ filter (λ e. tickets e.ticket) seen
+        → AreSelectedEvents events violation selected
+selected_by_lines events seen selected operations lines read violation values calls tickets same_operations same_events same_lines chosen shown named
+    same kept =
     let names = subst (λ os. Names os violation chosen.0) (sym same_operations) chosen.1 in
     record {
       breach = chosen.0;
@@ -32,11 +35,13 @@ selected_by_lines events seen selected operations lines read violation values ca
       values = values;
       calls = calls;
       named = subst (λ ls. SelectsNamed ls values calls) (same_lines ∙ shown chosen.0 names) named;
-      has_tickets = kept ∙ ap (filter (λ e. tickets e.ticket)) same_events ∙ filter_agree (λ e. tickets e.ticket) (λ e. holds_ticket (filter (selects values calls) (operations_of events)) e.ticket)
+      has_tickets = kept ∙ ap (filter (λ e. tickets e.ticket)) same_events
+          ∙ filter_agree (λ e. tickets e.ticket) (λ e. holds_ticket (filter (selects values calls) (operations_of events)) e.ticket)
           (λ e. same e.ticket ∙ ap (λ os. holds_ticket (filter (selects values calls) os) e.ticket) same_operations) events;
     }
 
-module _ (events : List Event) (violation : Violation) (selected : List Event) (complete : IsCompleteHistory events) (are : AreSelectedEvents events violation selected) where
+module _ (events : List Event) (violation : Violation) (selected : List Event) (complete : IsCompleteHistory events)
+    (are : AreSelectedEvents events violation selected) where
   pub are_complete : IsCompleteHistory selected
   are_complete = subst IsCompleteHistory (sym are.has_tickets) (selected_events_are_complete (selects are.values are.calls) events complete)
 
@@ -55,7 +60,8 @@ module _ (events : List Event) (violation : Violation) (selected : List Event) (
   are_selected = ap operations_of are.has_tickets ∙ operations_of_selected (selects are.values are.calls) events complete
 
   stays_in_selected : IsBreachOf (operations_of selected) are.breach
-  stays_in_selected = subst (λ os. IsBreachOf os are.breach) (sym are_selected) (stays_violation (operations_of events) (events, complete, refl) are.breach are.is_chosen are.values are.calls are.named)
+  stays_in_selected = subst (λ os. IsBreachOf os are.breach) (sym are_selected)
+      (stays_violation (operations_of events) (events, complete, refl) are.breach are.is_chosen are.values are.calls are.named)
 
   chosen_in_selected : IsChosenBreach (operations_of selected) are.breach
   chosen_in_selected =
@@ -64,13 +70,16 @@ module _ (events : List Event) (violation : Violation) (selected : List Event) (
       (stays_violation (operations_of events) (events, complete, refl) are.breach are.is_chosen are.values are.calls are.named))
 
   keeps_violation : KeepsViolation (operations_of events) violation (operations_of selected)
-  keeps_violation = (are.breach, are.names, (are.values, are.calls, are_selected), lines_are_operations (operations_of selected) are.breach stays_in_selected chosen_in_selected)
+  keeps_violation = (are.breach, are.names, (are.values, are.calls, are_selected), lines_are_operations
+      (operations_of selected) are.breach stays_in_selected chosen_in_selected)
 
   violation_stays_chosen : StaysChosen (operations_of events) violation (operations_of selected)
-  violation_stays_chosen breach names = subst (IsChosenBreach (operations_of selected)) (names_one (operations_of events) violation are.breach breach are.names names) chosen_in_selected
+  violation_stays_chosen breach names = subst (IsChosenBreach (operations_of selected))
+      (names_one (operations_of events) violation are.breach breach are.names names) chosen_in_selected
 
   are_minimal : IsMinimal (operations_of selected)
-  are_minimal = subst IsMinimal (sym are_selected) (selection_is_minimal (operations_of events) (events, complete, refl) are.breach are.is_chosen are.values are.calls are.named)
+  are_minimal = subst IsMinimal (sym are_selected) (selection_is_minimal (operations_of events)
+      (events, complete, refl) are.breach are.is_chosen are.values are.calls are.named)
 
 -- what is ensured of the small history
 pub record IsShrunk (events : List Event) (violation : Violation) (small : List Event) : Type 0 where
@@ -79,7 +88,8 @@ pub record IsShrunk (events : List Event) (violation : Violation) (small : List 
   pub minimal : IsMinimal (operations_of small)
   pub part : ArePartOf events small
 
-pub is_shrunk : (events : List Event) (violation : Violation) (selected small : List Event) → IsCompleteHistory events → AreSelectedEvents events violation selected → small ≡ selected → IsShrunk events violation small
+pub is_shrunk : (events : List Event) (violation : Violation) (selected small : List Event) → IsCompleteHistory events
+    → AreSelectedEvents events violation selected → small ≡ selected → IsShrunk events violation small
 is_shrunk events violation selected small complete are same =
     subst (IsShrunk events violation) (sym same)
     (record {

@@ -29,7 +29,8 @@ IsValueClosed operations selected = (values : ℕ → Bool) × (empties : ℕ �
 
 -- no selection but the whole fails to be linearizable
 abbrev pub IsMinimal : List Operation → Type 0
-IsMinimal operations = ¬ (IsLinearizable operations) × ((selected : List Operation) → IsValueClosed operations selected → selected ≢ operations → IsLinearizable selected)
+IsMinimal operations = ¬ (IsLinearizable operations) × ((selected : List Operation) → IsValueClosed operations selected → selected ≢ operations
+    → IsLinearizable selected)
 
 -- a selection that keeps each operation of the violation
 abbrev pub KeepsViolation : List Operation → Violation → List Operation → Type 0

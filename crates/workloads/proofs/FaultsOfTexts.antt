@@ -1,5 +1,6 @@
 -- No two faults are true of one text.
-use Rattle.std.proofs.Common.{◌≡◌, inl, inr, ℕ, ◌<◌, List, [], ◌∷◌, ◌++◌, length, map, take, get_or, All, refl, sym, ap, ◌∙◌, subst, append_assoc, length-append, Result, Ok, Err, IsErrAnd, MatchResult, arith}
+use Rattle.std.proofs.Common.{◌≡◌, inl, inr, ℕ, ◌<◌, List, [], ◌∷◌, ◌++◌, length, map, take, get_or, All, refl, sym, ap, ◌∙◌, subst, append_assoc}
+use Rattle.std.proofs.Common.{length-append, Result, Ok, Err, IsErrAnd, MatchResult, arith}
 use Rattle.std.proofs.lemmas.Bool.{cases_lt}
 use Rattle.std.proofs.lemmas.List.{same_from_push, get_or_at, get_or_append_left, take_at}
 use Rattle.std.proofs.lemmas.List.Elements.{All-get_or}
@@ -26,7 +27,8 @@ stray_no_byte text worker stray (inr other) = stray.no_letter other.0 other.1
 
 -- the stray byte is that at its place
 stray_here : (text : List ℕ) (worker : ℕ) (stray : HasStray text worker) → get_or text (length stray.before) 0 ≡ stray.stray
-stray_here text worker stray = ap (λ (l : List ℕ). get_or l (length stray.before) 0) stray.text_is ∙ get_or_at stray.before stray.stray stray.after 0 (length stray.before) refl
+stray_here text worker stray = ap (λ (l : List ℕ). get_or l (length stray.before) 0) stray.text_is
+    ∙ get_or_at stray.before stray.stray stray.after 0 (length stray.before) refl
 
 -- whole lines have no stray byte
 whole_no_stray : (text : List ℕ) (rows : List (List Kind)) (worker : ℕ) → text ≡ text_of rows → HasStray text worker → ⊥
@@ -39,7 +41,8 @@ whole_no_stray text rows worker is stray =
 none_before : (text : List ℕ) (worker other : ℕ) (stray : HasStray text worker) (first : HasStray text other) → length stray.before < length first.before → ⊥
 none_before text worker other stray first earlier =
     let i = length stray.before in
-    let same : get_or first.before i 0 ≡ stray.stray = sym (get_or_append_left first.before (first.stray ∷ first.after) 0 i earlier) ∙ ap (λ (l : List ℕ). get_or l i 0) (sym first.text_is) ∙ stray_here text worker stray in
+    let same : get_or first.before i 0 ≡ stray.stray = sym (get_or_append_left first.before (first.stray ∷ first.after) 0 i earlier)
+        ∙ ap (λ (l : List ℕ). get_or l i 0) (sym first.text_is) ∙ stray_here text worker stray in
     stray_no_byte text worker stray (subst IsOfText same (All-get_or IsOfText first.before i 0 earlier (lines_are_of_text first.before other first.lines)))
 
 -- one worker has the first stray byte
@@ -47,8 +50,11 @@ one_stray : (text : List ℕ) (worker other : ℕ) → HasStray text worker → 
 one_stray text worker other stray first =
     let early = none_before text worker other stray first in
     let late = none_before text other worker first stray in
-    let size : length stray.before ≡ length first.before = elim (cases_lt (length stray.before) (length first.before)) [ inl less ↦ absurd (early less) | inr more ↦ elim (cases_lt (length first.before) (length stray.before)) [ inl less ↦ absurd (late less) | inr less ↦ omega arith ] ] in
-    let before : stray.before ≡ first.before = sym (take_at stray.before (stray.stray ∷ stray.after) (length first.before) size) ∙ ap (take (length first.before)) (sym stray.text_is ∙ first.text_is) ∙ take_at first.before (first.stray ∷ first.after) (length first.before) refl in
+    let size : length stray.before ≡ length first.before = elim (cases_lt (length stray.before) (length first.before))
+        [ inl less ↦ absurd (early less) | inr more ↦ elim (cases_lt (length first.before) (length stray.before))
+        [ inl less ↦ absurd (late less) | inr less ↦ omega arith ] ] in
+    let before : stray.before ≡ first.before = sym (take_at stray.before (stray.stray ∷ stray.after) (length first.before) size)
+        ∙ ap (take (length first.before)) (sym stray.text_is ∙ first.text_is) ∙ take_at first.before (first.stray ∷ first.after) (length first.before) refl in
     let read = reads_once stray.lines.rows first.lines.rows stray.lines.kinds first.lines.kinds (sym stray.lines.bytes_are ∙ before ∙ first.lines.bytes_are) in
     sym stray.lines.count ∙ ap length read.0 ∙ first.lines.count
 
@@ -64,13 +70,16 @@ one_fault text (Letter worker) Memory a b = absurd (whole_no_stray text b.rows w
 one_fault text Limit Cut a b = absurd (whole_not_cut text a.rows a.text_is b)
 one_fault text Limit (Letter worker) a b = absurd (whole_no_stray text a.rows worker a.text_is b.1)
 one_fault text Limit Limit a b = refl
-one_fault text Limit Memory a b = absurd (a.beyond (subst (λ (rows : List (List Kind)). IsPlan rows) (read_once b.rows a.rows (sym b.text_is ∙ a.text_is)) b.within))
+one_fault text Limit Memory a b = absurd (a.beyond (subst (λ (rows : List (List Kind)). IsPlan rows)
+    (read_once b.rows a.rows (sym b.text_is ∙ a.text_is)) b.within))
 one_fault text Memory Cut a b = absurd (whole_not_cut text a.rows a.text_is b)
 one_fault text Memory (Letter worker) a b = absurd (whole_no_stray text a.rows worker a.text_is b.1)
-one_fault text Memory Limit a b = absurd (b.beyond (subst (λ (rows : List (List Kind)). IsPlan rows) (read_once a.rows b.rows (sym a.text_is ∙ b.text_is)) a.within))
+one_fault text Memory Limit a b = absurd (b.beyond (subst (λ (rows : List (List Kind)). IsPlan rows)
+    (read_once a.rows b.rows (sym a.text_is ∙ b.text_is)) a.within))
 one_fault text Memory Memory a b = refl
 
 -- an answer that is want of memory, where that is the fault of the text
-pub memory_is : {A : Type 0} (answer : Result A PlanFault) (fault : PlanFault) → IsErrAnd answer (λ e. e ≡ Memory) → Memory ≡ fault → MatchResult answer (λ _. fault ≡ Memory) (λ found. found ≡ fault)
+pub memory_is : {A : Type 0} (answer : Result A PlanFault) (fault : PlanFault) → IsErrAnd answer (λ e. e ≡ Memory) → Memory ≡ fault
+    → MatchResult answer (λ _. fault ≡ Memory) (λ found. found ≡ fault)
 memory_is (Ok value) fault is same = absurd is
 memory_is (Err found) fault is same = is ∙ same

@@ -1,5 +1,6 @@
 -- How the kinds that words give are put together.
-use Rattle.std.proofs.Common.{◌≡◌, ℕ, suc, ◌+◌, ◌*◌, ◌≤◌, List, [], ◌∷◌, ◌++◌, length, flat_map, All, sym, ap, ◌∙◌, subst, zero-add, add-zero, length-append, append_assoc, arith}
+use Rattle.std.proofs.Common.{◌≡◌, ℕ, suc, ◌+◌, ◌*◌, ◌≤◌, List, [], ◌∷◌, ◌++◌, length, flat_map, All, sym, ap, ◌∙◌, subst, zero-add, add-zero}
+use Rattle.std.proofs.Common.{length-append, append_assoc, arith}
 use Rattle.std.proofs.lemmas.List.{append-nil}
 use Rattle.std.proofs.lemmas.List.Concat.{flat_map-append, length-flat_map}
 use Rattle.std.proofs.lemmas.List.Elements.{All-nil, All-push, All-weaker}
@@ -15,17 +16,20 @@ use Rattle.workloads.specs.Seeds.{kind_of_word, kinds_of_words, generator_of, Gi
 pub gives_none : (percent : ℕ) (generator : Lcg) → GivesKinds percent generator [] generator
 gives_none percent generator = record { begins = λ more. ap (λ (n : ℕ). kinds_of_words percent n generator) (zero-add more) }
 
-first_kind : (percent more : ℕ) (before : Lcg) → kinds_of_words percent (1 + more) before ≡ kind_of_word percent (pcg64 before).0 ∷ kinds_of_words percent more (pcg64 before).1
+first_kind : (percent more : ℕ) (before : Lcg) → kinds_of_words percent (1 + more) before ≡ kind_of_word percent
+    (pcg64 before).0 ∷ kinds_of_words percent more (pcg64 before).1
 unfolding first_words
 first_kind percent more before = let next : 1 + more ≡ suc more = omega arith in ap (λ (n : ℕ). kinds_of_words percent n before) next
 
-gives_word : (percent : ℕ) (before : Lcg) (word : ℕ) (after : Lcg) → (word, after) ≡ pcg64 before → GivesKinds percent before (kind_of_word percent word ∷ []) after
+gives_word : (percent : ℕ) (before : Lcg) (word : ℕ) (after : Lcg) → (word, after) ≡ pcg64 before
+    → GivesKinds percent before (kind_of_word percent word ∷ []) after
 gives_word percent before word after step = record {
   begins = λ more. first_kind percent more before ∙ ap (λ (p : ℕ × Lcg). kind_of_word percent p.0 ∷ kinds_of_words percent more p.1) (sym step);
 }
 
 -- kinds, and further kinds after them
-gives_both : (percent : ℕ) (before middle after : Lcg) (kinds further : List Kind) → GivesKinds percent before kinds middle → GivesKinds percent middle further after → GivesKinds percent before (kinds ++ further) after
+gives_both : (percent : ℕ) (before middle after : Lcg) (kinds further : List Kind) → GivesKinds percent before kinds middle
+    → GivesKinds percent middle further after → GivesKinds percent before (kinds ++ further) after
 gives_both percent before middle after kinds further first second = record {
   begins = λ more.
       let sum : length (kinds ++ further) + more ≡ length kinds + (length further + more) = omega (arith, length-append kinds further) in
@@ -36,7 +40,9 @@ gives_both percent before middle after kinds further first second = record {
 }
 
 -- one kind more
-pub gives_more : (percent : ℕ) (before middle after : Lcg) (kinds longer : List Kind) (word : ℕ) (kind : Kind) → GivesKinds percent before kinds middle → (word, after) ≡ pcg64 middle → kind ≡ kind_of_word percent word → longer ≡ kinds ++ kind ∷ [] → GivesKinds percent before longer after
+pub gives_more : (percent : ℕ) (before middle after : Lcg) (kinds longer : List Kind) (word : ℕ) (kind : Kind)
+    → GivesKinds percent before kinds middle → (word, after) ≡ pcg64 middle → kind ≡ kind_of_word percent word → longer ≡ kinds ++ kind ∷ []
+    → GivesKinds percent before longer after
 gives_more percent before middle after kinds longer word kind first step is last =
     let both = gives_both percent before middle after kinds (kind_of_word percent word ∷ []) first (gives_word percent middle word after step) in
     subst (λ (l : List Kind). GivesKinds percent before l after) (sym (last ∙ ap (λ (k : Kind). kinds ++ k ∷ []) is)) both
@@ -55,23 +61,29 @@ gives_no_rows percent operations generator = record {
 }
 
 -- one row more
-pub gives_row : (percent operations : ℕ) (before middle after : Lcg) (rows longer : List (List Kind)) (row : List Kind) → GivesRows percent operations before rows middle → GivesKinds percent middle row after → length row ≡ operations → longer ≡ rows ++ row ∷ [] → GivesRows percent operations before longer after
+pub gives_row : (percent operations : ℕ) (before middle after : Lcg) (rows longer : List (List Kind)) (row : List Kind)
+    → GivesRows percent operations before rows middle → GivesKinds percent middle row after → length row ≡ operations → longer ≡ rows ++ row ∷ []
+    → GivesRows percent operations before longer after
 gives_row percent operations before middle after rows longer row first next size last =
     subst (λ (l : List (List Kind)). GivesRows percent operations before l after) (sym last) (record {
       lengths = All-push (λ (r : List Kind). length r ≡ operations) rows row first.lengths size;
-      total = let parts = ap length joined in let sizes = length-append (flat_map (λ (r : List Kind). r) rows) row in let count = length-append rows (row ∷ []) in let old = first.total in rw count (omega (arith, parts, sizes, old, size));
-      kinds = subst (λ (l : List Kind). GivesKinds percent before l after) (sym joined) (gives_both percent before middle after (flat_map (λ (r : List Kind). r) rows) row first.kinds next);
+      total = let parts = ap length joined in let sizes = length-append (flat_map (λ (r : List Kind). r) rows) row in let count =
+          length-append rows (row ∷ []) in let old = first.total in rw count (omega (arith, parts, sizes, old, size));
+      kinds = subst (λ (l : List Kind). GivesKinds percent before l after) (sym joined)
+          (gives_both percent before middle after (flat_map (λ (r : List Kind). r) rows) row first.kinds next);
     })
   where
     joined : flat_map (λ (r : List Kind). r) (rows ++ row ∷ []) ≡ flat_map (λ (r : List Kind). r) rows ++ row
     joined = flat_map-append (λ (r : List Kind). r) rows (row ∷ []) ∙ ap (λ (l : List Kind). flat_map (λ (r : List Kind). r) rows ++ l) (append-nil row)
 
 -- as many rows as there are workers are a plan of the seed
-pub seeded : (seed percent workers operations : ℕ) (rows : List (List Kind)) (after : Lcg) → GivesRows percent operations (generator_of seed) rows after → length rows ≡ workers → IsSeeded seed workers operations percent rows
+pub seeded : (seed percent workers operations : ℕ) (rows : List (List Kind)) (after : Lcg)
+    → GivesRows percent operations (generator_of seed) rows after → length rows ≡ workers → IsSeeded seed workers operations percent rows
 unfolding first_words
 seeded seed percent workers operations rows after given count =
     let start = generator_of seed in
-    let all : length (flat_map (λ (r : List Kind). r) rows) + 0 ≡ workers * operations = add-zero (length (flat_map (λ (r : List Kind). r) rows)) ∙ given.total ∙ ap (λ (n : ℕ). n * operations) count in
+    let all : length (flat_map (λ (r : List Kind). r) rows) + 0 ≡ workers * operations =
+        add-zero (length (flat_map (λ (r : List Kind). r) rows)) ∙ given.total ∙ ap (λ (n : ℕ). n * operations) count in
     record {
       all_workers = count;
       all_operations = given.lengths;
@@ -79,7 +91,8 @@ seeded seed percent workers operations rows after given count =
     }
 
 -- such rows are within the limits where their numbers are
-pub seeded_plan : (percent operations : ℕ) (before : Lcg) (rows : List (List Kind)) (after : Lcg) → GivesRows percent operations before rows after → 1 ≤ length rows → length rows ≤ MAX_WORKERS → operations ≤ MAX_THREAD_OPERATIONS → length rows * operations ≤ MAX_OPERATIONS → IsPlan rows
+pub seeded_plan : (percent operations : ℕ) (before : Lcg) (rows : List (List Kind)) (after : Lcg) → GivesRows percent operations before rows after
+    → 1 ≤ length rows → length rows ≤ MAX_WORKERS → operations ≤ MAX_THREAD_OPERATIONS → length rows * operations ≤ MAX_OPERATIONS → IsPlan rows
 seeded_plan percent operations before rows after given some few short small = record {
   some = some;
   few = few;

@@ -1,5 +1,6 @@
 -- The lines of plans' texts: how they grow by a byte, and that a text is read in one way.
-use Rattle.std.proofs.Common.{◌≡◌, ◌≢◌, ◌⊎◌, inl, inr, ℕ, ◌+◌, ◌<◌, ◌≤◌, true, false, cond, List, [], ◌∷◌, ◌++◌, length, map, take, drop, get_or, All, sum_by, count_by, eqb, refl, sym, ap, ◌∙◌, subst, append_assoc, length-append, arith}
+use Rattle.std.proofs.Common.{◌≡◌, ◌≢◌, ◌⊎◌, inl, inr, ℕ, ◌+◌, ◌<◌, ◌≤◌, true, false, cond, List, [], ◌∷◌, ◌++◌, length, map, take, drop, get_or, All}
+use Rattle.std.proofs.Common.{sum_by, count_by, eqb, refl, sym, ap, ◌∙◌, subst, append_assoc, length-append, arith}
 use Rattle.std.specs.List.{slice_split, list_all}
 use Rattle.std.proofs.lemmas.Bool.{and_parts, and_from, leb-true, le-leb}
 use Rattle.std.proofs.lemmas.List.{append-nil, map_push, length-map, take_all, take_more, take-append-drop, drop_more, same_from_push}
@@ -36,7 +37,8 @@ line_first : (row : List Kind) (rest : List ℕ) → line_of row ++ rest ≡ map
 line_first row rest = append_assoc (map letter row) (LINE_FEED ∷ []) rest
 
 -- the parts between the line ends are the letters of the rows, those of an unfinished row among them
-pub parts_of_lines : (rows : List (List Kind)) (kinds : List Kind) → slice_split ends_line (text_of rows ++ map letter kinds) ≡ map (map letter) (rows ++ kinds ∷ [])
+pub parts_of_lines : (rows : List (List Kind)) (kinds : List Kind)
+    → slice_split ends_line (text_of rows ++ map letter kinds) ≡ map (map letter) (rows ++ kinds ∷ [])
 parts_of_lines [] kinds = slice_split_none ends_line (map letter kinds) (letters_go_on kinds)
 parts_of_lines (row ∷ rows) kinds =
     ap (slice_split ends_line) (append_assoc (line_of row) (text_of rows) (map letter kinds) ∙ line_first row (text_of rows ++ map letter kinds))
@@ -55,10 +57,12 @@ kinds_back (Deq ∷ kinds) = ap (λ (l : List Kind). Deq ∷ l) (kinds_back kind
 
 rows_back : (rows : List (List Kind)) → map (map kind_of_letter) (map (map letter) rows) ≡ rows
 rows_back [] = refl
-rows_back (row ∷ rows) = ap (λ (l : List Kind). l ∷ map (map kind_of_letter) (map (map letter) rows)) (kinds_back row) ∙ ap (λ (l : List (List Kind)). row ∷ l) (rows_back rows)
+rows_back (row ∷ rows) = ap (λ (l : List Kind). l ∷ map (map kind_of_letter) (map (map letter) rows)) (kinds_back row)
+    ∙ ap (λ (l : List (List Kind)). row ∷ l) (rows_back rows)
 
 -- bytes are lines and letters of one more in one way
-pub reads_once : (rows more : List (List Kind)) (kinds others : List Kind) → text_of rows ++ map letter kinds ≡ text_of more ++ map letter others → (rows ≡ more) × (kinds ≡ others)
+pub reads_once : (rows more : List (List Kind)) (kinds others : List Kind) → text_of rows ++ map letter kinds ≡ text_of more ++ map letter others
+    → (rows ≡ more) × (kinds ≡ others)
 reads_once rows more kinds others same =
     let parts = sym (parts_of_lines rows kinds) ∙ ap (slice_split ends_line) same ∙ parts_of_lines more others in
     let back = sym (rows_back (rows ++ kinds ∷ [])) ∙ ap (map (map kind_of_letter)) parts ∙ rows_back (more ++ others ∷ []) in
@@ -68,14 +72,16 @@ pub lines_none : HasLines [] 0
 lines_none = record { rows = []; kinds = []; bytes_are = refl; count = refl }
 
 -- one letter more
-pub letters_more : (bytes : List ℕ) (rows : List (List Kind)) (kinds : List Kind) (kind : Kind) → bytes ≡ text_of rows ++ map letter kinds → bytes ++ letter kind ∷ [] ≡ text_of rows ++ map letter (kinds ++ kind ∷ [])
+pub letters_more : (bytes : List ℕ) (rows : List (List Kind)) (kinds : List Kind) (kind : Kind) → bytes ≡ text_of rows ++ map letter kinds
+    → bytes ++ letter kind ∷ [] ≡ text_of rows ++ map letter (kinds ++ kind ∷ [])
 letters_more bytes rows kinds kind is =
     ap (λ (l : List ℕ). l ++ letter kind ∷ []) is
     ∙ append_assoc (text_of rows) (map letter kinds) (letter kind ∷ [])
     ∙ ap (λ (l : List ℕ). text_of rows ++ l) (sym (map_push letter kinds kind))
 
 -- the end of a line
-pub lines_more : (bytes : List ℕ) (rows : List (List Kind)) (kinds : List Kind) → bytes ≡ text_of rows ++ map letter kinds → bytes ++ LINE_FEED ∷ [] ≡ text_of (rows ++ kinds ∷ []) ++ map letter []
+pub lines_more : (bytes : List ℕ) (rows : List (List Kind)) (kinds : List Kind) → bytes ≡ text_of rows ++ map letter kinds
+    → bytes ++ LINE_FEED ∷ [] ≡ text_of (rows ++ kinds ∷ []) ++ map letter []
 lines_more bytes rows kinds is =
     ap (λ (l : List ℕ). l ++ LINE_FEED ∷ []) is
     ∙ append_assoc (text_of rows) (map letter kinds) (LINE_FEED ∷ [])
@@ -113,7 +119,8 @@ parts-text_of rows = ap (slice_split ends_line) (sym (append-nil (text_of rows))
 
 -- as many lines end as there are workers
 count-text_of : (rows : List (List Kind)) → count_by ends_line (text_of rows) ≡ length rows
-count-text_of rows = omega (arith, length-slice_split ends_line (text_of rows), ap length (parts-text_of rows), length-map (rows ++ [] ∷ []) (map letter), length-append rows ([] ∷ []))
+count-text_of rows = omega (arith, length-slice_split ends_line (text_of rows), ap length (parts-text_of rows), length-map (rows ++ [] ∷ [])
+    (map letter), length-append rows ([] ∷ []))
 
 -- the lines are short where the rows are
 short_from_lines : (rows : List (List Kind)) → list_all is_short_line (map (map letter) (rows ++ [] ∷ [])) ≡ true → AreShort rows
@@ -130,7 +137,8 @@ lines_from_short (row ∷ rows) short =
     let here = All-head (λ (r : List Kind). length r ≤ MAX_THREAD_OPERATIONS) row rows short in
     let line : length (map letter row) ≤ MAX_THREAD_OPERATIONS = omega (arith, length-map row letter, here) in
     let rest = lines_from_short rows (All-tail (λ (r : List Kind). length r ≤ MAX_THREAD_OPERATIONS) row rows short) in
-    and_from (is_short_line (map letter row)) (list_all is_short_line (map (map letter) (rows ++ [] ∷ []))) (le-leb (length (map letter row)) MAX_THREAD_OPERATIONS line) rest
+    and_from (is_short_line (map letter row)) (list_all is_short_line (map (map letter) (rows ++ [] ∷ [])))
+        (le-leb (length (map letter row)) MAX_THREAD_OPERATIONS line) rest
 
 -- what the bytes of a text tell of its rows
 pub record TellsRows (text : List ℕ) (rows : List (List Kind)) : Type 0 where
@@ -148,17 +156,22 @@ tells_rows text rows is = subst (λ (t : List ℕ). TellsRows t rows) (sym is) (
 })
 
 -- the bytes up to a letter at place i, and that letter
-pub lines_at_letter : (text : List ℕ) (i workers : ℕ) (kind : Kind) → i < length text → get_or text i 0 ≡ letter kind → HasLines (take i text) workers → HasLines (take (i + 1) text) workers
+pub lines_at_letter : (text : List ℕ) (i workers : ℕ) (kind : Kind) → i < length text → get_or text i 0 ≡ letter kind → HasLines (take i text) workers
+    → HasLines (take (i + 1) text) workers
 lines_at_letter text i workers kind within is lines =
-    subst (λ (bytes : List ℕ). HasLines bytes workers) (ap (λ (byte : ℕ). take i text ++ byte ∷ []) (sym is) ∙ sym (take_more text i 0 within)) (has_letter (take i text) workers kind lines)
+    subst (λ (bytes : List ℕ). HasLines bytes workers) (ap (λ (byte : ℕ). take i text ++ byte ∷ []) (sym is) ∙ sym (take_more text i 0 within))
+        (has_letter (take i text) workers kind lines)
 
 -- the bytes up to a line end at place i, and that line end
-pub lines_at_end : (text : List ℕ) (i workers : ℕ) → i < length text → get_or text i 0 ≡ LINE_FEED → HasLines (take i text) workers → HasLines (take (i + 1) text) (workers + 1)
+pub lines_at_end : (text : List ℕ) (i workers : ℕ) → i < length text → get_or text i 0 ≡ LINE_FEED → HasLines (take i text) workers
+    → HasLines (take (i + 1) text) (workers + 1)
 lines_at_end text i workers within is lines =
-    subst (λ (bytes : List ℕ). HasLines bytes (workers + 1)) (ap (λ (byte : ℕ). take i text ++ byte ∷ []) (sym is) ∙ sym (take_more text i 0 within)) (has_end (take i text) workers lines)
+    subst (λ (bytes : List ℕ). HasLines bytes (workers + 1)) (ap (λ (byte : ℕ). take i text ++ byte ∷ []) (sym is) ∙ sym (take_more text i 0 within))
+        (has_end (take i text) workers lines)
 
 -- another byte at place i
-pub stray_at : (text : List ℕ) (i workers : ℕ) → i < length text → HasLines (take i text) workers → ((kind : Kind) → get_or text i 0 ≢ letter kind) → get_or text i 0 ≢ LINE_FEED → HasStray text workers
+pub stray_at : (text : List ℕ) (i workers : ℕ) → i < length text → HasLines (take i text) workers → ((kind : Kind) → get_or text i 0 ≢ letter kind)
+    → get_or text i 0 ≢ LINE_FEED → HasStray text workers
 stray_at text i workers within lines no_letter no_end = record {
   before = take i text;
   stray = get_or text i 0;
@@ -187,7 +200,8 @@ whole_lines text workers lines whole = from_kinds lines.kinds lines.bytes_are
         absurd (whole (record {
           front = text_of lines.rows ++ map letter last.0;
           last = letter last.1;
-          text_is = is ∙ ap (λ (l : List Kind). text_of lines.rows ++ map letter l) last.2 ∙ sym (letters_more (text_of lines.rows ++ map letter last.0) lines.rows last.0 last.1 refl);
+          text_is = is ∙ ap (λ (l : List Kind). text_of lines.rows ++ map letter l) last.2
+              ∙ sym (letters_more (text_of lines.rows ++ map letter last.0) lines.rows last.0 last.1 refl);
           no_end = letter_is_no_end last.1;
         }))
 
@@ -196,7 +210,8 @@ pub read_once : (rows more : List (List Kind)) → text_of rows ≡ text_of more
 read_once rows more same = (reads_once rows more [] [] (append-nil (text_of rows) ∙ same ∙ sym (append-nil (text_of more)))).0
 
 -- all bytes read are whole lines
-pub read_whole : (text : List ℕ) (planned rows : List (List Kind)) (kinds : List Kind) (i : ℕ) → text ≡ text_of planned → length text ≤ i → take i text ≡ text_of rows ++ map letter kinds → text ≡ text_of rows
+pub read_whole : (text : List ℕ) (planned rows : List (List Kind)) (kinds : List Kind) (i : ℕ) → text ≡ text_of planned → length text ≤ i
+    → take i text ≡ text_of rows ++ map letter kinds → text ≡ text_of rows
 read_whole text planned rows kinds i is all read =
     let same = (reads_once planned rows [] kinds (append-nil (text_of planned) ∙ sym is ∙ sym (take_all i text all) ∙ read)).0 in
     is ∙ ap text_of same
@@ -212,7 +227,8 @@ letters_are_of_text (kind ∷ kinds) rest all = All-cons IsOfText (letter kind) 
 pub bytes_are_of_text : (rows : List (List Kind)) → All IsOfText (text_of rows)
 bytes_are_of_text [] = All-nil IsOfText
 bytes_are_of_text (row ∷ rows) =
-    subst (λ (l : List ℕ). All IsOfText l) (sym (line_first row (text_of rows))) (letters_are_of_text row (LINE_FEED ∷ text_of rows) (All-cons IsOfText LINE_FEED (text_of rows) (inl refl) (bytes_are_of_text rows)))
+    subst (λ (l : List ℕ). All IsOfText l) (sym (line_first row (text_of rows)))
+        (letters_are_of_text row (LINE_FEED ∷ text_of rows) (All-cons IsOfText LINE_FEED (text_of rows) (inl refl) (bytes_are_of_text rows)))
 
 pub lines_are_of_text : (bytes : List ℕ) (workers : ℕ) → HasLines bytes workers → All IsOfText bytes
 lines_are_of_text bytes workers lines =
@@ -221,7 +237,8 @@ lines_are_of_text bytes workers lines =
     subst (λ (l : List ℕ). All IsOfText l) (sym lines.bytes_are) (All-append IsOfText (text_of lines.rows) (map letter lines.kinds) whole letters)
 
 -- a byte of a text that is no letter ends a line
-pub end_of_line : (text : List ℕ) (rows : List (List Kind)) (i : ℕ) → text ≡ text_of rows → i < length text → ((kind : Kind) → get_or text i 0 ≢ letter kind) → get_or text i 0 ≡ LINE_FEED
+pub end_of_line : (text : List ℕ) (rows : List (List Kind)) (i : ℕ) → text ≡ text_of rows → i < length text
+    → ((kind : Kind) → get_or text i 0 ≢ letter kind) → get_or text i 0 ≡ LINE_FEED
 end_of_line text rows i is within no_letter =
     let all = subst (λ (l : List ℕ). All IsOfText l) (sym is) (bytes_are_of_text rows) in
     elim (All-get_or IsOfText text i 0 within all) [
@@ -230,9 +247,13 @@ end_of_line text rows i is within no_letter =
     ]
 
 -- one letter more is read
-pub reads_letter : (text : List ℕ) (i : ℕ) (rows : List (List Kind)) (kinds : List Kind) (kind : Kind) → i < length text → get_or text i 0 ≡ letter kind → take i text ≡ text_of rows ++ map letter kinds → take (i + 1) text ≡ text_of rows ++ map letter (kinds ++ kind ∷ [])
-reads_letter text i rows kinds kind within is read = take_more text i 0 within ∙ ap (λ (byte : ℕ). take i text ++ byte ∷ []) is ∙ letters_more (take i text) rows kinds kind read
+pub reads_letter : (text : List ℕ) (i : ℕ) (rows : List (List Kind)) (kinds : List Kind) (kind : Kind) → i < length text
+    → get_or text i 0 ≡ letter kind → take i text ≡ text_of rows ++ map letter kinds → take (i + 1) text ≡ text_of rows ++ map letter (kinds ++ kind ∷ [])
+reads_letter text i rows kinds kind within is read = take_more text i 0 within ∙ ap (λ (byte : ℕ). take i text ++ byte ∷ []) is
+    ∙ letters_more (take i text) rows kinds kind read
 
 -- the end of a line is read
-pub reads_end : (text : List ℕ) (i : ℕ) (rows : List (List Kind)) (kinds : List Kind) → i < length text → get_or text i 0 ≡ LINE_FEED → take i text ≡ text_of rows ++ map letter kinds → take (i + 1) text ≡ text_of (rows ++ kinds ∷ []) ++ map letter []
-reads_end text i rows kinds within is read = take_more text i 0 within ∙ ap (λ (byte : ℕ). take i text ++ byte ∷ []) is ∙ lines_more (take i text) rows kinds read
+pub reads_end : (text : List ℕ) (i : ℕ) (rows : List (List Kind)) (kinds : List Kind) → i < length text → get_or text i 0 ≡ LINE_FEED
+    → take i text ≡ text_of rows ++ map letter kinds → take (i + 1) text ≡ text_of (rows ++ kinds ∷ []) ++ map letter []
+reads_end text i rows kinds within is read = take_more text i 0 within ∙ ap (λ (byte : ℕ). take i text ++ byte ∷ []) is
+    ∙ lines_more (take i text) rows kinds read

@@ -27,7 +27,8 @@ returns-in_err-map_err-clause-memory c =
 pub loop-ring-preserved : goal.loop-ring-preserved
 loop-ring-preserved c =
     let s = c.in-Ok.ensures in
-    let p = seals_next _ _ _ _ _ _ _ _ c.loop-ring.invariant.2 c.in-Some.ensures.steps.0 c.in-Some-next.ensures.cases.0 c.in-Ok.events.items s.sealed s.certified in
+    let p = seals_next _ _ _ _ _ _ _ _ c.loop-ring.invariant.2 c.in-Some.ensures.steps.0 c.in-Some-next.ensures.cases.0 c.in-Ok.events.items s.sealed
+        s.certified in
     let pushed : c.push.new.self.items ≡ c.loop-ring.lists.items ++ c.in-Ok.events ∷ [] = search rules in
     let more = ap (map (λ list. list.items)) pushed ∙ map-append (λ list. list.items) c.loop-ring.lists.items (c.in-Ok.events ∷ []) in
     (tt, tt, subst (λ lists. IsSealing c.args.tokens.items (into_iter_items c.next.new.self) (into_iter_items c.next-in-loop-ring.new.self) lists) (sym more) p)
@@ -35,6 +36,7 @@ loop-ring-preserved c =
 pub returns-clause-certified : goal.returns-clause-certified
 returns-clause-certified c =
     elim c.match-next.branch [
-      | in-None w ↦ certified_at_end _ _ _ _ _ c.requires.fits c.requires.order c.loop-ring.invariant.2 (omega (arith, w.in-None.ensures.steps.0, c.loop-ring.ring-iterator.rest.ok))
+      | in-None w ↦ certified_at_end _ _ _ _ _ c.requires.fits c.requires.order c.loop-ring.invariant.2
+          (omega (arith, w.in-None.ensures.steps.0, c.loop-ring.ring-iterator.rest.ok))
       | in-Some+in_default w ↦ all_certified _ _ _ _ _ c.requires.fits c.requires.order c.loop-ring.invariant.2 (search rules)
     ]

@@ -6,5 +6,6 @@ use Rattle.simulation.proofs.playing.ending_of.Goals as goal
 pub returns-in_ok-collected : goal.returns-in_ok-collected
 returns-in_ok-collected c = λ setting schedule after. (
   (c.done.ensures setting schedule after).0 c.if-done.true,
-  c.in_ok-collected.ensures setting schedule after ∙ ap (λ (n : ℕ). map (collected_in setting schedule) (range_with_len 0 n)) (sym c.requires.threads ∙ after.threads),
+  c.in_ok-collected.ensures setting schedule after ∙ ap (λ (n : ℕ). map (collected_in setting schedule) (range_with_len 0 n))
+      (sym c.requires.threads ∙ after.threads),
 )

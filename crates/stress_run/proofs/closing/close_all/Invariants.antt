@@ -10,4 +10,5 @@ invariant-loop-worker l =
     × (goal.iterator-loop-worker).is_finite l.worker-iterator
     × All (λ w. w.pass.key ≡ l.tickets.key) (into_iter_items l.worker-iterator)
     × (l.closing.pass.key ≡ l.tickets.key)
-    × ((done : List WorkerView) × (l.fn.workers.items ≡ done ++ into_iter_items l.worker-iterator) × IsClosing l.fn.rest done l.fn.standing l.closing.tokens.items l.closing.pass l.closing.fault)
+    × ((done : List WorkerView) × (l.fn.workers.items ≡ done ++ into_iter_items l.worker-iterator)
+        × IsClosing l.fn.rest done l.fn.standing l.closing.tokens.items l.closing.pass l.closing.fault)

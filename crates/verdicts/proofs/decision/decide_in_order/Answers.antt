@@ -7,4 +7,5 @@ pub returns-in-Covered : goal.returns-in-Covered
 returns-in-Covered c =
     let operations = c.args.matching.now in
     no_is_decided operations _ c.requires.clear.complete
-    (witness_is_chosen operations c.in-Covered.empty c.in-Covered.cover c.requires.clear c.requires.in_order (subst (IsWitnessAnswer operations) c.in-Covered.is c.requires.answer))
+    (witness_is_chosen operations c.in-Covered.empty c.in-Covered.cover c.requires.clear c.requires.in_order
+        (subst (IsWitnessAnswer operations) c.in-Covered.is c.requires.answer))

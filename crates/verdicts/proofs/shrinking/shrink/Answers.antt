@@ -12,7 +12,8 @@ complete_history-requires-clause-few c =
     omega (arith, c.events-events.ensures.few)
 
 pub complete_history-requires-clause-complete : goal.complete_history-requires-clause-complete
-complete_history-requires-clause-complete c = are_complete c.args.history.now c.args.violation.now c.in_ok-selected.selected.items c.events-events.ensures.complete c.in_ok-selected.ensures
+complete_history-requires-clause-complete c = are_complete c.args.history.now c.args.violation.now c.in_ok-selected.selected.items
+    c.events-events.ensures.complete c.in_ok-selected.ensures
 
 pub returns : goal.returns
 returns c =
@@ -26,7 +27,8 @@ returns c =
       kept = IfOk-weaker small (λ s. s ≡ selected) _ (λ s same. (is s same).kept) c.complete_history.ensures.events;
       same_violation = IfOk-weaker small (λ s. s ≡ selected) _ (λ s same. (is s same).same_violation) c.complete_history.ensures.events;
       minimal = IfOk-weaker small (λ s. s ≡ selected) _ (λ s same. (is s same).minimal) c.complete_history.ensures.events;
-      shortest = IfOk-weaker small (λ s. s ≡ selected) _ (λ s same. has_shortest_cover (operations_of events) violation (events, complete, refl) c.requires) c.complete_history.ensures.events;
+      shortest = IfOk-weaker small (λ s. s ≡ selected) _ (λ s same. has_shortest_cover (operations_of events) violation
+          (events, complete, refl) c.requires) c.complete_history.ensures.events;
       events = IfOk-weaker small (λ s. s ≡ selected) _ (λ s same. (is s same).part) c.complete_history.ensures.events;
       complete = c.complete_history.ensures.complete;
     }

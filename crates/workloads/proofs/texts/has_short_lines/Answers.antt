@@ -6,4 +6,6 @@ use Rattle.workloads.specs.Texts.{ends_line, is_short_line}
 use Rattle.workloads.proofs.texts.has_short_lines.Goals as goal
 
 pub returns : goal.returns
-returns c = all_from_yields_List is_short_line _ _ c.all.result c.all.ensures.ran (YieldsList-from_slice_split _ ends_line c.args.text.now c.split.ensures.rest c.split.ensures.done c.split.ensures.closure (λ x b q k. search (rules, tests))) (λ x b q k. search (rules, tests))
+returns c = all_from_yields_List is_short_line _ _ c.all.result c.all.ensures.ran
+    (YieldsList-from_slice_split _ ends_line c.args.text.now c.split.ensures.rest c.split.ensures.done c.split.ensures.closure
+    (λ x b q k. search (rules, tests))) (λ x b q k. search (rules, tests))

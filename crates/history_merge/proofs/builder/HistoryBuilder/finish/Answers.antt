@@ -24,4 +24,5 @@ returns-in-Some-clause-refused c = λ events gathered complete.
     (met_fault_is_first events c.in-Some.fault (kept_is_met events c.args.self c.in-Some.fault c.in-Some.is gathered)) complete
 
 pub returns-in-Some-least_pending-clause-refused : goal.returns-in-Some-least_pending-clause-refused
-returns-in-Some-least_pending-clause-refused c = λ events gathered. none_left_pending events (still_forming events c.args.self c.in_default.is gathered) c.in-Some-least_pending.ensures
+returns-in-Some-least_pending-clause-refused c = λ events gathered. none_left_pending events
+    (still_forming events c.args.self c.in_default.is gathered) c.in-Some-least_pending.ensures

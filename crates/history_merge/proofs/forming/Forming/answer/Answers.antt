@@ -13,4 +13,5 @@ returns c = λ events call is_return pending known.
     let done = completed_by events c.args.event call c.args.self.now c.requires is_return pending known in
     let place = (let at : ◌≡◌ {A = ℕ} (get_or c.args.self.now.places c.from.result 0) done.place = rw c.from.ensures done.is in at) in
     let pending_is = rw place at c.index-pending.ensures in
-    formed_after_answer events c.args.event call c.args.self.now _ c.requires is_return pending known (rw (place, c.answered.ensures, pending_is, done.was) (sym done.now)) refl
+    formed_after_answer events c.args.event call c.args.self.now _ c.requires is_return pending known
+        (rw (place, c.answered.ensures, pending_is, done.was) (sym done.now)) refl

@@ -42,7 +42,8 @@ returns-clause-works g c =
       ap (λ v. v.tries) E2 ∙ ap (λ v. v.tries) V2 ∙ ap (λ v. v.tries) E1 ∙ ap (λ v. v.tries) V1,
     )
     first
-    (draws_from _ _ _ _ _ _ c.stamp-returned.ensures.drawn (ap (λ v. v.pass) V2 ∙ ap (λ v. v.pass) E1) refl (sym (ap (λ v. v.pass) E2)))) c.record-2.ensures.sent
+    (draws_from _ _ _ _ _ _ c.stamp-returned.ensures.drawn (ap (λ v. v.pass) V2 ∙ ap (λ v. v.pass) E1) refl (sym (ap (λ v. v.pass) E2))))
+        c.record-2.ensures.sent
 
 pub returns-clause-stalls : goal.returns-clause-stalls
 returns-clause-stalls g c =
@@ -61,7 +62,8 @@ returns-clause-stalls g c =
     ) (
       ap (λ v. v.thread) E2 ∙ ap (λ v. v.thread) V2 ∙ ap (λ v. v.thread) E1 ∙ ap (λ v. v.thread) V1,
       ap (λ v. v.ring) E2 ∙ ap (λ v. v.ring) V2 ∙ ap (λ v. v.ring) E1 ∙ ap (λ v. v.ring) V1,
-      ap (λ v. v.sent) E2 ∙ ap (λ v. v.sent) V2 ∙ ap (λ v. v.sent) E1 ∙ ap (λ v. v.sent ++ c.ask_enq-ask.result.1 ∷ []) V1 ∙ ap (λ e. c.args.self.now.sent ++ e ∷ []) asks.noted,
+      ap (λ v. v.sent) E2 ∙ ap (λ v. v.sent) V2 ∙ ap (λ v. v.sent) E1 ∙ ap (λ v. v.sent ++ c.ask_enq-ask.result.1 ∷ []) V1
+          ∙ ap (λ e. c.args.self.now.sent ++ e ∷ []) asks.noted,
       ap (λ v. v.stopped) E2,
       ap (λ v. v.asked) E2 ∙ ap (λ v. v.asked) V2 ∙ ap (λ v. v.asked) E1 ∙ ap (λ n. n.asked) asks.counted ∙ ap (λ v. v.asked + 1) V1,
       ap (λ v. v.capacity) E2 ∙ ap (λ v. v.capacity) V2 ∙ ap (λ v. v.capacity) E1 ∙ ap (λ v. v.capacity) V1,
@@ -70,4 +72,5 @@ returns-clause-stalls g c =
     (filled_still _ _ _ _ (ap (λ v. v.capacity) E2) (ap (λ v. length v.sent) E2) F2.1)
     c.requires.running
     first
-    (draws_from _ _ _ _ _ _ c.stamp-returned.ensures.drawn (ap (λ v. v.pass) V2 ∙ ap (λ v. v.pass) E1) refl (sym (ap (λ v. v.pass) E2)))) c.record-2.ensures.stopped
+    (draws_from _ _ _ _ _ _ c.stamp-returned.ensures.drawn (ap (λ v. v.pass) V2 ∙ ap (λ v. v.pass) E1) refl (sym (ap (λ v. v.pass) E2))))
+        c.record-2.ensures.stopped

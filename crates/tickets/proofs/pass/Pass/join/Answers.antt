@@ -15,7 +15,8 @@ load-requires c = (search rules, search rules, looks _ _ _ _)
 
 -- what the joined seat knows
 joined : (c : After-load) → c.load.new.seat.me.0 ≡ put_together (holding c.args.self.left c.args.self.drawn) (holding c.args.other.left c.args.other.drawn)
-joined c = ap (λ m. m.0) (c.load.ensures.2.1 ∙ c.join_seat.ensures.2) ∙ (λ i. put_together (c.into_parts-seat.ensures.seat i).0 (c.into_parts-other_seat.ensures.seat i).0)
+joined c = ap (λ m. m.0) (c.load.ensures.2.1 ∙ c.join_seat.ensures.2)
+    ∙ (λ i. put_together (c.into_parts-seat.ensures.seat i).0 (c.into_parts-other_seat.ensures.seat i).0)
 
 -- the shares together
 whole : (c : After-load) → whole_of c.load.new.seat.me.0 ≡ share_of c.args.self + share_of c.args.other
@@ -32,7 +33,9 @@ pub invariant_of-result : goal.invariant_of-result
 invariant_of-result c =
     let left = ap (λ (h : Holding). h.left) (joined c) in
     let all = whole c in
-    (omega arith, omega arith, ap (λ m. m.1) (c.load.ensures.2.1 ∙ c.join_seat.ensures.2 ∙ ap (λ m. (put_together m.0 c.into_parts-other_seat.result.0.me.0, m.1)) c.into_parts-seat.ensures.seat))
+    (omega arith, omega arith, ap (λ m. m.1) (c.load.ensures.2.1 ∙ c.join_seat.ensures.2
+        ∙ ap (λ m. (put_together m.0 c.into_parts-other_seat.result.0.me.0, m.1)) c.into_parts-seat.ensures.seat))
 
 pub returns-clause-drawn : goal.returns-clause-drawn
-returns-clause-drawn c = subst (λ (l : List ℕ). IsPermutation (c.args.self.drawn ++ c.args.other.drawn) l) (sym (ap (λ (h : Holding). h.drawn) (joined c))) (IsPermutation-merged c.args.self.drawn c.args.other.drawn)
+returns-clause-drawn c = subst (λ (l : List ℕ). IsPermutation (c.args.self.drawn ++ c.args.other.drawn) l)
+    (sym (ap (λ (h : Holding). h.drawn) (joined c))) (IsPermutation-merged c.args.self.drawn c.args.other.drawn)
