@@ -97,8 +97,10 @@ pub kept_is_met : (events : List Event) (builder : HistoryBuilder) (fault : Hist
     → HasMetFault events fault
 kept_is_met events builder fault kept gathered = subst (λ kept. MatchOption kept (IsForming events builder) (HasMetFault events)) kept gathered
 
--- in a complete history nothing is left pending
-pub none_left_pending : {builder : HistoryBuilder} {ticket : ℕ} (events : List Event) → IsForming events builder
-    → ((before : List Event) → HasTracked before builder.progress → IsLeastPending before ticket) → IsCompleteHistory events → Pending ticket ≡ Memory
-none_left_pending {builder} {ticket} events known least complete =
+-- a call that is left pending where no fault is kept: then the history isn't complete
+pub left_pending : (builder : HistoryBuilder) (ticket : ℕ) (events : List Event) → builder.fault ≡ None
+    → ((before : List Event) → HasTracked before builder.progress → IsLeastPending before ticket)
+    → HasGathered events builder → IsCompleteHistory events → Pending ticket ≡ Memory
+left_pending builder ticket events none least gathered complete =
+    let known = still_forming events builder none gathered in
     complete_has_no_fault events (Pending ticket) (known.no_fault, least events known.tracked) complete

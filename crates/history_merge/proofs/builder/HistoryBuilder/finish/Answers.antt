@@ -1,7 +1,7 @@
 use Rattle.std.proofs.Common.{◌∙◌}
 use Rattle.history_merge.proofs.ExactFaults.{complete_has_no_fault, complete_without_fault}
 use Rattle.history_merge.proofs.Formed.{all_formed}
-use Rattle.history_merge.proofs.MetFaults.{kept_is_met, met_fault_is_first, none_left_pending, still_forming}
+use Rattle.history_merge.proofs.MetFaults.{kept_is_met, left_pending, met_fault_is_first, still_forming}
 use Rattle.history_merge.proofs.builder.HistoryBuilder.finish.Goals as goal
 
 pub returns-in-Some-clause-outcome : goal.returns-in-Some-clause-outcome
@@ -24,5 +24,4 @@ returns-in-Some-clause-refused c = λ events gathered complete.
     (met_fault_is_first events c.in-Some.fault (kept_is_met events c.args.self c.in-Some.fault c.in-Some.is gathered)) complete
 
 pub returns-in-Some-least_pending-clause-refused : goal.returns-in-Some-least_pending-clause-refused
-returns-in-Some-least_pending-clause-refused c = λ events gathered. none_left_pending events
-    (still_forming events c.args.self c.in_default.is gathered) c.in-Some-least_pending.ensures
+returns-in-Some-least_pending-clause-refused c = λ events. left_pending c.args.self _ events c.in_default.is c.in-Some-least_pending.ensures
