@@ -7,6 +7,8 @@
 mod filling;
 mod laws;
 mod recorded;
+#[cfg(test)]
+mod tests;
 
 ghost use Rattle.std.specs.Prelude.{◌≡◌, ◌<◌, ◌≤◌, ◌⊎◌, List, ℕ, length};
 ghost use Rattle.event_records.specs.declared.event.Event.{Event};
@@ -26,6 +28,9 @@ use event_records::MAX_EVENTS;
 pub use laws::events_and_their_text_agree;
 pub use recorded::{CALL_DEQ, CALL_ENQ, RET_DEQ, RET_EMPTY, RET_ENQ, RET_NOT, RecordedEvent};
 use std::alloc::Global;
+
+/// The number of the interface that the header describes.
+const INTERFACE: u32 = 1;
 
 /// What `check` answers of the text.
 ///
@@ -100,5 +105,5 @@ pub extern "C" fn fifobench_check_events(
 pub extern "C" fn fifobench_interface() -> u32
     ensures { result ≡ 1 }
 {
-    1
+    INTERFACE
 }
