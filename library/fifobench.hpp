@@ -72,16 +72,14 @@ inline Answer shrink(std::string_view text) { return detail::judge(fifobench_shr
 // Whether the verdict behind the history is evidence: VALID or INVALID.
 inline Answer verify(std::string_view text) { return detail::judge(fifobench_verify, text); }
 
-using Event = fifobench_event;
-
 // The verdict on events by ticket.
-inline Answer check(const Event* events, std::size_t count) {
+inline Answer check(const fifobench_event* events, std::size_t count) {
     return detail::answer(24 * count + 64, [&](std::uint8_t* buffer, std::size_t capacity, std::size_t* needed) {
         return fifobench_check_events(events, count, buffer, capacity, needed);
     });
 }
 
-inline Answer check(const std::vector<Event>& events) { return check(events.data(), events.size()); }
+inline Answer check(const std::vector<fifobench_event>& events) { return check(events.data(), events.size()); }
 
 }    // namespace fifobench
 

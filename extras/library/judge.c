@@ -157,6 +157,10 @@ static int print_answers(const char *command, char **names, int count)
         for (int n = 0; n < count; n++) {
             struct text text = read_text(names[n]);
             struct answer answer = answer_of(judges[which], text);
+            /* docs/LIBRARY.md names this room. */
+            if (which == 0 && answer.length > text.length + 64) {
+                fail("an answer of check has more than the length of the text and 64 bytes", names[n]);
+            }
             printf("%s %s %u\n", command, names[n], answer.status);
             fwrite(answer.text, 1, answer.length, stdout);
             free(answer.text);
@@ -317,8 +321,8 @@ static int measure(int calls, char **names, int count)
 {
     struct text *texts = read_all(names, count);
     static uint8_t buffer[1 << 16];
-    size_t first_used = 0;
-    long first_pages = 0;
+    size_t half_used = 0;
+    long half_pages = 0;
     for (int n = 0; n < calls; n++) {
         size_t needed = 0;
         struct text text = texts[n / 3 % count];
@@ -327,15 +331,15 @@ static int measure(int calls, char **names, int count)
         if (held != before) {
             fail("memory is held after a call", text.name);
         }
-        if (n == calls / 10) {
-            first_used = mallinfo2().uordblks;
-            first_pages = resident_pages();
+        if (n == calls / 2) {
+            half_used = mallinfo2().uordblks;
+            half_pages = resident_pages();
         }
     }
     size_t used = mallinfo2().uordblks;
-    printf("%d calls, %ld growths: no block held after any; in use after a tenth %zu bytes, after all %zu; resident %ld KiB, then %ld KiB\n", calls,
-           (long)growths, first_used, used, first_pages * 4, resident_pages() * 4);
-    return used <= first_used ? 0 : 1;
+    printf("%d calls, %ld growths: no block held after any; in use after half of them %zu bytes, after all %zu; resident %ld KiB, then %ld KiB\n", calls,
+           (long)growths, half_used, used, half_pages * 4, resident_pages() * 4);
+    return used <= half_used ? 0 : 1;
 }
 
 /* ---- want of memory */
