@@ -14,12 +14,15 @@ mod show;
 mod shrink;
 mod sim;
 mod stress;
+mod texts;
 mod verify;
 mod words;
 
 pub use command::{run_command, run_over};
 pub use evidence::{a_checked_verdict_is_valid, what_is_shrunk_is_valid};
 pub use laws::{honest_schedules_get_a_yes, one_answer};
+pub use outcome::Outcome;
 pub use shelf::{BuiltIn, built_ins};
 pub use stress::{Shelved, TRIES};
+pub use texts::{check_text, judge_gathered, shrink_text, verify_text};
 pub use words::{StartFault, print_start_fault, words_of};

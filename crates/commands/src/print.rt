@@ -45,7 +45,7 @@ pub fn write_number<W: TextSink>(writer: &mut W, number: u64) -> Result<(), Writ
 }
 
 /// Writes what a command found.
-fn write_outcome<W: TextSink>(writer: &mut W, outcome: &Outcome) -> Result<(), WriteFault>
+pub fn write_outcome<W: TextSink>(writer: &mut W, outcome: &Outcome) -> Result<(), WriteFault>
     requires { NamesPlaces outcome.now }
     ensures ok { OnOk result (Appends (W.contents writer.old) (W.contents writer.new) (answer_text (answer_of outcome.now))) }
     ensures err { OnErr result (AppendsFront (W.contents writer.old) (W.contents writer.new) (answer_text (answer_of outcome.now))) }
@@ -83,7 +83,8 @@ fn status_of_verdict(verdict: &Verdict) -> u8
     }
 }
 
-fn status_of(outcome: &Outcome) -> u8
+/// The status that goes with what a command found.
+pub fn status_of(outcome: &Outcome) -> u8
     ensures { result ≡ answer_status (answer_of outcome.now) }
 {
     match outcome {

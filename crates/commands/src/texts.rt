@@ -1,0 +1,85 @@
+//! What the commands find in a text in memory, all in the caller's thread: nothing is read, printed or started.
+ghost use Rattle.std.specs.Prelude.{◌≡◌, ◌≤◌, List, IfOk, length};
+ghost use Rattle.event_records.specs.declared.event.Event.{Event};
+ghost use Rattle.history_merge.specs.Gathering.{HasGathered};
+ghost use Rattle.command_words.specs.Commands.{check, shrink, verify};
+ghost use Rattle.commands.specs.Answers.{answer_text, answer_status};
+ghost use Rattle.commands.specs.Evidence.{input_of};
+ghost use Rattle.commands.specs.Judging.{Judges, AnswersOrNoMemory};
+ghost use Rattle.commands.specs.Outcomes.{answer_of, NamesPlaces};
+ghost use Rattle.commands.specs.Running.{AnswersOf};
+
+use crate::input::gathered_of;
+use crate::outcome::Outcome;
+use crate::print::{status_of, write_outcome};
+use crate::shrink::shrink;
+use crate::verify::verify;
+use event_records::MAX_EVENTS;
+use history_merge::HistoryBuilder;
+use history_text::{MemorySource, Watched};
+use std::alloc::{AllocError, Global};
+use verdicts::decide_operations;
+
+/// What `check` finds in a text. Time and memory as of the command in one thread.
+pub fn check_text(alloc: Global, text: &[u8]) -> Outcome
+    ensures found { AnswersOf check (input_of text.now) (answer_of result) }
+    ensures places { NamesPlaces result }
+{
+    match gathered_of(alloc, MemorySource::new(text)) {
+        Ok(builder) => judge_gathered(alloc, builder),
+        Err(fault) => Outcome::of_text_fault(fault),
+    }
+}
+
+/// What `shrink` finds in a text.
+pub fn shrink_text(alloc: Global, text: &[u8]) -> Outcome
+    ensures found { AnswersOf shrink (input_of text.now) (answer_of result) }
+    ensures places { NamesPlaces result }
+{
+    shrink(alloc, MemorySource::new(text))
+}
+
+/// What `verify` finds in a text.
+pub fn verify_text(alloc: Global, text: &[u8]) -> Outcome
+    ensures found { AnswersOf verify (input_of text.now) (answer_of result) }
+    ensures places { NamesPlaces result }
+{
+    verify(alloc, MemorySource::new(text))
+}
+
+/// What `check` finds in the events that a history in the making was given.
+pub fn judge_gathered(alloc: Global, builder: HistoryBuilder) -> Outcome
+    requires { (events : List Event) × HasGathered events builder × (length events ≤ MAX_EVENTS) }
+    ensures found { (events : List Event) → HasGathered events builder → AnswersOrNoMemory Judges events (answer_of result) }
+    ensures places { NamesPlaces result }
+{
+    let operations = match builder.finish() {
+        Ok(operations) => operations,
+        Err(fault) => return Outcome::of_history_fault(fault),
+    };
+    match decide_operations(alloc, &operations) {
+        Ok(verdict) => Outcome::Judged(operations, verdict),
+        Err(_) => Outcome::MemoryFault,
+    }
+}
+
+impl Outcome {
+    /// The text that a command prints of what it found. `AllocError` comes only where a growth was refused.
+    pub fn text(&self, alloc: Global) -> Result<Vec<u8>, AllocError>
+        requires { NamesPlaces self.now }
+        ensures { IfOk result (λ text. text.items ≡ answer_text (answer_of self.now)) }
+    {
+        let mut writer = Watched::new(Vec::new(alloc));
+        match write_outcome(&mut writer, self) {
+            Ok(()) => Ok(writer.into_inner()),
+            Err(_) => Err(AllocError),
+        }
+    }
+
+    /// The status that goes with it.
+    pub fn status(&self) -> u8
+        ensures { result ≡ answer_status (answer_of self.now) }
+    {
+        status_of(self)
+    }
+}

@@ -1,0 +1,109 @@
+//! The commands as functions for callers in C, C++ and Rust: a static library.
+//!
+//! Each function judges what the caller's memory holds and writes its answer into the caller's buffer. It starts no thread,
+//! reads and writes no file, and keeps nothing when it returns. The header is `library/fifobench.h`.
+#![tactic(auto)]
+
+mod filling;
+mod laws;
+mod recorded;
+#[cfg(test)]
+mod tests;
+
+ghost use Rattle.std.specs.Prelude.{◌≡◌, ◌<◌, ◌≤◌, ◌⊎◌, List, ℕ, length};
+ghost use Rattle.event_records.specs.declared.event.Event.{Event};
+ghost use Rattle.event_records.specs.declared.limits.TheConstants.{MAX_EVENTS};
+ghost use Rattle.command_words.specs.Commands.{check, shrink, verify};
+ghost use Rattle.commands.specs.Answers.{refused_limit, memory_fault};
+ghost use Rattle.commands.specs.Evidence.{input_of};
+ghost use Rattle.commands.specs.Judging.{AnswersOrNoMemory, Judges};
+ghost use Rattle.commands.specs.Running.{AnswersOf};
+ghost use Rattle.fifobench_c.specs.Filling.{Tells, TellsAnswer, TellsOneOf};
+ghost use Rattle.fifobench_c.specs.Recorded.{AreEvents, IsFirstUnknown, bad_what_line};
+
+use crate::filling::{tell, tell_bad_what};
+use crate::recorded::gathered;
+use commands::{Outcome, check_text, judge_gathered, shrink_text, verify_text};
+use event_records::MAX_EVENTS;
+pub use laws::events_and_their_text_agree;
+pub use recorded::{CALL_DEQ, CALL_ENQ, RET_DEQ, RET_EMPTY, RET_ENQ, RET_NOT, RecordedEvent};
+use std::alloc::Global;
+
+/// The number of the interface that the header describes.
+const INTERFACE: u32 = 1;
+
+/// What `check` answers of the text.
+///
+/// Time and memory as of the command in one thread, and memory for the answer beside it.
+#[unsafe(no_mangle)]
+pub extern "C" fn fifobench_check(
+    alloc: Global,
+    text: &[u8],
+    answer: &mut [u8],
+    needed: &mut usize,
+) -> u8
+    ensures { TellsOneOf (AnswersOrNoMemory (AnswersOf check) (input_of text.now)) answer.old answer.new needed.new result }
+{
+    tell(alloc, &check_text(alloc, text), answer, needed)
+}
+
+/// What `shrink` answers of the text.
+#[unsafe(no_mangle)]
+pub extern "C" fn fifobench_shrink(
+    alloc: Global,
+    text: &[u8],
+    answer: &mut [u8],
+    needed: &mut usize,
+) -> u8
+    ensures { TellsOneOf (AnswersOrNoMemory (AnswersOf shrink) (input_of text.now)) answer.old answer.new needed.new result }
+{
+    tell(alloc, &shrink_text(alloc, text), answer, needed)
+}
+
+/// What `verify` answers of the text.
+#[unsafe(no_mangle)]
+pub extern "C" fn fifobench_verify(
+    alloc: Global,
+    text: &[u8],
+    answer: &mut [u8],
+    needed: &mut usize,
+) -> u8
+    ensures { TellsOneOf (AnswersOrNoMemory (AnswersOf verify) (input_of text.now)) answer.old answer.new needed.new result }
+{
+    tell(alloc, &verify_text(alloc, text), answer, needed)
+}
+
+/// What `check` answers of the events.
+///
+/// More events than a history may have are refused; then the first that is none of the six kinds, by its place from 0.
+#[unsafe(no_mangle)]
+pub extern "C" fn fifobench_check_events(
+    alloc: Global,
+    events: &[RecordedEvent],
+    answer: &mut [u8],
+    needed: &mut usize,
+) -> u8
+    // Events of known kinds are judged as `check` judges them.
+    ensures judged { (list : List Event) → AreEvents events.now list → length list ≤ MAX_EVENTS
+        → TellsOneOf (AnswersOrNoMemory Judges list) answer.old answer.new needed.new result }
+    ensures unknown { (place : ℕ) → length events.now ≤ MAX_EVENTS → IsFirstUnknown events.now place
+        → Tells (bad_what_line place) 2 answer.old answer.new needed.new result ⊎ TellsAnswer memory_fault answer.old answer.new needed.new result }
+    ensures many { MAX_EVENTS < length events.now
+        → TellsAnswer refused_limit answer.old answer.new needed.new result ⊎ TellsAnswer memory_fault answer.old answer.new needed.new result }
+{
+    if events.len() > MAX_EVENTS {
+        return tell(alloc, &Outcome::LimitRefused, answer, needed);
+    }
+    match gathered(alloc, events) {
+        Ok(builder) => tell(alloc, &judge_gathered(alloc, builder), answer, needed),
+        Err(place) => tell_bad_what(alloc, place, answer, needed),
+    }
+}
+
+/// The number of this interface. It changes where a caller of an earlier one has to be compiled anew.
+#[unsafe(no_mangle)]
+pub extern "C" fn fifobench_interface() -> u32
+    ensures { result ≡ 1 }
+{
+    INTERFACE
+}

@@ -1,0 +1,87 @@
+//! Events as plain structs, and the events that they are.
+ghost use Rattle.std.specs.Prelude.{◌≡◌, ◌≤◌, List, IfErr, IfOk, length};
+ghost use Rattle.event_records.specs.declared.event.Event.{Event};
+ghost use Rattle.history_merge.specs.Gathering.{HasGathered};
+ghost use Rattle.fifobench_c.specs.Recorded.{what_of, event_of, AreEvents, IsFirstUnknown};
+
+use event_records::{Event, MAX_EVENTS, What};
+use history_merge::HistoryBuilder;
+use std::alloc::Global;
+
+/// An enqueue of the value was called.
+pub const CALL_ENQ: u32 = 1;
+
+/// The queue took the value.
+pub const RET_ENQ: u32 = 2;
+
+/// The queue did not take the value.
+pub const RET_NOT: u32 = 3;
+
+/// A dequeue was called.
+pub const CALL_DEQ: u32 = 4;
+
+/// The queue gave the value.
+pub const RET_DEQ: u32 = 5;
+
+/// The queue was empty.
+pub const RET_EMPTY: u32 = 6;
+
+/// The greatest thread that is told from others. It is above the greatest of a history, and so are all above it.
+pub const GREATEST_TOLD: u32 = 255;
+
+/// An event as callers in C have it: any numbers may stand in it.
+#[repr(C)]
+#[derive(Clone, Copy, Debug, PartialEq, Eq)]
+pub struct RecordedEvent {
+    pub ticket: u64,
+    /// Of `CALL_ENQ` and `RET_DEQ`; else it isn't read.
+    pub value: u64,
+    pub thread: u32,
+    /// One of the six kinds, as `CALL_ENQ`.
+    pub what: u32,
+}
+
+impl RecordedEvent {
+    /// The event, where its kind is known.
+    fn event(&self) -> Option<Event>
+        ensures { result ≡ event_of self.now }
+    {
+        let what = what_in(self.what, self.value)?;
+        Some(Event {
+            ticket: self.ticket,
+            thread: self.thread.min(GREATEST_TOLD) as u8,
+            what,
+        })
+    }
+}
+
+/// What a thread called or was answered, where the kind is known.
+fn what_in(kind: u32, value: u64) -> Option<What>
+    ensures { result ≡ what_of kind value }
+{
+    match kind {
+        CALL_ENQ => Some(What::CallEnq(value)),
+        RET_ENQ => Some(What::RetEnq),
+        RET_NOT => Some(What::RetNot),
+        CALL_DEQ => Some(What::CallDeq),
+        RET_DEQ => Some(What::RetDeq(value)),
+        RET_EMPTY => Some(What::RetEmpty),
+        _ => None,
+    }
+}
+
+/// A history in the making of these events, or the place of the first whose kind isn't known.
+pub fn gathered(alloc: Global, structs: &[RecordedEvent]) -> Result<HistoryBuilder, usize>
+    requires { length structs.now ≤ MAX_EVENTS }
+    ensures events { IfOk result (λ builder. (events : List Event) × AreEvents structs.now events × HasGathered events builder) }
+    ensures unknown { IfErr result (IsFirstUnknown structs.now) }
+{
+    let mut builder = HistoryBuilder::new(alloc);
+    for (place, event) in structs.iter().enumerate() {
+        match event.event() {
+            Some(event) => builder.add(event),
+            None => return Err(place),
+        }
+    }
+    Ok(builder)
+}

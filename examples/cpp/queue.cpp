@@ -1,0 +1,88 @@
+// A std::deque under a std::mutex, and the same made wrong on purpose: recorded, and judged in this process.
+//
+//     queue good|wrong THREADS OPERATIONS
+//
+// The status is the verdict's: 0 yes, 1 no. Of a no the few operations that show it are printed.
+#include "../recorders/cpp/recorder.hpp"
+#include "fifobench.hpp"
+
+#include <cstring>
+#include <deque>
+#include <iostream>
+#include <mutex>
+#include <sstream>
+#include <string>
+
+namespace {
+
+class Queue {
+public:
+    explicit Queue(bool wrong) : wrong_(wrong) {}
+
+    bool push(std::uint64_t value) {
+        std::lock_guard<std::mutex> guard(lock_);
+        values_.push_back(value);
+        return true;
+    }
+
+    std::optional<std::uint64_t> pop() {
+        std::lock_guard<std::mutex> guard(lock_);
+        if (values_.empty()) {
+            return std::nullopt;
+        }
+        const std::uint64_t value = values_.front();
+        ++found_;
+        // The fault: every 4th value that is found is left in place.
+        if (!wrong_ || found_ % 4 != 0) {
+            values_.pop_front();
+        }
+        return value;
+    }
+
+private:
+    std::mutex lock_;
+    std::deque<std::uint64_t> values_;
+    std::uint64_t found_ = 0;
+    bool wrong_;
+};
+
+// Which operations are enqueues, from the thread's number on and over and over.
+constexpr char plan[] = "EEDDDEED";
+
+// The text of what the threads did with the queue.
+std::string recorded(Queue& queue, unsigned threads, std::size_t operations) {
+    std::ostringstream text;
+    fifobench::record(threads, operations, [&](fifobench::Thread& thread) {
+        for (std::size_t i = 0; i < operations; ++i) {
+            if (plan[(i + thread.number()) % 8] == 'E') {
+                thread.enqueue([&](std::uint64_t value) { return queue.push(value); });
+            } else {
+                thread.dequeue([&] { return queue.pop(); });
+            }
+        }
+    }).write(text);
+    return text.str();
+}
+
+}    // namespace
+
+int main(int count, char** words) {
+    if (count != 4 || (std::strcmp(words[1], "good") != 0 && std::strcmp(words[1], "wrong") != 0)) {
+        std::cerr << "usage: queue good|wrong THREADS OPERATIONS\n";
+        return 2;
+    }
+    Queue queue(std::strcmp(words[1], "wrong") == 0);
+    const std::string text = recorded(queue, static_cast<unsigned>(std::stoul(words[2])), std::stoul(words[3]));
+    const fifobench::Answer verdict = fifobench::check(text);
+    if (verdict.status == fifobench::Status::no) {
+        const fifobench::Answer shrunk = fifobench::shrink(text);
+        // Whoever gets the report can check it.
+        if (!fifobench::verify(shrunk.text).is_yes()) {
+            return 3;
+        }
+        std::cout << shrunk.text;
+    } else {
+        std::cout << verdict.first_line() << '\n';
+    }
+    return static_cast<int>(verdict.status);
+}

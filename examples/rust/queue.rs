@@ -1,0 +1,106 @@
+//! A VecDeque under a Mutex, and the same made wrong on purpose: recorded, and judged in this process.
+//!
+//!     queue good|wrong THREADS OPERATIONS
+//!
+//! The status is the verdict's: 0 yes, 1 no. Of a no the few operations that show it are printed.
+
+#[path = "../recorders/rust/recorder.rs"]
+mod recorder;
+
+use fifobench::Error;
+use std::collections::VecDeque;
+use std::env;
+use std::process::ExitCode;
+use std::sync::Mutex;
+
+#[derive(Default)]
+struct Values {
+    list: VecDeque<u64>,
+    found: u64,
+}
+
+struct Queue {
+    values: Mutex<Values>,
+    is_wrong: bool,
+}
+
+impl Queue {
+    fn push(&self, value: u64) -> bool {
+        self.values.lock().unwrap().list.push_back(value);
+        true
+    }
+
+    fn pop(&self) -> Option<u64> {
+        let mut values = self.values.lock().unwrap();
+        let value = *values.list.front()?;
+        values.found += 1;
+        // The fault: every 4th value that is found is left in place.
+        if !self.is_wrong || values.found % 4 != 0 {
+            values.list.pop_front();
+        }
+        Some(value)
+    }
+}
+
+/// Which operations are enqueues, from the thread's number on and over and over.
+const PLAN: &[u8; 8] = b"EEDDDEED";
+
+/// Whether the queue is the wrong one, threads, and operations of each.
+fn words() -> Option<(bool, usize, usize)> {
+    let words: Vec<String> = env::args().collect();
+    let [_, queue, threads, operations] = &words[..] else {
+        return None;
+    };
+    let is_wrong = match queue.as_str() {
+        "good" => false,
+        "wrong" => true,
+        _ => return None,
+    };
+    Some((is_wrong, threads.parse().ok()?, operations.parse().ok()?))
+}
+
+/// The text of what the threads did with the queue.
+fn recorded(queue: &Queue, threads: usize, operations: usize) -> String {
+    let history = recorder::record(threads, operations, |thread| {
+        for n in 0..operations {
+            if PLAN[(n + thread.number()) % 8] == b'E' {
+                thread.enqueue(|value| queue.push(value));
+            } else {
+                thread.dequeue(|| queue.pop());
+            }
+        }
+    });
+    let mut text = Vec::new();
+    history.write(&mut text).expect("a Vec takes all bytes");
+    String::from_utf8(text).expect("a history is ASCII")
+}
+
+/// Prints the verdict, or what shows a no; and whether it is a yes.
+fn judge(text: &str) -> Result<bool, Error> {
+    let verdict = fifobench::check(text)?;
+    if verdict.is_yes {
+        println!("YES");
+        return Ok(true);
+    }
+    let shrunk = fifobench::shrink(text)?;
+    // Whoever gets the report can check it.
+    assert!(fifobench::verify(&shrunk.text)?.is_yes);
+    print!("{}", shrunk.text);
+    Ok(false)
+}
+
+fn main() -> ExitCode {
+    let Some((is_wrong, threads, operations)) = words() else {
+        eprintln!("usage: queue good|wrong THREADS OPERATIONS");
+        return ExitCode::from(2);
+    };
+    let queue = Queue { values: Mutex::default(), is_wrong };
+    match judge(&recorded(&queue, threads, operations)) {
+        Ok(true) => ExitCode::SUCCESS,
+        Ok(false) => ExitCode::from(1),
+        Err(error) => {
+            eprintln!("queue: {error}");
+            ExitCode::from(3)
+        }
+    }
+}
