@@ -1,0 +1,5 @@
+pub mod Layout
+pub mod Bands
+pub mod Words
+pub mod Captions
+pub mod Terminal
