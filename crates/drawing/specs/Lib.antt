@@ -3,3 +3,4 @@ pub mod Bands
 pub mod Words
 pub mod Captions
 pub mod Terminal
+pub mod Laws
