@@ -97,7 +97,22 @@ or memory failed (a line `FAULT ..`). More than 400 operations, in the history o
 
 Example:
   $ printf 'fifo-history 1\\n0 0 call-deq\\n1 0 ret-deq 7\\nend 2\\nNO VFresh\\n0 1 0 deq 7\\n' | fifobench draw --text
-EXAMPLE";
+  NO: a value was dequeued that was not there
+  7 was dequeued (1), but nobody ever enqueued it.
+
+  [    call of an operation
+  ]    its return
+  1    number 1 of the operations that show it
+  xxx  the value surely was not in the queue.
+  :::  within this time it was dequeued nevertheless.
+
+                         7 not in
+                          |   7 dequeued
+          thread          |    |
+  ticket  0               |    |
+       0  [1      deq 7  xxx  :::
+       1  ]              xxx
+";
 
 pub(crate) const TEXT_HELP: &str = "Draws in lines of characters";
 
