@@ -1,5 +1,5 @@
 -- What holds of pictures.
-use Rattle.std.specs.Prelude.{◌≡◌, ◌↔◌, ℕ, ◌+◌, ◌<◌, ◌≤◌, List, Some, Contains, All, slice_get}
+use Rattle.std.specs.Prelude.{◌≡◌, ℕ, ◌+◌, ◌<◌, ◌≤◌, List, Some, Contains, All, slice_get}
 use Rattle.event_records.specs.declared.event.Event.{Event}
 use Rattle.history_merge.specs.declared.operation.Operation.{Operation}
 use Rattle.history_merge.specs.Complete.{IsCompleteHistory}
@@ -9,12 +9,6 @@ use Rattle.drawing.specs.declared.columns.Columns.{Columns}
 use Rattle.drawing.specs.Layout.{threads_of, lane_of, under_way, place_in, point}
 
 -- ---- lanes
-
--- a thread has a lane exactly where it has events
-abbrev pub LanesAreOfThreads : Type 0
-LanesAreOfThreads =
-    (events : List Event) (thread : ℕ) → IsCompleteHistory events
-    → (Contains (threads_of events) thread ↔ ((e : Event) × Contains events e × (e.thread ≡ thread)))
 
 -- the lane of a thread ends before that of a higher one begins
 abbrev pub LanesAreApart : Type 0
