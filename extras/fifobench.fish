@@ -6,10 +6,12 @@ complete -c fifobench -n __fish_use_subcommand -s V -l version -d 'Print version
 complete -c fifobench -n __fish_use_subcommand -a check -d 'Read a history and write its verdict'
 complete -c fifobench -n __fish_use_subcommand -a shrink -d 'Read a history and write what shows its violation'
 complete -c fifobench -n __fish_use_subcommand -a verify -d 'Read a history and a verdict, and tell whether it is evidence'
+complete -c fifobench -n __fish_use_subcommand -a draw -d 'Read a history and a verdict, and draw them'
 complete -c fifobench -n __fish_use_subcommand -a sim -d 'Play a schedule of the steps of the recorder'
 complete -c fifobench -n __fish_use_subcommand -a stress -d 'Run threads on a built-in queue'
 complete -c fifobench -n __fish_use_subcommand -a help -d 'Print a help'
-complete -c fifobench -n '__fish_seen_subcommand_from help' -a 'check shrink verify sim stress help'
+complete -c fifobench -n '__fish_seen_subcommand_from help' -a 'check shrink verify draw sim stress help'
+complete -c fifobench -n '__fish_seen_subcommand_from draw' -l text -d 'Draw in lines of characters'
 complete -c fifobench -n '__fish_seen_subcommand_from stress' -l queue -x -d 'Name of the queue' \
     -a 'locked two-lock array seg lifo doubling inventing shy losing'
 complete -c fifobench -n '__fish_seen_subcommand_from stress' -l threads -x -d 'Workers, 1 to 16'

@@ -1,5 +1,5 @@
 -- What can be answered is a request, with its numbers in their ranges.
-use Rattle.std.proofs.Common.{◌≡◌, ◌≤◌, arith, inl, inr, ℕ, List, Option, Some, None, codes, unwrap_or, []}
+use Rattle.std.proofs.Common.{◌≤◌, arith, inl, inr, ℕ, List, Option, Some, None, codes, unwrap_or, []}
 use Rattle.std.specs.Prelude.{IsSomeAnd}
 use Rattle.std.specs.Str.Parse.{digits_value, without_leading_plus}
 use Rattle.clap.specs.Values.{IsUnsignedIn}
@@ -30,7 +30,8 @@ named name rows (inl is) = rw is tt
 named name rows (inr (inl is)) = rw is tt
 named name rows (inr (inr (inl is))) = rw is tt
 named name rows (inr (inr (inr (inl is)))) = rw is tt
-named name rows (inr (inr (inr (inr stress)))) = rw stress.0 (within_ranges rows stress.1)
+named name rows (inr (inr (inr (inr (inl is))))) = rw is tt
+named name rows (inr (inr (inr (inr (inr stress))))) = rw stress.0 (within_ranges rows stress.1)
 
 pub answerable_is_asked : (met : Option (Text × List Row)) → IsAnswerable met → IsSomeAnd (request_of_subcommand met) IsInRange
 answerable_is_asked None h = absurd h

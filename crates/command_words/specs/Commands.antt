@@ -5,7 +5,7 @@ use Rattle.clap.specs.Faults.{fault_of}
 use Rattle.clap.specs.Kinds.{Kinds}
 use Rattle.clap.specs.Simple.{App, new_shape, subcommand_of}
 use Rattle.clap.specs.Walk.{Row, Text}
-use Rattle.command_words.specs.Options.{HasSettings, IsWithinRanges, Settings, settings_in, settings_of, the_stress}
+use Rattle.command_words.specs.Options.{HasSettings, IsWithinRanges, Settings, settings_in, settings_of, the_draw, the_stress}
 use Rattle.command_words.specs.declared.tasks.Task.{Task}
 use Rattle.command_words.specs.declared.tasks.Task.TheVariants as task
 
@@ -14,7 +14,7 @@ abbrev pub the_program : App
 the_program = record {
   top = record (new_shape (codes "fifobench")) { is_leaf = false; subcommand_required = true; has_version = true };
   subs = new_shape (codes "check") ∷ new_shape (codes "shrink") ∷ new_shape (codes "verify")
-      ∷ new_shape (codes "sim") ∷ the_stress ∷ [];
+      ∷ the_draw ∷ new_shape (codes "sim") ∷ the_stress ∷ [];
 }
 
 -- what is wrong with the words, or which help they ask for: nothing where they are a command
@@ -26,6 +26,7 @@ pub data Request : Type 0 where
   check : Request
   shrink : Request
   verify : Request
+  draw : Request
   sim : Request
   stress : Settings → Request
 
@@ -35,6 +36,7 @@ request_named name rows =
     if bytes_eq name (codes "check") then Some check
     else if bytes_eq name (codes "shrink") then Some shrink
     else if bytes_eq name (codes "verify") then Some verify
+    else if bytes_eq name (codes "draw") then Some draw
     else if bytes_eq name (codes "sim") then Some sim
     else if bytes_eq name (codes "stress") then Some (stress (settings_in rows)) else None
 
@@ -51,6 +53,7 @@ abbrev pub request_of : Task → Request
 request_of task.Check = check
 request_of task.Shrink = shrink
 request_of task.Verify = verify
+request_of task.Draw = draw
 request_of task.Sim = sim
 request_of (task.Stress options) = stress (settings_of options)
 
@@ -63,4 +66,4 @@ IsInRange _ = ⊤
 abbrev pub IsAnswerable : Option (Text × List Row) → Type 0
 IsAnswerable None = ⊥
 IsAnswerable (Some p) = (p.0 ≡ codes "check") ⊎ (p.0 ≡ codes "shrink") ⊎ (p.0 ≡ codes "verify")
-    ⊎ (p.0 ≡ codes "sim") ⊎ ((p.0 ≡ codes "stress") × HasSettings p.1)
+    ⊎ (p.0 ≡ codes "draw") ⊎ (p.0 ≡ codes "sim") ⊎ ((p.0 ≡ codes "stress") × HasSettings p.1)

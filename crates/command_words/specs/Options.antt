@@ -1,9 +1,10 @@
--- The options of `stress`.
+-- The options of `draw` and `stress`.
 use Rattle.std.specs.Prelude.{◌≤◌, ◌<◌, ◌^◌, ℕ, true, List, [], ◌∷◌, Some, IsSome, IsSomeAnd, codes, unwrap_or}
 use Rattle.std.specs.Str.Parse.{digits_value, without_leading_plus}
 use Rattle.clap.specs.Simple.{Shape, new_rule, new_shape}
 use Rattle.clap.specs.Values.{IsUnsignedIn}
 use Rattle.clap.specs.Walk.{Row, Rule, Text, first_of}
+use Rattle.clap.specs.declared.builder.action.ArgAction.TheVariants.{SetTrue}
 use Rattle.clap.specs.declared.builder.value_parser.ValueParser.TheVariants as vp
 use Rattle.command_words.specs.declared.options.StressOptions.{StressOptions}
 
@@ -25,6 +26,18 @@ queue_rule = record (new_rule (codes "queue")) {
   value_names = 1;
   required = true;
 }
+
+-- the flag that asks for a picture of characters, which has to be given
+abbrev pub text_rule : Rule
+text_rule = record (new_rule (codes "text")) {
+  long = Some (codes "text");
+  action = Some SetTrue;
+  required = true;
+}
+
+-- `draw` with its flag
+abbrev pub the_draw : Shape
+the_draw = record (new_shape (codes "draw")) { rules = text_rule ∷ [] }
 
 -- the options in the order of the help: ranges and defaults
 abbrev pub stress_rules : List Rule

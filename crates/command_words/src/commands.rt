@@ -4,17 +4,18 @@ ghost use Rattle.clap.specs.Simple.{app_of, new_app, shape_of};
 ghost use Rattle.clap.specs.Walk.{rule_of};
 ghost use Rattle.clap.specs.declared.builder.command.Command.TheViews.{out-Command};
 ghost use Rattle.command_words.specs.Commands.{the_program};
-ghost use Rattle.command_words.specs.Options.{number_rule, queue_rule, the_stress};
+ghost use Rattle.command_words.specs.Options.{number_rule, queue_rule, text_rule, the_draw, the_stress};
 
 use crate::help;
 use clap::builder::ValueParser;
-use clap::{Arg, Command};
+use clap::{Arg, ArgAction, Command};
 use std::alloc::{AllocError, Global};
 
 /// The program with its subcommands.
 pub(crate) fn the_command<'a>(alloc: Global) -> Result<Command<'a>, AllocError>
     ensures { IfOk result (λ c. app_of c ≡ the_program) }
 {
+    let draw = draw_command(alloc)?;
     let stress = stress_command(alloc)?;
     Command::new(alloc, "fifobench")
         .about(help::ABOUT)
@@ -23,6 +24,7 @@ pub(crate) fn the_command<'a>(alloc: Global) -> Result<Command<'a>, AllocError>
         .subcommand(plain_command(alloc, "check", help::CHECK_ABOUT, help::CHECK_HELP))?
         .subcommand(plain_command(alloc, "shrink", help::SHRINK_ABOUT, help::SHRINK_HELP))?
         .subcommand(plain_command(alloc, "verify", help::VERIFY_ABOUT, help::VERIFY_HELP))?
+        .subcommand(draw)?
         .subcommand(plain_command(alloc, "sim", help::SIM_ABOUT, help::SIM_HELP))?
         .subcommand(stress)
 }
@@ -33,6 +35,25 @@ fn plain_command<'a>(alloc: Global, name: &'a str, about: &'a str, help: &'a str
     ensures local { (out-Command result).has_globals ≡ false }
 {
     Command::new(alloc, name).about(about).after_help(help)
+}
+
+fn draw_command<'a>(alloc: Global) -> Result<Command<'a>, AllocError>
+    ensures shape { IfOk result (λ c. shape_of c ≡ the_draw) }
+    ensures local { IfOk result (λ c. (out-Command c).has_globals ≡ false) }
+{
+    plain_command(alloc, "draw", help::DRAW_ABOUT, help::DRAW_HELP).arg(text_option(alloc))
+}
+
+fn text_option<'a>(alloc: Global) -> Arg<'a>
+    ensures rule { rule_of result ≡ text_rule }
+    ensures local { result.global ≡ false }
+{
+    let wanted = true;
+    Arg::new(alloc, "text")
+        .long("text")
+        .action(ArgAction::SetTrue)
+        .required(wanted)
+        .help(help::TEXT_HELP)
 }
 
 fn stress_command<'a>(alloc: Global) -> Result<Command<'a>, AllocError>

@@ -19,6 +19,8 @@ pub enum Task<'a> {
     Shrink,
     /// Read a history and a claimed verdict, and print whether the verdict holds.
     Verify,
+    /// Read a history and a claimed verdict, and print a picture of both in lines of characters.
+    Draw,
     /// Read a schedule, run it on the recorder's machine, and print what it recorded and the verdict.
     Sim,
     /// Run workers on a queue, and print what was recorded and the verdict.
@@ -56,6 +58,7 @@ fn task_of<'a>(matches: &ArgMatches<'a>) -> Task<'a>
         "check" => Task::Check,
         "shrink" => Task::Shrink,
         "verify" => Task::Verify,
+        "draw" => Task::Draw,
         "sim" => Task::Sim,
         "stress" => Task::Stress(stress_options(options)),
         _ => unreachable!(),

@@ -25,10 +25,10 @@ use Rattle.history_text.specs.Schedules.{schedule_text, HasScheduleText, IsSched
 use Rattle.history_text.specs.Input.{Ahead}
 use Rattle.history_text.proofs.OneText as histories
 use Rattle.history_text.proofs.OneSchedule as schedules
-use Rattle.command_words.specs.Commands.{check, shrink, verify, sim}
+use Rattle.command_words.specs.Commands.{check, shrink, verify, draw, sim}
 use Rattle.commands.specs.Answers.{Answer, judged, shown, played, verified, memory_fault, answer_of_text_fault, answer_of_history_fault}
 use Rattle.commands.specs.Inputs.{ClaimOnEvents, IsHistoryOf, IsFaultOfHistoryInput, IsScheduleOf, IsFaultOfScheduleInput, IsClaimOf, IsFaultOfClaimInput}
-use Rattle.commands.specs.Judging.{IsVerdictClaim, IsFaulty, IsJudged, IsShrunk, Judges, Shrinks, Verifies, Simulates, AnswersFor, AnswersOrNoMemory, IsOfFault}
+use Rattle.commands.specs.Judging.{IsVerdictClaim, IsFaulty, IsJudged, IsShrunk, Judges, Shrinks, Verifies, Draws, Simulates, AnswersFor, AnswersOrNoMemory, IsOfFault}
 use Rattle.commands.specs.OneAnswer.{SameOrNoMemory, HasOneAnswer}
 use Rattle.commands.proofs.OneInput.{one_value, only_memory, one_known_fault, one_claim, only_memory_of_claim, one_known_fault_of_claim}
 use Rattle.commands.proofs.ShrunkTexts.{one_verdict_claim}
@@ -141,6 +141,26 @@ one_verification claim a b (inr x) (inl y) = absurd (not_both claim.events b y x
 one_verification claim a b (inr x) (inr y) =
     x.is ∙ ap (λ valid. verified valid) (one_truth x.valid y.valid (IsTrueClaim (operations_of claim.events) claim.claimed) x.right y.right) ∙ sym y.is
 
+-- ---- pictures
+
+one_picture : (claim : ClaimOnEvents) (a b : Answer) → Draws claim a → Draws claim b → a ≡ b
+one_picture claim a b (inl x) (inl y) = one_faulty claim.events a b x y
+one_picture claim a b (inl x) (inr (inl y)) = absurd (not_both claim.events a x y.complete)
+one_picture claim a b (inl x) (inr (inr (inl y))) = absurd (not_both claim.events a x y.complete)
+one_picture claim a b (inl x) (inr (inr (inr y))) = absurd (not_both claim.events a x y.complete)
+one_picture claim a b (inr (inl x)) (inl y) = absurd (not_both claim.events b y x.complete)
+one_picture claim a b (inr (inr (inl x))) (inl y) = absurd (not_both claim.events b y x.complete)
+one_picture claim a b (inr (inr (inr x))) (inl y) = absurd (not_both claim.events b y x.complete)
+one_picture claim a b (inr (inl x)) (inr (inl y)) = x.is ∙ sym y.is
+one_picture claim a b (inr (inl x)) (inr (inr (inl y))) = absurd (x.large y.small)
+one_picture claim a b (inr (inl x)) (inr (inr (inr y))) = absurd (x.large y.small)
+one_picture claim a b (inr (inr (inl x))) (inr (inl y)) = absurd (y.large x.small)
+one_picture claim a b (inr (inr (inr x))) (inr (inl y)) = absurd (y.large x.small)
+one_picture claim a b (inr (inr (inl x))) (inr (inr (inl y))) = x.is ∙ sym y.is
+one_picture claim a b (inr (inr (inl x))) (inr (inr (inr y))) = absurd (x.untrue y.evidence)
+one_picture claim a b (inr (inr (inr x))) (inr (inr (inl y))) = absurd (y.untrue x.evidence)
+one_picture claim a b (inr (inr (inr x))) (inr (inr (inr y))) = x.is ∙ sym y.is
+
 -- ---- schedules
 
 -- lists merge to one complete history
@@ -183,6 +203,9 @@ shrink_has_one = of_history Shrinks one_shrinking
 
 pub verify_has_one : HasOneAnswer verify
 verify_has_one = of_input IsClaimOf IsFaultOfClaimInput Verifies one_claim only_memory_of_claim one_known_fault_of_claim one_verification
+
+pub draw_has_one : HasOneAnswer draw
+draw_has_one = of_input IsClaimOf IsFaultOfClaimInput Draws one_claim only_memory_of_claim one_known_fault_of_claim one_picture
 
 pub sim_has_one : HasOneAnswer sim
 sim_has_one = of_input IsScheduleOf IsFaultOfScheduleInput Simulates

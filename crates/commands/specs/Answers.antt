@@ -29,9 +29,13 @@ pub data Answer : Type 0 where
   played : List Rejection → List Event → Claimed → Answer
   -- whether a verdict is evidence
   verified : Bool → Answer
+  -- a picture, in lines of characters
+  drawn : List ℕ → Answer
   -- the input is refused
   refused_text : TextFault → Answer
   refused_history : HistoryFault → Answer
+  -- the history or the verdict is too large to be drawn
+  refused_size : Answer
   -- the words are refused: no queue has this name, or there are too many operations
   refused_queue : Answer
   refused_limit : Answer
@@ -110,8 +114,10 @@ answer_text (shown events claimed) = history_text events ++ verdict_text claimed
 answer_text (left_open rejections) = rejection_lines rejections ++ line (codes "OPEN")
 answer_text (played rejections events claimed) = rejection_lines rejections ++ (history_text events ++ verdict_text claimed)
 answer_text (verified valid) = line (validity valid)
+answer_text (drawn picture) = picture
 answer_text (refused_text fault) = line (codes "REFUSED " ++ text_fault_name fault)
 answer_text (refused_history fault) = line (codes "REFUSED " ++ history_fault_name fault)
+answer_text refused_size = line (codes "REFUSED Size")
 answer_text refused_queue = line (codes "REFUSED Queue")
 answer_text refused_limit = line (codes "REFUSED Limit")
 answer_text read_fault = line (codes "FAULT Read")
@@ -137,8 +143,10 @@ answer_status (shown events claimed) = claim_status claimed
 answer_status (left_open rejections) = 0
 answer_status (played rejections events claimed) = claim_status claimed
 answer_status (verified valid) = validity_status valid
+answer_status (drawn picture) = 0
 answer_status (refused_text fault) = 2
 answer_status (refused_history fault) = 2
+answer_status refused_size = 2
 answer_status refused_queue = 2
 answer_status refused_limit = 2
 answer_status read_fault = 3

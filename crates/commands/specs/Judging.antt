@@ -1,5 +1,5 @@
 -- What the commands that read answer of what they read.
-use Rattle.std.specs.Prelude.{◌≡◌, ◌≢◌, Bool, IsTrue, List, ◌⊎◌, ◌↔◌}
+use Rattle.std.specs.Prelude.{◌≡◌, ◌≢◌, ◌≤◌, Bool, false, IsTrue, List, length, ◌⊎◌, ◌↔◌}
 use Rattle.event_records.specs.declared.event.Event.{Event}
 use Rattle.history_merge.specs.declared.fault.HistoryFault.{HistoryFault}
 use Rattle.history_merge.specs.declared.fault.HistoryFault.TheVariants as history
@@ -21,11 +21,14 @@ use Rattle.verdicts.specs.Claims.{IsTrueClaim}
 use Rattle.verdicts.specs.Verdicts.{IsVerdictOf, IsEvidence, IsExact}
 use Rattle.verdicts.specs.Selection.{KeepsViolation, StaysChosen, IsMinimal, HasShortestCover, ArePartOf}
 use Rattle.history_text.specs.Verdicts.{claim_of}
+use Rattle.history_text.specs.Claims.{operations_in}
+use Rattle.drawing.specs.Terminal.{terminal_picture}
+use Rattle.drawing.specs.declared.columns.TheConstants.{MOST_DRAWN}
 use Rattle.history_text.specs.declared.fault.TextFault.{TextFault}
 use Rattle.history_text.specs.declared.schedule.Schedule.{Schedule}
 use Rattle.history_text.specs.Input.{Ahead}
 use Rattle.commands.specs.Inputs.{ClaimOnEvents}
-use Rattle.commands.specs.Answers.{Answer, judged, shown, left_open, played, verified, memory_fault, answer_of_text_fault, answer_of_history_fault}
+use Rattle.commands.specs.Answers.{Answer, judged, shown, left_open, played, verified, drawn, refused_size, memory_fault, answer_of_text_fault, answer_of_history_fault}
 
 -- ---- events
 
@@ -89,6 +92,36 @@ pub record IsVerified (claim : ClaimOnEvents) (answer : Answer) : Type 0 where
 -- `verify`: the first fault of the events, or whether the claim is evidence
 abbrev pub Verifies : ClaimOnEvents → Answer → Type 0
 Verifies claim answer = IsFaulty claim.events answer ⊎ IsVerified claim answer
+
+-- ---- pictures
+
+-- the history and the claim have few enough operations to be drawn
+abbrev pub IsSmall : ClaimOnEvents → Type 0
+IsSmall claim = (length (operations_of claim.events) ≤ MOST_DRAWN) × (length (operations_in claim.claimed) ≤ MOST_DRAWN)
+
+-- the events are a complete history, which is too large to be drawn, or the claim is
+pub record IsTooLarge (claim : ClaimOnEvents) (answer : Answer) : Type 0 where
+  pub complete : IsCompleteHistory claim.events
+  pub large : ¬ (IsSmall claim)
+  pub is : answer ≡ refused_size
+
+-- the events are a complete history, and the claim is no evidence in it
+pub record IsRefuted (claim : ClaimOnEvents) (answer : Answer) : Type 0 where
+  pub complete : IsCompleteHistory claim.events
+  pub small : IsSmall claim
+  pub untrue : ¬ (IsTrueClaim (operations_of claim.events) claim.claimed)
+  pub is : answer ≡ verified false
+
+-- the events are a complete history, the claim is evidence in it, and this is the picture of both
+pub record IsDrawn (claim : ClaimOnEvents) (answer : Answer) : Type 0 where
+  pub complete : IsCompleteHistory claim.events
+  pub small : IsSmall claim
+  pub evidence : IsTrueClaim (operations_of claim.events) claim.claimed
+  pub is : answer ≡ drawn (terminal_picture claim.events claim.claimed)
+
+-- `draw`: the first fault of the events, or their picture with the claim, where they are small and the claim is evidence
+abbrev pub Draws : ClaimOnEvents → Answer → Type 0
+Draws claim answer = IsFaulty claim.events answer ⊎ (IsTooLarge claim answer ⊎ (IsRefuted claim answer ⊎ IsDrawn claim answer))
 
 -- ---- schedules
 

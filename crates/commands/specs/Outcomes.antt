@@ -5,8 +5,8 @@ use Rattle.history_merge.specs.Operations.{operations_of}
 use Rattle.verdicts.specs.declared.verdict.Verdict.{Verdict}
 use Rattle.history_text.specs.Verdicts.{claim_of, places_of}
 use Rattle.commands.specs.declared.outcome.Outcome.{Outcome}
-use Rattle.commands.specs.declared.outcome.Outcome.TheVariants.{Judged, Shown, LeftOpen, Played, Verified, TextRefused, HistoryRefused, QueueRefused, LimitRefused, ReadFault, MemoryFault, RunFailed}
-use Rattle.commands.specs.Answers.{Answer, judged, shown, left_open, played, verified, refused_text, refused_history, refused_queue, refused_limit, read_fault, memory_fault, run_fault}
+use Rattle.commands.specs.declared.outcome.Outcome.TheVariants.{Judged, Shown, LeftOpen, Played, Verified, Drawn, TextRefused, HistoryRefused, SizeRefused, QueueRefused, LimitRefused, ReadFault, MemoryFault, RunFailed}
+use Rattle.commands.specs.Answers.{Answer, judged, shown, left_open, played, verified, drawn, refused_text, refused_history, refused_size, refused_queue, refused_limit, read_fault, memory_fault, run_fault}
 
 -- the answer that an outcome prints: of a verdict what it claims, of the rest the same
 abbrev pub answer_of : Outcome → Answer
@@ -15,8 +15,10 @@ answer_of (Shown history verdict) = shown history (claim_of (operations_of histo
 answer_of (LeftOpen rejections) = left_open rejections
 answer_of (Played rejections history verdict) = played rejections history (claim_of (operations_of history) verdict)
 answer_of (Verified valid) = verified valid
+answer_of (Drawn picture) = drawn picture.items
 answer_of (TextRefused fault) = refused_text fault
 answer_of (HistoryRefused fault) = refused_history fault
+answer_of SizeRefused = refused_size
 answer_of QueueRefused = refused_queue
 answer_of LimitRefused = refused_limit
 answer_of ReadFault = read_fault

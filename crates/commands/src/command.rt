@@ -9,6 +9,7 @@ ghost use Rattle.commands.specs.Stressing.{Stresses};
 ghost use Rattle.clap.specs.Values.{kind_of};
 
 use crate::check::check;
+use crate::draw::draw;
 use crate::outcome::Outcome;
 use crate::print::{print_outcome, print_text};
 use crate::shrink::shrink;
@@ -101,6 +102,7 @@ where
         Task::Check => return check(rt, rt.alloc(), reader),
         Task::Shrink => return shrink(rt.alloc(), reader),
         Task::Verify => return verify(rt.alloc(), reader),
+        Task::Draw => return draw(rt.alloc(), reader),
         Task::Sim => return sim(rt.alloc(), reader),
         Task::Stress(options) => return stress(rt, rt.alloc(), shelf, &options),
     }

@@ -12,7 +12,7 @@ ghost use Rattle.verdicts.specs.declared.verifying.Claimed.TheVariants.{Yes};
 ghost use Rattle.commands.specs.Answers.{Answer, played};
 ghost use Rattle.commands.specs.Judging.{SimulatesIn};
 ghost use Rattle.commands.specs.OneAnswer.{HasOneAnswer};
-ghost use Rattle.command_words.specs.Commands.{check, shrink, verify, sim};
+ghost use Rattle.command_words.specs.Commands.{check, shrink, verify, draw, sim};
 
 /// No false alarm: what is answered of an honest schedule that is done is a yes.
 pub fn honest_schedules_get_a_yes()
@@ -27,5 +27,6 @@ pub fn one_answer()
     ensures check { HasOneAnswer check }
     ensures shrink { HasOneAnswer shrink }
     ensures verify { HasOneAnswer verify }
+    ensures draw { HasOneAnswer draw }
     ensures sim { HasOneAnswer sim }
 {}

@@ -3,6 +3,7 @@
 
 mod check;
 mod command;
+mod draw;
 mod evidence;
 mod faults;
 mod input;

@@ -18,10 +18,14 @@ pub enum Outcome {
     Played(Rejections, History, Verdict),
     /// Whether a verdict is evidence.
     Verified(bool),
+    /// A picture, in lines of characters.
+    Drawn(Vec<u8>),
     /// The input is not the text that it should be.
     TextRefused(TextFault),
     /// The events are no complete history.
     HistoryRefused(HistoryFault),
+    /// The history or the verdict has more operations than are drawn.
+    SizeRefused,
     /// No queue has the name that was asked for.
     QueueRefused,
     /// More operations were asked for than a run may have.

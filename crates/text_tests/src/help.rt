@@ -26,6 +26,7 @@ Commands:
   check   Reads a history from standard input and prints whether it is linearizable
   shrink  Reads a history from standard input and prints what shows its violation, and no more
   verify  Reads a history and a verdict from standard input and prints whether the verdict is evidence
+  draw    Reads a history and a verdict from standard input and draws them
   sim     Reads a schedule from standard input, steps the recorder through it, and judges what it recorded
   stress  Runs workers on a queue, records what they did, and prints the history and its verdict
   help    Print this message or the help of the given subcommand(s)
@@ -117,6 +118,47 @@ Example:
   VALID
 ";
 
+const DRAW: &str = r"Reads a history and a verdict from standard input and draws them
+
+Usage: fifobench draw --text
+
+Options:
+      --text  Draws in lines of characters
+  -h, --help  Print help
+
+Input: the text of a history, from the line `fifo-history 1` to the line `end N`, directly followed by
+the text of a verdict, from the line `YES` or `NO ..` on, as for `verify`.
+
+Output: a picture in lines of ASCII. Time runs down: each event has a line, each thread a lane, in which
+`[` is a call, `]` its return and `|` stands between; what was called stands beside it. Of a yes the
+order stands at the right, and each number where its operation takes effect. Of a no the operations
+that show it are numbered in the order of the verdict's lines, and `###`, `xxx` and `:::` say when a value
+surely was in the queue, was not, and the time that contradicts it. Where the verdict is no evidence
+in the history, `INVALID`, and nothing is drawn.
+
+Status: 0 drawn, 1 invalid, 2 the input is refused (a line `REFUSED ..` says why), 3 a read, a write
+or memory failed (a line `FAULT ..`). More than 400 operations, in the history or in the verdict, are
+`REFUSED Size`: a no is shrunk first. Lines count from 1 through both texts.
+
+Example:
+  $ printf 'fifo-history 1\n0 0 call-deq\n1 0 ret-deq 7\nend 2\nNO VFresh\n0 1 0 deq 7\n' | fifobench draw --text
+  NO: a value was dequeued that was not there
+  7 was dequeued (1), but nobody ever enqueued it.
+
+  [    call of an operation
+  ]    its return
+  1    number 1 of the operations that show it
+  xxx  the value surely was not in the queue.
+  :::  within this time it was dequeued nevertheless.
+
+                         7 not in
+                          |   7 dequeued
+          thread          |    |
+  ticket  0               |    |
+       0  [1      deq 7  xxx  :::
+       1  ]              xxx
+";
+
 const SIM: &str =
     r"Reads a schedule from standard input, steps the recorder through it, and judges what it recorded
 
@@ -190,6 +232,7 @@ fn helps_are_shown_whole(rt: HostRuntime) -> Result<(), Fail> {
         ("check", CHECK),
         ("shrink", SHRINK),
         ("verify", VERIFY),
+        ("draw", DRAW),
         ("sim", SIM),
         ("stress", STRESS),
     ] {

@@ -7,6 +7,8 @@ mod changed;
 #[cfg(test)]
 mod help;
 #[cfg(test)]
+mod pictures;
+#[cfg(test)]
 mod schedules;
 #[cfg(test)]
 mod sinks;

@@ -32,6 +32,14 @@ fn subcommands_name_tasks(rt: HostRuntime) -> Result<(), Fail> {
 }
 
 #[test]
+fn a_picture_is_asked_for_in_characters(rt: HostRuntime) -> Result<(), Fail> {
+    assert!(rt; has_task(&rt, &["fifobench", "draw", "--text"], Task::Draw)?);
+    let kind = ErrorKind::MissingRequiredArgument;
+    assert!(rt; has_fault(&rt, &["fifobench", "draw"], kind)?);
+    Ok(())
+}
+
+#[test]
 fn options_have_defaults(rt: HostRuntime) -> Result<(), Fail> {
     let options = StressOptions {
         queue: "locked",

@@ -1,0 +1,88 @@
+-- The bars in the lanes are the operations.
+use Rattle.std.proofs.Common.{◌≡◌, ℕ, ◌<◌, ◌≤◌, inl, inr, Bool, true, false, cond, List, [], ◌∷◌, Some, refl, sym, ap, subst, ◌∙◌, arith, eq-eqb}
+use Rattle.std.specs.Prelude.{Contains, find, slice_get}
+use Rattle.std.proofs.lemmas.Bool.{cases_lt}
+use Rattle.std.proofs.lemmas.Bool.Decides.{nat_tests}
+use Rattle.event_records.specs.declared.event.Event.{Event}
+use Rattle.history_merge.specs.declared.operation.Operation.{Operation}
+use Rattle.history_merge.specs.Complete.{IsCompleteHistory, AreComplete}
+use Rattle.history_merge.specs.Operations.{operations_of}
+use Rattle.history_merge.proofs.Distinct.{contains_cons, not_in_none, contains_at, pairs_at, one_at, found_first, IsTraced, traced, same_call, return_differs_from_call}
+use Rattle.drawing.specs.Layout.{is_under_way}
+use Rattle.drawing.specs.Laws.{BarsAreOfOperations, NoOtherBars}
+
+-- ---- what is found
+
+-- where an element passes, one is found
+pub found : {X : Type 0} (p : X → Bool) (xs : List X) (x : X) → Contains xs x → p x ≡ true → (r : X) × (find p xs ≡ Some r)
+found p [] x among passes = absurd (not_in_none x among)
+found p (y ∷ ys) x among passes = join (p y) refl (λ there. found p ys x there passes)
+  where
+    join : (b : Bool) → p y ≡ b → (Contains ys x → (r : _) × (find p ys ≡ Some r)) → (r : _) × (cond b (Some y) (find p ys) ≡ Some r)
+    join true is later = (y, refl)
+    join false is later = elim (contains_cons y ys x among) [
+      | inl here ↦ let clash : false ≡ true = sym is ∙ ap p here ∙ passes in cc
+      | inr there ↦ later there
+    ]
+
+-- what the test of a bar tells
+under_way_tells : (thread ticket : ℕ) (o : Operation) → is_under_way thread ticket o ≡ true → (o.thread ≡ thread) × (o.call ≤ ticket) × (ticket ≤ o.ret)
+under_way_tells thread ticket o passes = (grind (arith, nat_tests), grind (arith, nat_tests), grind (arith, nat_tests))
+
+under_way_if : (thread ticket : ℕ) (o : Operation) → o.thread ≡ thread → o.call ≤ ticket → ticket ≤ o.ret → is_under_way thread ticket o ≡ true
+under_way_if thread ticket o own called returns = grind (arith, nat_tests)
+
+pub no_other_bars : NoOtherBars
+no_other_bars operations thread ticket o is =
+    let first = found_first (is_under_way thread ticket) operations o is in
+    let tells = under_way_tells thread ticket o first.passes in
+    record { among = contains_at operations first.place o first.at; own = tells.0; called = tells.1; returns = tells.2 }
+
+-- ---- one operation at a time
+
+module _ (events : List Event) (complete : IsCompleteHistory events) where
+  all : AreComplete (operations_of events)
+  all = (events, complete, refl)
+
+  -- an operation of a thread that is called after another is so after its return
+  not_both : (x y : Operation) (tx : IsTraced events x) (ty : IsTraced events y) (c : ℕ) → Contains (operations_of events) x → Contains (operations_of events) y → x.thread ≡ y.thread → tx.called_at < ty.called_at → y.call ≤ c → c ≤ x.ret → ⊥
+  not_both x y tx ty c in_x in_y threads below from to = elim (cases_lt ty.called_at tx.returned_at) [
+    | inl less ↦
+        let apart = tx.none_between ty.called_at ty.call below less ty.at_call in
+        let same : ty.call.thread ≡ tx.call.thread = sym ty.made.same_thread ∙ sym threads ∙ tx.made.same_thread in
+        let clash : true ≡ false = sym (eq-eqb ty.call.thread tx.call.thread same) ∙ apart in
+        cc
+    | inr above ↦ elim (cases_lt tx.returned_at ty.called_at) [
+      | inl before ↦
+          let less = pairs_at (λ e r. e.ticket < r.ticket) events tx.returned_at ty.called_at tx.answer ty.call complete.tickets_rise before tx.at_return ty.at_call in
+          let order : x.ret < y.call = omega (arith, tx.made.returned, ty.made.called) in
+          omega arith
+      | inr not_before ↦
+          let here : tx.returned_at ≡ ty.called_at = omega arith in
+          let one = one_at events ty.called_at tx.answer ty.call (subst (λ i. slice_get events i ≡ Some tx.answer) here tx.at_return) ty.at_call in
+          return_differs_from_call (operations_of events) x y all in_x in_y (tx.made.returned ∙ ap (λ e. e.ticket) one ∙ sym ty.made.called)
+    ]
+  ]
+
+  -- one operation of a thread at most is under way at a ticket
+  one_bar : (x y : Operation) (c : ℕ) → Contains (operations_of events) x → Contains (operations_of events) y → x.thread ≡ y.thread → x.call ≤ c → c ≤ x.ret → y.call ≤ c → c ≤ y.ret → x ≡ y
+  one_bar x y c in_x in_y threads x_from x_to y_from y_to =
+      let tx = traced events x in_x in
+      let ty = traced events y in_y in
+      elim (cases_lt tx.called_at ty.called_at) [
+        | inl below ↦ absurd (not_both x y tx ty c in_x in_y threads below y_from x_to)
+        | inr above ↦ elim (cases_lt ty.called_at tx.called_at) [
+          | inl less ↦ absurd (not_both y x ty tx c in_y in_x (sym threads) less x_from y_to)
+          | inr not_less ↦
+              let here : tx.called_at ≡ ty.called_at = omega arith in
+              let one = one_at events ty.called_at tx.call ty.call (subst (λ i. slice_get events i ≡ Some tx.call) here tx.at_call) ty.at_call in
+              same_call (operations_of events) x y all in_x in_y (tx.made.called ∙ ap (λ e. e.ticket) one ∙ sym ty.made.called)
+        ]
+      ]
+
+pub bars_are_of_operations : BarsAreOfOperations
+bars_are_of_operations events o ticket complete among called returns =
+    let some = found (is_under_way o.thread ticket) (operations_of events) o among (under_way_if o.thread ticket o refl called returns) in
+    let bar = no_other_bars (operations_of events) o.thread ticket some.0 some.1 in
+    let same = one_bar events complete some.0 o ticket bar.among among bar.own bar.called bar.returns called returns in
+    some.1 ∙ ap (λ x. Some x) same

@@ -1,0 +1,5 @@
+use Rattle.std.proofs.Common.{length}
+use Rattle.drawing.proofs.bands.+push_cover_bands.Given as goal
+
+abbrev pub decreases-push_cover_bands : goal.decreases-push_cover_bands
+decreases-push_cover_bands l = length l.lines.now

@@ -1,0 +1,9 @@
+use Rattle.std.proofs.Common.{◌≡◌, ◌≤◌, take}
+use Rattle.drawing.specs.Layout.{label_width}
+use Rattle.drawing.proofs.columns.label_width.Given as goal
+
+abbrev pub invariant-loop-operation : goal.invariant-loop-operation
+invariant-loop-operation l = record {
+  widest : l.widest ≡ label_width (take l.operation-index l.operations);
+  few : l.widest ≤ 24;
+}

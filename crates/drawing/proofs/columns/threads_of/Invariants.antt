@@ -1,0 +1,9 @@
+use Rattle.std.proofs.Common.{◌≡◌, ◌≤◌, vec_len}
+use Rattle.drawing.specs.Layout.{threads_below}
+use Rattle.drawing.proofs.columns.threads_of.Given as goal
+
+abbrev pub invariant-loop-thread : goal.invariant-loop-thread
+invariant-loop-thread l = record {
+  threads : l.threads.items ≡ threads_below l.events l.thread;
+  few : vec_len l.threads ≤ l.thread;
+}

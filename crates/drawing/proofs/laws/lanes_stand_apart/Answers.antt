@@ -1,0 +1,5 @@
+use Rattle.drawing.proofs.Lanes.{lanes_are_apart}
+use Rattle.drawing.proofs.laws.lanes_stand_apart.Goals as goal
+
+pub returns : goal.returns
+returns c = lanes_are_apart

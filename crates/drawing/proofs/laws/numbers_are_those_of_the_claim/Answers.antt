@@ -1,0 +1,8 @@
+use Rattle.drawing.proofs.Effects.{numbers_are_of_lines, lines_have_numbers}
+use Rattle.drawing.proofs.laws.numbers_are_those_of_the_claim.Goals as goal
+
+pub returns-clause-of_lines : goal.returns-clause-of_lines
+returns-clause-of_lines c = numbers_are_of_lines
+
+pub returns-clause-each : goal.returns-clause-each
+returns-clause-each c = lines_have_numbers

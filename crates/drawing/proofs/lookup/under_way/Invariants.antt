@@ -1,0 +1,8 @@
+use Rattle.std.proofs.Common.{◌≡◌, drop}
+use Rattle.std.specs.List.{find}
+use Rattle.drawing.specs.Layout.{is_under_way}
+use Rattle.drawing.proofs.lookup.under_way.Given as goal
+
+abbrev pub invariant-loop-operation : goal.invariant-loop-operation
+invariant-loop-operation l =
+    find (is_under_way l.thread l.ticket) l.operations ≡ find (is_under_way l.thread l.ticket) (drop l.operation-index l.operations)

@@ -1,0 +1,7 @@
+use Rattle.std.proofs.Common.{◌≡◌}
+use Rattle.drawing.specs.Words.{with_words}
+use Rattle.drawing.specs.Terminal.{strokes}
+use Rattle.drawing.proofs.terminal.place_strokes.Given as goal
+
+abbrev pub invariant-loop-i : goal.invariant-loop-i
+invariant-loop-i l = l.line.items ≡ with_words l.fn.line.items (strokes l.columns l.i)

@@ -1,0 +1,122 @@
+-- The words of a picture: its headline, what it shows in a sentence, and how to read it.
+use Rattle.std.specs.Prelude.{ℕ, ◌+◌, List, [], ◌∷◌, ◌++◌, codes, decimal}
+use Rattle.std.specs.List.{concat}
+use Rattle.history_merge.specs.declared.operation.Operation.{Operation}
+use Rattle.history_merge.specs.declared.operation.OpKind.{OpKind}
+use Rattle.history_merge.specs.declared.operation.OpKind.TheVariants as kind
+use Rattle.verdicts.specs.declared.verifying.Claimed.{Claimed}
+use Rattle.verdicts.specs.declared.verifying.Claimed.TheVariants.{Yes, No}
+use Rattle.verdicts.specs.declared.verifying.ViolationKind.TheVariants.{VFresh, VRepeat, VOrd, VWit}
+use Rattle.history_text.specs.Lines.{line}
+use Rattle.drawing.specs.Bands.{value_of}
+
+-- what a picture shows, in a line
+abbrev pub headline : Claimed → List ℕ
+headline (Yes order) = codes "YES: a FIFO queue can have answered so"
+headline (No VFresh lines) = codes "NO: a value was dequeued that was not there"
+headline (No VRepeat lines) = codes "NO: a value was dequeued twice"
+headline (No VOrd lines) = codes "NO: values were dequeued against the order of their enqueues"
+headline (No VWit lines) = codes "NO: an empty answer while the queue was never empty"
+
+-- the value of an operation, in its digits
+abbrev pub value_text : Operation → List ℕ
+value_text o = decimal (value_of o.kind)
+
+-- why a value was not there, where its enqueue is shown
+abbrev pub fresh_reason : OpKind → List ℕ
+fresh_reason (kind.Enq v) = line (codes " was dequeued (1), but its enqueue (2) was called only afterwards.")
+fresh_reason _ = line (codes " was dequeued (1), but its enqueue (2) was not taken.")
+
+-- the caption of a value that was not there
+abbrev pub fresh_caption : List Operation → List ℕ
+fresh_caption [] = []
+fresh_caption (deq ∷ []) = concat (value_text deq ∷ line (codes " was dequeued (1), but nobody ever enqueued it.") ∷ [])
+fresh_caption (deq ∷ enq ∷ rest) = concat (value_text deq ∷ fresh_reason enq.kind ∷ [])
+
+-- the caption of a value that was dequeued twice
+abbrev pub repeat_caption : List Operation → List ℕ
+repeat_caption [] = []
+repeat_caption (enq ∷ rest) = concat (value_text enq ∷ line (codes " was enqueued once (1), but dequeued twice (2 and 3).") ∷ [])
+
+-- that a was enqueued before b, and b dequeued before or without a
+unfoldable pub overtaking_caption : Operation → Operation → List ℕ → List ℕ → List ℕ
+overtaking_caption a b between end =
+    concat (value_text a ∷ codes " was enqueued (1) before " ∷ value_text b ∷ line (codes " (2),")
+    ∷ codes "but " ∷ value_text b ∷ between ∷ value_text a ∷ end ∷ [])
+
+-- the caption of values that were dequeued against the order of their enqueues
+abbrev pub order_caption : List Operation → List ℕ
+order_caption (a ∷ b ∷ deq_b ∷ []) = overtaking_caption a b (codes " was dequeued (3) and ") (line (codes " never was."))
+order_caption (a ∷ b ∷ deq_b ∷ deq_a ∷ rest) = overtaking_caption a b (codes " was dequeued (3) before ") (line (codes " (4)."))
+order_caption _ = []
+
+-- from when to when a value of a cover surely was in the queue, with the numbers of its enqueue and its dequeue
+unfoldable pub one_of_cover : ℕ → Operation → Operation → List ℕ
+one_of_cover number enq deq =
+    concat (value_text enq ∷ codes " from ticket " ∷ decimal enq.ret ∷ codes " (" ∷ decimal number
+    ∷ codes ") to ticket " ∷ decimal deq.call ∷ codes " (" ∷ decimal (number + 1) ∷ line (codes ")") ∷ [])
+
+-- from when on the last value of a cover surely was in the queue
+unfoldable pub last_of_cover : ℕ → Operation → List ℕ
+last_of_cover number enq =
+    concat (value_text enq ∷ codes " from ticket " ∷ decimal enq.ret ∷ codes " (" ∷ decimal number ∷ line (codes ") on") ∷ [])
+
+-- the lines of the values of a cover, numbered from here on
+abbrev pub cover_caption : ℕ → List Operation → List ℕ
+cover_caption number [] = []
+cover_caption number (enq ∷ []) = last_of_cover number enq
+cover_caption number (enq ∷ deq ∷ rest) = one_of_cover number enq deq ++ cover_caption (number + 2) rest
+
+-- the first lines of the caption of an empty answer
+unfoldable pub witness_words : List ℕ
+witness_words =
+    concat (line (codes "A dequeue found the queue empty (1), but at each moment of it") ∷ line (codes "some value surely was in the queue:") ∷ [])
+
+-- the caption of an empty answer
+abbrev pub witness_caption : List Operation → List ℕ
+witness_caption [] = []
+witness_caption (empty ∷ cover) = witness_words ++ cover_caption 2 cover
+
+-- the caption of a yes
+unfoldable pub yes_caption : List ℕ
+yes_caption =
+    concat (line (codes "The numbers give one order in which the operations can have taken")
+    ∷ line (codes "effect. They rise from top to bottom, and each stands within its bar.") ∷ [])
+
+-- what a claim says, in sentences
+unfoldable pub caption : Claimed → List ℕ
+caption (Yes order) = yes_caption
+caption (No VFresh lines) = fresh_caption lines
+caption (No VRepeat lines) = repeat_caption lines
+caption (No VOrd lines) = order_caption lines
+caption (No VWit lines) = witness_caption lines
+
+-- what the forms in the lanes mean
+unfoldable pub lane_meanings : List ℕ
+lane_meanings = concat (line (codes "[    call of an operation") ∷ line (codes "]    its return") ∷ [])
+
+-- what a number in a lane means
+abbrev pub number_meaning : Claimed → List ℕ
+number_meaning (Yes order) = line (codes "1    number 1 in the order, where it takes effect")
+number_meaning (No kind lines) = line (codes "1    number 1 of the operations that show it")
+
+-- what a band of values surely in the queue means, and what the time beside it means
+unfoldable pub sure_and : List ℕ → List ℕ
+sure_and time = concat (line (codes "###  the value surely was in the queue.") ∷ time ∷ [])
+
+-- what a band without the value means, and what the time beside it means
+unfoldable pub fresh_meanings : List ℕ
+fresh_meanings =
+    concat (line (codes "xxx  the value surely was not in the queue.") ∷ line (codes ":::  within this time it was dequeued nevertheless.") ∷ [])
+
+-- what the forms of the bands mean
+abbrev pub form_meanings : Claimed → List ℕ
+form_meanings (Yes order) = []
+form_meanings (No VFresh lines) = fresh_meanings
+form_meanings (No VRepeat lines) = []
+form_meanings (No VOrd lines) = sure_and (line (codes ":::  within this time the later value went in and out."))
+form_meanings (No VWit lines) = sure_and (line (codes ":::  within this time the queue was said to be empty."))
+
+-- how to read a picture of characters
+unfoldable pub legend : Claimed → List ℕ
+legend claimed = lane_meanings ++ (number_meaning claimed ++ form_meanings claimed)

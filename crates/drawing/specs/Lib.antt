@@ -1,0 +1,6 @@
+pub mod Layout
+pub mod Bands
+pub mod Words
+pub mod Captions
+pub mod Terminal
+pub mod Laws

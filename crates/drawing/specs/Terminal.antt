@@ -1,0 +1,183 @@
+-- A picture as lines of characters. Time runs down: a line for each event, and of a yes one for each effect.
+use Rattle.std.specs.Prelude.{ℕ, ◌+◌, ◌-◌, ◌*◌, ◌==◌, if◌then◌else◌, Bool, true, false, Option, Some, None, List, [], ◌∷◌, ◌++◌, map, length, codes, decimal}
+use Rattle.std.specs.List.{flat_map, range_with_len, enumerate_from}
+use Rattle.event_records.specs.declared.event.Event.{Event}
+use Rattle.history_merge.specs.declared.operation.Operation.{Operation}
+use Rattle.history_merge.specs.declared.operation.OpKind.{OpKind}
+use Rattle.history_merge.specs.declared.operation.OpKind.TheVariants as kind
+use Rattle.history_merge.specs.Operations.{operations_of}
+use Rattle.verdicts.specs.declared.verifying.Claimed.{Claimed}
+use Rattle.verdicts.specs.declared.verifying.Claimed.TheVariants.{No}
+use Rattle.verdicts.specs.declared.verifying.ViolationKind.TheVariants.{VRepeat}
+use Rattle.history_text.specs.Lines.{line}
+use Rattle.history_text.specs.Claims.{operations_in}
+use Rattle.drawing.specs.declared.columns.Columns.{Columns}
+use Rattle.drawing.specs.declared.columns.Lane.{Lane}
+use Rattle.drawing.specs.declared.bands.Band.{Band}
+use Rattle.drawing.specs.declared.bands.Head.{Head}
+use Rattle.drawing.specs.Layout.{digits, label, threads_of, columns_of, lanes_of, under_way, called_at, place_in, number_in, order_of, shown_by, point}
+use Rattle.drawing.specs.Bands.{bands_of, head_text, form, holds_gap}
+use Rattle.drawing.specs.Words.{Word, line_of}
+use Rattle.drawing.specs.Captions.{headline, caption, legend}
+
+-- ---- words of a line
+
+-- a ticket, at the right of its column
+abbrev pub ticket_word : Columns → ℕ → Word
+ticket_word columns ticket = record { column = columns.ticket - digits ticket; bytes = decimal ticket }
+
+-- what stands in a lane in the row of an event: its call with its number, its return, or that it is under way
+abbrev pub sign : List Operation → ℕ → Option Operation → List ℕ
+sign shown ticket None = []
+sign shown ticket (Some o) =
+    if o.call == ticket then codes "[" ++ number_in shown o else (if o.ret == ticket then codes "]" else codes "|")
+
+-- the words in the lanes in the row of an event
+abbrev pub lane_words : List Operation → List Operation → List Lane → ℕ → List Word
+lane_words operations shown lanes ticket =
+    map (λ lane. record { column = lane.column; bytes = sign shown ticket (under_way operations lane.thread ticket) }) lanes
+
+-- the label of an operation, where there is one
+abbrev pub label_if : Option Operation → List ℕ
+label_if None = []
+label_if (Some o) = label o.kind
+
+-- where band i stands
+abbrev pub band_column : Columns → ℕ → ℕ
+band_column columns i = columns.beside + 5 * i
+
+-- a band at a column, where it holds the gap just after a ticket
+abbrev pub band_at : ℕ → Band → ℕ → Word
+band_at column band ticket = record { column = column; bytes = if holds_gap band ticket then form band.head else [] }
+
+-- band i in the row of an event
+abbrev pub band_word : Columns → ℕ → ℕ × Band → Word
+band_word columns ticket (i, band) = band_at (band_column columns i) band ticket
+
+-- the bands in the row of an event
+abbrev pub band_words : Columns → List Band → ℕ → List Word
+band_words columns bands ticket = map (band_word columns ticket) (enumerate_from 0 bands)
+
+-- whether a value goes in or out
+abbrev pub way : OpKind → List ℕ
+way (kind.Enq v) = codes "in"
+way _ = codes "out"
+
+-- the word of an operation at this place of a claim
+abbrev pub way_at : OpKind → Option ℕ → List ℕ
+way_at kind None = []
+way_at kind (Some place) = way kind
+
+-- the word of an operation, where the lines have it
+abbrev pub way_of : List Operation → Option Operation → List ℕ
+way_of lines None = []
+way_of lines (Some o) = way_at o.kind (place_in lines o)
+
+-- the words `in` and `out` where a value was dequeued twice
+abbrev pub way_word : Claimed → Option Operation → List ℕ
+way_word (No VRepeat lines) called = way_of lines called
+way_word _ called = []
+
+-- the words in the row of an event: its ticket, what its thread and the others do, the label of what is called, and the bands
+unfoldable pub event_words : Columns → List Lane → List Band → List Operation → Claimed → ℕ → List Word
+event_words columns lanes bands operations claimed ticket =
+    ticket_word columns ticket ∷ (lane_words operations (shown_by claimed) lanes ticket
+    ++ (record { column = columns.label; bytes = label_if (called_at operations ticket) }
+    ∷ record { column = columns.beside; bytes = way_word claimed (called_at operations ticket) } ∷ band_words columns bands ticket))
+
+-- ---- the order of a yes
+
+-- what stands in a lane in the row of an effect: the number of the operation that takes effect, or that another is under way
+abbrev pub effect_sign : Operation → ℕ → ℕ → Option Operation → List ℕ
+effect_sign effect number ticket None = []
+effect_sign effect number ticket (Some o) =
+    if o.call == effect.call then decimal number else (if o.ret == ticket then [] else codes "|")
+
+-- the words in the lanes in the row of an effect
+abbrev pub effect_lane_words : List Operation → List Lane → Operation → ℕ → ℕ → List Word
+effect_lane_words operations lanes effect number ticket =
+    map (λ lane. record { column = lane.column; bytes = effect_sign effect number ticket (under_way operations lane.thread ticket) }) lanes
+
+-- the number and the label of what takes effect, of so many
+abbrev pub effect_word : Columns → ℕ → Operation → ℕ → Word
+effect_word columns claimed effect number =
+    record { column = columns.beside + (digits claimed - digits number); bytes = decimal number ++ (codes " " ++ label effect.kind) }
+
+-- the words in the row of an effect, just after a ticket
+unfoldable pub effect_words : Columns → List Lane → List Operation → ℕ → ℕ → ℕ → Operation → List Word
+effect_words columns lanes operations claimed ticket number effect =
+    effect_lane_words operations lanes effect number ticket ++ effect_word columns claimed effect number ∷ []
+
+-- the row of an operation, if it takes effect just after this ticket
+abbrev pub effect_row_if : Bool → Columns → List Lane → List Operation → ℕ → ℕ → ℕ → Operation → List ℕ
+effect_row_if true columns lanes operations claimed ticket number effect =
+    line (line_of (effect_words columns lanes operations claimed ticket number effect))
+effect_row_if false columns lanes operations claimed ticket number effect = []
+
+-- the row of operation i of an order, if it takes effect just after this ticket
+abbrev pub effect_if : Columns → List Lane → List Operation → List Operation → ℕ → ℕ × Operation → List ℕ
+effect_if columns lanes operations order ticket (i, effect) =
+    effect_row_if (point order i == ticket) columns lanes operations (length order) ticket (i + 1) effect
+
+-- the rows of the operations that take effect just after this ticket
+unfoldable pub effect_rows : Columns → List Lane → List Operation → List Operation → ℕ → List ℕ
+effect_rows columns lanes operations order ticket = flat_map (effect_if columns lanes operations order ticket) (enumerate_from 0 order)
+
+-- ---- the picture
+
+-- the row of the event at a ticket, and of the effects after it
+abbrev pub event_rows : Columns → List Lane → List Band → List Operation → Claimed → ℕ → List ℕ
+event_rows columns lanes bands operations claimed ticket =
+    line (line_of (event_words columns lanes bands operations claimed ticket)) ++ effect_rows columns lanes operations (order_of claimed) ticket
+
+-- a stroke for each band, under its head
+abbrev pub strokes : Columns → ℕ → List Word
+strokes columns n = map (λ i. record { column = band_column columns i + 1; bytes = codes "|" }) (range_with_len 0 n)
+
+-- the words in the line of the head of band i
+abbrev pub head_words : Columns → ℕ → Head → List Word
+head_words columns i head = strokes columns i ++ record { column = band_column columns i; bytes = head_text head } ∷ []
+
+-- the line of the head of band i
+abbrev pub head_line : Columns → ℕ × Band → List ℕ
+head_line columns (i, band) = line (line_of (head_words columns i band.head))
+
+-- the heads of the bands, each in a line of its own
+unfoldable pub head_lines : Columns → List Band → List ℕ
+head_lines columns bands = flat_map (head_line columns) (enumerate_from 0 bands)
+
+-- the word above the lanes
+unfoldable pub thread_words : Columns → ℕ → List Word
+thread_words columns bands = record { column = columns.ticket + 2; bytes = codes "thread" } ∷ strokes columns bands
+
+-- the numbers of the threads above their lanes
+abbrev pub lane_names : List Lane → List Word
+lane_names lanes = map (λ lane. record { column = lane.column; bytes = decimal lane.thread }) lanes
+
+-- the word above the tickets, and the numbers of the threads
+unfoldable pub name_words : Columns → List Lane → ℕ → List Word
+name_words columns lanes bands =
+    record { column = columns.ticket - 6; bytes = codes "ticket" } ∷ (lane_names lanes ++ strokes columns bands)
+
+-- the heads, the rows of the events, and those of the effects
+unfoldable pub rows : Columns → List Lane → List Band → List Event → List Operation → Claimed → List ℕ
+rows columns lanes bands events operations claimed =
+    head_lines columns bands ++ (line (line_of (thread_words columns (length bands))) ++ (line (line_of (name_words columns lanes (length bands)))
+    ++ flat_map (λ e. event_rows columns lanes bands operations claimed e.ticket) events))
+
+-- the columns of the picture of a history and what is claimed of it
+abbrev pub columns_in : List Event → Claimed → Columns
+columns_in events claimed = columns_of events (operations_of events) (threads_of events) (length (operations_in claimed))
+
+-- what stands above the rows
+unfoldable pub words : Claimed → List ℕ
+words claimed = line (headline claimed) ++ (caption claimed ++ (line [] ++ (legend claimed ++ line [])))
+
+-- the rows of the picture of a history and what is claimed of it
+abbrev pub rows_in : List Event → Claimed → List ℕ
+rows_in events claimed =
+    rows (columns_in events claimed) (lanes_of (columns_in events claimed) (threads_of events)) (bands_of claimed) events (operations_of events) claimed
+
+-- the picture of a history and what is claimed of it, in lines of characters
+unfoldable pub terminal_picture : List Event → Claimed → List ℕ
+terminal_picture events claimed = words claimed ++ rows_in events claimed

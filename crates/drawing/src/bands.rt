@@ -1,0 +1,238 @@
+//! Bands beside the lanes of a no.
+ghost use Rattle.std.specs.Prelude.{◌≡◌, ◌++◌, ◌∷◌, ◌+◌, ◌≤◌, [], OnOk, IfOk, decimal, length, vec_len};
+ghost use Rattle.history_text.specs.Claims.{operations_in};
+ghost use Rattle.std.specs.List.{concat};
+ghost use Rattle.drawing.specs.Bands.{value_of, sure_until, time_of, absent_until, call_if_taken, cover_bands, fresh_bands, order_bands, witness_bands, repeat_bands, bands_of, head_text, form, holds_gap};
+
+use crate::line::{Piece, push_all};
+use history_merge::{OpKind, Operation};
+use std::alloc::{AllocError, Global};
+use verdicts::{Claimed, ViolationKind};
+
+/// What stands above a band.
+#[derive(Clone, Copy, Debug, PartialEq, Eq)]
+pub enum Head {
+    /// This value surely was in the queue.
+    SurelyIn(u64),
+    /// This value surely was not in the queue.
+    NotIn(u64),
+    /// The time in which this value was dequeued.
+    Dequeued(u64),
+    /// The time in which this value went in and out.
+    InAndOut(u64),
+    /// The time in which the queue was said to be empty.
+    SaidEmpty,
+    /// A column for the words `in` and `out` of this value, with no band.
+    InOrOut(u64),
+}
+
+/// A stretch of time, between the tickets of two events.
+#[derive(Clone, Copy, Debug, PartialEq, Eq)]
+pub struct Band {
+    pub head: Head,
+    /// The ticket from which it goes, or none where it goes from the top.
+    pub first: Option<u64>,
+    /// The ticket to which it goes, or none where it goes to the bottom.
+    pub last: Option<u64>,
+}
+
+pub(crate) fn value_of(kind: OpKind) -> u64
+    ensures { result ≡ value_of kind }
+{
+    match kind {
+        OpKind::Enq(value) | OpKind::Deq(value) | OpKind::Not(value) => value,
+        OpKind::Empty => 0,
+    }
+}
+
+fn sure_until(enq: Operation, last: Option<u64>) -> Band
+    ensures { result ≡ sure_until enq last }
+{
+    Band {
+        head: Head::SurelyIn(value_of(enq.kind)),
+        first: Some(enq.ret),
+        last,
+    }
+}
+
+fn time_of(head: Head, first: u64, last: u64) -> Band
+    ensures { result ≡ time_of head first last }
+{
+    Band {
+        head,
+        first: Some(first),
+        last: Some(last),
+    }
+}
+
+fn call_if_taken(operation: Operation) -> Option<u64>
+    ensures { result ≡ call_if_taken operation operation.kind }
+{
+    match operation.kind {
+        OpKind::Enq(_) => Some(operation.call),
+        _ => None,
+    }
+}
+
+fn push_fresh(bands: &mut Vec<Band>, deq: Operation, last: Option<u64>) -> Result<(), AllocError>
+    ensures bands { OnOk result (bands.new.items ≡ bands.old.items ++ (absent_until (value_of deq.kind) last ∷ time_of (Head.Dequeued (value_of deq.kind)) deq.call deq.ret ∷ [])) }
+    ensures few { OnOk result (vec_len bands.new ≤ vec_len bands.old + 2) }
+{
+    let value = value_of(deq.kind);
+    bands.push(Band {
+        head: Head::NotIn(value),
+        first: None,
+        last,
+    })?;
+    bands.push(time_of(Head::Dequeued(value), deq.call, deq.ret))?;
+    Ok(())
+}
+
+fn push_fresh_bands(bands: &mut Vec<Band>, lines: &[Operation]) -> Result<(), AllocError>
+    ensures bands { OnOk result (bands.new.items ≡ bands.old.items ++ fresh_bands lines.now) }
+    ensures few { OnOk result (vec_len bands.new ≤ vec_len bands.old + 2) }
+{
+    match lines {
+        [] => Ok(()),
+        [deq] => push_fresh(bands, *deq, None),
+        [deq, enq, ..] => push_fresh(bands, *deq, call_if_taken(*enq)),
+    }
+}
+
+fn push_order(
+    bands: &mut Vec<Band>,
+    enq_a: Operation,
+    last: Option<u64>,
+    enq_b: Operation,
+    deq_b: Operation,
+) -> Result<(), AllocError>
+    ensures bands { OnOk result (bands.new.items ≡ bands.old.items ++ (sure_until enq_a last ∷ time_of (Head.InAndOut (value_of enq_b.kind)) enq_b.call deq_b.ret ∷ [])) }
+    ensures few { OnOk result (vec_len bands.new ≤ vec_len bands.old + 2) }
+{
+    let value = value_of(enq_b.kind);
+    bands.push(sure_until(enq_a, last))?;
+    bands.push(time_of(Head::InAndOut(value), enq_b.call, deq_b.ret))?;
+    Ok(())
+}
+
+fn push_order_bands(bands: &mut Vec<Band>, lines: &[Operation]) -> Result<(), AllocError>
+    ensures bands { OnOk result (bands.new.items ≡ bands.old.items ++ order_bands lines.now) }
+    ensures few { OnOk result (vec_len bands.new ≤ vec_len bands.old + 2) }
+{
+    match lines {
+        [enq_a, enq_b, deq_b] => push_order(bands, *enq_a, None, *enq_b, *deq_b),
+        [enq_a, enq_b, deq_b, deq_a, ..] => {
+            push_order(bands, *enq_a, Some(deq_a.call), *enq_b, *deq_b)
+        }
+        _ => Ok(()),
+    }
+}
+
+fn push_cover_bands(bands: &mut Vec<Band>, lines: &[Operation]) -> Result<(), AllocError>
+    ensures bands { OnOk result (bands.new.items ≡ bands.old.items ++ cover_bands lines.now) }
+    ensures few { OnOk result (vec_len bands.new ≤ vec_len bands.old + length lines.now) }
+{
+    match lines {
+        [] => Ok(()),
+        [enq] => {
+            bands.push(sure_until(*enq, None))?;
+            Ok(())
+        }
+        [enq, deq, rest @ ..] => {
+            bands.push(sure_until(*enq, Some(deq.call)))?;
+            push_cover_bands(bands, rest)
+        }
+    }
+}
+
+fn push_witness_bands(bands: &mut Vec<Band>, lines: &[Operation]) -> Result<(), AllocError>
+    ensures bands { OnOk result (bands.new.items ≡ bands.old.items ++ witness_bands lines.now) }
+    ensures few { OnOk result (vec_len bands.new ≤ vec_len bands.old + length lines.now + 1) }
+{
+    match lines {
+        [] => Ok(()),
+        [empty, cover @ ..] => {
+            push_cover_bands(bands, cover)?;
+            bands.push(time_of(Head::SaidEmpty, empty.call, empty.ret))?;
+            Ok(())
+        }
+    }
+}
+
+fn push_repeat_bands(bands: &mut Vec<Band>, lines: &[Operation]) -> Result<(), AllocError>
+    ensures bands { OnOk result (bands.new.items ≡ bands.old.items ++ repeat_bands lines.now) }
+    ensures few { OnOk result (vec_len bands.new ≤ vec_len bands.old + 1) }
+{
+    match lines {
+        [] => Ok(()),
+        [enq, ..] => {
+            bands.push(Band {
+                head: Head::InOrOut(value_of(enq.kind)),
+                first: None,
+                last: None,
+            })?;
+            Ok(())
+        }
+    }
+}
+
+/// The bands of a claim, left to right.
+pub(crate) fn bands_of(alloc: Global, claimed: &Claimed) -> Result<Vec<Band>, AllocError>
+    ensures bands { IfOk result (λ bands. bands.items ≡ bands_of claimed.now) }
+    ensures few { IfOk result (λ bands. vec_len bands ≤ length (operations_in claimed.now) + 2) }
+{
+    let mut bands = Vec::new(alloc);
+    match claimed {
+        Claimed::Yes(_) => {}
+        Claimed::No(kind, lines) => {
+            let lines = lines.as_slice();
+            match kind {
+                ViolationKind::VFresh => push_fresh_bands(&mut bands, lines)?,
+                ViolationKind::VRepeat => push_repeat_bands(&mut bands, lines)?,
+                ViolationKind::VOrd => push_order_bands(&mut bands, lines)?,
+                ViolationKind::VWit => push_witness_bands(&mut bands, lines)?,
+            }
+        }
+    }
+    Ok(bands)
+}
+
+/// Adds a number, and words after it.
+fn push_numbered(text: &mut Vec<u8>, number: u64, words: &[u8]) -> Result<(), AllocError>
+    ensures { OnOk result (text.new.items ≡ text.old.items ++ concat (decimal number ∷ words.now ∷ [])) }
+{
+    push_all(text, &[Piece::Number(number), Piece::Words(words)])
+}
+
+/// Adds the words above a band.
+pub(crate) fn push_head(text: &mut Vec<u8>, head: Head) -> Result<(), AllocError>
+    ensures { OnOk result (text.new.items ≡ text.old.items ++ head_text head) }
+{
+    match head {
+        Head::SurelyIn(value) => push_numbered(text, value, b" surely in"),
+        Head::NotIn(value) => push_numbered(text, value, b" not in"),
+        Head::Dequeued(value) => push_numbered(text, value, b" dequeued"),
+        Head::InAndOut(value) => push_numbered(text, value, b" in and out"),
+        Head::SaidEmpty => text.extend_from_slice(b"empty"),
+        Head::InOrOut(value) => push_numbered(text, value, b" in or out"),
+    }
+}
+
+/// The form of a band in a row of characters.
+pub(crate) fn form(head: Head) -> &'static [u8]
+    ensures { result.now ≡ form head }
+{
+    match head {
+        Head::SurelyIn(_) => b"###",
+        Head::NotIn(_) => b"xxx",
+        Head::Dequeued(_) | Head::InAndOut(_) | Head::SaidEmpty => b":::",
+        Head::InOrOut(_) => b"",
+    }
+}
+
+/// Whether a band holds the gap just after this ticket.
+pub(crate) fn holds_gap(band: Band, ticket: u64) -> bool
+    ensures { result ≡ holds_gap band ticket }
+{
+    band.first.is_none_or(|first| first <= ticket) && band.last.is_none_or(|last| ticket < last)
+}

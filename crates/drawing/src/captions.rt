@@ -1,0 +1,317 @@
+//! The words of a picture.
+ghost use Rattle.std.specs.Prelude.{◌≡◌, ◌++◌, ◌+◌, ◌<◌, ◌≤◌, OnOk, length};
+ghost use Rattle.history_text.specs.Claims.{operations_in};
+ghost use Rattle.drawing.specs.Captions.{headline, fresh_reason, fresh_caption, repeat_caption, overtaking_caption, order_caption, one_of_cover, last_of_cover, cover_caption, witness_words, witness_caption, yes_caption, caption, lane_meanings, number_meaning, fresh_meanings, sure_and, form_meanings, legend};
+
+use crate::bands::value_of;
+use crate::line::{Piece, push_all};
+use history_merge::{OpKind, Operation};
+use std::alloc::AllocError;
+use verdicts::{Claimed, ViolationKind};
+
+/// What a picture shows, in a line.
+pub(crate) fn headline(claimed: &Claimed) -> &'static [u8]
+    ensures { result.now ≡ headline claimed.now }
+{
+    match claimed {
+        Claimed::Yes(_) => b"YES: a FIFO queue can have answered so",
+        Claimed::No(kind, _) => match kind {
+            ViolationKind::VFresh => b"NO: a value was dequeued that was not there",
+            ViolationKind::VRepeat => b"NO: a value was dequeued twice",
+            ViolationKind::VOrd => b"NO: values were dequeued against the order of their enqueues",
+            ViolationKind::VWit => b"NO: an empty answer while the queue was never empty",
+        },
+    }
+}
+
+fn fresh_reason(kind: OpKind) -> &'static [u8]
+    ensures { result.now ≡ fresh_reason kind }
+{
+    match kind {
+        OpKind::Enq(_) => b" was dequeued (1), but its enqueue (2) was called only afterwards.\n",
+        _ => b" was dequeued (1), but its enqueue (2) was not taken.\n",
+    }
+}
+
+fn push_fresh_caption(text: &mut Vec<u8>, lines: &[Operation]) -> Result<(), AllocError>
+    ensures { OnOk result (text.new.items ≡ text.old.items ++ fresh_caption lines.now) }
+{
+    match lines {
+        [] => Ok(()),
+        [deq] => push_all(
+            text,
+            &[
+                Piece::Number(value_of(deq.kind)),
+                Piece::Words(b" was dequeued (1), but nobody ever enqueued it.\n"),
+            ],
+        ),
+        [deq, enq, ..] => push_all(
+            text,
+            &[
+                Piece::Number(value_of(deq.kind)),
+                Piece::Words(fresh_reason(enq.kind)),
+            ],
+        ),
+    }
+}
+
+fn push_repeat_caption(text: &mut Vec<u8>, lines: &[Operation]) -> Result<(), AllocError>
+    ensures { OnOk result (text.new.items ≡ text.old.items ++ repeat_caption lines.now) }
+{
+    match lines {
+        [] => Ok(()),
+        [enq, ..] => push_all(
+            text,
+            &[
+                Piece::Number(value_of(enq.kind)),
+                Piece::Words(b" was enqueued once (1), but dequeued twice (2 and 3).\n"),
+            ],
+        ),
+    }
+}
+
+fn push_overtaking_caption<'x>(
+    text: &mut Vec<u8>,
+    a: Operation,
+    b: Operation,
+    between: &'x [u8],
+    end: &'x [u8],
+) -> Result<(), AllocError>
+    ensures { OnOk result (text.new.items ≡ text.old.items ++ overtaking_caption a b between.now end.now) }
+{
+    let first = value_of(a.kind);
+    let second = value_of(b.kind);
+    push_all(
+        text,
+        &[
+            Piece::Number(first),
+            Piece::Words(b" was enqueued (1) before "),
+            Piece::Number(second),
+            Piece::Words(b" (2),\n"),
+            Piece::Words(b"but "),
+            Piece::Number(second),
+            Piece::Words(between),
+            Piece::Number(first),
+            Piece::Words(end),
+        ],
+    )
+}
+
+fn push_order_caption(text: &mut Vec<u8>, lines: &[Operation]) -> Result<(), AllocError>
+    ensures { OnOk result (text.new.items ≡ text.old.items ++ order_caption lines.now) }
+{
+    match lines {
+        [a, b, _] => push_overtaking_caption(
+            text,
+            *a,
+            *b,
+            b" was dequeued (3) and ",
+            b" never was.\n",
+        ),
+        [a, b, _, _, ..] => {
+            push_overtaking_caption(text, *a, *b, b" was dequeued (3) before ", b" (4).\n")
+        }
+        _ => Ok(()),
+    }
+}
+
+#[tactic(auto, unfolding(crate::specs::Captions::last_of_cover))]
+fn push_last_of_cover(text: &mut Vec<u8>, number: u64, enq: Operation) -> Result<(), AllocError>
+    ensures { OnOk result (text.new.items ≡ text.old.items ++ last_of_cover number enq) }
+{
+    push_all(
+        text,
+        &[
+            Piece::Number(value_of(enq.kind)),
+            Piece::Words(b" from ticket "),
+            Piece::Number(enq.ret),
+            Piece::Words(b" ("),
+            Piece::Number(number),
+            Piece::Words(b") on\n"),
+        ],
+    )
+}
+
+#[tactic(auto, unfolding(crate::specs::Captions::one_of_cover))]
+fn push_one_of_cover(
+    text: &mut Vec<u8>,
+    number: u64,
+    enq: Operation,
+    deq: Operation,
+) -> Result<(), AllocError>
+    requires { number < 1000000 }
+    ensures { OnOk result (text.new.items ≡ text.old.items ++ one_of_cover number enq deq) }
+{
+    push_all(
+        text,
+        &[
+            Piece::Number(value_of(enq.kind)),
+            Piece::Words(b" from ticket "),
+            Piece::Number(enq.ret),
+            Piece::Words(b" ("),
+            Piece::Number(number),
+            Piece::Words(b") to ticket "),
+            Piece::Number(deq.call),
+            Piece::Words(b" ("),
+            Piece::Number(number + 1),
+            Piece::Words(b")\n"),
+        ],
+    )
+}
+
+fn push_cover_caption(
+    text: &mut Vec<u8>,
+    number: u64,
+    lines: &[Operation],
+) -> Result<(), AllocError>
+    requires { number + length lines.now < 1000000 }
+    ensures { OnOk result (text.new.items ≡ text.old.items ++ cover_caption number lines.now) }
+{
+    match lines {
+        [] => Ok(()),
+        [enq] => push_last_of_cover(text, number, *enq),
+        [enq, deq, rest @ ..] => {
+            push_one_of_cover(text, number, *enq, *deq)?;
+            push_cover_caption(text, number + 2, rest)
+        }
+    }
+}
+
+#[tactic(auto, unfolding(crate::specs::Captions::witness_words))]
+fn push_witness_words(text: &mut Vec<u8>) -> Result<(), AllocError>
+    ensures { OnOk result (text.new.items ≡ text.old.items ++ witness_words) }
+{
+    push_all(
+        text,
+        &[
+            Piece::Words(b"A dequeue found the queue empty (1), but at each moment of it\n"),
+            Piece::Words(b"some value surely was in the queue:\n"),
+        ],
+    )
+}
+
+fn push_witness_caption(text: &mut Vec<u8>, lines: &[Operation]) -> Result<(), AllocError>
+    requires { length lines.now ≤ 400 }
+    ensures { OnOk result (text.new.items ≡ text.old.items ++ witness_caption lines.now) }
+{
+    match lines {
+        [] => Ok(()),
+        [_, cover @ ..] => {
+            push_witness_words(text)?;
+            push_cover_caption(text, 2, cover)
+        }
+    }
+}
+
+#[tactic(auto, unfolding(crate::specs::Captions::yes_caption))]
+fn push_yes_caption(text: &mut Vec<u8>) -> Result<(), AllocError>
+    ensures { OnOk result (text.new.items ≡ text.old.items ++ yes_caption) }
+{
+    push_all(
+        text,
+        &[
+            Piece::Words(b"The numbers give one order in which the operations can have taken\n"),
+            Piece::Words(
+                b"effect. They rise from top to bottom, and each stands within its bar.\n",
+            ),
+        ],
+    )
+}
+
+/// Adds what a claim says, in sentences.
+#[tactic(auto, unfolding(crate::specs::Captions::caption))]
+pub(crate) fn push_caption(text: &mut Vec<u8>, claimed: &Claimed) -> Result<(), AllocError>
+    requires { length (operations_in claimed.now) ≤ 400 }
+    ensures { OnOk result (text.new.items ≡ text.old.items ++ caption claimed.now) }
+{
+    match claimed {
+        Claimed::Yes(_) => push_yes_caption(text),
+        Claimed::No(kind, lines) => {
+            let lines = lines.as_slice();
+            match kind {
+                ViolationKind::VFresh => push_fresh_caption(text, lines),
+                ViolationKind::VRepeat => push_repeat_caption(text, lines),
+                ViolationKind::VOrd => push_order_caption(text, lines),
+                ViolationKind::VWit => push_witness_caption(text, lines),
+            }
+        }
+    }
+}
+
+fn number_meaning(claimed: &Claimed) -> &'static [u8]
+    ensures { result.now ≡ number_meaning claimed.now }
+{
+    match claimed {
+        Claimed::Yes(_) => b"1    number 1 in the order, where it takes effect\n",
+        Claimed::No(_, _) => b"1    number 1 of the operations that show it\n",
+    }
+}
+
+#[tactic(auto, unfolding(crate::specs::Captions::lane_meanings))]
+fn push_lane_meanings(text: &mut Vec<u8>) -> Result<(), AllocError>
+    ensures { OnOk result (text.new.items ≡ text.old.items ++ lane_meanings) }
+{
+    push_all(
+        text,
+        &[
+            Piece::Words(b"[    call of an operation\n"),
+            Piece::Words(b"]    its return\n"),
+        ],
+    )
+}
+
+#[tactic(auto, unfolding(crate::specs::Captions::fresh_meanings))]
+fn push_fresh_meanings(text: &mut Vec<u8>) -> Result<(), AllocError>
+    ensures { OnOk result (text.new.items ≡ text.old.items ++ fresh_meanings) }
+{
+    push_all(
+        text,
+        &[
+            Piece::Words(b"xxx  the value surely was not in the queue.\n"),
+            Piece::Words(b":::  within this time it was dequeued nevertheless.\n"),
+        ],
+    )
+}
+
+#[tactic(auto, unfolding(crate::specs::Captions::sure_and))]
+fn push_sure_and(text: &mut Vec<u8>, time: &[u8]) -> Result<(), AllocError>
+    ensures { OnOk result (text.new.items ≡ text.old.items ++ sure_and time.now) }
+{
+    push_all(
+        text,
+        &[
+            Piece::Words(b"###  the value surely was in the queue.\n"),
+            Piece::Words(time),
+        ],
+    )
+}
+
+fn push_form_meanings(text: &mut Vec<u8>, claimed: &Claimed) -> Result<(), AllocError>
+    ensures { OnOk result (text.new.items ≡ text.old.items ++ form_meanings claimed.now) }
+{
+    match claimed {
+        Claimed::Yes(_) => Ok(()),
+        Claimed::No(kind, _) => match kind {
+            ViolationKind::VFresh => push_fresh_meanings(text),
+            ViolationKind::VRepeat => Ok(()),
+            ViolationKind::VOrd => push_sure_and(
+                text,
+                b":::  within this time the later value went in and out.\n",
+            ),
+            ViolationKind::VWit => push_sure_and(
+                text,
+                b":::  within this time the queue was said to be empty.\n",
+            ),
+        },
+    }
+}
+
+/// Adds how to read a picture of characters.
+#[tactic(auto, unfolding(crate::specs::Captions::legend))]
+pub(crate) fn push_legend(text: &mut Vec<u8>, claimed: &Claimed) -> Result<(), AllocError>
+    ensures { OnOk result (text.new.items ≡ text.old.items ++ legend claimed.now) }
+{
+    push_lane_meanings(text)?;
+    text.extend_from_slice(number_meaning(claimed))?;
+    push_form_meanings(text, claimed)
+}

@@ -1,0 +1,27 @@
+ghost use Rattle.drawing.specs.Laws.{LanesAreApart, BarsAreOfOperations, NoOtherBars, EffectsAreInBars, EffectsRise, NumbersAreOfLines, LinesHaveNumbers};
+
+/// The bars in the lanes are the operations, each in the lane of its thread, from its call to its return. The laws are the
+/// contract; the body is empty.
+pub fn bars_are_the_operations()
+    ensures each { BarsAreOfOperations }
+    ensures none_else { NoOtherBars }
+{}
+
+/// The operations of a yes take effect within their bars, and from top to bottom in its order. The laws are the contract; the
+/// body is empty.
+pub fn effects_rise_within_bars()
+    ensures within { EffectsAreInBars }
+    ensures rise { EffectsRise }
+{}
+
+/// The lane of a thread ends before that of a higher one begins. The law is the contract; the body is empty.
+pub fn lanes_stand_apart()
+    ensures { LanesAreApart }
+{}
+
+/// The operations with a number are those that a claim lists, and the number is that of the line. The laws are the contract;
+/// the body is empty.
+pub fn numbers_are_those_of_the_claim()
+    ensures of_lines { NumbersAreOfLines }
+    ensures each { LinesHaveNumbers }
+{}

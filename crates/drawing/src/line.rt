@@ -1,0 +1,53 @@
+//! Text made of pieces, and lines of words that stand at columns.
+ghost use Rattle.std.specs.Prelude.{◌≡◌, ◌++◌, OnOk};
+ghost use Rattle.std.specs.List.{flat_map};
+ghost use Rattle.drawing.specs.Words.{placed, piece_text};
+
+use itoa::Buffer;
+use std::alloc::AllocError;
+
+/// A piece of a text.
+#[derive(Clone, Copy, Debug)]
+pub enum Piece<'a> {
+    /// These bytes.
+    Words(&'a [u8]),
+    /// The digits of this number.
+    Number(u64),
+}
+
+/// Adds a word to a line at a column: blanks up to it, and the word. An empty word adds nothing.
+pub(crate) fn place(line: &mut Vec<u8>, column: usize, word: &[u8]) -> Result<(), AllocError>
+    ensures { OnOk result (line.new.items ≡ placed line.old.items (record { column = column; bytes = word.now })) }
+{
+    match word {
+        [] => Ok(()),
+        [_, ..] => {
+            let from = line.len();
+            line.resize(column.max(from), b' ')?;
+            line.extend_from_slice(word)
+        }
+    }
+}
+
+/// Adds a piece.
+fn push_piece(text: &mut Vec<u8>, piece: Piece<'_>) -> Result<(), AllocError>
+    ensures { OnOk result (text.new.items ≡ text.old.items ++ piece_text piece.entry) }
+{
+    match piece {
+        Piece::Words(bytes) => text.extend_from_slice(bytes),
+        Piece::Number(number) => {
+            let mut buffer = Buffer::new();
+            text.extend_from_slice(buffer.format(number).as_bytes())
+        }
+    }
+}
+
+/// Adds the pieces, one after another.
+pub(crate) fn push_all(text: &mut Vec<u8>, pieces: &[Piece<'_>]) -> Result<(), AllocError>
+    ensures { OnOk result (text.new.items ≡ text.old.items ++ flat_map piece_text pieces.now) }
+{
+    for piece in pieces {
+        push_piece(text, *piece)?;
+    }
+    Ok(())
+}

@@ -1,0 +1,591 @@
+//! A picture as lines of characters.
+ghost use Rattle.std.specs.Prelude.{◌≡◌, ◌==◌, ◌+◌, ◌≤◌, ◌++◌, ◌∷◌, [], IfOk, OnOk, length, map, codes, decimal};
+ghost use Rattle.std.specs.List.{flat_map, enumerate_from, range_with_len};
+ghost use Rattle.history_merge.specs.Operations.{operations_of};
+ghost use Rattle.history_text.specs.Claims.{operations_in};
+ghost use Rattle.history_text.specs.Lines.{line};
+ghost use Rattle.drawing.specs.Layout.{label, threads_of, columns_of, lanes_of, number_in, order_of, shown_by};
+ghost use Rattle.drawing.specs.Bands.{bands_of, head_text};
+ghost use Rattle.drawing.specs.Words.{placed, with_words, line_of};
+ghost use Rattle.drawing.specs.Terminal.{ticket_word, sign, lane_words, label_if, band_column, band_at, band_words, way, way_of, way_word, event_words, effect_sign, effect_lane_words, effect_words, effect_row_if, effect_rows, event_rows, strokes, head_words, head_lines, thread_words, lane_names, name_words, rows, words, terminal_picture};
+
+use crate::bands::{Band, Head, bands_of, form, holds_gap, push_head};
+use crate::captions::{headline, push_caption, push_legend};
+use crate::columns::{Columns, Lane, MOST_DRAWN, columns_of, digits, lanes_of, threads_of};
+use crate::line::{Piece, place, push_all};
+use crate::lookup::{called_at, place_in, under_way};
+use event_records::Event;
+use history_merge::{History, OpKind, Operation};
+use itoa::Buffer;
+use std::alloc::{AllocError, Global};
+use verdicts::{Claimed, ViolationKind};
+
+/// Adds a number to a line at a column.
+fn place_number(line: &mut Vec<u8>, column: usize, number: u64) -> Result<(), AllocError>
+    ensures { OnOk result (line.new.items ≡ placed line.old.items (record { column = column; bytes = decimal number })) }
+{
+    let mut buffer = Buffer::new();
+    place(line, column, buffer.format(number).as_bytes())
+}
+
+fn place_ticket(line: &mut Vec<u8>, columns: Columns, ticket: u64) -> Result<(), AllocError>
+    ensures { OnOk result (line.new.items ≡ placed line.old.items (ticket_word columns ticket)) }
+{
+    let column = columns.ticket.saturating_sub(digits(ticket));
+    place_number(line, column, ticket)
+}
+
+/// A bracket, and after it the number of an operation in a claim.
+fn numbered_call(
+    alloc: Global,
+    shown: &[Operation],
+    operation: Operation,
+) -> Result<Vec<u8>, AllocError>
+    requires { length shown.now ≤ 400 }
+    ensures { IfOk result (λ word. word.items ≡ codes "[" ++ number_in shown.now operation) }
+{
+    let mut word = Vec::from_slice(alloc, b"[")?;
+    if let Some(place) = place_in(shown, operation) {
+        let mut buffer = Buffer::new();
+        word.extend_from_slice(buffer.format(place as u64 + 1).as_bytes())?;
+    }
+    Ok(word)
+}
+
+fn sign(
+    alloc: Global,
+    shown: &[Operation],
+    ticket: u64,
+    operation: Option<Operation>,
+) -> Result<Vec<u8>, AllocError>
+    requires { length shown.now ≤ 400 }
+    ensures { IfOk result (λ word. word.items ≡ sign shown.now ticket operation) }
+{
+    match operation {
+        None => Ok(Vec::new(alloc)),
+        Some(operation) => {
+            if operation.call == ticket {
+                numbered_call(alloc, shown, operation)
+            } else if operation.ret == ticket {
+                Vec::from_slice(alloc, b"]")
+            } else {
+                Vec::from_slice(alloc, b"|")
+            }
+        }
+    }
+}
+
+fn place_lanes(
+    alloc: Global,
+    line: &mut Vec<u8>,
+    operations: &[Operation],
+    shown: &[Operation],
+    lanes: &[Lane],
+    ticket: u64,
+) -> Result<(), AllocError>
+    requires { length shown.now ≤ 400 }
+    ensures { OnOk result (line.new.items ≡ with_words line.old.items (lane_words operations.now shown.now lanes.now ticket)) }
+{
+    for lane in lanes {
+        let operation = under_way(operations, lane.thread, ticket);
+        let word = sign(alloc, shown, ticket, operation)?;
+        place(line, lane.column, word.as_slice())?;
+    }
+    Ok(())
+}
+
+fn push_label(text: &mut Vec<u8>, kind: OpKind) -> Result<(), AllocError>
+    ensures { OnOk result (text.new.items ≡ text.old.items ++ label kind) }
+{
+    match kind {
+        OpKind::Enq(value) => push_all(text, &[Piece::Words(b"enq "), Piece::Number(value)]),
+        OpKind::Deq(value) => push_all(text, &[Piece::Words(b"deq "), Piece::Number(value)]),
+        OpKind::Not(value) => push_all(text, &[Piece::Words(b"not "), Piece::Number(value)]),
+        OpKind::Empty => text.extend_from_slice(b"empty"),
+    }
+}
+
+fn label_if(alloc: Global, operation: Option<Operation>) -> Result<Vec<u8>, AllocError>
+    ensures { IfOk result (λ word. word.items ≡ label_if operation) }
+{
+    let mut word = Vec::new(alloc);
+    if let Some(operation) = operation {
+        push_label(&mut word, operation.kind)?;
+    }
+    Ok(word)
+}
+
+/// A band at a column, where it holds the gap just after a ticket.
+fn place_band(line: &mut Vec<u8>, column: usize, band: Band, ticket: u64) -> Result<(), AllocError>
+    ensures { OnOk result (line.new.items ≡ placed line.old.items (band_at column band ticket)) }
+{
+    if holds_gap(band, ticket) {
+        place(line, column, form(band.head))
+    } else {
+        Ok(())
+    }
+}
+
+#[tactic(auto, using(crate::proofs::Loops::words_enumerated_more))]
+fn place_bands(
+    line: &mut Vec<u8>,
+    columns: Columns,
+    bands: &[Band],
+    ticket: u64,
+) -> Result<(), AllocError>
+    requires few { length bands.now ≤ 402 }
+    requires beside { columns.beside ≤ 1458 }
+    ensures { OnOk result (line.new.items ≡ with_words line.old.items (band_words columns bands.now ticket)) }
+{
+    for (i, band) in bands.iter().enumerate() {
+        place_band(line, columns.beside + 5 * i, *band, ticket)?;
+    }
+    Ok(())
+}
+
+fn way(kind: OpKind) -> &'static [u8]
+    ensures { result.now ≡ way kind }
+{
+    match kind {
+        OpKind::Enq(_) => b"in",
+        _ => b"out",
+    }
+}
+
+fn way_of(lines: &[Operation], operation: Option<Operation>) -> &'static [u8]
+    ensures { result.now ≡ way_of lines.now operation }
+{
+    match operation {
+        None => b"",
+        Some(operation) => match place_in(lines, operation) {
+            None => b"",
+            Some(_) => way(operation.kind),
+        },
+    }
+}
+
+fn way_word(claimed: &Claimed, operation: Option<Operation>) -> &'static [u8]
+    ensures { result.now ≡ way_word claimed.now operation }
+{
+    match claimed {
+        Claimed::No(ViolationKind::VRepeat, lines) => way_of(lines.as_slice(), operation),
+        _ => b"",
+    }
+}
+
+/// What the rows of a picture are made of.
+#[derive(Clone, Copy)]
+struct Sheet<'a> {
+    columns: Columns,
+    lanes: &'a [Lane],
+    bands: &'a [Band],
+    operations: &'a [Operation],
+    claimed: &'a Claimed,
+}
+
+fn order_of(claimed: &Claimed) -> &[Operation]
+    ensures { result.now ≡ order_of claimed.now }
+{
+    match claimed {
+        Claimed::Yes(order) => order.as_slice(),
+        Claimed::No(_, _) => &[],
+    }
+}
+
+fn shown_by(claimed: &Claimed) -> &[Operation]
+    ensures value { result.now ≡ shown_by claimed.now }
+    ensures few { length result.now ≤ length (operations_in claimed.now) }
+{
+    match claimed {
+        Claimed::Yes(_) => &[],
+        Claimed::No(_, lines) => lines.as_slice(),
+    }
+}
+
+/// Adds a line to a text.
+fn push_line(text: &mut Vec<u8>, bytes: &[u8]) -> Result<(), AllocError>
+    ensures { OnOk result (text.new.items ≡ text.old.items ++ line bytes.now) }
+{
+    text.extend_from_slice(bytes)?;
+    text.push(b'\n')?;
+    Ok(())
+}
+
+/// The line of an event.
+#[tactic(auto, unfolding(crate::specs::Terminal::event_words))]
+fn event_line(alloc: Global, sheet: &Sheet<'_>, ticket: u64) -> Result<Vec<u8>, AllocError>
+    requires claimed { length (operations_in sheet.now.claimed.now) ≤ 400 }
+    requires few { length sheet.now.bands.now ≤ 402 }
+    requires beside { sheet.now.columns.beside ≤ 1458 }
+    ensures { IfOk result (λ bytes. bytes.items ≡ line_of (event_words sheet.now.columns sheet.now.lanes.now sheet.now.bands.now sheet.now.operations.now sheet.now.claimed.now ticket)) }
+{
+    let mut bytes = Vec::new(alloc);
+    place_ticket(&mut bytes, sheet.columns, ticket)?;
+    let shown = shown_by(sheet.claimed);
+    place_lanes(
+        alloc,
+        &mut bytes,
+        sheet.operations,
+        shown,
+        sheet.lanes,
+        ticket,
+    )?;
+    let called = called_at(sheet.operations, ticket);
+    let label = label_if(alloc, called)?;
+    place(&mut bytes, sheet.columns.label, label.as_slice())?;
+    place(
+        &mut bytes,
+        sheet.columns.beside,
+        way_word(sheet.claimed, called),
+    )?;
+    place_bands(&mut bytes, sheet.columns, sheet.bands, ticket)?;
+    Ok(bytes)
+}
+
+/// An operation of an order, with its number and the ticket just after which it takes effect.
+#[derive(Clone, Copy)]
+struct Effect {
+    operation: Operation,
+    number: u64,
+    point: u64,
+}
+
+fn effect_sign(
+    alloc: Global,
+    effect: Effect,
+    ticket: u64,
+    operation: Option<Operation>,
+) -> Result<Vec<u8>, AllocError>
+    ensures { IfOk result (λ word. word.items ≡ effect_sign effect.operation effect.number ticket operation) }
+{
+    match operation {
+        None => Ok(Vec::new(alloc)),
+        Some(operation) => {
+            if operation.call == effect.operation.call {
+                let mut buffer = Buffer::new();
+                Vec::from_slice(alloc, buffer.format(effect.number).as_bytes())
+            } else if operation.ret == ticket {
+                Ok(Vec::new(alloc))
+            } else {
+                Vec::from_slice(alloc, b"|")
+            }
+        }
+    }
+}
+
+fn place_effect_lanes(
+    alloc: Global,
+    line: &mut Vec<u8>,
+    operations: &[Operation],
+    lanes: &[Lane],
+    effect: Effect,
+    ticket: u64,
+) -> Result<(), AllocError>
+    ensures { OnOk result (line.new.items ≡ with_words line.old.items (effect_lane_words operations.now lanes.now effect.operation effect.number ticket)) }
+{
+    for lane in lanes {
+        let operation = under_way(operations, lane.thread, ticket);
+        let word = effect_sign(alloc, effect, ticket, operation)?;
+        place(line, lane.column, word.as_slice())?;
+    }
+    Ok(())
+}
+
+fn effect_label(alloc: Global, effect: Effect) -> Result<Vec<u8>, AllocError>
+    ensures { IfOk result (λ word. word.items ≡ decimal effect.number ++ (codes " " ++ label effect.operation.kind)) }
+{
+    let mut word = Vec::new(alloc);
+    push_all(
+        &mut word,
+        &[Piece::Number(effect.number), Piece::Words(b" ")],
+    )?;
+    push_label(&mut word, effect.operation.kind)?;
+    Ok(word)
+}
+
+/// The line of an effect just after a ticket.
+#[tactic(auto, unfolding(crate::specs::Terminal::effect_words))]
+fn effect_line(
+    alloc: Global,
+    sheet: &Sheet<'_>,
+    claimed: usize,
+    effect: Effect,
+    ticket: u64,
+) -> Result<Vec<u8>, AllocError>
+    requires beside { sheet.now.columns.beside ≤ 1458 }
+    ensures { IfOk result (λ bytes. bytes.items ≡ line_of (effect_words sheet.now.columns sheet.now.lanes.now sheet.now.operations.now claimed ticket effect.number effect.operation)) }
+{
+    let mut bytes = Vec::new(alloc);
+    place_effect_lanes(
+        alloc,
+        &mut bytes,
+        sheet.operations,
+        sheet.lanes,
+        effect,
+        ticket,
+    )?;
+    let word = effect_label(alloc, effect)?;
+    let blanks = digits(claimed as u64).saturating_sub(digits(effect.number));
+    place(&mut bytes, sheet.columns.beside + blanks, word.as_slice())?;
+    Ok(bytes)
+}
+
+/// Adds the line of an effect, if it is just after this ticket.
+fn push_effect_if(
+    alloc: Global,
+    text: &mut Vec<u8>,
+    sheet: &Sheet<'_>,
+    claimed: usize,
+    effect: Effect,
+    ticket: u64,
+) -> Result<(), AllocError>
+    requires beside { sheet.now.columns.beside ≤ 1458 }
+    ensures { OnOk result (text.new.items ≡ text.old.items ++ effect_row_if (effect.point == ticket) sheet.now.columns sheet.now.lanes.now sheet.now.operations.now claimed ticket effect.number effect.operation) }
+{
+    if effect.point == ticket {
+        let bytes = effect_line(alloc, sheet, claimed, effect, ticket)?;
+        push_line(text, bytes.as_slice())
+    } else {
+        Ok(())
+    }
+}
+
+/// Adds the lines of the effects just after a ticket.
+#[tactic(auto, unfolding(crate::specs::Terminal::effect_rows))]
+fn push_effects(
+    alloc: Global,
+    text: &mut Vec<u8>,
+    sheet: &Sheet<'_>,
+    order: &[Operation],
+    ticket: u64,
+) -> Result<(), AllocError>
+    requires beside { sheet.now.columns.beside ≤ 1458 }
+    requires few { length order.now ≤ 400 }
+    ensures { OnOk result (text.new.items ≡ text.old.items ++ effect_rows sheet.now.columns sheet.now.lanes.now sheet.now.operations.now order.now ticket) }
+{
+    let mut greatest = 0u64;
+    for (i, operation) in order.iter().enumerate() {
+        greatest = greatest.max(operation.call);
+        let effect = Effect {
+            operation: *operation,
+            number: i as u64 + 1,
+            point: greatest,
+        };
+        push_effect_if(alloc, text, sheet, order.len(), effect, ticket)?;
+    }
+    Ok(())
+}
+
+/// Adds the lines of an event and of the effects after it.
+fn push_event(
+    alloc: Global,
+    text: &mut Vec<u8>,
+    sheet: &Sheet<'_>,
+    ticket: u64,
+) -> Result<(), AllocError>
+    requires claimed { length (operations_in sheet.now.claimed.now) ≤ 400 }
+    requires few { length sheet.now.bands.now ≤ 402 }
+    requires beside { sheet.now.columns.beside ≤ 1458 }
+    ensures { OnOk result (text.new.items ≡ text.old.items ++ event_rows sheet.now.columns sheet.now.lanes.now sheet.now.bands.now sheet.now.operations.now sheet.now.claimed.now ticket) }
+{
+    let bytes = event_line(alloc, sheet, ticket)?;
+    push_line(text, bytes.as_slice())?;
+    push_effects(alloc, text, sheet, order_of(sheet.claimed), ticket)
+}
+
+fn push_events(
+    alloc: Global,
+    text: &mut Vec<u8>,
+    sheet: &Sheet<'_>,
+    events: &[Event],
+) -> Result<(), AllocError>
+    requires claimed { length (operations_in sheet.now.claimed.now) ≤ 400 }
+    requires few { length sheet.now.bands.now ≤ 402 }
+    requires beside { sheet.now.columns.beside ≤ 1458 }
+    ensures { OnOk result (text.new.items ≡ text.old.items ++ flat_map (λ e. event_rows sheet.now.columns sheet.now.lanes.now sheet.now.bands.now sheet.now.operations.now sheet.now.claimed.now e.ticket) events.now) }
+{
+    for event in events {
+        push_event(alloc, text, sheet, event.ticket)?;
+    }
+    Ok(())
+}
+
+fn place_strokes(line: &mut Vec<u8>, columns: Columns, bands: usize) -> Result<(), AllocError>
+    requires few { bands ≤ 402 }
+    requires beside { columns.beside ≤ 1458 }
+    ensures { OnOk result (line.new.items ≡ with_words line.old.items (strokes columns bands)) }
+{
+    for i in 0..bands {
+        place(line, columns.beside + 5 * i + 1, b"|")?;
+    }
+    Ok(())
+}
+
+fn head_word(alloc: Global, head: Head) -> Result<Vec<u8>, AllocError>
+    ensures { IfOk result (λ word. word.items ≡ head_text head) }
+{
+    let mut word = Vec::new(alloc);
+    push_head(&mut word, head)?;
+    Ok(word)
+}
+
+fn head_bytes(alloc: Global, columns: Columns, i: usize, head: Head) -> Result<Vec<u8>, AllocError>
+    requires few { i ≤ 402 }
+    requires beside { columns.beside ≤ 1458 }
+    ensures { IfOk result (λ bytes. bytes.items ≡ line_of (head_words columns i head)) }
+{
+    let mut bytes = Vec::new(alloc);
+    place_strokes(&mut bytes, columns, i)?;
+    let word = head_word(alloc, head)?;
+    place(&mut bytes, columns.beside + 5 * i, word.as_slice())?;
+    Ok(bytes)
+}
+
+fn push_head_line(
+    alloc: Global,
+    text: &mut Vec<u8>,
+    columns: Columns,
+    i: usize,
+    head: Head,
+) -> Result<(), AllocError>
+    requires few { i ≤ 402 }
+    requires beside { columns.beside ≤ 1458 }
+    ensures { OnOk result (text.new.items ≡ text.old.items ++ line (line_of (head_words columns i head))) }
+{
+    let bytes = head_bytes(alloc, columns, i, head)?;
+    push_line(text, bytes.as_slice())
+}
+
+#[tactic(auto, unfolding(crate::specs::Terminal::head_lines))]
+fn push_heads(
+    alloc: Global,
+    text: &mut Vec<u8>,
+    columns: Columns,
+    bands: &[Band],
+) -> Result<(), AllocError>
+    requires few { length bands.now ≤ 402 }
+    requires beside { columns.beside ≤ 1458 }
+    ensures { OnOk result (text.new.items ≡ text.old.items ++ head_lines columns bands.now) }
+{
+    for (i, band) in bands.iter().enumerate() {
+        push_head_line(alloc, text, columns, i, band.head)?;
+    }
+    Ok(())
+}
+
+fn place_lane_names(line: &mut Vec<u8>, lanes: &[Lane]) -> Result<(), AllocError>
+    ensures { OnOk result (line.new.items ≡ with_words line.old.items (lane_names lanes.now)) }
+{
+    for lane in lanes {
+        place_number(line, lane.column, u64::from(lane.thread))?;
+    }
+    Ok(())
+}
+
+#[tactic(auto, unfolding(crate::specs::Terminal::thread_words))]
+fn thread_bytes(alloc: Global, columns: Columns, bands: usize) -> Result<Vec<u8>, AllocError>
+    requires few { bands ≤ 402 }
+    requires ticket { columns.ticket ≤ 20 }
+    requires beside { columns.beside ≤ 1458 }
+    ensures { IfOk result (λ bytes. bytes.items ≡ line_of (thread_words columns bands)) }
+{
+    let mut bytes = Vec::new(alloc);
+    place(&mut bytes, columns.ticket + 2, b"thread")?;
+    place_strokes(&mut bytes, columns, bands)?;
+    Ok(bytes)
+}
+
+#[tactic(auto, unfolding(crate::specs::Terminal::name_words))]
+fn name_bytes(
+    alloc: Global,
+    columns: Columns,
+    lanes: &[Lane],
+    bands: usize,
+) -> Result<Vec<u8>, AllocError>
+    requires few { bands ≤ 402 }
+    requires beside { columns.beside ≤ 1458 }
+    ensures { IfOk result (λ bytes. bytes.items ≡ line_of (name_words columns lanes.now bands)) }
+{
+    let mut bytes = Vec::new(alloc);
+    place(&mut bytes, columns.ticket.saturating_sub(6), b"ticket")?;
+    place_lane_names(&mut bytes, lanes)?;
+    place_strokes(&mut bytes, columns, bands)?;
+    Ok(bytes)
+}
+
+#[tactic(auto, unfolding(crate::specs::Terminal::rows))]
+fn push_rows(
+    alloc: Global,
+    text: &mut Vec<u8>,
+    sheet: &Sheet<'_>,
+    events: &[Event],
+) -> Result<(), AllocError>
+    requires claimed { length (operations_in sheet.now.claimed.now) ≤ 400 }
+    requires few { length sheet.now.bands.now ≤ 402 }
+    requires ticket { sheet.now.columns.ticket ≤ 20 }
+    requires beside { sheet.now.columns.beside ≤ 1458 }
+    ensures { OnOk result (text.new.items ≡ text.old.items ++ rows sheet.now.columns sheet.now.lanes.now sheet.now.bands.now events.now sheet.now.operations.now sheet.now.claimed.now) }
+{
+    push_heads(alloc, text, sheet.columns, sheet.bands)?;
+    let threads = thread_bytes(alloc, sheet.columns, sheet.bands.len())?;
+    push_line(text, threads.as_slice())?;
+    let names = name_bytes(alloc, sheet.columns, sheet.lanes, sheet.bands.len())?;
+    push_line(text, names.as_slice())?;
+    push_events(alloc, text, sheet, events)
+}
+
+/// Adds what stands above the rows: what the picture shows, and how to read it.
+#[tactic(auto, unfolding(crate::specs::Terminal::words))]
+fn push_words(text: &mut Vec<u8>, claimed: &Claimed) -> Result<(), AllocError>
+    requires { length (operations_in claimed.now) ≤ 400 }
+    ensures { OnOk result (text.new.items ≡ text.old.items ++ words claimed.now) }
+{
+    push_line(text, headline(claimed))?;
+    push_caption(text, claimed)?;
+    push_line(text, b"")?;
+    push_legend(text, claimed)?;
+    push_line(text, b"")
+}
+
+fn operations_in(claimed: &Claimed) -> &[Operation]
+    ensures { result.now ≡ operations_in claimed.now }
+{
+    match claimed {
+        Claimed::Yes(lines) => lines.as_slice(),
+        Claimed::No(_, lines) => lines.as_slice(),
+    }
+}
+
+/// The picture of a history and what is claimed of it, in lines of ASCII for a terminal.
+///
+/// The claim need not be evidence: what stands in the picture follows its lines. Time O(n t n) for n operations of t threads;
+/// memory for the text, of O(n t) bytes. `AllocError` comes only where a growth was refused.
+#[tactic(auto, unfolding(crate::specs::Terminal::terminal_picture))]
+pub fn terminal_picture(
+    alloc: Global,
+    history: &History,
+    claimed: &Claimed,
+) -> Result<Vec<u8>, AllocError>
+    // The claim has few enough lines to be drawn.
+    requires { length (operations_in claimed.now) ≤ MOST_DRAWN }
+    ensures { IfOk result (λ text. text.items ≡ terminal_picture history.now claimed.now) }
+{
+    let events = history.events();
+    let operations = history.operations();
+    let threads = threads_of(alloc, events)?;
+    let claimed_len = operations_in(claimed).len();
+    let columns = columns_of(events, operations, threads.as_slice(), claimed_len);
+    let lanes = lanes_of(alloc, columns, threads.as_slice())?;
+    let bands = bands_of(alloc, claimed)?;
+    let sheet = Sheet {
+        columns,
+        lanes: lanes.as_slice(),
+        bands: bands.as_slice(),
+        operations,
+        claimed,
+    };
+    let mut text = Vec::new(alloc);
+    push_words(&mut text, claimed)?;
+    push_rows(alloc, &mut text, &sheet, events)?;
+    Ok(text)
+}
