@@ -8,16 +8,13 @@
 mod two_stacks;
 
 use anyhow::{Error, Result, anyhow, bail};
-use event_records::{MAX_OPERATIONS, MAX_THREAD_OPERATIONS};
-use history_merge::History;
 use history_text::{Watched, WriteFault, write_history, write_verdict};
 use std::alloc::Global;
 use std::process::ExitCode;
 use std::{env, io};
-use stress_run::run;
+use stress_run::{MAX_OPERATIONS, MAX_THREAD_OPERATIONS, MAX_WORKERS, Plan, run};
 use two_stacks::TwoStacks;
-use verdicts::{Verdict, decide};
-use workloads::{MAX_WORKERS, Plan};
+use verdicts::{History, Verdict, decide};
 
 /// How many workers run where nothing else is told.
 const WORKERS: u64 = 4;

@@ -1,6 +1,5 @@
 //! The tested queue: two stacks under one lock.
-use event_records::{AnsweredDeq, AnsweredEnq, AskDeq, AskEnq};
-use queue_interface::TestQueue;
+use queue_interface::{AnsweredDeq, AnsweredEnq, AskDeq, AskEnq, TestQueue};
 use std::alloc::Global;
 use std::mem::swap;
 use std::sync::{Mutex, Wait};

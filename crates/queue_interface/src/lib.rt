@@ -18,7 +18,7 @@ ghost use Rattle.event_records.specs.Question.{Question};
 ghost use Rattle.event_records.specs.declared.kind.Answer.{Answer};
 
 pub use backed::{ArrayBack, SegBack};
-use event_records::{AnsweredDeq, AnsweredEnq, AskDeq, AskEnq};
+pub use event_records::{AnsweredDeq, AnsweredEnq, AskDeq, AskEnq};
 pub use faulty::{
     Doubling, DoublingList, Inventing, InventingList, Lifo, Losing, LosingList, Shy, ShyList, Stack,
 };

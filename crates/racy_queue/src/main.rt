@@ -9,15 +9,13 @@
 mod sized_apart;
 
 use anyhow::{Error, Result, anyhow, bail};
-use history_merge::History;
 use history_text::{Watched, WriteFault, write_history, write_verdict};
 use sized_apart::SizedApart;
 use std::alloc::Global;
 use std::process::ExitCode;
 use std::{env, io};
-use stress_run::run;
-use verdicts::{Verdict, decide, shrink};
-use workloads::{MAX_WORKERS, Plan};
+use stress_run::{MAX_WORKERS, Plan, run};
+use verdicts::{History, Verdict, decide, shrink};
 
 /// How many workers run where nothing else is told.
 const WORKERS: u64 = 4;

@@ -1,6 +1,5 @@
 //! The tested queue: its size is counted apart from the list.
-use event_records::{AnsweredDeq, AnsweredEnq, AskDeq, AskEnq};
-use queue_interface::TestQueue;
+use queue_interface::{AnsweredDeq, AnsweredEnq, AskDeq, AskEnq, TestQueue};
 use std::alloc::Global;
 use std::collections::VecDeque;
 use std::sync::atomic::{AtomicU64, Ordering};

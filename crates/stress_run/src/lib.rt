@@ -14,10 +14,12 @@ mod runs;
 mod start;
 mod worker;
 
+pub use event_records::{MAX_OPERATIONS, MAX_THREAD_OPERATIONS};
 pub use faults::{RunFault, least_fault};
 pub use runs::{Recorded, run};
 pub use start::Start;
 pub use worker::{Worker, WorkerFault, one_call};
+pub use workloads::{MAX_WORKERS, Plan};
 
 /// The most tries of a push.
 pub const MAX_TRIES: u32 = 10_000_000;
