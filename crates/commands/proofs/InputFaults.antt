@@ -1,11 +1,11 @@
 -- From the faults of calls on the reader to the fault of the input.
 use Rattle.std.proofs.Common.{◌≡◌, ℕ, ◌+◌, List, ◌++◌, length, Option, Some, None, inl, inr, ap, sym, ◌∙◌, refl, append-nil, IfSome, subst}
 use Rattle.event_records.specs.declared.event.Event.{Event}
-use Rattle.history_text.specs.declared.fault.TextFault.{TextFault}
-use Rattle.history_text.specs.declared.fault.TextFault.TheVariants.{Read, Header, Line, Number, Limit, Count, Cut, Trailing, Memory}
+use Rattle.text_lines.specs.declared.fault.TextFault.{TextFault}
+use Rattle.text_lines.specs.declared.fault.TextFault.TheVariants.{Read, Header, Line, Number, Limit, Count, Cut, Trailing, Memory}
 use Rattle.history_text.specs.Histories.{history_text, HasHistoryText}
 use Rattle.history_text.specs.Claims.{IsVerdictTextFault}
-use Rattle.history_text.specs.Input.{Ahead, Ending, Takes}
+use Rattle.text_lines.specs.Input.{Ahead, Ending, Takes}
 use Rattle.history_text.specs.Reading.{HasFirstFault, HasEndFault, HasHistoryTextFault, HasVerdictTextFault}
 use Rattle.commands.specs.Inputs.{IsFaultOfOneText, IsFaultOfClaimInput}
 

@@ -17,12 +17,12 @@ use Rattle.verdicts.proofs.OneSelection.{selection_is_one}
 use Rattle.verdicts.proofs.OneVerdict.{chosen_violation_is_one}
 use Rattle.verdicts.proofs.SameLists.{same_lists}
 use Rattle.verdicts.specs.Selection.{KeepsViolation, StaysChosen}
-use Rattle.history_text.specs.declared.fault.TextFault.{TextFault}
-use Rattle.history_text.specs.declared.fault.TextFault.TheVariants as text
+use Rattle.text_lines.specs.declared.fault.TextFault.{TextFault}
+use Rattle.text_lines.specs.declared.fault.TextFault.TheVariants as text
 use Rattle.history_text.specs.declared.schedule.Schedule.{Schedule}
 use Rattle.history_text.specs.Histories.{history_text, HasHistoryText, IsHistoryTextFault, NoRoomFor}
 use Rattle.history_text.specs.Schedules.{schedule_text, HasScheduleText, IsScheduleTextFault, NoRoomForSchedule}
-use Rattle.history_text.specs.Input.{Ahead}
+use Rattle.text_lines.specs.Input.{Ahead}
 use Rattle.history_text.proofs.OneText as histories
 use Rattle.history_text.proofs.OneSchedule as schedules
 use Rattle.command_words.specs.Commands.{check, shrink, verify, sim}

@@ -3,7 +3,7 @@ use Rattle.std.proofs.Common.{◌≡◌, ℕ, List, [], Bool, true, false, ◌||
 use Rattle.std.specs.Prelude.{OnOk, OnErr, is_err}
 use Rattle.std.specs.declared.result.Result.{Result}
 use Rattle.std.specs.Io.KnownBytes.{Appends, Keeps}
-use Rattle.history_text.specs.Writing.{AppendsFront}
+use Rattle.text_lines.specs.Writing.{AppendsFront}
 use Rattle.std.proofs.KnownBytes.{Appends-kept}
 use Rattle.commands.specs.Running.{Prints}
 

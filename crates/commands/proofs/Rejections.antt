@@ -3,10 +3,10 @@ use Rattle.std.proofs.Common.{◌≡◌, ℕ, ◌+◌, ◌<◌, List, ◌++◌, 
 use Rattle.std.specs.Prelude.{decimal}
 use Rattle.std.specs.Io.KnownBytes.{Appends}
 use Rattle.std.proofs.KnownBytes.{Appends-trans}
-use Rattle.history_text.specs.Writing.{AppendsFront}
+use Rattle.text_lines.specs.Writing.{AppendsFront}
 use Rattle.simulation.specs.declared.playing.Rejection.{Rejection}
 use Rattle.commands.specs.Answers.{reason_name, rejection_line, rejection_lines}
-use Rattle.history_text.proofs.Appending.{front_first, flat_map-more, flat_map-parts}
+use Rattle.text_lines.proofs.Appending.{front_first, flat_map-more, flat_map-parts}
 use Rattle.commands.proofs.Fronts.{front_next}
 
 -- its first words

@@ -1,7 +1,7 @@
 -- What an error of the words leaves behind where nothing is wrong with them.
 use Rattle.std.proofs.Common.{◌≡◌, ℕ, List, [], Bool, Option, Some, None, inl, inr, refl, IfSome, subst, sym, ◌∙◌}
 use Rattle.std.proofs.lemmas.Option.{same_Some}
-use Rattle.history_text.specs.Input.{Ahead}
+use Rattle.text_lines.specs.Input.{Ahead}
 use Rattle.clap.specs.Kinds.{Kinds, HasKind, IsAmong}
 use Rattle.clap.specs.Values.{kind_of}
 use Rattle.clap.specs.declared.error.Error.{Error}

@@ -10,9 +10,9 @@ use Rattle.history_merge.proofs.ExactFaults.{complete_has_no_fault}
 use Rattle.verdicts.specs.declared.verifying.Claimed.{Claimed}
 use Rattle.verdicts.specs.Verdicts.{IsDecided}
 use Rattle.verdicts.proofs.OneVerdict.{verdict_is_one}
-use Rattle.history_text.specs.declared.fault.TextFault.{TextFault}
-use Rattle.history_text.specs.declared.fault.TextFault.TheVariants as text
-use Rattle.history_text.specs.Input.{Ahead, EndOfInput, Failure}
+use Rattle.text_lines.specs.declared.fault.TextFault.{TextFault}
+use Rattle.text_lines.specs.declared.fault.TextFault.TheVariants as text
+use Rattle.text_lines.specs.Input.{Ahead, EndOfInput, Failure}
 use Rattle.history_text.specs.Histories.{history_text, HasHistoryText, HasEventLine, IsHistoryTextFault}
 use Rattle.history_text.specs.Verdicts.{claim_of}
 use Rattle.history_text.proofs.OneText as histories

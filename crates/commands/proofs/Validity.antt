@@ -10,9 +10,9 @@ use Rattle.verdicts.specs.declared.verifying.Claimed.{Claimed}
 use Rattle.verdicts.specs.Claims.{IsTrueClaim}
 use Rattle.verdicts.proofs.TrueClaims.{evidence_is_true}
 use Rattle.verdicts.proofs.FewLines.{few_places}
-use Rattle.history_text.specs.declared.fault.TextFault.{TextFault}
-use Rattle.history_text.specs.declared.fault.TextFault.TheVariants as text
-use Rattle.history_text.specs.Input.{Ahead, EndOfInput}
+use Rattle.text_lines.specs.declared.fault.TextFault.{TextFault}
+use Rattle.text_lines.specs.declared.fault.TextFault.TheVariants as text
+use Rattle.text_lines.specs.Input.{Ahead, EndOfInput}
 use Rattle.history_text.specs.Histories.{history_text, HasHistoryText, IsHistoryTextFault}
 use Rattle.history_text.specs.Verdicts.{verdict_text}
 use Rattle.history_text.specs.Claims.{HasVerdictText, IsVerdictTextFault}

@@ -21,9 +21,9 @@ use Rattle.verdicts.specs.Claims.{IsTrueClaim}
 use Rattle.verdicts.specs.Verdicts.{IsVerdictOf, IsEvidence, IsExact}
 use Rattle.verdicts.specs.Selection.{KeepsViolation, StaysChosen, IsMinimal, HasShortestCover, ArePartOf}
 use Rattle.history_text.specs.Verdicts.{claim_of}
-use Rattle.history_text.specs.declared.fault.TextFault.{TextFault}
+use Rattle.text_lines.specs.declared.fault.TextFault.{TextFault}
 use Rattle.history_text.specs.declared.schedule.Schedule.{Schedule}
-use Rattle.history_text.specs.Input.{Ahead}
+use Rattle.text_lines.specs.Input.{Ahead}
 use Rattle.commands.specs.Inputs.{ClaimOnEvents}
 use Rattle.commands.specs.Answers.{Answer, judged, shown, left_open, played, verified, memory_fault, answer_of_text_fault, answer_of_history_fault}
 

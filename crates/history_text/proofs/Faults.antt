@@ -1,18 +1,16 @@
 -- What the line ahead is, by what was taken of it.
-use Rattle.std.proofs.Common.{◌≡◌, ℕ, ◌<◌, List, [], ◌∷◌, ◌++◌, length, Bool, true, false, arith, ap, sym, subst, ◌∙◌, refl, append_assoc, Option, Some, None, Ok, Err}
+use Rattle.std.proofs.Common.{◌≡◌, ℕ, ◌<◌, List, [], ◌∷◌, ◌++◌, length, Bool, true, false, arith, sym, subst, refl, Option, Some, None, Ok, Err}
 use Rattle.std.specs.Prelude.{IfSome, IfOk, IfErr}
 use Rattle.std.specs.declared.result.Result.{Result}
-use Rattle.history_text.specs.declared.fault.TextFault.{TextFault}
-use Rattle.history_text.specs.declared.fault.TextFault.TheVariants.{Read, Cut}
-use Rattle.history_text.specs.Lines.{line, end_line, front_of, Front, Whole, TooLong, Unfinished, Nothing, is_line_feed, longest_line}
+use Rattle.text_lines.specs.declared.fault.TextFault.{TextFault}
+use Rattle.text_lines.specs.declared.fault.TextFault.TheVariants.{Read, Cut}
+use Rattle.text_lines.specs.Lines.{line, end_line, front_of, Front, Whole, TooLong, Unfinished, Nothing, is_line_feed, longest_line}
 use Rattle.history_text.specs.Items.{Kind, item_at_front, item_in, item_at_nothing}
-use Rattle.history_text.specs.Input.{Ahead, Ending, EndOfInput, Failure, Takes, IsOver}
-use Rattle.history_text.specs.Taking.{IsPartOfLine, HasItemFault, TakesItem, TakesEnd, IsItemLine}
-use Rattle.history_text.proofs.Consuming.{before, before_end}
-use Rattle.history_text.proofs.Fronts.{front_whole, front_unfinished, front_too_long}
-
-pub whole : (bytes more : List ℕ) → IsPartOfLine bytes → front_of (line bytes ++ more) ≡ Whole bytes more
-whole bytes more part = ap front_of (append_assoc bytes (10 ∷ []) more) ∙ front_whole bytes more part
+use Rattle.text_lines.specs.Input.{Ahead, Ending, EndOfInput, Failure, Takes, IsOver}
+use Rattle.text_lines.specs.Lines.{IsPartOfLine}
+use Rattle.history_text.specs.Taking.{HasItemFault, TakesItem, TakesEnd, IsItemLine}
+use Rattle.text_lines.proofs.Consuming.{before, before_end}
+use Rattle.text_lines.proofs.Fronts.{whole, front_unfinished, front_too_long}
 
 -- what holds of the front of the input
 abbrev pub AtFront : Option Ahead → (Ending → Front → Type 0) → Type 0

@@ -4,14 +4,14 @@ use Rattle.std.specs.Prelude.{OnOk, is_err}
 use Rattle.std.specs.declared.result.Result.{Result}
 use Rattle.std.specs.List.{flat_map, AllByRecursion}
 use Rattle.std.proofs.lemmas.Grind.{flat_map-append}
-use Rattle.history_text.specs.declared.fault.TextFault.{TextFault}
-use Rattle.history_text.specs.declared.fault.TextFault.TheVariants.{Read, Header, Line, Number, Limit, Count, Cut, Trailing, Memory}
-use Rattle.history_text.specs.Lines.{front_of}
+use Rattle.text_lines.specs.declared.fault.TextFault.{TextFault}
+use Rattle.text_lines.specs.declared.fault.TextFault.TheVariants.{Read, Header, Line, Number, Limit, Count, Cut, Trailing, Memory}
+use Rattle.text_lines.specs.Lines.{front_of}
 use Rattle.history_text.specs.Items.{Kind, line_of, lines_of, HaveLines, ItemFault, NoRoom, item_at_front}
-use Rattle.history_text.specs.Input.{Ahead, Ending, Takes}
+use Rattle.text_lines.specs.Input.{Ahead, Ending, Takes}
 use Rattle.history_text.specs.Reading.{HasFirstFault}
 use Rattle.history_text.specs.Taking.{HasItemFault, HasItemsFault, IsOfInput}
-use Rattle.history_text.proofs.Consuming.{Takes-append}
+use Rattle.text_lines.proofs.Consuming.{Takes-append}
 
 -- a fault of the input is no want of memory
 pub first_is : (IsFault : Ending → List ℕ → TextFault → Type 0) (LacksRoom : List ℕ → Type 0) (old : Option Ahead) (fault : TextFault) → IsOfInput fault → IfSome old (λ a. IsFault a.ending a.bytes fault) → HasFirstFault IsFault LacksRoom old fault

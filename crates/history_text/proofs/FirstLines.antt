@@ -1,14 +1,15 @@
 -- The first line of a verdict as it is read, and what comes after it.
 use Rattle.std.proofs.Common.{◌≡◌, ℕ, ◌+◌, List, ap, subst, refl, Option, Some, None, inl, inr}
 use Rattle.verdicts.specs.declared.verifying.ViolationKind.{ViolationKind}
-use Rattle.history_text.specs.declared.fault.TextFault.{TextFault}
-use Rattle.history_text.specs.declared.fault.TextFault.TheVariants.{Line}
-use Rattle.history_text.specs.Lines.{line, front_of, Front, Whole, TooLong, Unfinished, Nothing}
+use Rattle.text_lines.specs.declared.fault.TextFault.{TextFault}
+use Rattle.text_lines.specs.declared.fault.TextFault.TheVariants.{Line}
+use Rattle.text_lines.specs.Lines.{line, front_of, Front, Whole, TooLong, Unfinished, Nothing}
 use Rattle.history_text.specs.Items.{ItemFault, NoRoom}
 use Rattle.history_text.specs.Claims.{first_line, IsNoFirstLine, FirstLineFault, operation_kind, IsVerdictTextFault, NoRoomForVerdict}
-use Rattle.history_text.specs.Input.{Ahead, Ending, Takes}
+use Rattle.text_lines.specs.Input.{Ahead, Ending, Takes}
 use Rattle.history_text.specs.Reading.{HasVerdictTextFault}
-use Rattle.history_text.specs.Taking.{IsPartOfLine, NoLineFault, HasNoLine, HasFirstLineFault, HasItemsFault, IsOfInput}
+use Rattle.text_lines.specs.Lines.{IsPartOfLine}
+use Rattle.history_text.specs.Taking.{NoLineFault, HasNoLine, HasFirstLineFault, HasItemsFault, IsOfInput}
 use Rattle.history_text.proofs.Faults.{at_line}
 use Rattle.history_text.proofs.FirstFaults.{first_is, later_fault}
 

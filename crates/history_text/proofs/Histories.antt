@@ -1,10 +1,10 @@
 -- What is taken of a history, and its first fault.
 use Rattle.std.proofs.Common.{◌≡◌, ℕ, ◌+◌, refl, Option, Some, None, inl, inr, subst}
-use Rattle.history_text.specs.declared.fault.TextFault.{TextFault}
-use Rattle.history_text.specs.Lines.{line}
+use Rattle.text_lines.specs.declared.fault.TextFault.{TextFault}
+use Rattle.text_lines.specs.Lines.{line}
 use Rattle.history_text.specs.Items.{ItemFault, NoRoom}
 use Rattle.history_text.specs.Histories.{header, event_kind, IsHistoryTextFault, NoRoomFor}
-use Rattle.history_text.specs.Input.{Ahead, Takes}
+use Rattle.text_lines.specs.Input.{Ahead, Takes}
 use Rattle.history_text.specs.Reading.{HasHistoryTextFault}
 use Rattle.history_text.specs.Taking.{HasHeaderFault, HasItemsFault, IsOfInput}
 use Rattle.history_text.proofs.FirstFaults.{first_is, later_fault}

@@ -9,8 +9,8 @@ use Rattle.std.proofs.Math.Seq.{take-append_seam, drop-append_seam}
 use Rattle.std.proofs.lemmas.Option.{slice_get-get_or}
 use Rattle.history_merge.specs.declared.operation.Operation.{Operation}
 use Rattle.history_text.specs.Verdicts.{operation_line, lines_at}
-use Rattle.history_text.specs.Writing.{AppendsFront, Puts}
-use Rattle.history_text.proofs.Appending.{Puts-append, Puts-last, front_first, front_of_kept, front_next}
+use Rattle.text_lines.specs.Writing.{AppendsFront, Puts}
+use Rattle.text_lines.proofs.Appending.{Puts-append, Puts-last, front_first, front_of_kept, front_next}
 
 -- the lines of some places, and then of others
 pub lines_at-append : (operations : List Operation) (xs ys : List ℕ) → lines_at operations (xs ++ ys) ≡ lines_at operations xs ++ lines_at operations ys

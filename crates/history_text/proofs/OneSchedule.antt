@@ -3,16 +3,16 @@ use Rattle.std.proofs.Common.{◌≡◌, ℕ, ◌+◌, List, [], ◌++◌, lengt
 use Rattle.std.specs.declared.result.Result.{Result}
 use Rattle.std.proofs.lemmas.List.{append_cancel_left}
 use Rattle.recorder_core.specs.declared.step.Step.{Step}
-use Rattle.history_text.specs.declared.fault.TextFault.{TextFault}
-use Rattle.history_text.specs.declared.fault.TextFault.TheVariants.{Memory}
+use Rattle.text_lines.specs.declared.fault.TextFault.{TextFault}
+use Rattle.text_lines.specs.declared.fault.TextFault.TheVariants.{Memory}
 use Rattle.history_text.specs.declared.schedule.Schedule.{Schedule}
-use Rattle.history_text.specs.Lines.{line, spaced, end_line, front_of, header_fault, After}
+use Rattle.text_lines.specs.Lines.{line, spaced, end_line, front_of, header_fault, After}
 use Rattle.history_text.specs.Items.{lines_of, HaveLines, item_at_front, ItemFault}
 use Rattle.history_text.specs.Schedules.{setting_fields, schedule_header, lines_before_steps, schedule_text, step_kind, IsSetting, HasScheduleText, SettingFault, AfterSetting, setting_at_front, IsScheduleTextFault, NoRoomForSchedule}
-use Rattle.history_text.specs.Input.{Ahead, Ending, EndOfInput, Takes}
+use Rattle.text_lines.specs.Input.{Ahead, Ending, EndOfInput, Takes}
 use Rattle.history_text.specs.Reading.{HasScheduleTextFault, BeginsWith}
 use Rattle.history_text.proofs.FirstFaults.{is_read}
-use Rattle.history_text.proofs.WrittenLines.{end_front, header_front}
+use Rattle.history_text.proofs.ItemFronts.{end_front, header_front}
 use Rattle.history_text.proofs.ReadSteps.{step_front, setting_front}
 use Rattle.history_text.proofs.Runs.{some_is, none_or_some, fault_or_ok, two_faults, stops_at_last, same_items, no_item_fault, one_item_fault}
 use Rattle.history_text.proofs.OneText.{rest_is}

@@ -4,15 +4,15 @@ use Rattle.std.specs.List.{flat_map}
 use Rattle.std.specs.declared.result.Result.{Result}
 use Rattle.std.proofs.lemmas.List.{append_cancel_left}
 use Rattle.event_records.specs.declared.event.Event.{Event}
-use Rattle.history_text.specs.declared.fault.TextFault.{TextFault}
-use Rattle.history_text.specs.declared.fault.TextFault.TheVariants.{Memory}
-use Rattle.history_text.specs.Lines.{line, end_line, front_of, header_fault}
+use Rattle.text_lines.specs.declared.fault.TextFault.{TextFault}
+use Rattle.text_lines.specs.declared.fault.TextFault.TheVariants.{Memory}
+use Rattle.text_lines.specs.Lines.{line, end_line, front_of, header_fault}
 use Rattle.history_text.specs.Items.{item_at_front, ItemFault}
 use Rattle.history_text.specs.Histories.{header, event_line, lines_before_end, history_text, event_kind, HasHistoryText, IsHistoryTextFault, NoRoomFor}
-use Rattle.history_text.specs.Input.{Ahead, Ending, EndOfInput, Takes}
+use Rattle.text_lines.specs.Input.{Ahead, Ending, EndOfInput, Takes}
 use Rattle.history_text.specs.Reading.{HasHistoryTextFault, BeginsWith}
 use Rattle.history_text.proofs.FirstFaults.{is_read}
-use Rattle.history_text.proofs.WrittenLines.{end_front, header_front}
+use Rattle.history_text.proofs.ItemFronts.{end_front, header_front}
 use Rattle.history_text.proofs.ReadBack.{event_front}
 use Rattle.history_text.proofs.Runs.{some_is, none_or_some, stops_at_last, same_items, no_item_fault, one_item_fault}
 

@@ -7,16 +7,16 @@ use Rattle.verdicts.specs.declared.verifying.ViolationKind.{ViolationKind}
 use Rattle.verdicts.specs.declared.verifying.ViolationKind.TheVariants.{VFresh, VRepeat, VOrd, VWit}
 use Rattle.verdicts.specs.declared.verifying.Claimed.{Claimed}
 use Rattle.verdicts.specs.declared.verifying.Claimed.TheVariants.{Yes, No}
-use Rattle.history_text.specs.declared.fault.TextFault.{TextFault}
-use Rattle.history_text.specs.declared.fault.TextFault.TheVariants.{Memory}
-use Rattle.history_text.specs.Lines.{line, front_of, Front, Whole, TooLong, Unfinished, Nothing}
+use Rattle.text_lines.specs.declared.fault.TextFault.{TextFault}
+use Rattle.text_lines.specs.declared.fault.TextFault.TheVariants.{Memory}
+use Rattle.text_lines.specs.Lines.{line, front_of, Front, Whole, TooLong, Unfinished, Nothing}
 use Rattle.history_text.specs.Items.{lines_of, item_at_front, ItemFault}
 use Rattle.history_text.specs.Verdicts.{verdict_text}
 use Rattle.history_text.specs.Claims.{first_line, FirstLineFault, operation_kind, operations_in, HasVerdictText, IsVerdictTextFault, NoRoomForVerdict}
-use Rattle.history_text.specs.Input.{Ahead, Ending, EndOfInput, Takes, IsOver}
+use Rattle.text_lines.specs.Input.{Ahead, Ending, EndOfInput, Takes, IsOver}
 use Rattle.history_text.specs.Reading.{HasVerdictTextFault, IsAll}
-use Rattle.history_text.specs.Taking.{IsPartOfLine}
-use Rattle.history_text.proofs.Faults.{whole}
+use Rattle.text_lines.specs.Lines.{IsPartOfLine}
+use Rattle.text_lines.proofs.Fronts.{whole}
 use Rattle.history_text.proofs.FirstFaults.{is_read}
 use Rattle.history_text.proofs.ReadOperations.{operation_front}
 use Rattle.history_text.proofs.Runs.{stops_at_last, same_items, no_item_fault, one_item_fault}

@@ -7,11 +7,12 @@ use Rattle.event_records.specs.declared.event.Event.{Event}
 use Rattle.event_records.specs.declared.event.What.{What}
 use Rattle.event_records.specs.declared.event.What.TheVariants.{CallEnq, RetEnq, RetNot, CallDeq, RetDeq, RetEmpty}
 use Rattle.event_records.specs.declared.limits.TheConstants.{MAX_TICKET, MAX_THREAD, MAX_EVENTS}
-use Rattle.history_text.specs.Lines.{spaced, greatest_value, front_of}
+use Rattle.text_lines.specs.Lines.{spaced, greatest_value, front_of}
 use Rattle.history_text.specs.Items.{item_at_front}
 use Rattle.history_text.specs.Histories.{event_line, event_fields, what_fields, HasEventLine, HasValueInRange, event_in, stamped_event, numbered_event, event_kind}
-use Rattle.history_text.specs.Input.{Ending}
-use Rattle.history_text.proofs.WrittenLines.{IsField, number_is_field, all_digits, number_read, IsLineOf, line_of_fields, digits_begin_other, item_front, HasFields, with_value}
+use Rattle.text_lines.specs.Input.{Ending}
+use Rattle.text_lines.proofs.WrittenLines.{IsField, number_is_field, all_digits, number_read, IsLineOf, line_of_fields, digits_begin_other, HasFields, with_value}
+use Rattle.history_text.proofs.ItemFronts.{item_front}
 
 -- ---- events
 

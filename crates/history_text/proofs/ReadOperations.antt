@@ -7,12 +7,13 @@ use Rattle.event_records.specs.declared.limits.TheConstants.{MAX_TICKET, MAX_THR
 use Rattle.history_merge.specs.declared.operation.Operation.{Operation}
 use Rattle.history_merge.specs.declared.operation.OpKind.{OpKind}
 use Rattle.history_merge.specs.declared.operation.OpKind.TheVariants.{Enq, Deq, Empty, Not}
-use Rattle.history_text.specs.Lines.{spaced, greatest_value, front_of}
+use Rattle.text_lines.specs.Lines.{spaced, greatest_value, front_of}
 use Rattle.history_text.specs.Items.{line_of, item_at_front}
 use Rattle.history_text.specs.Verdicts.{kind_fields, operation_fields}
 use Rattle.history_text.specs.Claims.{IsKindInRange, HasOperationLine, operation_in, empty_operation, numbered_operation, operation_kind}
-use Rattle.history_text.specs.Input.{Ending}
-use Rattle.history_text.proofs.WrittenLines.{IsField, number_is_field, all_digits, number_read, IsLineOf, line_of_fields, digits_begin_other, item_front, HasFields, with_value}
+use Rattle.text_lines.specs.Input.{Ending}
+use Rattle.text_lines.proofs.WrittenLines.{IsField, number_is_field, all_digits, number_read, IsLineOf, line_of_fields, digits_begin_other, HasFields, with_value}
+use Rattle.history_text.proofs.ItemFronts.{item_front}
 
 operation_read_by : (n call ret thread : ℕ) (kind : OpKind) → call ≤ MAX_TICKET → ret ≤ MAX_TICKET → thread ≤ MAX_THREAD → IsKindInRange kind → operation_in n (decimal call ∷ decimal ret ∷ decimal thread ∷ kind_fields kind) ≡ Ok (record { call = call; ret = ret; thread = thread; kind = kind })
 unfolding empty_operation numbered_operation

@@ -9,12 +9,13 @@ use Rattle.recorder_core.specs.declared.step.Answer.{Answer}
 use Rattle.recorder_core.specs.declared.step.Answer.TheVariants.{Taken, Not, Got, Empty}
 use Rattle.recorder_core.specs.declared.limits.TheConstants.{MAX_THREADS, MIN_RING, MAX_RING}
 use Rattle.history_text.specs.declared.schedule.TheConstants.{MAX_STEPS, MOST_DRAINED}
-use Rattle.history_text.specs.Lines.{line, spaced, greatest_value, front_of, number_in, begins_as_end}
+use Rattle.text_lines.specs.Lines.{line, spaced, greatest_value, front_of, number_in, begins_as_end}
 use Rattle.history_text.specs.Items.{line_of, item_at_front}
 use Rattle.history_text.specs.Schedules.{step_fields, setting_fields, IsAnswerInRange, HasStepLine, step_in, draining, numbered_saying, setting_in, numbered_setting, setting_at_front, step_kind, IsSetting}
-use Rattle.history_text.specs.Input.{Ending}
-use Rattle.history_text.proofs.Faults.{whole}
-use Rattle.history_text.proofs.WrittenLines.{IsField, number_is_field, number_read, between_read, IsLineOf, line_of_fields, item_front}
+use Rattle.text_lines.specs.Input.{Ending}
+use Rattle.text_lines.proofs.Fronts.{whole}
+use Rattle.text_lines.proofs.WrittenLines.{IsField, number_is_field, number_read, between_read, IsLineOf, line_of_fields}
+use Rattle.history_text.proofs.ItemFronts.{item_front}
 
 -- ---- steps
 

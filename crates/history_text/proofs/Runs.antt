@@ -2,10 +2,10 @@
 use Rattle.std.proofs.Common.{◌≡◌, ℕ, ◌+◌, ◌<◌, ◌≤◌, List, [], ◌∷◌, ◌++◌, length, arith, ap, ap₂, sym, subst, ◌∙◌, refl, Option, Some, None, Ok, Err, append_assoc}
 use Rattle.std.specs.List.{AllByRecursion}
 use Rattle.std.specs.declared.result.Result.{Result}
-use Rattle.history_text.specs.declared.fault.TextFault.{TextFault}
-use Rattle.history_text.specs.Lines.{front_of}
+use Rattle.text_lines.specs.declared.fault.TextFault.{TextFault}
+use Rattle.text_lines.specs.Lines.{front_of}
 use Rattle.history_text.specs.Items.{Kind, line_of, lines_of, HaveLines, item_at_front, ItemFault}
-use Rattle.history_text.specs.Input.{Ending}
+use Rattle.text_lines.specs.Input.{Ending}
 
 -- ---- an item, the last line and a fault are three things
 

@@ -3,14 +3,15 @@ use Rattle.std.proofs.Common.{◌≡◌, ℕ, ◌+◌, List, ap, sym, subst, ◌
 use Rattle.std.specs.Prelude.{IfOk, IfErr}
 use Rattle.std.specs.declared.result.Result.{Result}
 use Rattle.std.proofs.lemmas.List.Splits.{join_with_byte-slice_split}
-use Rattle.history_text.specs.declared.fault.TextFault.{TextFault}
-use Rattle.history_text.specs.Lines.{line, spaced, front_of, Front, Whole, TooLong, Unfinished, Nothing, fields_of}
+use Rattle.text_lines.specs.declared.fault.TextFault.{TextFault}
+use Rattle.text_lines.specs.Lines.{line, spaced, front_of, Front, Whole, TooLong, Unfinished, Nothing, fields_of}
 use Rattle.history_text.specs.Items.{ItemFault, NoRoom}
 use Rattle.history_text.specs.Schedules.{setting_fields, setting_in, setting_at_front, step_kind, schedule_header, lines_before_steps, IsSetting, SettingFault, IsScheduleTextFault, NoRoomForSchedule}
-use Rattle.history_text.specs.Input.{Ahead, Ending, Takes}
+use Rattle.text_lines.specs.Input.{Ahead, Ending, Takes}
 use Rattle.history_text.specs.Reading.{HasScheduleTextFault}
-use Rattle.history_text.specs.Taking.{IsPartOfLine, NoLineFault, HasNoLine, HasHeaderFault, HasSettingFault, HasItemsFault, IsOfInput}
-use Rattle.history_text.proofs.Consuming.{Takes-append}
+use Rattle.text_lines.specs.Lines.{IsPartOfLine}
+use Rattle.history_text.specs.Taking.{NoLineFault, HasNoLine, HasHeaderFault, HasSettingFault, HasItemsFault, IsOfInput}
+use Rattle.text_lines.proofs.Consuming.{Takes-append}
 use Rattle.history_text.proofs.Faults.{at_line}
 use Rattle.history_text.proofs.FirstFaults.{first_is, line_fault, later_fault}
 use Rattle.history_text.proofs.SpelledSteps.{setting_ok}

@@ -6,10 +6,10 @@ use Rattle.event_records.specs.declared.event.Event.{Event}
 use Rattle.event_records.specs.declared.event.What.{What}
 use Rattle.event_records.specs.declared.event.What.TheVariants.{CallEnq, RetEnq, RetNot, CallDeq, RetDeq, RetEmpty}
 use Rattle.event_records.specs.declared.limits.TheConstants.{MAX_TICKET, MAX_THREAD}
-use Rattle.history_text.specs.Lines.{greatest_value, number_in}
+use Rattle.text_lines.specs.Lines.{greatest_value, number_in}
 use Rattle.history_text.specs.Histories.{what_fields, HasValueInRange, plain_what, has_value, what_of, plain_event, event_with_value, stamped_event, numbered_event, event_in, event_kind}
 use Rattle.history_text.specs.Taking.{IsSpelled}
-use Rattle.history_text.proofs.Numbers.{chosen, bind_ok, text_is, number_ok}
+use Rattle.text_lines.proofs.Numbers.{chosen, bind_ok, text_is, number_ok}
 
 -- ---- words
 

@@ -9,10 +9,10 @@ use Rattle.recorder_core.specs.declared.step.Answer.{Answer}
 use Rattle.recorder_core.specs.declared.step.Answer.TheVariants.{Got}
 use Rattle.recorder_core.specs.declared.limits.TheConstants.{MAX_THREADS, MIN_RING, MAX_RING}
 use Rattle.history_text.specs.declared.schedule.TheConstants.{MOST_DRAINED}
-use Rattle.history_text.specs.Lines.{greatest_value, number_in, number_between}
+use Rattle.text_lines.specs.Lines.{greatest_value, number_in, number_between}
 use Rattle.history_text.specs.Schedules.{answer_fields, step_fields, setting_fields, IsAnswerInRange, HasStepLine, is_plain, plain_step, plain_answer, step_of_two, plain_saying, draining, step_of_three, numbered_saying, step_of_four, step_in, numbered_setting, setting_in, step_kind, IsSetting}
 use Rattle.history_text.specs.Taking.{IsSpelled}
-use Rattle.history_text.proofs.Numbers.{chosen, both, by_test, other_true, bind_ok, text_is, number_ok, between_ok}
+use Rattle.text_lines.proofs.Numbers.{chosen, both, by_test, other_true, bind_ok, text_is, number_ok, between_ok}
 
 -- ---- words
 

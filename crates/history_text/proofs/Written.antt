@@ -5,10 +5,10 @@ use Rattle.std.proofs.lemmas.List.Elements.{recursion_from_All}
 use Rattle.event_records.specs.declared.event.Event.{Event}
 use Rattle.event_records.specs.declared.limits.TheConstants.{MAX_EVENTS}
 use Rattle.history_merge.specs.Complete.{IsCompleteHistory}
-use Rattle.history_text.specs.Lines.{line, end_line}
+use Rattle.text_lines.specs.Lines.{line, end_line}
 use Rattle.history_text.specs.Histories.{header, event_line, history_text, HasEventLine, HasHistoryText, HasValueInRange}
-use Rattle.history_text.specs.Writing.{AppendsFront, Puts}
-use Rattle.history_text.proofs.Appending.{front_first, front_of_kept, Puts-append, Puts-first, Puts-last}
+use Rattle.text_lines.specs.Writing.{AppendsFront, Puts}
+use Rattle.text_lines.proofs.Appending.{front_first, front_of_kept, Puts-append, Puts-first, Puts-last}
 
 -- a front of the lines of the events went out
 pub history_stops : (events : List Event) (a b : Option (List ℕ)) (kept : List ℕ) → kept ≡ line header → AppendsFront a b (kept ++ flat_map event_line events) → AppendsFront a b (history_text events)

@@ -2,9 +2,9 @@ use Rattle.std.proofs.Common.{codes}
 use Rattle.std.specs.Prelude.{decimal}
 use Rattle.std.proofs.KnownBytes.{Appends-trans}
 use Rattle.std.proofs.lemmas.Result.{on_ok_weaker, on_err_weaker}
-use Rattle.history_text.proofs.Appending.{front_first, on_err}
+use Rattle.text_lines.proofs.Appending.{front_first, on_err}
 use Rattle.commands.proofs.Fronts.{front_next}
-use Rattle.history_text.proofs.Asking.{written_then, refused_then}
+use Rattle.text_lines.proofs.Asking.{written_then, refused_then}
 use Rattle.commands.proofs.print.write_numbered.Goals as goal
 
 pub returns-in_err-write_piece-clause-err : goal.returns-in_err-write_piece-clause-err

@@ -1,10 +1,10 @@
 use Rattle.std.proofs.Common.{codes}
 use Rattle.std.proofs.lemmas.Result.{on_ok_weaker, on_err_weaker}
-use Rattle.history_text.specs.Lines.{line}
-use Rattle.history_text.proofs.Appending.{on_err, front_first}
+use Rattle.text_lines.specs.Lines.{line}
+use Rattle.text_lines.proofs.Appending.{on_err, front_first}
 use Rattle.commands.specs.Answers.{rejection_lines}
 use Rattle.commands.proofs.Fronts.{front_next}
-use Rattle.history_text.proofs.Asking.{written_then, refused_then}
+use Rattle.text_lines.proofs.Asking.{written_then, refused_then}
 use Rattle.commands.proofs.show.write_left_open.Goals as goal
 
 pub returns-in_err-write_rejections-clause-err : goal.returns-in_err-write_rejections-clause-err

@@ -1,7 +1,7 @@
 use Rattle.std.proofs.lemmas.Result.{on_ok_weaker, on_err_weaker}
-use Rattle.history_text.proofs.Appending.{on_err}
+use Rattle.text_lines.proofs.Appending.{on_err}
 use Rattle.commands.proofs.Rejections.{front_of_words, front_of_number, front_of_reason}
-use Rattle.history_text.proofs.Asking.{written_then, refused_then}
+use Rattle.text_lines.proofs.Asking.{written_then, refused_then}
 use Rattle.commands.proofs.show.write_rejection.Goals as goal
 
 pub returns-in_err-write_piece-clause-err : goal.returns-in_err-write_piece-clause-err

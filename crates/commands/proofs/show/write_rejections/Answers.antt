@@ -1,6 +1,6 @@
-use Rattle.history_text.proofs.Appending.{on_err, still}
+use Rattle.text_lines.proofs.Appending.{on_err, still}
 use Rattle.commands.proofs.Rejections.{one_more_line, front_of_next_line}
-use Rattle.history_text.proofs.Asking.{written_then, refused_then}
+use Rattle.text_lines.proofs.Asking.{written_then, refused_then}
 use Rattle.commands.proofs.show.write_rejections.Goals as goal
 
 pub returns-in_err-write_rejection-clause-err : goal.returns-in_err-write_rejection-clause-err

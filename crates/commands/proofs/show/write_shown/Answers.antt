@@ -2,9 +2,9 @@ use Rattle.history_merge.specs.Operations.{operations_of}
 use Rattle.history_text.specs.Histories.{history_text}
 use Rattle.history_text.specs.Verdicts.{claim_of, verdict_text}
 use Rattle.std.proofs.lemmas.Result.{on_ok_weaker, on_err_weaker}
-use Rattle.history_text.proofs.Appending.{front_first, on_err}
+use Rattle.text_lines.proofs.Appending.{front_first, on_err}
 use Rattle.commands.proofs.Fronts.{front_next}
-use Rattle.history_text.proofs.Asking.{written_then, refused_then}
+use Rattle.text_lines.proofs.Asking.{written_then, refused_then}
 use Rattle.commands.proofs.show.write_shown.Goals as goal
 
 pub returns-in_err-write_history-clause-err : goal.returns-in_err-write_history-clause-err

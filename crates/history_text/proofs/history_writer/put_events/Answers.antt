@@ -1,7 +1,7 @@
 use Rattle.std.proofs.lemmas.List.Elements.{All-more}
 use Rattle.history_text.specs.Histories.{event_line, HasValueInRange}
-use Rattle.history_text.proofs.Appending.{on_err, stops_at_one, puts_more, still}
-use Rattle.history_text.proofs.Asking.{written_then, refused_then}
+use Rattle.text_lines.proofs.Appending.{on_err, stops_at_one, puts_more, still}
+use Rattle.text_lines.proofs.Asking.{written_then, refused_then}
 use Rattle.history_text.proofs.history_writer.put_events.Goals as goal
 
 pub returns-in_err-put_event-clause-err : goal.returns-in_err-put_event-clause-err

@@ -1,9 +1,9 @@
 use Rattle.std.proofs.Common.{◌≡◌, ◌++◌, length, refl, rules, append_assoc}
-use Rattle.history_text.proofs.Appending.{on_err}
+use Rattle.text_lines.proofs.Appending.{on_err}
 use Rattle.history_text.proofs.Written.{history_stops, history_stops_late, history_is_put}
-use Rattle.history_text.specs.Lines.{line, end_line}
+use Rattle.text_lines.specs.Lines.{line, end_line}
 use Rattle.history_text.specs.Histories.{header}
-use Rattle.history_text.proofs.Asking.{written_then, refused_then}
+use Rattle.text_lines.proofs.Asking.{written_then, refused_then}
 use Rattle.history_text.proofs.history_writer.put_history.Goals as goal
 
 pub returns-in_err-put_events-clause-err : goal.returns-in_err-put_events-clause-err

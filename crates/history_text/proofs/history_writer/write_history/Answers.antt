@@ -1,7 +1,7 @@
 use Rattle.std.proofs.lemmas.Result.{on_ok_weaker, on_err_weaker}
-use Rattle.history_text.proofs.Appending.{on_ok, puts_all, puts_front}
+use Rattle.text_lines.proofs.Appending.{on_ok, puts_all, puts_front}
 use Rattle.history_text.proofs.Written.{complete_has_text}
-use Rattle.history_text.proofs.Asking.{written_then, refused_then}
+use Rattle.text_lines.proofs.Asking.{written_then, refused_then}
 use Rattle.history_text.proofs.history_writer.write_history.Goals as goal
 
 pub returns-clause-ok : goal.returns-clause-ok

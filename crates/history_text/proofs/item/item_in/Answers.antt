@@ -1,6 +1,6 @@
 use Rattle.std.proofs.Common.{sym, ◌∙◌, arith}
 use Rattle.std.proofs.lemmas.List.{take_rest}
-use Rattle.history_text.proofs.Numbers.{last_line_ok, last_line_faulty, item_line_ok}
+use Rattle.history_text.proofs.ItemLines.{last_line_ok, last_line_faulty, item_line_ok}
 use Rattle.history_text.proofs.item.item_in.Goals as goal
 
 pub returns-in-Ok-clause-spelled : goal.returns-in-Ok-clause-spelled

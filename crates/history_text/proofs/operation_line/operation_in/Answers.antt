@@ -1,7 +1,7 @@
 use Rattle.std.proofs.Common.{◌∷◌, ◌∙◌, ap, sym, refl, Err}
-use Rattle.history_text.specs.declared.fault.TextFault.TheVariants.{Line}
+use Rattle.text_lines.specs.declared.fault.TextFault.TheVariants.{Line}
 use Rattle.history_text.specs.Claims.{operation_in}
-use Rattle.history_text.proofs.Fields.{five_fields}
+use Rattle.text_lines.proofs.Fields.{five_fields}
 use Rattle.history_text.proofs.operation_line.operation_in.Goals as goal
 
 pub returns-in-Some-split_field-4-clause-value : goal.returns-in-Some-split_field-4-clause-value

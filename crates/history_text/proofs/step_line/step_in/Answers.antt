@@ -1,7 +1,7 @@
 use Rattle.std.proofs.Common.{refl, Err}
-use Rattle.history_text.specs.declared.fault.TextFault.TheVariants.{Line}
+use Rattle.text_lines.specs.declared.fault.TextFault.TheVariants.{Line}
 use Rattle.history_text.specs.Schedules.{step_in}
-use Rattle.history_text.proofs.Fields.{five_fields}
+use Rattle.text_lines.proofs.Fields.{five_fields}
 use Rattle.history_text.proofs.step_line.step_in.Goals as goal
 
 pub returns-in-Some-split_field-3-clause-value : goal.returns-in-Some-split_field-3-clause-value

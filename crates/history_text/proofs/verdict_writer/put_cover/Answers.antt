@@ -1,8 +1,8 @@
 use Rattle.std.proofs.Common.{◌<◌, length}
 use Rattle.history_text.specs.Verdicts.{places_of_step}
-use Rattle.history_text.proofs.Appending.{on_err, still}
+use Rattle.text_lines.proofs.Appending.{on_err, still}
 use Rattle.history_text.proofs.Named.{step_is_put, step_stops, step_within}
-use Rattle.history_text.proofs.Asking.{written_then, refused_then}
+use Rattle.text_lines.proofs.Asking.{written_then, refused_then}
 use Rattle.history_text.proofs.verdict_writer.put_cover.Goals as goal
 
 pub put_with_last-requires : goal.put_with_last-requires

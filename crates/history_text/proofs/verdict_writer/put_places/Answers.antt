@@ -1,7 +1,7 @@
 use Rattle.std.proofs.Common.{◌≡◌, ◌<◌, get_or, length}
-use Rattle.history_text.proofs.Appending.{on_err, still}
+use Rattle.text_lines.proofs.Appending.{on_err, still}
 use Rattle.history_text.proofs.Named.{place_is_put, stops_at_place}
-use Rattle.history_text.proofs.Asking.{written_then, refused_then}
+use Rattle.text_lines.proofs.Asking.{written_then, refused_then}
 use Rattle.history_text.proofs.verdict_writer.put_places.Goals as goal
 
 pub returns-in_err-make_room-clause-err : goal.returns-in_err-make_room-clause-err

@@ -2,9 +2,9 @@ use Rattle.std.proofs.Common.{[], ◌∷◌, ◌<◌, length}
 use Rattle.std.specs.List.{flat_map}
 use Rattle.std.proofs.lemmas.Result.{on_ok_weaker, on_err_weaker}
 use Rattle.history_text.specs.Verdicts.{places_of_step}
-use Rattle.history_text.proofs.Appending.{on_err}
+use Rattle.text_lines.proofs.Appending.{on_err}
 use Rattle.history_text.proofs.Named.{first_stops, next_stops, both_put, All-last}
-use Rattle.history_text.proofs.Asking.{written_then, refused_then}
+use Rattle.text_lines.proofs.Asking.{written_then, refused_then}
 use Rattle.history_text.proofs.verdict_writer.put_witness.Goals as goal
 
 pub returns-in_err-put_places-clause-err : goal.returns-in_err-put_places-clause-err

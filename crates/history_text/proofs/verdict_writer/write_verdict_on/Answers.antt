@@ -1,6 +1,6 @@
 use Rattle.std.proofs.lemmas.Result.{on_ok_weaker, on_err_weaker}
-use Rattle.history_text.proofs.Appending.{puts_all, puts_front}
-use Rattle.history_text.proofs.Asking.{written_then, refused_then}
+use Rattle.text_lines.proofs.Appending.{puts_all, puts_front}
+use Rattle.text_lines.proofs.Asking.{written_then, refused_then}
 use Rattle.history_text.proofs.verdict_writer.write_verdict_on.Goals as goal
 
 pub returns-clause-ok : goal.returns-clause-ok

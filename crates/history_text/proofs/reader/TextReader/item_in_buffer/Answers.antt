@@ -1,7 +1,8 @@
 use Rattle.std.proofs.Common.{◌≤◌, ◌-◌, ap, subst, Option, length, rules}
-use Rattle.history_text.specs.Input.{Ahead, Input, Takes, with_front}
+use Rattle.text_lines.specs.Input.{Ahead, Takes}
+use Rattle.history_text.specs.Reading.{Input, with_front}
 use Rattle.history_text.specs.Items.{line_of}
-use Rattle.history_text.proofs.Scanning.{takes_from_buffer, part}
+use Rattle.history_text.proofs.Buffers.{takes_from_buffer, part}
 use Rattle.history_text.proofs.reader.TextReader.item_in_buffer.Goals as goal
 
 pub returns-clause-item : goal.returns-clause-item
