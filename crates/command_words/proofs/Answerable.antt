@@ -1,5 +1,6 @@
 -- Words without a fault name a subcommand of the program, whose options are there and in their ranges.
-use Rattle.std.proofs.Common.{◌≡◌, ◌∙◌, inl, inr, ◌||◌, ◌&&◌, ◌++◌, ℕ, Bool, true, false, not, List, [], ◌∷◌, Option, Some, None, is_some, length, map, option_map, codes, refl, sym, subst}
+use Rattle.std.proofs.Common.{◌≡◌, ◌∙◌, inl, inr, ◌||◌, ◌&&◌, ◌++◌, ℕ, Bool, true, false, not, List, [], ◌∷◌, Option, Some, None, is_some, length}
+use Rattle.std.proofs.Common.{map, option_map, codes, refl, sym, subst}
 use Rattle.std.specs.Prelude.{⊤, IfSome, IsSome, IsSomeAnd, find, if◌then◌else◌}
 use Rattle.std.specs.Option.{option_map_or}
 use Rattle.std.specs.List.{list_any}
@@ -12,7 +13,8 @@ use Rattle.clap.specs.Simple.{App, Shape, argument_words, built, entered, filled
 use Rattle.clap.specs.Takes.{is_given}
 use Rattle.clap.specs.Values.{IsUnsignedIn, refused_kind}
 use Rattle.clap.specs.ValueTests.{accepts}
-use Rattle.clap.specs.Walk.{Row, Rule, Text, Walk, answers_to, arg_by_id, finished, nothing_held, rows_after, used, values_or_missing, walk, walk_from, with_values, without}
+use Rattle.clap.specs.Walk.{Row, Rule, Text, Walk, answers_to, arg_by_id, finished, nothing_held, rows_after, used, values_or_missing, walk}
+use Rattle.clap.specs.Walk.{walk_from, with_values, without}
 use Rattle.clap.specs.declared.builder.value_parser.Reading.{Reading}
 use Rattle.clap.specs.declared.builder.value_parser.Reading.TheVariants.{AsWritten}
 use Rattle.clap.specs.declared.builder.value_parser.ValueParser.{ValueParser}
@@ -130,7 +132,8 @@ module _ (rest : List Text) (none : level_fault stress_built [] nothing_held res
   has_settings : HasSettings (rows_after stress_built.rules [] rest)
   has_settings = record {
     queue = any_text _ (λ v. test (codes "queue") v ≡ true)
-        (first_given test stress_built rest well defaults_do none (codes "queue") (given_queue (rows_after stress_built.rules [] rest) (last_checks test stress_built rest well defaults_do none)));
+        (first_given test stress_built rest well defaults_do none (codes "queue")
+            (given_queue (rows_after stress_built.rules [] rest) (last_checks test stress_built rest well defaults_do none)));
     threads = number (codes "threads") 1 16 (λ v e. e) (inr (inl (refl, tt)));
     operations = number (codes "ops") 0 100000 (λ v e. e) (inr (inr (inl (refl, tt))));
     seed = number (codes "seed") 0 4294967295 (λ v e. e) (inr (inr (inr (inl (refl, tt)))));
@@ -153,7 +156,8 @@ found_well : (p : Shape → Bool) (xs : List Shape) → AllAnswerWell xs → IfS
 found_well p [] all = tt
 found_well p (s ∷ rest) all = go (p s) refl (found_well p rest all.1)
   where
-    go : (b : Bool) → p s ≡ b → IfSome (find p rest) (λ x. AnswersWell x × (p x ≡ true)) → IfSome (if b then Some s else find p rest) (λ x. AnswersWell x × (p x ≡ true))
+    go : (b : Bool) → p s ≡ b → IfSome (find p rest) (λ x. AnswersWell x × (p x ≡ true))
+        → IfSome (if b then Some s else find p rest) (λ x. AnswersWell x × (p x ≡ true))
     go true e later = (all.0, e)
     go false e later = later
 
@@ -163,7 +167,8 @@ wanted false false help missing e none = e
 wanted false true true missing e none = cc
 wanted false true false missing e none = cc
 
-module _ (a : App) (words : List Text) (required : a.top.subcommand_required ≡ true) (helps : a.top.disable_help_subcommand ≡ false) (all : AllAnswerWell a.subs)
+module _ (a : App) (words : List Text) (required : a.top.subcommand_required ≡ true) (helps : a.top.disable_help_subcommand ≡ false)
+    (all : AllAnswerWell a.subs)
     (none : built_fault a nothing_held words ≡ []) where
   abbrev last : Walk
   last = walk a.top.rules (names_of a) nothing_held words
@@ -172,17 +177,21 @@ module _ (a : App) (words : List Text) (required : a.top.subcommand_required ≡
   has = is_some (entered a last.stopped)
 
   stops : StopsWell last.stopped
-  stops = walk_keeps (λ (w : Walk). StopsWell w.stopped) a.top (names_of a) (turn_stops a.top (names_of a) helps) words (walk_from nothing_held) (first_none _ _ none) tt
+  stops = walk_keeps (λ (w : Walk). StopsWell w.stopped) a.top (names_of a) (turn_stops a.top (names_of a) helps) words (walk_from nothing_held)
+      (first_none _ _ none) tt
 
   below : entered_fault a last.stopped ≡ []
   below = first_none _ _ (then_none (walk_fault a.top (names_of a) (walk_from nothing_held) words) _ none)
 
   check : check_fault a.top (finished a.top.rules last.held) has ≡ []
-  check = then_none _ _ (then_none _ _ (then_none (entered_fault a last.stopped) _ (then_none (walk_fault a.top (names_of a) (walk_from nothing_held) words) _ none)))
+  check = then_none _ _ (then_none _ _ (then_none (entered_fault a last.stopped) _
+      (then_none (walk_fault a.top (names_of a) (walk_from nothing_held) words) _ none)))
 
   has_one : has ≡ true
-  has_one = wanted has a.top.subcommand_required (a.top.arg_required_else_help && not (list_any (λ r. explicit_source r.source) (finished a.top.rules last.held)))
-      (not (a.top.subcommand_negates_reqs && has) && list_any (λ r. r.required && not (is_given r.id (finished a.top.rules last.held))) a.top.rules) required check
+  has_one = wanted has a.top.subcommand_required (a.top.arg_required_else_help && not
+      (list_any (λ r. explicit_source r.source) (finished a.top.rules last.held)))
+      (not (a.top.subcommand_negates_reqs && has) && list_any (λ r. r.required && not (is_given r.id (finished a.top.rules last.held))) a.top.rules)
+          required check
 
   answers_shape : (name : Text) (rest : List Text) → IsNotHelp name → (o : Option Shape) → IfSome o (λ s. AnswersWell s × (answers_to name (label_of s) ≡ true))
       → is_some (option_map (λ s. rows_at s rest) o) ≡ true → option_map_or (λ s. level_fault s [] nothing_held rest false []) o [] ≡ []

@@ -41,7 +41,8 @@ module _ (test : Text → Text → Bool) where
   still_first id [] more p = absurd p
   still_first id (v ∷ vs) more p = p
 
-  at_row_passes : (name : Text) (change : Row → List Row) (missing rows : List Row) → ((r : Row) → FirstPasses r.id r.values → RowsPass (change r)) → RowsPass missing
+  at_row_passes : (name : Text) (change : Row → List Row) (missing rows : List Row) → ((r : Row) → FirstPasses r.id r.values → RowsPass (change r))
+      → RowsPass missing
       → RowsPass rows → RowsPass (at_row name change missing rows)
   at_row_passes name change missing [] f m p = m
   at_row_passes name change missing (r ∷ rs) f m p = go (bytes_eq r.id name) (at_row_passes name change missing rs f m p.1)
@@ -73,7 +74,8 @@ module _ (test : Text → Text → Bool) where
   DefaultsPass [] = ⊤
   DefaultsPass (a ∷ rules) = DefaultPasses a.id a.defaults × DefaultsPass rules
 
-  default_rows_pass : (id : Text) (how : Reading) (values : List Text) (rows : List Row) → DefaultPasses id values → RowsPass rows → RowsPass (default_rows id how values rows)
+  default_rows_pass : (id : Text) (how : Reading) (values : List Text) (rows : List Row) → DefaultPasses id values → RowsPass rows
+      → RowsPass (default_rows id how values rows)
   default_rows_pass id how [] rows d p = p
   default_rows_pass id how (v ∷ vs) rows d p = with_values_passes id how DefaultValue (v ∷ vs) rows d p
 
@@ -101,7 +103,8 @@ module _ (test : Text → Text → Bool) where
     where
       go : (b : Bool) → bytes_eq r.id id ≡ b → (b || has_row id rs) ≡ true → (has_row id rs ≡ true → IsSomeAnd (first_of id rs) (λ v. test id v ≡ true))
           → IsSomeAnd (option_and_then (λ x. slice_get x.values 0) (if b then Some r else find (λ x. bytes_eq x.id id) rs)) (λ v. test id v ≡ true)
-      go true e h rest = subst (λ (k : Text). IsSomeAnd (slice_get r.values 0) (λ v. test k v ≡ true)) (same_bytes r.id id e) (first_value_passes r.id r.values p.0)
+      go true e h rest = subst (λ (k : Text). IsSomeAnd (slice_get r.values 0) (λ v. test k v ≡ true)) (same_bytes r.id id e)
+          (first_value_passes r.id r.values p.0)
       go false e h rest = rest h
 
 -- ---- which ids have a row
@@ -110,11 +113,13 @@ has_own : (name : Text) (how : Reading) (s : ValueSource) (values : List Text) (
 has_own name how s values [] = rw (own_bytes name) refl
 has_own name how s values (r ∷ rs) = go (bytes_eq r.id name) refl (has_own name how s values rs)
   where
-    go : (b : Bool) → bytes_eq r.id name ≡ b → has_row name (with_values name how s values rs) ≡ true → has_row name (if b then more_values s values r ++ rs else r ∷ with_values name how s values rs) ≡ true
+    go : (b : Bool) → bytes_eq r.id name ≡ b → has_row name (with_values name how s values rs) ≡ true
+        → has_row name (if b then more_values s values r ++ rs else r ∷ with_values name how s values rs) ≡ true
     go true e rest = rw e refl
     go false e rest = either (bytes_eq r.id name) _ rest
 
-has_kept : (id name : Text) (how : Reading) (s : ValueSource) (values : List Text) (rows : List Row) → has_row id rows ≡ true → has_row id (with_values name how s values rows) ≡ true
+has_kept : (id name : Text) (how : Reading) (s : ValueSource) (values : List Text) (rows : List Row) → has_row id rows ≡ true
+    → has_row id (with_values name how s values rows) ≡ true
 has_kept id name how s values [] h = cc
 has_kept id name how s values (r ∷ rs) h = go (bytes_eq r.id name) (bytes_eq r.id id) refl h (λ p. has_kept id name how s values rs p)
   where
@@ -124,7 +129,8 @@ has_kept id name how s values (r ∷ rs) h = go (bytes_eq r.id name) (bytes_eq r
     go false true e p rest = rw e refl
     go false false e p rest = rw e (rest p)
 
-default_kept : (id name : Text) (how : Reading) (values : List Text) (rows : List Row) → has_row id rows ≡ true → has_row id (default_rows name how values rows) ≡ true
+default_kept : (id name : Text) (how : Reading) (values : List Text) (rows : List Row) → has_row id rows ≡ true
+    → has_row id (default_rows name how values rows) ≡ true
 default_kept id name how [] rows h = h
 default_kept id name how (v ∷ vs) rows h = has_kept id name how DefaultValue (v ∷ vs) rows h
 
@@ -148,7 +154,8 @@ abbrev pub HasDefault : Text → List Rule → Type 0
 HasDefault id [] = ⊥
 HasDefault id (a ∷ rules) = ((a.id ≡ id) × IsNonempty a.defaults) ⊎ HasDefault id rules
 
-default_added : (name : Text) (how : Reading) (values : List Text) (rows : List Row) → IsNonempty values → has_row name (default_rows name how values rows) ≡ true
+default_added : (name : Text) (how : Reading) (values : List Text) (rows : List Row) → IsNonempty values
+    → has_row name (default_rows name how values rows) ≡ true
 default_added name how [] rows d = absurd d
 default_added name how (v ∷ vs) rows d = has_own name how DefaultValue (v ∷ vs) rows
 
@@ -163,7 +170,8 @@ with_default_added rows a d = go (has_row a.id rows) refl
 pub has_default : (id : Text) (rules : List Rule) (rows : List Row) → HasDefault id rules → has_row id (fold with_default rows rules) ≡ true
 has_default id [] rows d = absurd d
 has_default id (a ∷ rules) rows d = elim d [
-  | inl here ↦ defaults_kept id rules (with_default rows a) (subst (λ (k : Text). has_row k (with_default rows a) ≡ true) here.0 (with_default_added rows a here.1))
+  | inl here ↦ defaults_kept id rules (with_default rows a) (subst (λ (k : Text). has_row k (with_default rows a) ≡ true) here.0
+      (with_default_added rows a here.1))
   | inr there ↦ has_default id rules (with_default rows a) there
 ]
 

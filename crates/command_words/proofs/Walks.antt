@@ -6,14 +6,20 @@ use Rattle.std.specs.Str.{bytes_eq, chars}
 use Rattle.clap.specs.Lexer.{long_of, short_of}
 use Rattle.clap.specs.Simple.{Shape}
 use Rattle.clap.specs.Kinds.{Kinds, or_else}
-use Rattle.clap.specs.Faults.{bundle_fault, bundle_step_fault, flag_word_fault, flags_fault, long_fault, option_fault, other_fault, positional_fault, react_fault, settle_fault, short_fault, step_fault, stray_fault, turn_fault, use_fault, walk_fault, word_fault}
-use Rattle.clap.specs.Walk.{Held, Names, Outcome, Row, Rule, Step, Text, Waiting, Walk, after_flag, after_step, arg_by_id, arg_by_index, arg_by_long, arg_by_short, attached_value, bundle, bundle_met, bundle_step, done, flag_met, idle, is_pending, long_met, long_or_other, next, option, option_met, option_word, plain, plain_word, positional, positional_held, reacted, refused, settled, settled_rows, short_met, short_or_plain, subcommand, subcommand_met, subcommand_or_other, takes_several, takes_values, to_positional, trailing, used, used_by_id, value, waits, walked, walked_from, word_met}
+use Rattle.clap.specs.Faults.{bundle_fault, bundle_step_fault, flag_word_fault, flags_fault, long_fault, option_fault, other_fault, positional_fault}
+use Rattle.clap.specs.Faults.{react_fault, settle_fault, short_fault, step_fault, stray_fault, turn_fault, use_fault, walk_fault, word_fault}
+use Rattle.clap.specs.Walk.{Held, Names, Outcome, Row, Rule, Step, Text, Waiting, Walk, after_flag, after_step, arg_by_id, arg_by_index, arg_by_long}
+use Rattle.clap.specs.Walk.{arg_by_short, attached_value, bundle, bundle_met, bundle_step, done, flag_met, idle, is_pending, long_met, long_or_other}
+use Rattle.clap.specs.Walk.{next, option, option_met, option_word, plain, plain_word, positional, positional_held, reacted, refused, settled}
+use Rattle.clap.specs.Walk.{settled_rows, short_met, short_or_plain, subcommand, subcommand_met, subcommand_or_other, takes_several, takes_values}
+use Rattle.clap.specs.Walk.{to_positional, trailing, used, used_by_id, value, waits, walked, walked_from, word_met}
 use Rattle.clap.specs.declared.error.kind.ErrorKind.TheVariants as kind
 use Rattle.command_words.proofs.NoKinds.{first_none, then_none}
 use Rattle.command_words.proofs.Rows.{RowsPass}
 
 -- a property of a walk that each turn without a fault keeps holds at its end
-pub walk_keeps : (P : Walk → Type 0) (s : Shape) (names : Names) → ((w : Walk) (word : Text) → turn_fault s names w word ≡ [] → P w → P (walked s.rules names w word))
+pub walk_keeps : (P : Walk → Type 0) (s : Shape) (names : Names)
+    → ((w : Walk) (word : Text) → turn_fault s names w word ≡ [] → P w → P (walked s.rules names w word))
     → (words : List Text) (w : Walk) → walk_fault s names w words ≡ [] → P w → P (fold (walked s.rules names) w words)
 unfolding walk_fault
 walk_keeps P s names f [] w e p = p
@@ -22,7 +28,8 @@ walk_keeps P s names f (x ∷ xs) w e p = walk_keeps P s names f xs (walked s.ru
 module _ (test : Text → Text → Bool) where
   -- a use of the rule without a fault keeps such rows
   abbrev pub UsesWell : Rule → Type 0
-  UsesWell a = (again : Bool) (values : List Text) (rows : List Row) → use_fault again a values rows ≡ [] → RowsPass test rows → RowsPass test (used a values rows)
+  UsesWell a = (again : Bool) (values : List Text) (rows : List Row) → use_fault again a values rows ≡ [] → RowsPass test rows
+      → RowsPass test (used a values rows)
 
   -- each rule that a search of the list may find does so
   abbrev pub FindsWell : List Rule → Type 0
@@ -43,7 +50,8 @@ module _ (test : Text → Text → Bool) where
 module _ (test : Text → Text → Bool) (c : List Rule) (well : FindsWell test c) (again : Bool) where
   -- ---- one use
 
-  used_by_rule : (values : List Text) (rows : List Row) (o : Option Rule) → IfSome o (UsesWell test) → option_map_or (λ a. use_fault again a values rows) o [] ≡ []
+  used_by_rule : (values : List Text) (rows : List Row) (o : Option Rule) → IfSome o (UsesWell test)
+      → option_map_or (λ a. use_fault again a values rows) o [] ≡ []
       → RowsPass test rows → RowsPass test (used_by_id o values rows)
   used_by_rule values rows None u e p = p
   used_by_rule values rows (Some a) u e p = u again values rows e p
@@ -65,7 +73,8 @@ module _ (test : Text → Text → Bool) (c : List Rule) (well : FindsWell test 
   option_passes a (Some v) h u e p = reacted_passes a (v ∷ []) h u e p
   option_passes a None h u e p = settled_passes h e p
 
-  flag_passes : (a : Rule) (v : Option Text) (h : Held) → UsesWell test a → (if is_some v then kind.TooManyValues ∷ [] else react_fault c again a [] h) ≡ [] → RowsPass test h.rows
+  flag_passes : (a : Rule) (v : Option Text) (h : Held) → UsesWell test a
+      → (if is_some v then kind.TooManyValues ∷ [] else react_fault c again a [] h) ≡ [] → RowsPass test h.rows
       → RowsPass test (flag_met c a v h).0.rows
   flag_passes a (Some v) h u e p = p
   flag_passes a None h u e p = reacted_passes a [] h u e p
@@ -100,7 +109,8 @@ module _ (test : Text → Text → Bool) (c : List Rule) (well : FindsWell test 
   flags_pass (suc k) flags skip so_far h e p = go (slice_get (chars flags) 0) skip e (λ rest left o g f q. flags_pass k rest left o g f q)
     where
       go : (o : Option ℕ) (skip : ℕ) → bundle_step_fault c again o flags skip h (flags_fault c again k) ≡ []
-          → ((rest : Text) (left : ℕ) (o : Outcome) (g : Held) → flags_fault c again k rest left g ≡ [] → RowsPass test g.rows → RowsPass test (bundle_met c k rest left o g).0.rows)
+          → ((rest : Text) (left : ℕ) (o : Outcome) (g : Held) → flags_fault c again k rest left g ≡ [] → RowsPass test g.rows
+              → RowsPass test (bundle_met c k rest left o g).0.rows)
           → RowsPass test (bundle_step c o flags skip so_far h (bundle_met c k)).0.rows
       go None skip e step = p
       go (Some x) zero e step =
@@ -125,19 +135,23 @@ module _ (test : Text → Text → Bool) (c : List Rule) (well : FindsWell test 
   after_flag_passes waiting word h plain p = plain_passes waiting word h p
   after_flag_passes waiting word h refused p = plain_passes waiting word h p
 
-  short_word_passes : (o : Option Text) (waiting : Waiting) (word : Text) (h : Held) → option_map_or (λ flags. bundle_fault c again flags h) o [] ≡ [] → RowsPass test h.rows
+  short_word_passes : (o : Option Text) (waiting : Waiting) (word : Text) (h : Held) → option_map_or (λ flags. bundle_fault c again flags h) o [] ≡ []
+      → RowsPass test h.rows
       → RowsPass test (short_or_plain c waiting word o h).0.rows
   short_word_passes None waiting word h e p = plain_passes waiting word h p
   short_word_passes (Some flags) waiting word h e p =
       after_flag_passes waiting word (bundle c flags h).0 (bundle c flags h).1 (flags_pass (length flags) flags h.skip plain (record h { skip = 0 }) e p)
 
-  flag_word_passes : (o : Option (Text × Option Text)) (waiting : Waiting) (word : Text) (h : Held) → flag_word_fault c again o word h ≡ [] → RowsPass test h.rows
+  flag_word_passes : (o : Option (Text × Option Text)) (waiting : Waiting) (word : Text) (h : Held) → flag_word_fault c again o word h ≡ []
+      → RowsPass test h.rows
       → RowsPass test (long_or_other c waiting word o h).0.rows
   flag_word_passes None waiting word h e p = short_word_passes (short_of word) waiting word h e p
   flag_word_passes (Some q) waiting word h e p =
-      after_flag_passes waiting word (long_met c (arg_by_long c q.0) q.1 h).0 (long_met c (arg_by_long c q.0) q.1 h).1 (long_passes (arg_by_long c q.0) q.1 h (well _) e p)
+      after_flag_passes waiting word (long_met c (arg_by_long c q.0) q.1 h).0 (long_met c (arg_by_long c q.0) q.1 h).1
+          (long_passes (arg_by_long c q.0) q.1 h (well _) e p)
 
-  positional_passes : (a : Rule) (word : Text) (h : Held) → positional_fault c again a h ≡ [] → RowsPass test h.rows → RowsPass test (positional_held c a word h).rows
+  positional_passes : (a : Rule) (word : Text) (h : Held) → positional_fault c again a h ≡ [] → RowsPass test h.rows
+      → RowsPass test (positional_held c a word h).rows
   positional_passes a word h e p = go (is_pending a h.pending && takes_several a) e
     where
       go : (b : Bool) → (if b then [] else settle_fault c again h) ≡ [] → RowsPass test (if b then h else settled c h).rows
@@ -157,13 +171,15 @@ module _ (test : Text → Text → Bool) (s : Shape) (names : Names) (well : Fin
       go true e = p
       go false e = flag_word_passes test s.rules well s.args_override_self (long_of word) waiting word h e p
 
-  word_passes : (is_trailing : Bool) (waiting : Waiting) (position : ℕ) (word : Text) (h : Held) → word_fault s names is_trailing waiting word h ≡ [] → RowsPass test h.rows
+  word_passes : (is_trailing : Bool) (waiting : Waiting) (position : ℕ) (word : Text) (h : Held) → word_fault s names is_trailing waiting word h ≡ []
+      → RowsPass test h.rows
       → RowsPass test (word_met s.rules names is_trailing waiting position word h).0.rows
   word_passes true waiting position word h e p = p
   word_passes false waiting position word h e p = other_passes (subcommand_met names waiting word) waiting position word h e p
 
   to_positional_passes : (o : Option Rule) (word : Text) (w : Walk) (h : Held)
-      → option_map_or (λ a. positional_fault s.rules s.args_override_self a h) o (stray_fault s) ≡ [] → RowsPass test h.rows → RowsPass test (to_positional s.rules o word w h).held.rows
+      → option_map_or (λ a. positional_fault s.rules s.args_override_self a h) o (stray_fault s) ≡ [] → RowsPass test h.rows
+          → RowsPass test (to_positional s.rules o word w h).held.rows
   to_positional_passes None word w h e p = p
   to_positional_passes (Some a) word w h e p = positional_passes test s.rules well s.args_override_self a word h e p
 
@@ -174,7 +190,8 @@ module _ (test : Text → Text → Bool) (s : Shape) (names : Names) (well : Fin
   step_passes (subcommand name) word w h e p = p
   step_passes value word w h e p = to_positional_passes (arg_by_index s.rules w.position) word w h e p
 
-  pub turn_passes : (w : Walk) (word : Text) → turn_fault s names w word ≡ [] → RowsPass test w.held.rows → RowsPass test (walked s.rules names w word).held.rows
+  pub turn_passes : (w : Walk) (word : Text) → turn_fault s names w word ≡ [] → RowsPass test w.held.rows
+      → RowsPass test (walked s.rules names w word).held.rows
   unfolding walked
   turn_passes w word e p = go w.stopped e
     where

@@ -1,6 +1,6 @@
 -- What a writer was asked, by whether it refused.
 use Rattle.std.proofs.Common.{◌≡◌, Bool, true, false, sym, subst}
-use Rattle.history_text.specs.Writing.{Asked, IsRefused, IsFlushed}
+use Rattle.text_lines.specs.Writing.{Asked, IsRefused, IsFlushed}
 use Rattle.commands.specs.Running.{WritesAndFlushes}
 
 module _ {S : Type 0} (goes : S → Asked → S → Type 0) (refused : Bool) (old new : S) where

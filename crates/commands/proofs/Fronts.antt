@@ -1,7 +1,7 @@
 -- What was written of two texts in turn.
 use Rattle.std.proofs.Common.{ℕ, List, ◌++◌, Option, ◌∙◌, ap, append_assoc, sym}
 use Rattle.std.specs.Io.KnownBytes.{Appends}
-use Rattle.history_text.specs.Writing.{AppendsFront}
+use Rattle.text_lines.specs.Writing.{AppendsFront}
 use Rattle.std.proofs.KnownBytes.{Appends-trans}
 
 -- the first whole, and a front of the second

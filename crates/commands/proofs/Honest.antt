@@ -21,15 +21,18 @@ use Rattle.commands.specs.Answers.{Answer, played}
 use Rattle.commands.specs.Judging.{SimulatesIn}
 
 -- an exact verdict on operations that have a legal order claims a yes
-claims_yes : (operations : List Operation) (verdict : Verdict) (claimed : Claimed) → IsLinearizable operations → IsExact operations verdict → claimed ≡ claim_of operations verdict → (order : List Operation) × (claimed ≡ claim.Yes order)
+claims_yes : (operations : List Operation) (verdict : Verdict) (claimed : Claimed) → IsLinearizable operations → IsExact operations verdict
+    → claimed ≡ claim_of operations verdict → (order : List Operation) × (claimed ≡ claim.Yes order)
 claims_yes operations (Yes places) claimed legal exact is = (operations_at operations places, is)
 claims_yes operations (No violation) claimed legal exact is = absurd (exact legal)
 
 -- what is answered of an honest schedule that is done
-pub honest_gets_a_yes : (setting : Setting) (schedule : List Attempt) (answer : Answer) → setting.threads ≤ MAX_THREADS → IsHonest setting schedule → IsDone setting schedule → SimulatesIn setting schedule answer
+pub honest_gets_a_yes : (setting : Setting) (schedule : List Attempt) (answer : Answer) → setting.threads ≤ MAX_THREADS → IsHonest setting schedule
+    → IsDone setting schedule → SimulatesIn setting schedule answer
     → (events : List Event) × (order : List Operation) × (answer ≡ played (rejections setting schedule) events (claim.Yes order))
 honest_gets_a_yes setting schedule answer few honest done (inl undone) = absurd (undone.undone done)
 honest_gets_a_yes setting schedule answer few honest done (inr ended) =
-    let legal : IsLinearizable (operations_of ended.events) = (effects_order setting (accepted setting schedule), effects_order_is_legal setting schedule ended.events few honest done ended.merged) in
+    let legal : IsLinearizable (operations_of ended.events) = (effects_order setting (accepted setting schedule),
+        effects_order_is_legal setting schedule ended.events few honest done ended.merged) in
     let yes = claims_yes (operations_of ended.events) ended.right.verdict ended.claimed legal ended.right.exact ended.right.claim in
     (ended.events, yes.0, ended.is ∙ ap (λ (claimed : Claimed). played (rejections setting schedule) ended.events claimed) yes.1)

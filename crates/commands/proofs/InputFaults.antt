@@ -1,11 +1,11 @@
 -- From the faults of calls on the reader to the fault of the input.
 use Rattle.std.proofs.Common.{◌≡◌, ℕ, ◌+◌, List, ◌++◌, length, Option, Some, None, inl, inr, ap, sym, ◌∙◌, refl, append-nil, IfSome, subst}
 use Rattle.event_records.specs.declared.event.Event.{Event}
-use Rattle.history_text.specs.declared.fault.TextFault.{TextFault}
-use Rattle.history_text.specs.declared.fault.TextFault.TheVariants.{Read, Header, Line, Number, Limit, Count, Cut, Trailing, Memory}
+use Rattle.text_lines.specs.declared.fault.TextFault.{TextFault}
+use Rattle.text_lines.specs.declared.fault.TextFault.TheVariants.{Read, Header, Line, Number, Limit, Count, Cut, Trailing, Memory}
 use Rattle.history_text.specs.Histories.{history_text, HasHistoryText}
 use Rattle.history_text.specs.Claims.{IsVerdictTextFault}
-use Rattle.history_text.specs.Input.{Ahead, Ending, Takes}
+use Rattle.text_lines.specs.Input.{Ahead, Ending, Takes}
 use Rattle.history_text.specs.Reading.{HasFirstFault, HasEndFault, HasHistoryTextFault, HasVerdictTextFault}
 use Rattle.commands.specs.Inputs.{IsFaultOfOneText, IsFaultOfClaimInput}
 
@@ -13,7 +13,8 @@ use Rattle.commands.specs.Inputs.{IsFaultOfOneText, IsFaultOfClaimInput}
 
 module _ {A : Type 0} (HasText : A → Type 0) (text_of : A → List ℕ) (IsTextFault : Ending → List ℕ → TextFault → Type 0) (LacksRoom : List ℕ → Type 0) where
   -- a fault of the text
-  pub text_fault : (input : Option Ahead) (fault : TextFault) → HasFirstFault IsTextFault LacksRoom input fault → IfSome input (λ a. IsFaultOfOneText HasText text_of IsTextFault LacksRoom a fault)
+  pub text_fault : (input : Option Ahead) (fault : TextFault) → HasFirstFault IsTextFault LacksRoom input fault
+      → IfSome input (λ a. IsFaultOfOneText HasText text_of IsTextFault LacksRoom a fault)
   text_fault None fault h = tt
   text_fault (Some a) Memory h = h
   text_fault (Some a) Read h = inl h
@@ -26,13 +27,15 @@ module _ {A : Type 0} (HasText : A → Type 0) (text_of : A → List ℕ) (IsTex
   text_fault (Some a) Trailing h = inl h
 
   -- a fault of what comes after the text
-  pub end_fault : (input left : Option Ahead) (value : A) (fault : TextFault) → HasText value → Takes input left (text_of value) → HasEndFault left fault → IfSome input (λ a. IsFaultOfOneText HasText text_of IsTextFault LacksRoom a fault)
+  pub end_fault : (input left : Option Ahead) (value : A) (fault : TextFault) → HasText value → Takes input left (text_of value)
+      → HasEndFault left fault → IfSome input (λ a. IsFaultOfOneText HasText text_of IsTextFault LacksRoom a fault)
   end_fault None left value fault text taken h = tt
   end_fault (Some a) None value fault text taken h = absurd taken
   end_fault (Some a) (Some b) value Trailing text taken h =
       inr (value, text, inl (refl, record { byte = h.0; more = h.1; bytes = taken.0 ∙ ap (λ (r : List ℕ). text_of value ++ r) h.2 }))
   end_fault (Some a) (Some b) value Read text taken h =
-      inr (value, text, inr (refl, record { bytes = taken.0 ∙ ap (λ (r : List ℕ). text_of value ++ r) h.0 ∙ append-nil (text_of value); ending = sym taken.1 ∙ h.1 }))
+      inr (value, text, inr (refl, record { bytes = taken.0 ∙ ap (λ (r : List ℕ). text_of value ++ r) h.0 ∙ append-nil (text_of value); ending =
+          sym taken.1 ∙ h.1 }))
   end_fault (Some a) (Some b) value Header text taken h = absurd h
   end_fault (Some a) (Some b) value (Line n) text taken h = absurd h
   end_fault (Some a) (Some b) value (Number n) text taken h = absurd h
@@ -57,20 +60,32 @@ history_fault (Some a) Cut h = inl h
 history_fault (Some a) Trailing h = inl h
 
 -- the same fault, in the words of the whole input
-later : (events : List Event) (a b : Ahead) (lines : ℕ) (fault : TextFault) → b.ending ≡ a.ending → lines ≡ length events + 2 → IsVerdictTextFault lines b.ending b.bytes fault → IsVerdictTextFault (length events + 2) a.ending b.bytes fault
-later events a b lines fault same is h = subst (λ (n : ℕ). IsVerdictTextFault n a.ending b.bytes fault) is (subst (λ (e : Ending). IsVerdictTextFault lines e b.bytes fault) same h)
+later : (events : List Event) (a b : Ahead) (lines : ℕ) (fault : TextFault) → b.ending ≡ a.ending → lines ≡ length events + 2
+    → IsVerdictTextFault lines b.ending b.bytes fault → IsVerdictTextFault (length events + 2) a.ending b.bytes fault
+later events a b lines fault same is h = subst (λ (n : ℕ). IsVerdictTextFault n a.ending b.bytes fault) is
+    (subst (λ (e : Ending). IsVerdictTextFault lines e b.bytes fault) same h)
 
 -- a fault of the verdict's text, after the history's
-pub verdict_fault : (input left : Option Ahead) (events : List Event) (lines : ℕ) (fault : TextFault) → HasHistoryText events → Takes input left (history_text events) → lines ≡ length events + 2 → HasVerdictTextFault lines left fault
+pub verdict_fault : (input left : Option Ahead) (events : List Event) (lines : ℕ) (fault : TextFault) → HasHistoryText events
+    → Takes input left (history_text events) → lines ≡ length events + 2 → HasVerdictTextFault lines left fault
     → IfSome input (λ a. IsFaultOfClaimInput a fault)
 verdict_fault None left events lines fault text taken is h = tt
 verdict_fault (Some a) None events lines fault text taken is h = absurd taken
-verdict_fault (Some a) (Some b) events lines Memory text taken is h = inr (record { events = events; rest = b.bytes; history = text; front = taken.0; after = h })
-verdict_fault (Some a) (Some b) events lines Read text taken is h = inr (record { events = events; rest = b.bytes; history = text; front = taken.0; after = later events a b lines Read taken.1 is h })
-verdict_fault (Some a) (Some b) events lines Header text taken is h = inr (record { events = events; rest = b.bytes; history = text; front = taken.0; after = later events a b lines Header taken.1 is h })
-verdict_fault (Some a) (Some b) events lines (Line n) text taken is h = inr (record { events = events; rest = b.bytes; history = text; front = taken.0; after = later events a b lines (Line n) taken.1 is h })
-verdict_fault (Some a) (Some b) events lines (Number n) text taken is h = inr (record { events = events; rest = b.bytes; history = text; front = taken.0; after = later events a b lines (Number n) taken.1 is h })
-verdict_fault (Some a) (Some b) events lines (Limit n) text taken is h = inr (record { events = events; rest = b.bytes; history = text; front = taken.0; after = later events a b lines (Limit n) taken.1 is h })
-verdict_fault (Some a) (Some b) events lines Count text taken is h = inr (record { events = events; rest = b.bytes; history = text; front = taken.0; after = later events a b lines Count taken.1 is h })
-verdict_fault (Some a) (Some b) events lines Cut text taken is h = inr (record { events = events; rest = b.bytes; history = text; front = taken.0; after = later events a b lines Cut taken.1 is h })
-verdict_fault (Some a) (Some b) events lines Trailing text taken is h = inr (record { events = events; rest = b.bytes; history = text; front = taken.0; after = later events a b lines Trailing taken.1 is h })
+verdict_fault (Some a) (Some b) events lines Memory text taken is h =
+    inr (record { events = events; rest = b.bytes; history = text; front = taken.0; after = h })
+verdict_fault (Some a) (Some b) events lines Read text taken is h =
+    inr (record { events = events; rest = b.bytes; history = text; front = taken.0; after = later events a b lines Read taken.1 is h })
+verdict_fault (Some a) (Some b) events lines Header text taken is h =
+    inr (record { events = events; rest = b.bytes; history = text; front = taken.0; after = later events a b lines Header taken.1 is h })
+verdict_fault (Some a) (Some b) events lines (Line n) text taken is h =
+    inr (record { events = events; rest = b.bytes; history = text; front = taken.0; after = later events a b lines (Line n) taken.1 is h })
+verdict_fault (Some a) (Some b) events lines (Number n) text taken is h =
+    inr (record { events = events; rest = b.bytes; history = text; front = taken.0; after = later events a b lines (Number n) taken.1 is h })
+verdict_fault (Some a) (Some b) events lines (Limit n) text taken is h =
+    inr (record { events = events; rest = b.bytes; history = text; front = taken.0; after = later events a b lines (Limit n) taken.1 is h })
+verdict_fault (Some a) (Some b) events lines Count text taken is h =
+    inr (record { events = events; rest = b.bytes; history = text; front = taken.0; after = later events a b lines Count taken.1 is h })
+verdict_fault (Some a) (Some b) events lines Cut text taken is h =
+    inr (record { events = events; rest = b.bytes; history = text; front = taken.0; after = later events a b lines Cut taken.1 is h })
+verdict_fault (Some a) (Some b) events lines Trailing text taken is h =
+    inr (record { events = events; rest = b.bytes; history = text; front = taken.0; after = later events a b lines Trailing taken.1 is h })

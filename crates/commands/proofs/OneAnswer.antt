@@ -17,18 +17,19 @@ use Rattle.verdicts.proofs.OneSelection.{selection_is_one}
 use Rattle.verdicts.proofs.OneVerdict.{chosen_violation_is_one}
 use Rattle.verdicts.proofs.SameLists.{same_lists}
 use Rattle.verdicts.specs.Selection.{KeepsViolation, StaysChosen}
-use Rattle.history_text.specs.declared.fault.TextFault.{TextFault}
-use Rattle.history_text.specs.declared.fault.TextFault.TheVariants as text
+use Rattle.text_lines.specs.declared.fault.TextFault.{TextFault}
+use Rattle.text_lines.specs.declared.fault.TextFault.TheVariants as text
 use Rattle.history_text.specs.declared.schedule.Schedule.{Schedule}
 use Rattle.history_text.specs.Histories.{history_text, HasHistoryText, IsHistoryTextFault, NoRoomFor}
 use Rattle.history_text.specs.Schedules.{schedule_text, HasScheduleText, IsScheduleTextFault, NoRoomForSchedule}
-use Rattle.history_text.specs.Input.{Ahead}
+use Rattle.text_lines.specs.Input.{Ahead}
 use Rattle.history_text.proofs.OneText as histories
 use Rattle.history_text.proofs.OneSchedule as schedules
 use Rattle.command_words.specs.Commands.{check, shrink, verify, draw, sim}
 use Rattle.commands.specs.Answers.{Answer, judged, shown, played, verified, memory_fault, answer_of_text_fault, answer_of_history_fault}
 use Rattle.commands.specs.Inputs.{ClaimOnEvents, IsHistoryOf, IsFaultOfHistoryInput, IsScheduleOf, IsFaultOfScheduleInput, IsClaimOf, IsFaultOfClaimInput}
-use Rattle.commands.specs.Judging.{IsVerdictClaim, IsFaulty, IsJudged, IsShrunk, Judges, Shrinks, Verifies, Draws, Simulates, AnswersFor, AnswersOrNoMemory, IsOfFault}
+use Rattle.commands.specs.Judging.{IsVerdictClaim, IsFaulty, IsJudged, IsShrunk, Judges, Shrinks, Verifies, Draws, Simulates, AnswersFor}
+use Rattle.commands.specs.Judging.{AnswersOrNoMemory, IsOfFault}
 use Rattle.commands.specs.OneAnswer.{SameOrNoMemory, HasOneAnswer}
 use Rattle.commands.proofs.OneInput.{one_value, only_memory, one_known_fault, one_claim, only_memory_of_claim, one_known_fault_of_claim}
 use Rattle.commands.proofs.ShrunkTexts.{one_verdict_claim}
@@ -74,8 +75,10 @@ module _ {A : Type 0} (IsInputOf : Ahead → A → Type 0) (IsFaultOf : Ahead �
     ]
   ]
 
-  of_input : (input : Ahead) (a b : Answer) → AnswersFor IsInputOf IsFaultOf OfValue input a → AnswersFor IsInputOf IsFaultOf OfValue input b → SameOrNoMemory a b
-  of_input input a b (inl x) (inl y) = of_value y.value a b (subst (λ v. AnswersOrNoMemory OfValue v a) (one_input input x.value y.value x.input_of y.input_of) x.answered) y.answered
+  of_input : (input : Ahead) (a b : Answer) → AnswersFor IsInputOf IsFaultOf OfValue input a → AnswersFor IsInputOf IsFaultOf OfValue input b
+      → SameOrNoMemory a b
+  of_input input a b (inl x) (inl y) = of_value y.value a b (subst (λ v. AnswersOrNoMemory OfValue v a)
+      (one_input input x.value y.value x.input_of y.input_of) x.answered) y.answered
   of_input input a b (inl x) (inr y) = inr (inr (of_value_and_fault input b y x.value x.input_of))
   of_input input a b (inr x) (inl y) = inr (inl (of_value_and_fault input a x y.value y.input_of))
   of_input input a b (inr x) (inr y) = of_faults input a b x y
@@ -105,7 +108,8 @@ one_small events a b x y =
     let violations = chosen_violation_is_one operations y.violation x.violation (events, x.complete, refl) y.chosen x.chosen in
     let kept = subst (λ v. KeepsViolation operations v (operations_of y.small)) violations y.kept in
     let same = subst (λ v. StaysChosen operations v (operations_of y.small)) violations y.same in
-    let selected = selection_is_one operations (operations_of x.small) (operations_of y.small) x.violation (x.small, x.small_is_complete, refl) (y.small, y.small_is_complete, refl) x.kept kept x.same same x.minimal y.minimal in
+    let selected = selection_is_one operations (operations_of x.small) (operations_of y.small) x.violation (x.small, x.small_is_complete, refl)
+        (y.small, y.small_is_complete, refl) x.kept kept x.same same x.minimal y.minimal in
     part_is_one events x.small y.small x.complete x.part y.part x.small_is_complete y.small_is_complete selected
 
 one_shrunk : (events : List Event) (a b : Answer) → IsShrunk events a → IsShrunk events b → a ≡ b
@@ -187,12 +191,15 @@ one_simulation schedule a b (inr x) (inr y) =
 
 -- ---- inputs
 
-of_history : (OfEvents : List Event → Answer → Type 0) → ((events : List Event) (a b : Answer) → OfEvents events a → OfEvents events b → a ≡ b) → (input : Ahead) (a b : Answer)
+of_history : (OfEvents : List Event → Answer → Type 0) → ((events : List Event) (a b : Answer) → OfEvents events a → OfEvents events b → a ≡ b)
+    → (input : Ahead) (a b : Answer)
     → AnswersFor IsHistoryOf IsFaultOfHistoryInput OfEvents input a → AnswersFor IsHistoryOf IsFaultOfHistoryInput OfEvents input b → SameOrNoMemory a b
 of_history OfEvents one = of_input IsHistoryOf IsFaultOfHistoryInput OfEvents
     (one_value HasHistoryText history_text (IsHistoryTextFault 0) NoRoomFor histories.texts_agree (histories.text_has_no_fault 0) (histories.one_first_fault 0))
-    (only_memory HasHistoryText history_text (IsHistoryTextFault 0) NoRoomFor histories.texts_agree (histories.text_has_no_fault 0) (histories.one_first_fault 0))
-    (one_known_fault HasHistoryText history_text (IsHistoryTextFault 0) NoRoomFor histories.texts_agree (histories.text_has_no_fault 0) (histories.one_first_fault 0))
+    (only_memory HasHistoryText history_text (IsHistoryTextFault 0) NoRoomFor histories.texts_agree (histories.text_has_no_fault 0)
+        (histories.one_first_fault 0))
+    (one_known_fault HasHistoryText history_text (IsHistoryTextFault 0) NoRoomFor histories.texts_agree (histories.text_has_no_fault 0)
+        (histories.one_first_fault 0))
     one
 
 pub check_has_one : HasOneAnswer check
@@ -209,7 +216,10 @@ draw_has_one = of_input IsClaimOf IsFaultOfClaimInput Draws one_claim only_memor
 
 pub sim_has_one : HasOneAnswer sim
 sim_has_one = of_input IsScheduleOf IsFaultOfScheduleInput Simulates
-    (one_value HasScheduleText schedule_text (IsScheduleTextFault 0) NoRoomForSchedule schedules.texts_agree (schedules.text_has_no_fault 0) (schedules.one_first_fault 0))
-    (only_memory HasScheduleText schedule_text (IsScheduleTextFault 0) NoRoomForSchedule schedules.texts_agree (schedules.text_has_no_fault 0) (schedules.one_first_fault 0))
-    (one_known_fault HasScheduleText schedule_text (IsScheduleTextFault 0) NoRoomForSchedule schedules.texts_agree (schedules.text_has_no_fault 0) (schedules.one_first_fault 0))
+    (one_value HasScheduleText schedule_text (IsScheduleTextFault 0) NoRoomForSchedule schedules.texts_agree (schedules.text_has_no_fault 0)
+        (schedules.one_first_fault 0))
+    (only_memory HasScheduleText schedule_text (IsScheduleTextFault 0) NoRoomForSchedule schedules.texts_agree (schedules.text_has_no_fault 0)
+        (schedules.one_first_fault 0))
+    (one_known_fault HasScheduleText schedule_text (IsScheduleTextFault 0) NoRoomForSchedule schedules.texts_agree (schedules.text_has_no_fault 0)
+        (schedules.one_first_fault 0))
     one_simulation

@@ -1,9 +1,9 @@
 -- An input says one thing, or has one fault.
 use Rattle.std.proofs.Common.{◌≡◌, ◌≢◌, ℕ, ◌+◌, ◌⊎◌, List, [], ◌∷◌, ◌++◌, length, refl, sym, ◌∙◌, ap, subst, inl, inr, append-nil}
 use Rattle.event_records.specs.declared.event.Event.{Event}
-use Rattle.history_text.specs.declared.fault.TextFault.{TextFault}
-use Rattle.history_text.specs.declared.fault.TextFault.TheVariants as text
-use Rattle.history_text.specs.Input.{Ahead, Ending, EndOfInput, Failure}
+use Rattle.text_lines.specs.declared.fault.TextFault.{TextFault}
+use Rattle.text_lines.specs.declared.fault.TextFault.TheVariants as text
+use Rattle.text_lines.specs.Input.{Ahead, Ending, EndOfInput, Failure}
 use Rattle.history_text.specs.Histories.{history_text, IsHistoryTextFault}
 use Rattle.history_text.specs.Verdicts.{verdict_text}
 use Rattle.history_text.specs.Claims.{IsVerdictTextFault}
@@ -21,7 +21,8 @@ module _ {A : Type 0} (HasText : A → Type 0) (text_of : A → List ℕ) (IsTex
   abbrev IsFault : Ahead → TextFault → Type 0
   IsFault input fault = IsTextFault input.ending input.bytes fault ⊎ ((value : A) × HasText value × IsFaultAfter (text_of value) input fault)
 
-  is_fault : (input : Ahead) (fault : TextFault) → fault ≢ text.Memory → IsFaultOfOneText HasText text_of IsTextFault LacksRoom input fault → IsFault input fault
+  is_fault : (input : Ahead) (fault : TextFault) → fault ≢ text.Memory → IsFaultOfOneText HasText text_of IsTextFault LacksRoom input fault
+      → IsFault input fault
   is_fault input text.Memory known is = absurd (known refl)
   is_fault input text.Read known is = is
   is_fault input text.Header known is = is
@@ -45,7 +46,8 @@ module _ {A : Type 0} (HasText : A → Type 0) (text_of : A → List ℕ) (IsTex
 
   -- a text and nothing more has no fault
   no_fault_of_whole : (input : Ahead) (x : A) (fault : TextFault) → HasText x × IsWhole (text_of x) input → IsFault input fault → ⊥
-  no_fault_of_whole input x fault is (inl first) = no_fault input.ending x [] fault is.0 (subst (λ bytes. IsTextFault input.ending bytes fault) (whole_again x input is.1) first)
+  no_fault_of_whole input x fault is (inl first) = no_fault input.ending x [] fault is.0
+      (subst (λ bytes. IsTextFault input.ending bytes fault) (whole_again x input is.1) first)
   no_fault_of_whole input x fault is (inr (y, has, inl (same, more))) =
       let parts = agree x y [] (more.byte ∷ more.more) is.0 has (sym (whole_again x input is.1) ∙ more.bytes) in
       let none = parts.1 in cc
@@ -73,17 +75,20 @@ module _ {A : Type 0} (HasText : A → Type 0) (text_of : A → List ℕ) (IsTex
   one_fault_of input f g (inr (x, has_x, after_x)) (inr (y, has_y, after_y)) = one_after input x y f g has_x has_y after_x after_y
 
   -- a text and nothing more has no fault but want of memory
-  pub only_memory : (input : Ahead) (x : A) (fault : TextFault) → HasText x × IsWhole (text_of x) input → fault ≢ text.Memory → IsFaultOfOneText HasText text_of IsTextFault LacksRoom input fault → ⊥
+  pub only_memory : (input : Ahead) (x : A) (fault : TextFault) → HasText x × IsWhole (text_of x) input → fault ≢ text.Memory
+      → IsFaultOfOneText HasText text_of IsTextFault LacksRoom input fault → ⊥
   only_memory input x fault is known faulty = no_fault_of_whole input x fault is (is_fault input fault known faulty)
 
   -- an input has one fault beside want of memory
-  pub one_known_fault : (input : Ahead) (f g : TextFault) → f ≢ text.Memory → g ≢ text.Memory → IsFaultOfOneText HasText text_of IsTextFault LacksRoom input f → IsFaultOfOneText HasText text_of IsTextFault LacksRoom input g → f ≡ g
+  pub one_known_fault : (input : Ahead) (f g : TextFault) → f ≢ text.Memory → g ≢ text.Memory
+      → IsFaultOfOneText HasText text_of IsTextFault LacksRoom input f → IsFaultOfOneText HasText text_of IsTextFault LacksRoom input g → f ≡ g
   one_known_fault input f g known_f known_g is_f is_g = one_fault_of input f g (is_fault input f known_f is_f) (is_fault input g known_g is_g)
 
 -- ---- a history, and a verdict on it
 
 abbrev IsClaimFault : Ahead → TextFault → Type 0
-IsClaimFault input fault = IsHistoryTextFault 0 input.ending input.bytes fault ⊎ AfterHistory (λ lines rest. IsVerdictTextFault lines input.ending rest fault) input.bytes
+IsClaimFault input fault = IsHistoryTextFault 0 input.ending input.bytes fault
+    ⊎ AfterHistory (λ lines rest. IsVerdictTextFault lines input.ending rest fault) input.bytes
 
 is_claim_fault : (input : Ahead) (fault : TextFault) → fault ≢ text.Memory → IsFaultOfClaimInput input fault → IsClaimFault input fault
 is_claim_fault input text.Memory known is = absurd (known refl)
@@ -98,41 +103,52 @@ is_claim_fault input text.Trailing known is = is
 
 pub one_claim : (input : Ahead) (x y : ClaimOnEvents) → IsClaimOf input x → IsClaimOf input y → x ≡ y
 one_claim input x y is_x is_y =
-    let parts = histories.texts_agree x.events y.events (verdict_text x.claimed) (verdict_text y.claimed) is_x.history is_y.history (sym is_x.whole.bytes ∙ is_y.whole.bytes) in
+    let parts = histories.texts_agree x.events y.events (verdict_text x.claimed) (verdict_text y.claimed) is_x.history is_y.history
+        (sym is_x.whole.bytes ∙ is_y.whole.bytes) in
     let events = parts.0 in
     let claims = verdict_texts.texts_agree x.claimed y.claimed is_x.verdict is_y.verdict parts.1 in
     λ i. record { events = events i; claimed = claims i }
 
 -- where a history stands at the front its text has no fault
-no_history_fault : (input : Ahead) (P : ℕ → List ℕ → Type 0) (fault : TextFault) → AfterHistory P input.bytes → IsHistoryTextFault 0 input.ending input.bytes fault → ⊥
+no_history_fault : (input : Ahead) (P : ℕ → List ℕ → Type 0) (fault : TextFault) → AfterHistory P input.bytes
+    → IsHistoryTextFault 0 input.ending input.bytes fault → ⊥
 no_history_fault input P fault after first =
-    histories.text_has_no_fault 0 input.ending after.events after.rest fault after.history (subst (λ bytes. IsHistoryTextFault 0 input.ending bytes fault) after.front first)
+    histories.text_has_no_fault 0 input.ending after.events after.rest fault after.history
+        (subst (λ bytes. IsHistoryTextFault 0 input.ending bytes fault) after.front first)
 
 -- the verdict's text of a whole claim has no fault
-no_verdict_fault : (input : Ahead) (x : ClaimOnEvents) (fault : TextFault) → IsClaimOf input x → AfterHistory (λ lines rest. IsVerdictTextFault lines input.ending rest fault) input.bytes → ⊥
+no_verdict_fault : (input : Ahead) (x : ClaimOnEvents) (fault : TextFault) → IsClaimOf input x
+    → AfterHistory (λ lines rest. IsVerdictTextFault lines input.ending rest fault) input.bytes → ⊥
 no_verdict_fault input x fault is after =
     let parts = histories.texts_agree x.events after.events (verdict_text x.claimed) after.rest is.history after.history (sym is.whole.bytes ∙ after.front) in
     let ended = subst (λ ending. IsVerdictTextFault (length after.events + 2) ending after.rest fault) is.whole.ending after.after in
-    verdict_texts.text_has_no_fault (length after.events + 2) x.claimed fault is.verdict (subst (λ rest. IsVerdictTextFault (length after.events + 2) EndOfInput rest fault) (sym parts.1) ended)
+    verdict_texts.text_has_no_fault (length after.events + 2) x.claimed fault is.verdict
+        (subst (λ rest. IsVerdictTextFault (length after.events + 2) EndOfInput rest fault) (sym parts.1) ended)
 
 no_fault_of_claim : (input : Ahead) (x : ClaimOnEvents) (fault : TextFault) → IsClaimOf input x → IsClaimFault input fault → ⊥
 no_fault_of_claim input x fault is (inl first) =
     let front : input.bytes ≡ history_text x.events ++ verdict_text x.claimed = is.whole.bytes in
-    histories.text_has_no_fault 0 input.ending x.events (verdict_text x.claimed) fault is.history (subst (λ bytes. IsHistoryTextFault 0 input.ending bytes fault) front first)
+    histories.text_has_no_fault 0 input.ending x.events (verdict_text x.claimed) fault is.history
+        (subst (λ bytes. IsHistoryTextFault 0 input.ending bytes fault) front first)
 no_fault_of_claim input x fault is (inr after) = no_verdict_fault input x fault is after
 
 one_fault_of_claim : (input : Ahead) (f g : TextFault) → IsClaimFault input f → IsClaimFault input g → f ≡ g
 one_fault_of_claim input f g (inl first) (inl other) = histories.one_first_fault 0 input.ending input.bytes f g first other
-one_fault_of_claim input f g (inl first) (inr after) = absurd (no_history_fault input (λ lines rest. IsVerdictTextFault lines input.ending rest g) f after first)
-one_fault_of_claim input f g (inr after) (inl other) = absurd (no_history_fault input (λ lines rest. IsVerdictTextFault lines input.ending rest f) g after other)
+one_fault_of_claim input f g (inl first) (inr after) = absurd
+    (no_history_fault input (λ lines rest. IsVerdictTextFault lines input.ending rest g) f after first)
+one_fault_of_claim input f g (inr after) (inl other) = absurd
+    (no_history_fault input (λ lines rest. IsVerdictTextFault lines input.ending rest f) g after other)
 one_fault_of_claim input f g (inr a) (inr b) =
     let parts = histories.texts_agree a.events b.events a.rest b.rest a.history b.history (sym a.front ∙ b.front) in
     let lines = ap (λ (es : List Event). length es + 2) parts.0 in
     let moved = subst (λ rest. IsVerdictTextFault (length a.events + 2) input.ending rest f) parts.1 a.after in
     verdict_texts.one_first_fault (length b.events + 2) input.ending b.rest f g (subst (λ n. IsVerdictTextFault n input.ending b.rest f) lines moved) b.after
 
-pub only_memory_of_claim : (input : Ahead) (x : ClaimOnEvents) (fault : TextFault) → IsClaimOf input x → fault ≢ text.Memory → IsFaultOfClaimInput input fault → ⊥
+pub only_memory_of_claim : (input : Ahead) (x : ClaimOnEvents) (fault : TextFault) → IsClaimOf input x → fault ≢ text.Memory
+    → IsFaultOfClaimInput input fault → ⊥
 only_memory_of_claim input x fault is known faulty = no_fault_of_claim input x fault is (is_claim_fault input fault known faulty)
 
-pub one_known_fault_of_claim : (input : Ahead) (f g : TextFault) → f ≢ text.Memory → g ≢ text.Memory → IsFaultOfClaimInput input f → IsFaultOfClaimInput input g → f ≡ g
-one_known_fault_of_claim input f g known_f known_g is_f is_g = one_fault_of_claim input f g (is_claim_fault input f known_f is_f) (is_claim_fault input g known_g is_g)
+pub one_known_fault_of_claim : (input : Ahead) (f g : TextFault) → f ≢ text.Memory → g ≢ text.Memory → IsFaultOfClaimInput input f
+    → IsFaultOfClaimInput input g → f ≡ g
+one_known_fault_of_claim input f g known_f known_g is_f is_g =
+    one_fault_of_claim input f g (is_claim_fault input f known_f is_f) (is_claim_fault input g known_g is_g)

@@ -24,7 +24,8 @@ module _ (setting : Setting) (schedule : List Attempt) (rejected : List Rejectio
   left_open_found undone = inl (record { undone = undone; is = ap left_open is })
 
   -- the machine is done
-  pub played_found : (lists : List (List Event)) (events : List Event) (claimed : Claimed) → IsDone setting schedule × (lists ≡ collected_lists setting schedule) → IsMerged lists events → IsCompleteHistory events
+  pub played_found : (lists : List (List Event)) (events : List Event) (claimed : Claimed)
+      → IsDone setting schedule × (lists ≡ collected_lists setting schedule) → IsMerged lists events → IsCompleteHistory events
       → IsVerdictClaim (operations_of events) claimed → SimulatesIn setting schedule (played rejected events claimed)
   played_found lists events claimed ended merged complete right = inr (record {
     done = ended.0;
@@ -36,11 +37,13 @@ module _ (setting : Setting) (schedule : List Attempt) (rejected : List Rejectio
     is = ap (λ (rs : List Rejection). played rs events claimed) is;
   })
 
-module _ (setting : Setting) (schedule : List Attempt) (few : setting.threads ≤ MAX_THREADS) (lists : List (List Event)) (ended : IsDone setting schedule × (lists ≡ collected_lists setting schedule)) where
+module _ (setting : Setting) (schedule : List Attempt) (few : setting.threads ≤ MAX_THREADS) (lists : List (List Event))
+    (ended : IsDone setting schedule × (lists ≡ collected_lists setting schedule)) where
   -- what a done schedule collects merges to a complete history
   pub merges_to_complete : (merged : List Event) → IsMerged lists merged → IsCompleteHistory merged
   merges_to_complete merged is =
-      merged_is_complete (collected_lists setting schedule) merged (collected_is_fit setting schedule few ended.0) (subst (λ (ls : List (List Event)). IsMerged ls merged) ended.1 is)
+      merged_is_complete (collected_lists setting schedule) merged (collected_is_fit setting schedule few ended.0)
+          (subst (λ (ls : List (List Event)). IsMerged ls merged) ended.1 is)
 
   -- and is short enough for one
   pub few_events : length (flat_map (λ list. list) lists) ≤ MAX_EVENTS

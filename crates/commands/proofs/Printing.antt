@@ -3,18 +3,20 @@ use Rattle.std.proofs.Common.{◌≡◌, ℕ, List, [], Bool, true, false, ◌||
 use Rattle.std.specs.Prelude.{OnOk, OnErr, is_err}
 use Rattle.std.specs.declared.result.Result.{Result}
 use Rattle.std.specs.Io.KnownBytes.{Appends, Keeps}
-use Rattle.history_text.specs.Writing.{AppendsFront}
+use Rattle.text_lines.specs.Writing.{AppendsFront}
 use Rattle.std.proofs.KnownBytes.{Appends-kept}
 use Rattle.commands.specs.Running.{Prints}
 
 module _ {A E : Type 0} (old : Option (List ℕ)) (text : List ℕ) (status : ℕ) where
   -- a write failed
-  pub write_failed : (new : Option (List ℕ)) (first refused : Bool) (r : Result A E) → is_err r ≡ true → first ≡ false → refused ≡ (first || is_err r) → OnErr r (AppendsFront old new text) → Prints old new refused 3 text status
+  pub write_failed : (new : Option (List ℕ)) (first refused : Bool) (r : Result A E) → is_err r ≡ true → first ≡ false → refused ≡ (first || is_err r)
+      → OnErr r (AppendsFront old new text) → Prints old new refused 3 text status
   write_failed new first refused (Ok done) failed fresh is front = cc
   write_failed new first refused (Err e) failed fresh is front = let now : refused ≡ true = is ∙ (λ i. fresh i || true) in rw now (front, refl)
 
   -- the text was written, and the flush failed
-  pub flush_failed : {F : Type 0} (mid new : Option (List ℕ)) (first between refused : Bool) (r : Result A E) (flushed : Result (Unit {0}) F) → is_err r ≡ false → first ≡ false → between ≡ (first || is_err r)
+  pub flush_failed : {F : Type 0} (mid new : Option (List ℕ)) (first between refused : Bool) (r : Result A E) (flushed : Result (Unit {0}) F)
+      → is_err r ≡ false → first ≡ false → between ≡ (first || is_err r)
       → OnOk r (Appends old mid text) → Keeps mid new → refused ≡ (between || is_err flushed) → is_err flushed ≡ true → Prints old new refused 3 text status
   flush_failed mid new first between refused (Err e) flushed done fresh is whole keeps then failed = cc
   flush_failed mid new first between refused (Ok x) flushed done fresh is whole keeps then failed =
@@ -22,8 +24,10 @@ module _ {A E : Type 0} (old : Option (List ℕ)) (text : List ℕ) (status : �
       rw now (record { front = text; rest = []; whole = sym (append-nil text); written = Appends-kept old mid new text whole keeps }, refl)
 
   -- all went well
-  pub printed : {F : Type 0} (mid new : Option (List ℕ)) (first between refused : Bool) (result : ℕ) (r : Result A E) (flushed : Result (Unit {0}) F) → is_err r ≡ false → first ≡ false → between ≡ (first || is_err r)
-      → OnOk r (Appends old mid text) → Keeps mid new → refused ≡ (between || is_err flushed) → is_err flushed ≡ false → result ≡ status → Prints old new refused result text status
+  pub printed : {F : Type 0} (mid new : Option (List ℕ)) (first between refused : Bool) (result : ℕ) (r : Result A E) (flushed : Result (Unit {0}) F)
+      → is_err r ≡ false → first ≡ false → between ≡ (first || is_err r)
+      → OnOk r (Appends old mid text) → Keeps mid new → refused ≡ (between || is_err flushed) → is_err flushed ≡ false → result ≡ status
+          → Prints old new refused result text status
   printed mid new first between refused result (Err e) flushed done fresh is whole keeps then fine same = cc
   printed mid new first between refused result (Ok x) flushed done fresh is whole keeps then fine same =
       let now : refused ≡ false = then ∙ (λ i. (is ∙ (λ j. fresh j || false)) i || fine i) in

@@ -3,10 +3,10 @@ use Rattle.std.proofs.Common.{◌≡◌, ℕ, ◌+◌, ◌<◌, List, ◌++◌, 
 use Rattle.std.specs.Prelude.{decimal}
 use Rattle.std.specs.Io.KnownBytes.{Appends}
 use Rattle.std.proofs.KnownBytes.{Appends-trans}
-use Rattle.history_text.specs.Writing.{AppendsFront}
+use Rattle.text_lines.specs.Writing.{AppendsFront}
 use Rattle.simulation.specs.declared.playing.Rejection.{Rejection}
 use Rattle.commands.specs.Answers.{reason_name, rejection_line, rejection_lines}
-use Rattle.history_text.proofs.Appending.{front_first, flat_map-more, flat_map-parts}
+use Rattle.text_lines.proofs.Appending.{front_first, flat_map-more, flat_map-parts}
 use Rattle.commands.proofs.Fronts.{front_next}
 
 -- its first words
@@ -30,24 +30,30 @@ pub front_of_words : (r : Rejection) (a b : Option (List ℕ)) → AppendsFront 
 front_of_words r a b h = subst (λ (t : List ℕ). AppendsFront a b t) (sym (in_pieces r)) (front_first a b beginning (decimal r.step ++ ending r) h)
 
 -- the first words, and a front of the number
-pub front_of_number : (r : Rejection) (a b c : Option (List ℕ)) → Appends a b beginning → AppendsFront b c (decimal r.step) → AppendsFront a c (rejection_line r)
+pub front_of_number : (r : Rejection) (a b c : Option (List ℕ)) → Appends a b beginning → AppendsFront b c (decimal r.step)
+    → AppendsFront a c (rejection_line r)
 front_of_number r a b c h k =
-    subst (λ (t : List ℕ). AppendsFront a c t) (sym (in_pieces r)) (front_next a b c beginning (decimal r.step ++ ending r) h (front_first b c (decimal r.step) (ending r) k))
+    subst (λ (t : List ℕ). AppendsFront a c t) (sym (in_pieces r))
+        (front_next a b c beginning (decimal r.step ++ ending r) h (front_first b c (decimal r.step) (ending r) k))
 
 -- the first words, the number, and a front of the rest
-pub front_of_reason : (r : Rejection) (a b c d : Option (List ℕ)) → Appends a b beginning → Appends b c (decimal r.step) → AppendsFront c d (ending r) → AppendsFront a d (rejection_line r)
+pub front_of_reason : (r : Rejection) (a b c d : Option (List ℕ)) → Appends a b beginning → Appends b c (decimal r.step) → AppendsFront c d (ending r)
+    → AppendsFront a d (rejection_line r)
 front_of_reason r a b c d h k m =
-    subst (λ (t : List ℕ). AppendsFront a d t) (sym (in_pieces r)) (front_next a b d beginning (decimal r.step ++ ending r) h (front_next b c d (decimal r.step) (ending r) k m))
+    subst (λ (t : List ℕ). AppendsFront a d t) (sym (in_pieces r))
+        (front_next a b d beginning (decimal r.step ++ ending r) h (front_next b c d (decimal r.step) (ending r) k m))
 
 -- ---- several lines
 
 -- one more line
-pub one_more_line : (rs : List Rejection) (i : ℕ) (r : Rejection) (a b c : Option (List ℕ)) → i < length rs → Appends a b (rejection_lines (take i rs)) → Appends b c (rejection_line (get_or rs i r)) → Appends a c (rejection_lines (take (i + 1) rs))
+pub one_more_line : (rs : List Rejection) (i : ℕ) (r : Rejection) (a b c : Option (List ℕ)) → i < length rs
+    → Appends a b (rejection_lines (take i rs)) → Appends b c (rejection_line (get_or rs i r)) → Appends a c (rejection_lines (take (i + 1) rs))
 one_more_line rs i r a b c within before now =
     subst (λ (t : List ℕ). Appends a c t) (sym (flat_map-more rejection_line rs i r within)) (Appends-trans a b c _ _ before now)
 
 -- the first lines, and a front of the next
-pub front_of_next_line : (rs : List Rejection) (i : ℕ) (r : Rejection) (a b c : Option (List ℕ)) → i < length rs → Appends a b (rejection_lines (take i rs)) → AppendsFront b c (rejection_line (get_or rs i r)) → AppendsFront a c (rejection_lines rs)
+pub front_of_next_line : (rs : List Rejection) (i : ℕ) (r : Rejection) (a b c : Option (List ℕ)) → i < length rs
+    → Appends a b (rejection_lines (take i rs)) → AppendsFront b c (rejection_line (get_or rs i r)) → AppendsFront a c (rejection_lines rs)
 front_of_next_line rs i r a b c within before now =
     subst (λ (t : List ℕ). AppendsFront a c t)
     (ap (λ (t : List ℕ). t ++ rejection_lines (drop (i + 1) rs)) (sym (flat_map-more rejection_line rs i r within)) ∙ flat_map-parts rejection_line rs (i + 1))

@@ -1,7 +1,7 @@
 -- What an error of the words leaves behind where nothing is wrong with them.
 use Rattle.std.proofs.Common.{◌≡◌, ℕ, List, [], Bool, Option, Some, None, inl, inr, refl, IfSome, subst, sym, ◌∙◌}
 use Rattle.std.proofs.lemmas.Option.{same_Some}
-use Rattle.history_text.specs.Input.{Ahead}
+use Rattle.text_lines.specs.Input.{Ahead}
 use Rattle.clap.specs.Kinds.{Kinds, HasKind, IsAmong}
 use Rattle.clap.specs.Values.{kind_of}
 use Rattle.clap.specs.declared.error.Error.{Error}
@@ -12,14 +12,16 @@ use Rattle.commands.specs.Judging.{AnswersOrNoMemory}
 use Rattle.commands.specs.Running.{AnswersOf, PrintsOneOf, PrintsAnswer, Explains}
 
 -- memory ran out, and that is printed
-pub memory_ran_out : (e : Error) (kinds : Kinds) (old new : Option (List ℕ)) (refused : Bool) (result : ℕ) → kinds ≡ [] → HasKind kinds e → Explains (kind_of e) old new refused result → PrintsAnswer old new refused result memory_fault
+pub memory_ran_out : (e : Error) (kinds : Kinds) (old new : Option (List ℕ)) (refused : Bool) (result : ℕ) → kinds ≡ [] → HasKind kinds e
+    → Explains (kind_of e) old new refused result → PrintsAnswer old new refused result memory_fault
 memory_ran_out e kinds old new refused result none (inl memory) (inl text) = absurd (text.usual memory)
 memory_ran_out e kinds old new refused result none (inl memory) (inr printed) = printed
 memory_ran_out e kinds old new refused result none (inr among) (inl text) = absurd (subst (λ (ks : Kinds). IsAmong (kind_of e) ks) none among)
 memory_ran_out e kinds old new refused result none (inr among) (inr printed) = printed
 
 -- a command that reads
-pub reads_out_of_memory : (request : Request) (e : Error) (kinds : Kinds) (input : Option Ahead) (old new : Option (List ℕ)) (refused : Bool) (result : ℕ) → kinds ≡ [] → HasKind kinds e → Explains (kind_of e) old new refused result
+pub reads_out_of_memory : (request : Request) (e : Error) (kinds : Kinds) (input : Option Ahead) (old new : Option (List ℕ)) (refused : Bool)
+    (result : ℕ) → kinds ≡ [] → HasKind kinds e → Explains (kind_of e) old new refused result
     → IfSome input (λ a. PrintsOneOf (AnswersOrNoMemory (AnswersOf request) a) old new refused result)
 reads_out_of_memory request e kinds None old new refused result none has explained = tt
 reads_out_of_memory request e kinds (Some a) old new refused result none has explained = record {
@@ -30,9 +32,11 @@ reads_out_of_memory request e kinds (Some a) old new refused result none has exp
 
 -- ---- what was found is printed
 
-module _ (asked : Option Request) (given : Request) (is_given : asked ≡ Some given) (answer : Answer) (old new : Option (List ℕ)) (refused : Bool) (result : ℕ) (printed : PrintsAnswer old new refused result answer) where
+module _ (asked : Option Request) (given : Request) (is_given : asked ≡ Some given) (answer : Answer) (old new : Option (List ℕ)) (refused : Bool)
+    (result : ℕ) (printed : PrintsAnswer old new refused result answer) where
   -- of a command that reads
-  pub reads_printed : (request : Request) (input : Option Ahead) → asked ≡ Some request → IfSome input (λ a. AnswersOf given a answer) → IfSome input (λ a. PrintsOneOf (AnswersOrNoMemory (AnswersOf request) a) old new refused result)
+  pub reads_printed : (request : Request) (input : Option Ahead) → asked ≡ Some request → IfSome input (λ a. AnswersOf given a answer)
+      → IfSome input (λ a. PrintsOneOf (AnswersOrNoMemory (AnswersOf request) a) old new refused result)
   reads_printed request None is found = tt
   reads_printed request (Some a) is found = record {
     answer = answer;

@@ -21,7 +21,8 @@ parted [] i x h e = absurd (omega (arith, h))
 parted (y ∷ ys) zero x h e = ap (λ z. z ∷ ys) (sym e)
 parted (y ∷ ys) (suc i) x h e = ap (λ l. y ∷ l) (parted ys i x (omega (arith, h)) e)
 
-module _ {X : Type 0} (name_of : X → List ℕ) (name : List ℕ) (xs : List X) (i : ℕ) (x : X) (inside : i < length xs) (is : x ≡ get_or xs i x) (passed : All (λ y. name_of y ≢ name) (take i xs)) where
+module _ {X : Type 0} (name_of : X → List ℕ) (name : List ℕ) (xs : List X) (i : ℕ) (x : X) (inside : i < length xs) (is : x ≡ get_or xs i x)
+    (passed : All (λ y. name_of y ≢ name) (take i xs)) where
   pub found_first : name_of x ≡ name → IsFirstNamed name_of name xs x
   found_first named = record { before = take i xs; after = drop (suc i) xs; parts = parted xs i x inside is; named = named; others = passed }
 

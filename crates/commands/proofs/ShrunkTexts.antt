@@ -1,5 +1,6 @@
 -- The text of a shrunk history and of its verdict, read again.
-use Rattle.std.proofs.Common.{◌≡◌, ℕ, ◌≤◌, ◌⊎◌, Bool, true, false, List, [], ◌∷◌, ◌++◌, length, filter, refl, sym, ◌∙◌, ap, subst, inl, inr, arith, append-nil, cond}
+use Rattle.std.proofs.Common.{◌≡◌, ℕ, ◌≤◌, ◌⊎◌, Bool, true, false, List, [], ◌∷◌, ◌++◌, length, filter, refl, sym, ◌∙◌, ap, subst, inl, inr, arith}
+use Rattle.std.proofs.Common.{append-nil, cond}
 use Rattle.std.specs.List.{AllByRecursion}
 use Rattle.event_records.specs.declared.event.Event.{Event}
 use Rattle.history_merge.specs.Complete.{IsCompleteHistory}
@@ -10,9 +11,9 @@ use Rattle.history_merge.proofs.ExactFaults.{complete_has_no_fault}
 use Rattle.verdicts.specs.declared.verifying.Claimed.{Claimed}
 use Rattle.verdicts.specs.Verdicts.{IsDecided}
 use Rattle.verdicts.proofs.OneVerdict.{verdict_is_one}
-use Rattle.history_text.specs.declared.fault.TextFault.{TextFault}
-use Rattle.history_text.specs.declared.fault.TextFault.TheVariants as text
-use Rattle.history_text.specs.Input.{Ahead, EndOfInput, Failure}
+use Rattle.text_lines.specs.declared.fault.TextFault.{TextFault}
+use Rattle.text_lines.specs.declared.fault.TextFault.TheVariants as text
+use Rattle.text_lines.specs.Input.{Ahead, EndOfInput, Failure}
 use Rattle.history_text.specs.Histories.{history_text, HasHistoryText, HasEventLine, IsHistoryTextFault}
 use Rattle.history_text.specs.Verdicts.{claim_of}
 use Rattle.history_text.proofs.OneText as histories
@@ -68,7 +69,8 @@ part_has_text keeps events is = let few = no_longer keeps events in let most = i
 
 -- ---- what is shown
 
-shown_is_written : (input : Ahead) (small : List Event) (claimed : Claimed) → AnswersFor IsHistoryOf IsFaultOfHistoryInput Shrinks input (shown small claimed) → IsWritten small claimed
+shown_is_written : (input : Ahead) (small : List Event) (claimed : Claimed)
+    → AnswersFor IsHistoryOf IsFaultOfHistoryInput Shrinks input (shown small claimed) → IsWritten small claimed
 shown_is_written input small claimed (inl read) = by_answer read.answered
   where
     by_answer : AnswersOrNoMemory Shrinks read.value (shown small claimed) → IsWritten small claimed
@@ -79,7 +81,8 @@ shown_is_written input small claimed (inl read) = by_answer read.answered
         let smalls : small ≡ is.small = one_small is.small is.claimed is.is in
         let claims : claimed ≡ is.claimed = one_claim is.small is.claimed is.is in
         let has_text = subst HasHistoryText (sym is.part.1) (part_has_text is.part.0 read.value read.input_of.0) in
-        subst (λ es. IsWritten es claimed) (sym smalls) (subst (IsWritten is.small) (sym claims) (record { complete = is.small_is_complete; history = has_text; right = is.right }))
+        subst (λ es. IsWritten es claimed) (sym smalls) (subst (IsWritten is.small) (sym claims)
+            (record { complete = is.small_is_complete; history = has_text; right = is.right }))
       where
         one_small : (es : List Event) (other : Claimed) → shown small claimed ≡ shown es other → small ≡ es
         one_small es other e = cc
@@ -89,20 +92,24 @@ shown_is_written input small claimed (inl read) = by_answer read.answered
 shown_is_written input small claimed (inr faulty) = absurd (shown_is_no_text_fault small claimed faulty.fault faulty.is)
 
 pub shrunk_is_valid : ShrunkIsValid
-shrunk_is_valid bytes small claimed answer shrinks verifies = written_is_valid small claimed answer (shown_is_written (input_of bytes) small claimed shrinks) verifies
+shrunk_is_valid bytes small claimed answer shrinks verifies =
+    written_is_valid small claimed answer (shown_is_written (input_of bytes) small claimed shrinks) verifies
 
 -- ---- the text of a history alone, read
 
 -- a whole text has no fault but want of memory
 whole_has_no_fault : (events : List Event) (fault : TextFault) → HasHistoryText events
-    → IsHistoryTextFault 0 EndOfInput (history_text events) fault ⊎ ((value : List Event) × HasHistoryText value × IsFaultAfter (history_text value) (input_of (history_text events)) fault) → ⊥
-whole_has_no_fault events fault has (inl first) = histories.text_has_no_fault 0 EndOfInput events [] fault has (subst (λ bytes. IsHistoryTextFault 0 EndOfInput bytes fault) (sym (append-nil (history_text events))) first)
+    → IsHistoryTextFault 0 EndOfInput (history_text events) fault
+        ⊎ ((value : List Event) × HasHistoryText value × IsFaultAfter (history_text value) (input_of (history_text events)) fault) → ⊥
+whole_has_no_fault events fault has (inl first) = histories.text_has_no_fault 0 EndOfInput events [] fault has
+    (subst (λ bytes. IsHistoryTextFault 0 EndOfInput bytes fault) (sym (append-nil (history_text events))) first)
 whole_has_no_fault events fault has (inr (value, has_value, inl (same, goes_on))) =
     let agree = histories.texts_agree events value [] (goes_on.byte ∷ goes_on.more) has has_value (append-nil (history_text events) ∙ goes_on.bytes) in
     let none = agree.1 in cc
 whole_has_no_fault events fault has (inr (value, has_value, inr (same, fails))) = let ending : EndOfInput ≡ Failure = fails.ending in cc
 
-only_memory : (events : List Event) (fault : TextFault) → HasHistoryText events → IsFaultOfHistoryInput (input_of (history_text events)) fault → answer_of_text_fault fault ≡ memory_fault
+only_memory : (events : List Event) (fault : TextFault) → HasHistoryText events → IsFaultOfHistoryInput (input_of (history_text events)) fault
+    → answer_of_text_fault fault ≡ memory_fault
 only_memory events text.Memory has is = refl
 only_memory events text.Read has is = absurd (whole_has_no_fault events text.Read has is)
 only_memory events text.Header has is = absurd (whole_has_no_fault events text.Header has is)
@@ -114,7 +121,8 @@ only_memory events text.Cut has is = absurd (whole_has_no_fault events text.Cut 
 only_memory events text.Trailing has is = absurd (whole_has_no_fault events text.Trailing has is)
 
 -- a history has one claim of a verdict
-pub one_verdict_claim : (events : List Event) (c d : Claimed) → IsCompleteHistory events → IsVerdictClaim (operations_of events) c → IsVerdictClaim (operations_of events) d → c ≡ d
+pub one_verdict_claim : (events : List Event) (c d : Claimed) → IsCompleteHistory events → IsVerdictClaim (operations_of events) c
+    → IsVerdictClaim (operations_of events) d → c ≡ d
 one_verdict_claim events c d complete x y =
     let operations = operations_of events in
     let decided_x : IsDecided operations x.verdict = record { chosen = x.chosen; evidence = x.evidence; exact = x.exact } in
@@ -123,7 +131,8 @@ one_verdict_claim events c d complete x y =
     x.claim ∙ ap (claim_of operations) one ∙ sym y.claim
 
 -- the verdict on a history that has a text is what is judged of that text
-written_is_judged : (events : List Event) (claimed : Claimed) (answer : Answer) → IsWritten events claimed → AnswersFor IsHistoryOf IsFaultOfHistoryInput Judges (input_of (history_text events)) answer
+written_is_judged : (events : List Event) (claimed : Claimed) (answer : Answer) → IsWritten events claimed
+    → AnswersFor IsHistoryOf IsFaultOfHistoryInput Judges (input_of (history_text events)) answer
     → (answer ≡ judged claimed) ⊎ (answer ≡ memory_fault)
 written_is_judged events claimed answer is (inl read) = by_answer read.answered
   where
@@ -139,4 +148,5 @@ written_is_judged events claimed answer is (inl read) = by_answer read.answered
 written_is_judged events claimed answer is (inr faulty) = inr (faulty.is ∙ only_memory events faulty.fault is.history faulty.first)
 
 pub shrunk_is_checked : ShrunkIsChecked
-shrunk_is_checked bytes small claimed answer shrinks checks = written_is_judged small claimed answer (shown_is_written (input_of bytes) small claimed shrinks) checks
+shrunk_is_checked bytes small claimed answer shrinks checks =
+    written_is_judged small claimed answer (shown_is_written (input_of bytes) small claimed shrinks) checks

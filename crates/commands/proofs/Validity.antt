@@ -10,9 +10,9 @@ use Rattle.verdicts.specs.declared.verifying.Claimed.{Claimed}
 use Rattle.verdicts.specs.Claims.{IsTrueClaim}
 use Rattle.verdicts.proofs.TrueClaims.{evidence_is_true}
 use Rattle.verdicts.proofs.FewLines.{few_places}
-use Rattle.history_text.specs.declared.fault.TextFault.{TextFault}
-use Rattle.history_text.specs.declared.fault.TextFault.TheVariants as text
-use Rattle.history_text.specs.Input.{Ahead, EndOfInput}
+use Rattle.text_lines.specs.declared.fault.TextFault.{TextFault}
+use Rattle.text_lines.specs.declared.fault.TextFault.TheVariants as text
+use Rattle.text_lines.specs.Input.{Ahead, EndOfInput}
 use Rattle.history_text.specs.Histories.{history_text, HasHistoryText, IsHistoryTextFault}
 use Rattle.history_text.specs.Verdicts.{verdict_text}
 use Rattle.history_text.specs.Claims.{HasVerdictText, IsVerdictTextFault}
@@ -61,7 +61,8 @@ claim_is_written events claimed is =
     subst HasVerdictText (sym is.right.claim) (claim_has_text events is.right.verdict is.history few)
 
 claim_is_true : (events : List Event) (claimed : Claimed) → IsWritten events claimed → IsTrueClaim (operations_of events) claimed
-claim_is_true events claimed is = subst (IsTrueClaim (operations_of events)) (sym is.right.claim) (evidence_is_true (operations_of events) is.right.verdict is.right.evidence)
+claim_is_true events claimed is = subst (IsTrueClaim (operations_of events)) (sym is.right.claim)
+    (evidence_is_true (operations_of events) is.right.verdict is.right.evidence)
 
 -- ---- the two texts, read
 
@@ -72,7 +73,8 @@ no_text_fault : (events : List Event) (claimed : Claimed) (fault : TextFault) �
 no_text_fault events claimed fault written said (inl first) = histories.text_has_no_fault 0 EndOfInput events (verdict_text claimed) fault written first
 no_text_fault events claimed fault written said (inr after) =
     let same = histories.texts_agree events after.events (verdict_text claimed) after.rest written after.history after.front in
-    verdict_texts.text_has_no_fault (length after.events + 2) claimed fault said (subst (λ rest. IsVerdictTextFault (length after.events + 2) EndOfInput rest fault) (sym same.1) after.after)
+    verdict_texts.text_has_no_fault (length after.events + 2) claimed fault said
+        (subst (λ rest. IsVerdictTextFault (length after.events + 2) EndOfInput rest fault) (sym same.1) after.after)
 
 only_memory : (events : List Event) (claimed : Claimed) (fault : TextFault) → HasHistoryText events → HasVerdictText claimed
     → IsFaultOfClaimInput (input_of (history_text events ++ verdict_text claimed)) fault → answer_of_text_fault fault ≡ memory_fault
@@ -87,7 +89,8 @@ only_memory events claimed text.Cut written said is = absurd (no_text_fault even
 only_memory events claimed text.Trailing written said is = absurd (no_text_fault events claimed text.Trailing written said is)
 
 -- what is answered of a claim that is so
-true_is_valid : (claim : ClaimOnEvents) (answer : Answer) → IsCompleteHistory claim.events → IsTrueClaim (operations_of claim.events) claim.claimed → AnswersOrNoMemory Verifies claim answer
+true_is_valid : (claim : ClaimOnEvents) (answer : Answer) → IsCompleteHistory claim.events → IsTrueClaim (operations_of claim.events) claim.claimed
+    → AnswersOrNoMemory Verifies claim answer
     → IsValidOrNoMemory answer
 true_is_valid claim answer complete holds (inl (inl faulty)) = absurd (faulty.known (complete_has_no_fault claim.events faulty.fault faulty.first complete))
 true_is_valid claim answer complete holds (inl (inr is)) = inl (is.is ∙ ap (λ valid. verified valid) (is.right.1 holds))
@@ -99,15 +102,19 @@ pub written_is_valid : (events : List Event) (claimed : Claimed) (answer : Answe
 written_is_valid events claimed answer is (inl read) =
     let said = claim_is_written events claimed is in
     let whole = read.input_of.whole in
-    let parts = histories.texts_agree events read.value.events (verdict_text claimed) (verdict_text read.value.claimed) is.history read.input_of.history whole.bytes in
+    let parts = histories.texts_agree events read.value.events (verdict_text claimed)
+        (verdict_text read.value.claimed) is.history read.input_of.history whole.bytes in
     let claims_same = verdict_texts.texts_agree claimed read.value.claimed said read.input_of.verdict parts.1 in
     let complete = subst IsCompleteHistory parts.0 is.complete in
-    let holds = subst (λ c. IsTrueClaim (operations_of read.value.events) c) claims_same (subst (λ es. IsTrueClaim (operations_of es) claimed) parts.0 (claim_is_true events claimed is)) in
+    let holds = subst (λ c. IsTrueClaim (operations_of read.value.events) c) claims_same
+        (subst (λ es. IsTrueClaim (operations_of es) claimed) parts.0 (claim_is_true events claimed is)) in
     true_is_valid read.value answer complete holds read.answered
-written_is_valid events claimed answer is (inr faulty) = inr (faulty.is ∙ only_memory events claimed faulty.fault is.history (claim_is_written events claimed is) faulty.first)
+written_is_valid events claimed answer is (inr faulty) = inr (faulty.is
+    ∙ only_memory events claimed faulty.fault is.history (claim_is_written events claimed is) faulty.first)
 
 -- what is judged is the verdict on the events of the input
-judged_is_written : (input : Ahead) (claimed : Claimed) → AnswersFor IsHistoryOf IsFaultOfHistoryInput Judges input (judged claimed) → (events : List Event) × (input.bytes ≡ history_text events) × IsWritten events claimed
+judged_is_written : (input : Ahead) (claimed : Claimed) → AnswersFor IsHistoryOf IsFaultOfHistoryInput Judges input (judged claimed)
+    → (events : List Event) × (input.bytes ≡ history_text events) × IsWritten events claimed
 judged_is_written input claimed (inl read) = by_answer read.answered
   where
     by_answer : AnswersOrNoMemory Judges read.value (judged claimed) → (events : List Event) × (input.bytes ≡ history_text events) × IsWritten events claimed
@@ -115,7 +122,8 @@ judged_is_written input claimed (inl read) = by_answer read.answered
     by_answer (inl (inl faulty)) = absurd (judged_is_no_history_fault claimed faulty.fault faulty.is)
     by_answer (inl (inr is)) =
         let same : claimed ≡ is.claimed = one_claim is.claimed is.is in
-        (read.value, read.input_of.1.bytes, record { complete = is.complete; history = read.input_of.0; right = subst (IsVerdictClaim (operations_of read.value)) (sym same) is.right })
+        (read.value, read.input_of.1.bytes, record { complete = is.complete; history = read.input_of.0; right =
+            subst (IsVerdictClaim (operations_of read.value)) (sym same) is.right })
       where
         one_claim : (other : Claimed) → judged claimed ≡ judged other → claimed ≡ other
         one_claim other e = cc

@@ -2,9 +2,9 @@
 use Rattle.std.specs.Prelude.{ℕ, List, ◌++◌, Bool, true, false, codes, decimal}
 use Rattle.std.specs.List.{flat_map}
 use Rattle.event_records.specs.declared.event.Event.{Event}
-use Rattle.history_text.specs.declared.fault.TextFault.{TextFault}
-use Rattle.history_text.specs.declared.fault.TextFault.TheVariants as text
-use Rattle.history_text.specs.Lines.{line}
+use Rattle.text_lines.specs.declared.fault.TextFault.{TextFault}
+use Rattle.text_lines.specs.declared.fault.TextFault.TheVariants as text
+use Rattle.text_lines.specs.Lines.{line}
 use Rattle.history_text.specs.Histories.{history_text}
 use Rattle.history_text.specs.Verdicts.{verdict_text}
 use Rattle.history_merge.specs.declared.fault.HistoryFault.{HistoryFault}

@@ -2,7 +2,7 @@
 use Rattle.std.specs.Prelude.{◌≡◌, ℕ, List, ◌++◌, ◌⊎◌, true}
 use Rattle.event_records.specs.declared.event.Event.{Event}
 use Rattle.verdicts.specs.declared.verifying.Claimed.{Claimed}
-use Rattle.history_text.specs.Input.{Ahead, EndOfInput}
+use Rattle.text_lines.specs.Input.{Ahead, EndOfInput}
 use Rattle.command_words.specs.Commands.{check, shrink, verify}
 use Rattle.history_text.specs.Histories.{history_text}
 use Rattle.commands.specs.Answers.{Answer, judged, shown, verified, memory_fault, answer_text}

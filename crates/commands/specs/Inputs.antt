@@ -2,14 +2,14 @@
 use Rattle.std.specs.Prelude.{◌≡◌, ℕ, ◌+◌, List, ◌∷◌, ◌++◌, ◌⊎◌, length}
 use Rattle.event_records.specs.declared.event.Event.{Event}
 use Rattle.verdicts.specs.declared.verifying.Claimed.{Claimed}
-use Rattle.history_text.specs.declared.fault.TextFault.{TextFault}
-use Rattle.history_text.specs.declared.fault.TextFault.TheVariants as text
+use Rattle.text_lines.specs.declared.fault.TextFault.{TextFault}
+use Rattle.text_lines.specs.declared.fault.TextFault.TheVariants as text
 use Rattle.history_text.specs.declared.schedule.Schedule.{Schedule}
 use Rattle.history_text.specs.Histories.{history_text, HasHistoryText, IsHistoryTextFault, NoRoomFor}
 use Rattle.history_text.specs.Schedules.{schedule_text, HasScheduleText, IsScheduleTextFault, NoRoomForSchedule}
 use Rattle.history_text.specs.Verdicts.{verdict_text}
 use Rattle.history_text.specs.Claims.{HasVerdictText, IsVerdictTextFault, NoRoomForVerdict}
-use Rattle.history_text.specs.Input.{Ahead, Ending, EndOfInput, Failure}
+use Rattle.text_lines.specs.Input.{Ahead, Ending, EndOfInput, Failure}
 
 -- ---- one text
 
@@ -35,7 +35,8 @@ IsFaultAfter written input fault = ((fault ≡ text.Trailing) × GoesOnAfter wri
 
 -- the fault of input that should be the text of one of these values: that of the text, or of what comes after it;
 -- want of memory says that a line without fault was there
-abbrev pub IsFaultOfOneText : {A : Type 0} → (A → Type 0) → (A → List ℕ) → (Ending → List ℕ → TextFault → Type 0) → (List ℕ → Type 0) → Ahead → TextFault → Type 0
+abbrev pub IsFaultOfOneText : {A : Type 0} → (A → Type 0) → (A → List ℕ) → (Ending → List ℕ → TextFault → Type 0) → (List ℕ → Type 0) → Ahead
+    → TextFault → Type 0
 IsFaultOfOneText HasText text_of IsTextFault LacksRoom input text.Memory = LacksRoom input.bytes
 IsFaultOfOneText {A} HasText text_of IsTextFault LacksRoom input fault =
     IsTextFault input.ending input.bytes fault ⊎ ((value : A) × HasText value × IsFaultAfter (text_of value) input fault)

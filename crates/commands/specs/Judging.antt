@@ -24,11 +24,12 @@ use Rattle.history_text.specs.Verdicts.{claim_of}
 use Rattle.history_text.specs.Claims.{operations_in}
 use Rattle.drawing.specs.Terminal.{terminal_picture}
 use Rattle.drawing.specs.declared.columns.TheConstants.{MOST_DRAWN}
-use Rattle.history_text.specs.declared.fault.TextFault.{TextFault}
+use Rattle.text_lines.specs.declared.fault.TextFault.{TextFault}
 use Rattle.history_text.specs.declared.schedule.Schedule.{Schedule}
-use Rattle.history_text.specs.Input.{Ahead}
+use Rattle.text_lines.specs.Input.{Ahead}
 use Rattle.commands.specs.Inputs.{ClaimOnEvents}
-use Rattle.commands.specs.Answers.{Answer, judged, shown, left_open, played, verified, drawn, refused_size, memory_fault, answer_of_text_fault, answer_of_history_fault}
+use Rattle.commands.specs.Answers.{Answer, judged, shown, left_open, played, verified, drawn, refused_size, memory_fault, answer_of_text_fault}
+use Rattle.commands.specs.Answers.{answer_of_history_fault}
 
 -- ---- events
 

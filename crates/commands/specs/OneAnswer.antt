@@ -1,6 +1,6 @@
 -- An input has one answer.
 use Rattle.std.specs.Prelude.{◌≡◌, ◌⊎◌}
-use Rattle.history_text.specs.Input.{Ahead}
+use Rattle.text_lines.specs.Input.{Ahead}
 use Rattle.command_words.specs.Commands.{Request}
 use Rattle.commands.specs.Answers.{Answer, memory_fault}
 use Rattle.commands.specs.Running.{AnswersOf}

@@ -5,8 +5,10 @@ use Rattle.history_merge.specs.Operations.{operations_of}
 use Rattle.verdicts.specs.declared.verdict.Verdict.{Verdict}
 use Rattle.history_text.specs.Verdicts.{claim_of, places_of}
 use Rattle.commands.specs.declared.outcome.Outcome.{Outcome}
-use Rattle.commands.specs.declared.outcome.Outcome.TheVariants.{Judged, Shown, LeftOpen, Played, Verified, Drawn, TextRefused, HistoryRefused, SizeRefused, QueueRefused, LimitRefused, ReadFault, MemoryFault, RunFailed}
-use Rattle.commands.specs.Answers.{Answer, judged, shown, left_open, played, verified, drawn, refused_text, refused_history, refused_size, refused_queue, refused_limit, read_fault, memory_fault, run_fault}
+use Rattle.commands.specs.declared.outcome.Outcome.TheVariants.{Judged, Shown, LeftOpen, Played, Verified, Drawn, TextRefused, HistoryRefused}
+use Rattle.commands.specs.declared.outcome.Outcome.TheVariants.{SizeRefused, QueueRefused, LimitRefused, ReadFault, MemoryFault, RunFailed}
+use Rattle.commands.specs.Answers.{Answer, judged, shown, left_open, played, verified, drawn, refused_text, refused_history, refused_size}
+use Rattle.commands.specs.Answers.{refused_queue, refused_limit, read_fault, memory_fault, run_fault}
 
 -- the answer that an outcome prints: of a verdict what it claims, of the rest the same
 abbrev pub answer_of : Outcome → Answer

@@ -1,9 +1,9 @@
 -- What a run of the program leaves behind.
 use Rattle.std.specs.Prelude.{◌≡◌, ◌≢◌, ℕ, Bool, true, false, List, Option, ◌⊎◌, codes}
 use Rattle.std.specs.Io.KnownBytes.{Appends}
-use Rattle.history_text.specs.Input.{Ahead}
-use Rattle.history_text.specs.Lines.{line}
-use Rattle.history_text.specs.Writing.{AppendsFront, Asked, IsRefused, IsFlushed}
+use Rattle.text_lines.specs.Input.{Ahead}
+use Rattle.text_lines.specs.Lines.{line}
+use Rattle.text_lines.specs.Writing.{AppendsFront, Asked, IsRefused, IsFlushed}
 use Rattle.clap.specs.Kinds.{Kinds, IsAmong}
 use Rattle.clap.specs.declared.error.kind.ErrorKind.{ErrorKind}
 use Rattle.clap.specs.declared.error.kind.ErrorKind.TheVariants as kind

@@ -17,4 +17,5 @@ name_of (Losing queue) = codes "losing"
 
 -- the names on the program's shelf, in their order
 abbrev pub built_in_names : List (List ℕ)
-built_in_names = codes "locked" ∷ codes "two-lock" ∷ codes "array" ∷ codes "seg" ∷ codes "lifo" ∷ codes "doubling" ∷ codes "inventing" ∷ codes "shy" ∷ codes "losing" ∷ []
+built_in_names = codes "locked" ∷ codes "two-lock" ∷ codes "array" ∷ codes "seg" ∷ codes "lifo" ∷ codes "doubling" ∷ codes "inventing" ∷ codes "shy"
+    ∷ codes "losing" ∷ []

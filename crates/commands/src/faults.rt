@@ -1,8 +1,8 @@
 //! Faults of an input as outcomes, and how they are printed.
 ghost use Rattle.std.specs.Prelude.{◌≡◌, ◌++◌, ◌||◌, OnOk, OnErr, codes, decimal, is_err};
 ghost use Rattle.std.specs.Io.KnownBytes.{Appends};
-ghost use Rattle.history_text.specs.Lines.{line};
-ghost use Rattle.history_text.specs.Writing.{AppendsFront, IsWritten, IsRefused};
+ghost use Rattle.text_lines.specs.Lines.{line};
+ghost use Rattle.text_lines.specs.Writing.{AppendsFront, IsWritten, IsRefused};
 ghost use Rattle.commands.specs.Answers.{answer_of_text_fault, answer_of_history_fault, text_fault_name, history_fault_name, run_fault_name};
 ghost use Rattle.commands.specs.Outcomes.{answer_of, NamesPlaces};
 

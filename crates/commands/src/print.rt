@@ -2,9 +2,9 @@
 ghost use Rattle.std.specs.Prelude.{◌≡◌, ◌++◌, ◌||◌, List, OnOk, OnErr, is_err, false, decimal};
 ghost use Rattle.std.specs.Io.KnownBytes.{Appends};
 ghost use Rattle.history_merge.specs.declared.operation.Operation.{Operation};
-ghost use Rattle.history_text.specs.Lines.{line};
+ghost use Rattle.text_lines.specs.Lines.{line};
 ghost use Rattle.history_text.specs.Verdicts.{claim_of};
-ghost use Rattle.history_text.specs.Writing.{AppendsFront, IsWritten, IsRefused};
+ghost use Rattle.text_lines.specs.Writing.{AppendsFront, IsWritten, IsRefused};
 ghost use Rattle.commands.specs.Answers.{answer_text, answer_status, claim_status};
 ghost use Rattle.commands.specs.Outcomes.{answer_of, NamesPlaces};
 ghost use Rattle.commands.specs.Running.{Prints, PrintsAnswer, WritesAndFlushes};

@@ -3,9 +3,9 @@ ghost use Rattle.std.specs.Prelude.{◌≡◌, ◌++◌, ◌||◌, OnOk, OnErr, 
 ghost use Rattle.std.specs.Io.KnownBytes.{Appends};
 ghost use Rattle.history_merge.specs.Operations.{operations_of};
 ghost use Rattle.history_text.specs.Histories.{history_text};
-ghost use Rattle.history_text.specs.Lines.{line};
+ghost use Rattle.text_lines.specs.Lines.{line};
 ghost use Rattle.history_text.specs.Verdicts.{claim_of, verdict_text};
-ghost use Rattle.history_text.specs.Writing.{AppendsFront, IsWritten, IsRefused};
+ghost use Rattle.text_lines.specs.Writing.{AppendsFront, IsWritten, IsRefused};
 ghost use Rattle.commands.specs.Answers.{reason_name, rejection_line, rejection_lines};
 ghost use Rattle.commands.specs.Outcomes.{IsWithin};
 

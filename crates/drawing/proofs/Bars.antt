@@ -7,7 +7,8 @@ use Rattle.event_records.specs.declared.event.Event.{Event}
 use Rattle.history_merge.specs.declared.operation.Operation.{Operation}
 use Rattle.history_merge.specs.Complete.{IsCompleteHistory, AreComplete}
 use Rattle.history_merge.specs.Operations.{operations_of}
-use Rattle.history_merge.proofs.Distinct.{contains_cons, not_in_none, contains_at, pairs_at, one_at, found_first, IsTraced, traced, same_call, return_differs_from_call}
+use Rattle.history_merge.proofs.Distinct.{contains_cons, not_in_none, contains_at, pairs_at, one_at, found_first, IsTraced, traced, same_call}
+use Rattle.history_merge.proofs.Distinct.{return_differs_from_call}
 use Rattle.drawing.specs.Layout.{is_under_way}
 use Rattle.drawing.specs.Laws.{BarsAreOfOperations, NoOtherBars}
 
@@ -45,7 +46,8 @@ module _ (events : List Event) (complete : IsCompleteHistory events) where
   all = (events, complete, refl)
 
   -- an operation of a thread that is called after another is so after its return
-  not_both : (x y : Operation) (tx : IsTraced events x) (ty : IsTraced events y) (c : ℕ) → Contains (operations_of events) x → Contains (operations_of events) y → x.thread ≡ y.thread → tx.called_at < ty.called_at → y.call ≤ c → c ≤ x.ret → ⊥
+  not_both : (x y : Operation) (tx : IsTraced events x) (ty : IsTraced events y) (c : ℕ) → Contains (operations_of events) x
+      → Contains (operations_of events) y → x.thread ≡ y.thread → tx.called_at < ty.called_at → y.call ≤ c → c ≤ x.ret → ⊥
   not_both x y tx ty c in_x in_y threads below from to = elim (cases_lt ty.called_at tx.returned_at) [
     | inl less ↦
         let apart = tx.none_between ty.called_at ty.call below less ty.at_call in
@@ -54,7 +56,8 @@ module _ (events : List Event) (complete : IsCompleteHistory events) where
         cc
     | inr above ↦ elim (cases_lt tx.returned_at ty.called_at) [
       | inl before ↦
-          let less = pairs_at (λ e r. e.ticket < r.ticket) events tx.returned_at ty.called_at tx.answer ty.call complete.tickets_rise before tx.at_return ty.at_call in
+          let less = pairs_at (λ e r. e.ticket < r.ticket) events tx.returned_at ty.called_at tx.answer ty.call complete.tickets_rise before
+              tx.at_return ty.at_call in
           let order : x.ret < y.call = omega (arith, tx.made.returned, ty.made.called) in
           omega arith
       | inr not_before ↦
@@ -65,7 +68,8 @@ module _ (events : List Event) (complete : IsCompleteHistory events) where
   ]
 
   -- one operation of a thread at most is under way at a ticket
-  one_bar : (x y : Operation) (c : ℕ) → Contains (operations_of events) x → Contains (operations_of events) y → x.thread ≡ y.thread → x.call ≤ c → c ≤ x.ret → y.call ≤ c → c ≤ y.ret → x ≡ y
+  one_bar : (x y : Operation) (c : ℕ) → Contains (operations_of events) x → Contains (operations_of events) y → x.thread ≡ y.thread → x.call ≤ c
+      → c ≤ x.ret → y.call ≤ c → c ≤ y.ret → x ≡ y
   one_bar x y c in_x in_y threads x_from x_to y_from y_to =
       let tx = traced events x in_x in
       let ty = traced events y in_y in

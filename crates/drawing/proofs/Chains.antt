@@ -7,7 +7,8 @@ use Rattle.history_merge.specs.declared.operation.Operation.{Operation}
 use Rattle.drawing.specs.Captions.{one_of_cover, cover_caption}
 
 -- two pieces in turn
-pub then_more : {A T E : Type 0} (r : Result T E) (first mid last a b : List A) → mid ≡ first ++ a → OnOk r (last ≡ mid ++ b) → OnOk r (last ≡ first ++ (a ++ b))
+pub then_more : {A T E : Type 0} (r : Result T E) (first mid last a b : List A) → mid ≡ first ++ a → OnOk r (last ≡ mid ++ b)
+    → OnOk r (last ≡ first ++ (a ++ b))
 then_more (Ok x) first mid last a b h k = k ∙ ap (λ (t : List _). t ++ b) h ∙ append_assoc first a b
 then_more (Err e) first mid last a b h k = tt
 
@@ -17,7 +18,9 @@ same_more (Ok x) first last a b e h = h ∙ ap (λ (t : List _). first ++ t) e
 same_more (Err x) first last a b e h = tt
 
 -- the first value of a cover, and the rest
-pub cover_more : (number : ℕ) (lines : List Operation) (d e : Operation) → 2 ≤ length lines → one_of_cover number (get_or lines 0 d) (get_or lines 1 e) ++ cover_caption (number + 2) (take (length lines - 2) (drop 2 lines)) ≡ cover_caption number lines
+pub cover_more : (number : ℕ) (lines : List Operation) (d e : Operation) → 2 ≤ length lines
+    → one_of_cover number (get_or lines 0 d) (get_or lines 1 e) ++ cover_caption (number + 2)
+    (take (length lines - 2) (drop 2 lines)) ≡ cover_caption number lines
 cover_more number [] d e h = absurd (omega arith)
 cover_more number (x ∷ []) d e h = absurd (omega arith)
 cover_more number (x ∷ y ∷ rest) d e h =

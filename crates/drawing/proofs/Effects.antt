@@ -1,5 +1,6 @@
 -- The effects of a yes, and the numbers of a claim.
-use Rattle.std.proofs.Common.{◌≡◌, ℕ, zero, suc, ◌+◌, ◌<◌, ◌≤◌, inl, inr, max, Bool, true, false, List, [], ◌∷◌, length, take, get_or, Some, None, refl, sym, ap, subst, ◌∙◌, arith, add-one, cond, eq-eqb, eqb-true}
+use Rattle.std.proofs.Common.{◌≡◌, ℕ, zero, suc, ◌+◌, ◌<◌, ◌≤◌, inl, inr, max, Bool, true, false, List, [], ◌∷◌, length, take, get_or, Some, None}
+use Rattle.std.proofs.Common.{refl, sym, ap, subst, ◌∙◌, arith, add-one, cond, eq-eqb, eqb-true}
 use Rattle.std.specs.Prelude.{Contains, fold, nat_eq, slice_get}
 use Rattle.std.specs.List.{position, position_or_len, find}
 use Rattle.std.proofs.lemmas.List.Folds.{find_at}
@@ -45,11 +46,13 @@ effects_rise order i j le = longer 0 order (i + 1) (j + 1) (omega arith)
 -- the call of the operation at a place is at most the point there
 call_at_most : (g : ℕ) (order : List Operation) (i : ℕ) (o : Operation) → slice_get order i ≡ Some o → o.call ≤ greatest_from g (take (suc i) order)
 call_at_most g [] i o at = absurd (cc)
-call_at_most g (x ∷ rest) zero o at = let same : x ≡ o = cc in let more = from_rises (max g x.call) (take zero rest) in let e : x.call ≡ o.call = ap (λ y. y.call) same in omega arith
+call_at_most g (x ∷ rest) zero o at = let same : x ≡ o = cc in let more = from_rises (max g x.call) (take zero rest) in let e : x.call ≡ o.call =
+    ap (λ y. y.call) same in omega arith
 call_at_most g (x ∷ rest) (suc i) o at = call_at_most (max g x.call) rest i o at
 
 -- the greatest call is below n, where each call is
-all_below : (g n : ℕ) (order : List Operation) (k : ℕ) → g < n → ((j : ℕ) (o : Operation) → j < k → slice_get order j ≡ Some o → o.call < n) → greatest_from g (take k order) < n
+all_below : (g n : ℕ) (order : List Operation) (k : ℕ) → g < n → ((j : ℕ) (o : Operation) → j < k → slice_get order j ≡ Some o → o.call < n)
+    → greatest_from g (take k order) < n
 all_below g n order zero below each = below
 all_below g n [] (suc k) below each = below
 all_below g n (x ∷ rest) (suc k) below each =
@@ -63,7 +66,8 @@ effects_are_in_bars events order i o complete legal at = (called, below)
     all = (events, complete, refl)
 
     listed : (x : Operation) (j : ℕ) → slice_get order j ≡ Some x → Contains (operations_of events) x
-    listed x j here = Contains-permutation order (operations_of events) x (IsPermutation-sym (operations_of events) order legal.holds_each_once) (contains_at order j x here)
+    listed x j here = Contains-permutation order (operations_of events) x (IsPermutation-sym (operations_of events) order legal.holds_each_once)
+        (contains_at order j x here)
 
     called : o.call ≤ point order i
     called = rw add-one (call_at_most 0 order i o at)
@@ -98,8 +102,10 @@ place_if lines p i at = join (nat_lt (position_or_len p lines) (length lines)) r
         let found_here : find p lines ≡ Some x = find_at p lines ∙ ap (slice_get lines) (sym is) ∙ here in
         (x, here, (found_first p lines x found_here).passes)
 
-    join : (b : Bool) → nat_lt (position_or_len p lines) (length lines) ≡ b → cond b (Some (position_or_len p lines)) None ≡ Some i → (x : Operation) × (slice_get lines i ≡ Some x) × (p x ≡ true)
-    join true is here = let same : position_or_len p lines ≡ i = cc in one i (sym same) (let less : position_or_len p lines < length lines = ltb-true _ _ is in omega arith)
+    join : (b : Bool) → nat_lt (position_or_len p lines) (length lines) ≡ b → cond b (Some (position_or_len p lines)) None ≡ Some i
+        → (x : Operation) × (slice_get lines i ≡ Some x) × (p x ≡ true)
+    join true is here = let same : position_or_len p lines ≡ i = cc in
+        one i (sym same) (let less : position_or_len p lines < length lines = ltb-true _ _ is in omega arith)
     join false is here = cc
 
 -- where a line passes, there is a first place at which one does

@@ -1,5 +1,6 @@
 -- What a loop adds with one more element.
-use Rattle.std.proofs.Common.{◌≡◌, ℕ, zero, suc, ◌+◌, ◌<◌, List, [], ◌∷◌, ◌++◌, map, length, take, get_or, ap, sym, ◌∙◌, add-one, zero-add, append-nil, append_assoc, arith, max, length-take-le, cond, Bool, true, false, drop, Some, refl}
+use Rattle.std.proofs.Common.{◌≡◌, ℕ, zero, suc, ◌+◌, ◌<◌, List, [], ◌∷◌, ◌++◌, map, length, take, get_or, ap, sym, ◌∙◌, add-one, zero-add}
+use Rattle.std.proofs.Common.{append-nil, append_assoc, arith, max, length-take-le, cond, Bool, true, false, drop, Some, refl}
 use Rattle.std.specs.List.{range_with_len, flat_map, filter, find, enumerate_from}
 use Rattle.std.proofs.lemmas.List.{map-append, take_more, at_drop_more, map_more}
 use Rattle.std.proofs.lemmas.List.Elements.{filter-append}
@@ -27,15 +28,19 @@ map_range_more f n = ap (map f) (range_more n) ∙ map-append f (range_with_len 
 -- the pieces of one number more
 pub flat_map_range_more : {A : Type 0} (f : ℕ → List A) (n : ℕ) → flat_map f (range_with_len 0 (n + 1)) ≡ flat_map f (range_with_len 0 n) ++ f n
 flat_map_range_more f n =
-    ap (flat_map f) (range_more n) ∙ flat_map-append f (range_with_len 0 n) (n ∷ []) ∙ ap (λ (r : List _). flat_map f (range_with_len 0 n) ++ r) (append-nil (f n))
+    ap (flat_map f) (range_more n) ∙ flat_map-append f (range_with_len 0 n) (n ∷ [])
+        ∙ ap (λ (r : List _). flat_map f (range_with_len 0 n) ++ r) (append-nil (f n))
 
 -- the pieces of one element more
-pub flat_map_more : {X A : Type 0} (f : X → List A) (xs : List X) (i : ℕ) (d : X) → i < length xs → flat_map f (take (i + 1) xs) ≡ flat_map f (take i xs) ++ f (get_or xs i d)
+pub flat_map_more : {X A : Type 0} (f : X → List A) (xs : List X) (i : ℕ) (d : X) → i < length xs
+    → flat_map f (take (i + 1) xs) ≡ flat_map f (take i xs) ++ f (get_or xs i d)
 flat_map_more f xs i d within =
-    ap (flat_map f) (take_more xs i d within) ∙ flat_map-append f (take i xs) (get_or xs i d ∷ []) ∙ ap (λ (r : List _). flat_map f (take i xs) ++ r) (append-nil (f (get_or xs i d)))
+    ap (flat_map f) (take_more xs i d within) ∙ flat_map-append f (take i xs) (get_or xs i d ∷ [])
+        ∙ ap (λ (r : List _). flat_map f (take i xs) ++ r) (append-nil (f (get_or xs i d)))
 
 -- what is found from one element on is that element, or is found from the next one on
-pub find_step : {X : Type 0} (p : X → Bool) (xs : List X) (i : ℕ) (d : X) → i < length xs → find p (drop i xs) ≡ cond (p (get_or xs i d)) (Some (get_or xs i d)) (find p (drop (i + 1) xs))
+pub find_step : {X : Type 0} (p : X → Bool) (xs : List X) (i : ℕ) (d : X) → i < length xs
+    → find p (drop i xs) ≡ cond (p (get_or xs i d)) (Some (get_or xs i d)) (find p (drop (i + 1) xs))
 find_step p xs i d within = at_drop_more (find p) xs i d within
 
 -- the threads that have events, with one thread more
@@ -55,7 +60,8 @@ unfolding threads_below
 threads_none events = refl
 
 -- the point of the next operation of an order
-pub point_more : (order : List Operation) (i : ℕ) (d : Operation) (greatest v : ℕ) → i < length order → greatest ≡ greatest_call (take i order) → v ≡ max greatest (get_or order i d).call → v ≡ point order i
+pub point_more : (order : List Operation) (i : ℕ) (d : Operation) (greatest v : ℕ) → i < length order → greatest ≡ greatest_call (take i order)
+    → v ≡ max greatest (get_or order i d).call → v ≡ point order i
 point_more order i d greatest v within so_far this =
     this ∙ ap (λ (g : ℕ). max g (get_or order i d).call) so_far ∙ sym (fold_more (λ (g : ℕ) (o : Operation). max g o.call) 0 order i d within)
 
@@ -66,15 +72,19 @@ enumerated-append a (y ∷ ys) x =
     ap (λ (r : List _). (a, y) ∷ r) (enumerated-append (a + 1) ys x ∙ ap (λ (i : ℕ). enumerate_from (a + 1) ys ++ (i, x) ∷ []) e)
 
 -- one element more, with its place
-pub enumerated_more : {X : Type 0} (xs : List X) (i : ℕ) (d : X) → i < length xs → enumerate_from 0 (take (i + 1) xs) ≡ enumerate_from 0 (take i xs) ++ (i, get_or xs i d) ∷ []
+pub enumerated_more : {X : Type 0} (xs : List X) (i : ℕ) (d : X) → i < length xs
+    → enumerate_from 0 (take (i + 1) xs) ≡ enumerate_from 0 (take i xs) ++ (i, get_or xs i d) ∷ []
 enumerated_more xs i d within =
     let e : 0 + length (take i xs) ≡ i = omega (arith, length-take-le i xs (omega arith)) in
-    ap (enumerate_from 0) (take_more xs i d within) ∙ enumerated-append 0 (take i xs) (get_or xs i d) ∙ ap (λ (k : ℕ). enumerate_from 0 (take i xs) ++ (k, get_or xs i d) ∷ []) e
+    ap (enumerate_from 0) (take_more xs i d within) ∙ enumerated-append 0 (take i xs) (get_or xs i d)
+        ∙ ap (λ (k : ℕ). enumerate_from 0 (take i xs) ++ (k, get_or xs i d) ∷ []) e
 
 -- the pieces of one element more, with its place
-pub flat_map_enumerated_more : {X A : Type 0} (f : ℕ × X → List A) (xs : List X) (i : ℕ) (d : X) → i < length xs → flat_map f (enumerate_from 0 (take (i + 1) xs)) ≡ flat_map f (enumerate_from 0 (take i xs)) ++ f (i, get_or xs i d)
+pub flat_map_enumerated_more : {X A : Type 0} (f : ℕ × X → List A) (xs : List X) (i : ℕ) (d : X) → i < length xs
+    → flat_map f (enumerate_from 0 (take (i + 1) xs)) ≡ flat_map f (enumerate_from 0 (take i xs)) ++ f (i, get_or xs i d)
 flat_map_enumerated_more f xs i d within =
-    ap (flat_map f) (enumerated_more xs i d within) ∙ flat_map-append f (enumerate_from 0 (take i xs)) ((i, get_or xs i d) ∷ []) ∙ ap (λ (r : List _). flat_map f (enumerate_from 0 (take i xs)) ++ r) (append-nil (f (i, get_or xs i d)))
+    ap (flat_map f) (enumerated_more xs i d within) ∙ flat_map-append f (enumerate_from 0 (take i xs)) ((i, get_or xs i d) ∷ [])
+        ∙ ap (λ (r : List _). flat_map f (enumerate_from 0 (take i xs)) ++ r) (append-nil (f (i, get_or xs i d)))
 
 -- ---- words of a line
 
@@ -87,33 +97,45 @@ pub words_append : (line : List ℕ) (xs ys : List Word) → with_words line (xs
 words_append line xs ys = fold-append placed line xs ys
 
 -- the words of one element more
-pub words_more : {X : Type 0} (f : X → Word) (line : List ℕ) (xs : List X) (i : ℕ) (d : X) → i < length xs → with_words line (map f (take (i + 1) xs)) ≡ placed (with_words line (map f (take i xs))) (f (get_or xs i d))
+pub words_more : {X : Type 0} (f : X → Word) (line : List ℕ) (xs : List X) (i : ℕ) (d : X) → i < length xs
+    → with_words line (map f (take (i + 1) xs)) ≡ placed (with_words line (map f (take i xs))) (f (get_or xs i d))
 words_more f line xs i d within = ap (with_words line) (map_more f xs i d within) ∙ words_push line (map f (take i xs)) (f (get_or xs i d))
 
 -- the words of one element more, with its place
-pub words_enumerated_more : {X : Type 0} (f : ℕ × X → Word) (line : List ℕ) (xs : List X) (i : ℕ) (d : X) → i < length xs → with_words line (map f (enumerate_from 0 (take (i + 1) xs))) ≡ placed (with_words line (map f (enumerate_from 0 (take i xs)))) (f (i, get_or xs i d))
+pub words_enumerated_more : {X : Type 0} (f : ℕ × X → Word) (line : List ℕ) (xs : List X) (i : ℕ) (d : X) → i < length xs
+    → with_words line (map f (enumerate_from 0 (take (i + 1) xs))) ≡ placed (with_words line (map f (enumerate_from 0 (take i xs)))) (f (i, get_or xs i d))
 words_enumerated_more f line xs i d within =
-    ap (λ (r : List _). with_words line (map f r)) (enumerated_more xs i d within) ∙ ap (with_words line) (map-append f (enumerate_from 0 (take i xs)) ((i, get_or xs i d) ∷ [])) ∙ words_push line (map f (enumerate_from 0 (take i xs))) (f (i, get_or xs i d))
+    ap (λ (r : List _). with_words line (map f r)) (enumerated_more xs i d within)
+        ∙ ap (with_words line) (map-append f (enumerate_from 0 (take i xs)) ((i, get_or xs i d) ∷ []))
+        ∙ words_push line (map f (enumerate_from 0 (take i xs))) (f (i, get_or xs i d))
 
 -- the words of one number more
-pub words_range_more : (f : ℕ → Word) (line : List ℕ) (n : ℕ) → with_words line (map f (range_with_len 0 (n + 1))) ≡ placed (with_words line (map f (range_with_len 0 n))) (f n)
+pub words_range_more : (f : ℕ → Word) (line : List ℕ) (n : ℕ)
+    → with_words line (map f (range_with_len 0 (n + 1))) ≡ placed (with_words line (map f (range_with_len 0 n))) (f n)
 words_range_more f line n = ap (with_words line) (map_range_more f n) ∙ words_push line (map f (range_with_len 0 n)) (f n)
 
 -- a word of one element more, with its place, was added
-pub words_enumerated_step : {X : Type 0} (f : ℕ × X → Word) (line : List ℕ) (xs : List X) (i : ℕ) (d : X) (old new : List ℕ) → i < length xs → old ≡ with_words line (map f (enumerate_from 0 (take i xs))) → new ≡ placed old (f (i, get_or xs i d)) → new ≡ with_words line (map f (enumerate_from 0 (take (i + 1) xs)))
+pub words_enumerated_step : {X : Type 0} (f : ℕ × X → Word) (line : List ℕ) (xs : List X) (i : ℕ) (d : X) (old new : List ℕ) → i < length xs
+    → old ≡ with_words line (map f (enumerate_from 0 (take i xs))) → new ≡ placed old (f (i, get_or xs i d))
+    → new ≡ with_words line (map f (enumerate_from 0 (take (i + 1) xs)))
 words_enumerated_step f line xs i d old new within before now =
     now ∙ ap (λ (l : List ℕ). placed l (f (i, get_or xs i d))) before ∙ sym (words_enumerated_more f line xs i d within)
 
 -- a piece of one element more, with its place, was added
-pub flat_map_enumerated_step : {X : Type 0} (f : ℕ × X → List ℕ) (text : List ℕ) (xs : List X) (i : ℕ) (d : X) (old new : List ℕ) → i < length xs → old ≡ text ++ flat_map f (enumerate_from 0 (take i xs)) → new ≡ old ++ f (i, get_or xs i d) → new ≡ text ++ flat_map f (enumerate_from 0 (take (i + 1) xs))
+pub flat_map_enumerated_step : {X : Type 0} (f : ℕ × X → List ℕ) (text : List ℕ) (xs : List X) (i : ℕ) (d : X) (old new : List ℕ) → i < length xs
+    → old ≡ text ++ flat_map f (enumerate_from 0 (take i xs)) → new ≡ old ++ f (i, get_or xs i d)
+    → new ≡ text ++ flat_map f (enumerate_from 0 (take (i + 1) xs))
 flat_map_enumerated_step f text xs i d old new within before now =
-    now ∙ ap (λ (t : List ℕ). t ++ f (i, get_or xs i d)) before ∙ append_assoc text _ _ ∙ ap (λ (t : List ℕ). text ++ t) (sym (flat_map_enumerated_more f xs i d within))
+    now ∙ ap (λ (t : List ℕ). t ++ f (i, get_or xs i d)) before ∙ append_assoc text _ _
+        ∙ ap (λ (t : List ℕ). text ++ t) (sym (flat_map_enumerated_more f xs i d within))
 
 -- a piece of one element more was added
-pub flat_map_step : {X : Type 0} (f : X → List ℕ) (text : List ℕ) (xs : List X) (i : ℕ) (d : X) (old new : List ℕ) → i < length xs → old ≡ text ++ flat_map f (take i xs) → new ≡ old ++ f (get_or xs i d) → new ≡ text ++ flat_map f (take (i + 1) xs)
+pub flat_map_step : {X : Type 0} (f : X → List ℕ) (text : List ℕ) (xs : List X) (i : ℕ) (d : X) (old new : List ℕ) → i < length xs
+    → old ≡ text ++ flat_map f (take i xs) → new ≡ old ++ f (get_or xs i d) → new ≡ text ++ flat_map f (take (i + 1) xs)
 flat_map_step f text xs i d old new within before now =
     now ∙ ap (λ (t : List ℕ). t ++ f (get_or xs i d)) before ∙ append_assoc text _ _ ∙ ap (λ (t : List ℕ). text ++ t) (sym (flat_map_more f xs i d within))
 
 -- a word of one number more was added
-pub words_range_step : (f : ℕ → Word) (line : List ℕ) (n : ℕ) (old new : List ℕ) → old ≡ with_words line (map f (range_with_len 0 n)) → new ≡ placed old (f n) → new ≡ with_words line (map f (range_with_len 0 (n + 1)))
+pub words_range_step : (f : ℕ → Word) (line : List ℕ) (n : ℕ) (old new : List ℕ) → old ≡ with_words line (map f (range_with_len 0 n))
+    → new ≡ placed old (f n) → new ≡ with_words line (map f (range_with_len 0 (n + 1)))
 words_range_step f line n old new before now = now ∙ ap (λ (l : List ℕ). placed l (f n)) before ∙ sym (words_range_more f line n)

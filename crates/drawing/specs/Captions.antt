@@ -7,7 +7,7 @@ use Rattle.history_merge.specs.declared.operation.OpKind.TheVariants as kind
 use Rattle.verdicts.specs.declared.verifying.Claimed.{Claimed}
 use Rattle.verdicts.specs.declared.verifying.Claimed.TheVariants.{Yes, No}
 use Rattle.verdicts.specs.declared.verifying.ViolationKind.TheVariants.{VFresh, VRepeat, VOrd, VWit}
-use Rattle.history_text.specs.Lines.{line}
+use Rattle.text_lines.specs.Lines.{line}
 use Rattle.drawing.specs.Bands.{value_of}
 
 -- what a picture shows, in a line

@@ -1,5 +1,6 @@
 -- Where things stand in a picture: lanes for threads, columns, numbers and points of effect.
-use Rattle.std.specs.Prelude.{ℕ, ◌+◌, ◌-◌, ◌*◌, max, ◌&&◌, nat_lt, nat_le, nat_eq, Bool, Option, Some, None, List, [], map, filter, find, count_by, length, take, decimal, slice_get, fold}
+use Rattle.std.specs.Prelude.{ℕ, ◌+◌, ◌-◌, ◌*◌, max, ◌&&◌, nat_lt, nat_le, nat_eq, Bool, Option, Some, None, List, [], map, filter, find, count_by}
+use Rattle.std.specs.Prelude.{length, take, decimal, slice_get, fold}
 use Rattle.std.specs.List.{list_any, range_with_len, position}
 use Rattle.event_records.specs.declared.event.Event.{Event}
 use Rattle.event_records.specs.declared.limits.TheConstants.{MAX_THREAD}
@@ -7,7 +8,7 @@ use Rattle.history_merge.specs.declared.operation.Operation.{Operation}
 use Rattle.history_merge.specs.declared.operation.OpKind.{OpKind}
 use Rattle.verdicts.specs.declared.verifying.Claimed.{Claimed}
 use Rattle.verdicts.specs.declared.verifying.Claimed.TheVariants.{Yes, No}
-use Rattle.history_text.specs.Lines.{spaced}
+use Rattle.text_lines.specs.Lines.{spaced}
 use Rattle.history_text.specs.Verdicts.{kind_fields}
 use Rattle.drawing.specs.declared.columns.Columns.{Columns}
 use Rattle.drawing.specs.declared.columns.Lane.{Lane}

@@ -9,7 +9,7 @@ use Rattle.history_merge.specs.Operations.{operations_of}
 use Rattle.verdicts.specs.declared.verifying.Claimed.{Claimed}
 use Rattle.verdicts.specs.declared.verifying.Claimed.TheVariants.{No}
 use Rattle.verdicts.specs.declared.verifying.ViolationKind.TheVariants.{VRepeat}
-use Rattle.history_text.specs.Lines.{line}
+use Rattle.text_lines.specs.Lines.{line}
 use Rattle.history_text.specs.Claims.{operations_in}
 use Rattle.drawing.specs.declared.columns.Columns.{Columns}
 use Rattle.drawing.specs.declared.columns.Lane.{Lane}

@@ -3,7 +3,7 @@ ghost use Rattle.std.specs.Prelude.{◌≡◌, ◌==◌, ◌+◌, ◌≤◌, ◌
 ghost use Rattle.std.specs.List.{flat_map, enumerate_from, range_with_len};
 ghost use Rattle.history_merge.specs.Operations.{operations_of};
 ghost use Rattle.history_text.specs.Claims.{operations_in};
-ghost use Rattle.history_text.specs.Lines.{line};
+ghost use Rattle.text_lines.specs.Lines.{line};
 ghost use Rattle.drawing.specs.Layout.{label, threads_of, columns_of, lanes_of, number_in, order_of, shown_by};
 ghost use Rattle.drawing.specs.Bands.{bands_of, head_text};
 ghost use Rattle.drawing.specs.Words.{placed, with_words, line_of};

@@ -2,7 +2,7 @@
 ghost use Rattle.std.specs.Prelude.{◌≡◌, ◌≤◌, ◌||◌, OnOk, OnErr, IfOk, length, is_err};
 ghost use Rattle.std.specs.Io.KnownBytes.{Appends};
 ghost use Rattle.history_text.specs.Claims.{operations_in};
-ghost use Rattle.history_text.specs.Writing.{AppendsFront, IsWritten, IsRefused};
+ghost use Rattle.text_lines.specs.Writing.{AppendsFront, IsWritten, IsRefused};
 ghost use Rattle.drawing.specs.Terminal.{terminal_picture};
 
 use crate::columns::MOST_DRAWN;

@@ -3,7 +3,7 @@ use Rattle.std.specs.Prelude.{◌≡◌, ℕ, ◌==◌, if◌then◌else◌, min
 use Rattle.event_records.specs.declared.event.Event.{Event}
 use Rattle.event_records.specs.declared.event.What.{What}
 use Rattle.event_records.specs.declared.event.What.TheVariants.{CallEnq, RetEnq, RetNot, CallDeq, RetDeq, RetEmpty}
-use Rattle.history_text.specs.Lines.{line}
+use Rattle.text_lines.specs.Lines.{line}
 use Rattle.fifobench_c.specs.declared.recorded.RecordedEvent.{RecordedEvent}
 use Rattle.fifobench_c.specs.declared.recorded.TheConstants.{CALL_ENQ, RET_ENQ, RET_NOT, CALL_DEQ, RET_DEQ, RET_EMPTY, GREATEST_TOLD}
 

@@ -1,18 +1,16 @@
 -- What the line ahead is, by what was taken of it.
-use Rattle.std.proofs.Common.{◌≡◌, ℕ, ◌<◌, List, [], ◌∷◌, ◌++◌, length, Bool, true, false, arith, ap, sym, subst, ◌∙◌, refl, append_assoc, Option, Some, None, Ok, Err}
+use Rattle.std.proofs.Common.{◌≡◌, ℕ, ◌<◌, List, [], ◌∷◌, ◌++◌, length, Bool, true, false, arith, sym, subst, refl, Option, Some, None, Ok, Err}
 use Rattle.std.specs.Prelude.{IfSome, IfOk, IfErr}
 use Rattle.std.specs.declared.result.Result.{Result}
-use Rattle.history_text.specs.declared.fault.TextFault.{TextFault}
-use Rattle.history_text.specs.declared.fault.TextFault.TheVariants.{Read, Cut}
-use Rattle.history_text.specs.Lines.{line, end_line, front_of, Front, Whole, TooLong, Unfinished, Nothing, is_line_feed, longest_line}
+use Rattle.text_lines.specs.declared.fault.TextFault.{TextFault}
+use Rattle.text_lines.specs.declared.fault.TextFault.TheVariants.{Read, Cut}
+use Rattle.text_lines.specs.Lines.{line, end_line, front_of, Front, Whole, TooLong, Unfinished, Nothing, is_line_feed, longest_line}
 use Rattle.history_text.specs.Items.{Kind, item_at_front, item_in, item_at_nothing}
-use Rattle.history_text.specs.Input.{Ahead, Ending, EndOfInput, Failure, Takes, IsOver}
-use Rattle.history_text.specs.Taking.{IsPartOfLine, HasItemFault, TakesItem, TakesEnd, IsItemLine}
-use Rattle.history_text.proofs.Consuming.{before, before_end}
-use Rattle.history_text.proofs.Fronts.{front_whole, front_unfinished, front_too_long}
-
-pub whole : (bytes more : List ℕ) → IsPartOfLine bytes → front_of (line bytes ++ more) ≡ Whole bytes more
-whole bytes more part = ap front_of (append_assoc bytes (10 ∷ []) more) ∙ front_whole bytes more part
+use Rattle.text_lines.specs.Input.{Ahead, Ending, EndOfInput, Failure, Takes, IsOver}
+use Rattle.text_lines.specs.Lines.{IsPartOfLine}
+use Rattle.history_text.specs.Taking.{HasItemFault, TakesItem, TakesEnd, IsItemLine}
+use Rattle.text_lines.proofs.Consuming.{before, before_end}
+use Rattle.text_lines.proofs.Fronts.{whole, front_unfinished, front_too_long}
 
 -- what holds of the front of the input
 abbrev pub AtFront : Option Ahead → (Ending → Front → Type 0) → Type 0
@@ -23,12 +21,14 @@ over_by P end [] part some none = none
 over_by P end (b ∷ given) part some none = subst (P end) (sym (front_unfinished (b ∷ given) part (omega arith))) some
 
 -- a read failed
-pub at_failure : (P : Ending → Front → Type 0) (old new : Option Ahead) (given : List ℕ) → Takes old new given → IsPartOfLine given → IsOver Failure new → P Failure Unfinished → P Failure Nothing → AtFront old P
+pub at_failure : (P : Ending → Front → Type 0) (old new : Option Ahead) (given : List ℕ) → Takes old new given → IsPartOfLine given
+    → IsOver Failure new → P Failure Unfinished → P Failure Nothing → AtFront old P
 at_failure P old new given taken part over some none =
     before_end old new Failure given (λ e b. P e (front_of b)) taken over (over_by P Failure given part some none)
 
 -- the input ended after some bytes
-pub at_cut : (P : Ending → Front → Type 0) (old new : Option Ahead) (given : List ℕ) → Takes old new given → IsPartOfLine given → IsOver EndOfInput new → 0 < length given → P EndOfInput Unfinished → AtFront old P
+pub at_cut : (P : Ending → Front → Type 0) (old new : Option Ahead) (given : List ℕ) → Takes old new given → IsPartOfLine given
+    → IsOver EndOfInput new → 0 < length given → P EndOfInput Unfinished → AtFront old P
 at_cut P old new given taken part over more holds =
     before_end old new EndOfInput given (λ e b. P e (front_of b)) taken over (subst (P EndOfInput) (sym (front_unfinished given part more)) holds)
 
@@ -37,28 +37,33 @@ pub at_nothing : (P : Ending → Front → Type 0) (old new : Option Ahead) → 
 at_nothing P old new taken over holds = before_end old new EndOfInput [] (λ e b. P e (front_of b)) taken over holds
 
 -- the line was too long
-pub at_long : (P : Ending → Front → Type 0) (old new : Option Ahead) (given : List ℕ) (b : ℕ) → Takes old new (given ++ b ∷ []) → IsPartOfLine given → length given ≡ longest_line → is_line_feed b ≡ false → ((e : Ending) → P e TooLong) → AtFront old P
+pub at_long : (P : Ending → Front → Type 0) (old new : Option Ahead) (given : List ℕ) (b : ℕ) → Takes old new (given ++ b ∷ []) → IsPartOfLine given
+    → length given ≡ longest_line → is_line_feed b ≡ false → ((e : Ending) → P e TooLong) → AtFront old P
 at_long P old new given b taken part full other holds =
     before old new (given ++ b ∷ []) (λ e r. P e (front_of r)) taken (λ e more. subst (P e) (sym (front_too_long given b more part full other)) (holds e))
 
 -- the line was whole
-pub at_line : (P : Ending → Front → Type 0) (old new : Option Ahead) (bytes : List ℕ) → Takes old new (line bytes) → IsPartOfLine bytes → ((e : Ending) (rest : List ℕ) → P e (Whole bytes rest)) → AtFront old P
+pub at_line : (P : Ending → Front → Type 0) (old new : Option Ahead) (bytes : List ℕ) → Takes old new (line bytes) → IsPartOfLine bytes
+    → ((e : Ending) (rest : List ℕ) → P e (Whole bytes rest)) → AtFront old P
 at_line P old new bytes taken part holds =
     before old new (line bytes) (λ e r. P e (front_of r)) taken (λ e more. subst (P e) (sym (whole bytes more part)) (holds e more))
 
 -- ---- items
 
 -- a failed read is a fault, whether a last line is wanted or not
-pub failure_is_fault : {A : Type 0} (is_counted : Bool) → (let found : Result (Option A × List ℕ) TextFault = item_at_nothing is_counted Failure in found ≡ Err Read)
+pub failure_is_fault : {A : Type 0} (is_counted : Bool) → (let found : Result (Option A × List ℕ) TextFault = item_at_nothing is_counted Failure in
+    found ≡ Err Read)
 failure_is_fault true = refl
 failure_is_fault false = refl
 
 -- the end of the input is one where a last line is wanted
-pub nothing_is_cut : {A : Type 0} (is_counted : Bool) → is_counted ≡ true → (let found : Result (Option A × List ℕ) TextFault = item_at_nothing is_counted EndOfInput in found ≡ Err Cut)
+pub nothing_is_cut : {A : Type 0} (is_counted : Bool) → is_counted ≡ true
+    → (let found : Result (Option A × List ℕ) TextFault = item_at_nothing is_counted EndOfInput in found ≡ Err Cut)
 nothing_is_cut true is = refl
 nothing_is_cut false is = absurd (cc)
 
-pub items_end : (is_counted : Bool) (old new : Option Ahead) (k : ℕ) → is_counted ≡ false → Takes old new [] → IsOver EndOfInput new → TakesEnd is_counted old new k
+pub items_end : (is_counted : Bool) (old new : Option Ahead) (k : ℕ) → is_counted ≡ false → Takes old new [] → IsOver EndOfInput new
+    → TakesEnd is_counted old new k
 items_end true old new k is taken over = absurd (cc)
 items_end false old new k is taken over = (taken, over)
 
@@ -66,16 +71,19 @@ end_is_taken : (is_counted : Bool) (old new : Option Ahead) (k : ℕ) → is_cou
 end_is_taken true old new k is taken = taken
 end_is_taken false old new k is taken = absurd (cc)
 
-item_is_taken : {A : Type 0} (kind : Kind A) (k : ℕ) (old new : Option Ahead) (bytes : List ℕ) (item : Option A) → Takes old new (line bytes) → IsItemLine kind k bytes item → TakesItem kind old new k item
+item_is_taken : {A : Type 0} (kind : Kind A) (k : ℕ) (old new : Option Ahead) (bytes : List ℕ) (item : Option A) → Takes old new (line bytes)
+    → IsItemLine kind k bytes item → TakesItem kind old new k item
 item_is_taken kind k old new bytes (Some x) taken spelled = (subst (Takes old new) spelled.0 taken, spelled.1, spelled.2)
 item_is_taken kind k old new bytes None taken spelled = end_is_taken kind.is_counted old new k spelled.1 (subst (Takes old new) spelled.0 taken)
 
 -- what an item's line was judged to be is what was taken
-pub items_taken : {A : Type 0} (kind : Kind A) (k : ℕ) (old new : Option Ahead) (bytes : List ℕ) (r : Result (Option A) TextFault) → Takes old new (line bytes) → IfOk r (IsItemLine kind k bytes) → IfOk r (TakesItem kind old new k)
+pub items_taken : {A : Type 0} (kind : Kind A) (k : ℕ) (old new : Option Ahead) (bytes : List ℕ) (r : Result (Option A) TextFault)
+    → Takes old new (line bytes) → IfOk r (IsItemLine kind k bytes) → IfOk r (TakesItem kind old new k)
 items_taken kind k old new bytes (Ok item) taken spelled = item_is_taken kind k old new bytes item taken spelled
 items_taken kind k old new bytes (Err fault) taken spelled = tt
 
-pub items_faulty : {A : Type 0} (kind : Kind A) (n k : ℕ) (old new : Option Ahead) (bytes : List ℕ) (r : Result (Option A) TextFault) → Takes old new (line bytes) → IsPartOfLine bytes → r ≡ item_in kind n k bytes → IfErr r (HasItemFault kind n k old)
+pub items_faulty : {A : Type 0} (kind : Kind A) (n k : ℕ) (old new : Option Ahead) (bytes : List ℕ) (r : Result (Option A) TextFault)
+    → Takes old new (line bytes) → IsPartOfLine bytes → r ≡ item_in kind n k bytes → IfErr r (HasItemFault kind n k old)
 items_faulty kind n k old new bytes (Ok item) taken part e = tt
 items_faulty kind n k old new bytes (Err fault) taken part e =
     at_line (λ end front. item_at_front kind n k end front ≡ Err fault) old new bytes taken part (λ end rest. rw (← e) refl)

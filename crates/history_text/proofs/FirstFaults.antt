@@ -1,20 +1,22 @@
 -- From a fault of one line to the first fault of the whole input.
-use Rattle.std.proofs.Common.{◌≡◌, ℕ, ◌+◌, ◌<◌, false, List, [], ◌∷◌, ◌++◌, length, arith, ap, sym, subst, ◌∙◌, refl, append-nil, length-append, Option, Some, None, Ok, Err, IfSome, IfOk, IfErr, MatchResult}
+use Rattle.std.proofs.Common.{◌≡◌, ℕ, ◌+◌, ◌<◌, false, List, [], ◌∷◌, ◌++◌, length, arith, ap, sym, subst, ◌∙◌, refl, append-nil, length-append}
+use Rattle.std.proofs.Common.{Option, Some, None, Ok, Err, IfSome, IfOk, IfErr, MatchResult}
 use Rattle.std.specs.Prelude.{OnOk, is_err}
 use Rattle.std.specs.declared.result.Result.{Result}
 use Rattle.std.specs.List.{flat_map, AllByRecursion}
 use Rattle.std.proofs.lemmas.Grind.{flat_map-append}
-use Rattle.history_text.specs.declared.fault.TextFault.{TextFault}
-use Rattle.history_text.specs.declared.fault.TextFault.TheVariants.{Read, Header, Line, Number, Limit, Count, Cut, Trailing, Memory}
-use Rattle.history_text.specs.Lines.{front_of}
+use Rattle.text_lines.specs.declared.fault.TextFault.{TextFault}
+use Rattle.text_lines.specs.declared.fault.TextFault.TheVariants.{Read, Header, Line, Number, Limit, Count, Cut, Trailing, Memory}
+use Rattle.text_lines.specs.Lines.{front_of}
 use Rattle.history_text.specs.Items.{Kind, line_of, lines_of, HaveLines, ItemFault, NoRoom, item_at_front}
-use Rattle.history_text.specs.Input.{Ahead, Ending, Takes}
+use Rattle.text_lines.specs.Input.{Ahead, Ending, Takes}
 use Rattle.history_text.specs.Reading.{HasFirstFault}
 use Rattle.history_text.specs.Taking.{HasItemFault, HasItemsFault, IsOfInput}
-use Rattle.history_text.proofs.Consuming.{Takes-append}
+use Rattle.text_lines.proofs.Consuming.{Takes-append}
 
 -- a fault of the input is no want of memory
-pub first_is : (IsFault : Ending → List ℕ → TextFault → Type 0) (LacksRoom : List ℕ → Type 0) (old : Option Ahead) (fault : TextFault) → IsOfInput fault → IfSome old (λ a. IsFault a.ending a.bytes fault) → HasFirstFault IsFault LacksRoom old fault
+pub first_is : (IsFault : Ending → List ℕ → TextFault → Type 0) (LacksRoom : List ℕ → Type 0) (old : Option Ahead) (fault : TextFault)
+    → IsOfInput fault → IfSome old (λ a. IsFault a.ending a.bytes fault) → HasFirstFault IsFault LacksRoom old fault
 first_is F L old Memory other h = absurd other
 first_is F L old Read other h = h
 first_is F L old Header other h = h
@@ -26,31 +28,45 @@ first_is F L old Cut other h = h
 first_is F L old Trailing other h = h
 
 -- what holds of the input after a front holds of the whole
-moved : (P Q : Ending → List ℕ → Type 0) (old mid : Option Ahead) (front : List ℕ) → Takes old mid front → ((e : Ending) (r : List ℕ) → P e r → Q e (front ++ r)) → IfSome mid (λ a. P a.ending a.bytes) → IfSome old (λ a. Q a.ending a.bytes)
+moved : (P Q : Ending → List ℕ → Type 0) (old mid : Option Ahead) (front : List ℕ) → Takes old mid front
+    → ((e : Ending) (r : List ℕ) → P e r → Q e (front ++ r)) → IfSome mid (λ a. P a.ending a.bytes) → IfSome old (λ a. Q a.ending a.bytes)
 moved P Q None mid front taken step h = tt
 moved P Q (Some a) None front taken step h = absurd taken
-moved P Q (Some a) (Some b) front taken step h = subst (Q a.ending) (sym taken.0) (subst (λ (e : Ending). Q e (front ++ b.bytes)) taken.1 (step b.ending b.bytes h))
+moved P Q (Some a) (Some b) front taken step h = subst (Q a.ending) (sym taken.0)
+    (subst (λ (e : Ending). Q e (front ++ b.bytes)) taken.1 (step b.ending b.bytes h))
 
 -- the same of a fault of one line
-pub line_fault : (P Q : Ending → List ℕ → TextFault → Type 0) (LacksRoom : List ℕ → Type 0) (old mid : Option Ahead) (front : List ℕ) (fault : TextFault) → IsOfInput fault → Takes old mid front → ((e : Ending) (r : List ℕ) → P e r fault → Q e (front ++ r) fault) → IfSome mid (λ a. P a.ending a.bytes fault) → HasFirstFault Q LacksRoom old fault
-line_fault P Q L old mid front fault of_input taken step h = first_is Q L old fault of_input (moved (λ e r. P e r fault) (λ e r. Q e r fault) old mid front taken step h)
+pub line_fault : (P Q : Ending → List ℕ → TextFault → Type 0) (LacksRoom : List ℕ → Type 0) (old mid : Option Ahead) (front : List ℕ)
+    (fault : TextFault) → IsOfInput fault → Takes old mid front → ((e : Ending) (r : List ℕ) → P e r fault → Q e (front ++ r) fault)
+    → IfSome mid (λ a. P a.ending a.bytes fault) → HasFirstFault Q LacksRoom old fault
+line_fault P Q L old mid front fault of_input taken step h = first_is Q L old fault of_input
+    (moved (λ e r. P e r fault) (λ e r. Q e r fault) old mid front taken step h)
 
 -- the same of a first fault
-pub later_fault : (P Q : Ending → List ℕ → TextFault → Type 0) (L M : List ℕ → Type 0) (old mid : Option Ahead) (front : List ℕ) (fault : TextFault) → Takes old mid front → ((e : Ending) (r : List ℕ) (f : TextFault) → P e r f → Q e (front ++ r) f) → ((r : List ℕ) → L r → M (front ++ r)) → HasFirstFault P L mid fault → HasFirstFault Q M old fault
+pub later_fault : (P Q : Ending → List ℕ → TextFault → Type 0) (L M : List ℕ → Type 0) (old mid : Option Ahead) (front : List ℕ) (fault : TextFault)
+    → Takes old mid front → ((e : Ending) (r : List ℕ) (f : TextFault) → P e r f → Q e (front ++ r) f) → ((r : List ℕ) → L r → M (front ++ r))
+    → HasFirstFault P L mid fault → HasFirstFault Q M old fault
 later_fault P Q L M old mid front Memory taken step room h = moved (λ e r. L r) (λ e r. M r) old mid front taken (λ e r. room r) h
 later_fault P Q L M old mid front Read taken step room h = moved (λ e r. P e r Read) (λ e r. Q e r Read) old mid front taken (λ e r. step e r Read) h
 later_fault P Q L M old mid front Header taken step room h = moved (λ e r. P e r Header) (λ e r. Q e r Header) old mid front taken (λ e r. step e r Header) h
-later_fault P Q L M old mid front (Line n) taken step room h = moved (λ e r. P e r (Line n)) (λ e r. Q e r (Line n)) old mid front taken (λ e r. step e r (Line n)) h
-later_fault P Q L M old mid front (Number n) taken step room h = moved (λ e r. P e r (Number n)) (λ e r. Q e r (Number n)) old mid front taken (λ e r. step e r (Number n)) h
-later_fault P Q L M old mid front (Limit n) taken step room h = moved (λ e r. P e r (Limit n)) (λ e r. Q e r (Limit n)) old mid front taken (λ e r. step e r (Limit n)) h
+later_fault P Q L M old mid front (Line n) taken step room h =
+    moved (λ e r. P e r (Line n)) (λ e r. Q e r (Line n)) old mid front taken (λ e r. step e r (Line n)) h
+later_fault P Q L M old mid front (Number n) taken step room h =
+    moved (λ e r. P e r (Number n)) (λ e r. Q e r (Number n)) old mid front taken (λ e r. step e r (Number n)) h
+later_fault P Q L M old mid front (Limit n) taken step room h =
+    moved (λ e r. P e r (Limit n)) (λ e r. Q e r (Limit n)) old mid front taken (λ e r. step e r (Limit n)) h
 later_fault P Q L M old mid front Count taken step room h = moved (λ e r. P e r Count) (λ e r. Q e r Count) old mid front taken (λ e r. step e r Count) h
 later_fault P Q L M old mid front Cut taken step room h = moved (λ e r. P e r Cut) (λ e r. Q e r Cut) old mid front taken (λ e r. step e r Cut) h
-later_fault P Q L M old mid front Trailing taken step room h = moved (λ e r. P e r Trailing) (λ e r. Q e r Trailing) old mid front taken (λ e r. step e r Trailing) h
+later_fault P Q L M old mid front Trailing taken step room h =
+    moved (λ e r. P e r Trailing) (λ e r. Q e r Trailing) old mid front taken (λ e r. step e r Trailing) h
 
 -- the line after some items has the first fault
-pub item_is_first : {A : Type 0} (kind : Kind A) (n m : ℕ) (items : List A) (k : ℕ) (old mid : Option Ahead) (fault : TextFault) → IsOfInput fault → HaveLines kind items → Takes old mid (lines_of kind items) → k ≡ length items → m ≡ n + length items → HasItemFault kind m k mid fault → HasItemsFault kind n old fault
+pub item_is_first : {A : Type 0} (kind : Kind A) (n m : ℕ) (items : List A) (k : ℕ) (old mid : Option Ahead) (fault : TextFault) → IsOfInput fault
+    → HaveLines kind items → Takes old mid (lines_of kind items) → k ≡ length items → m ≡ n + length items → HasItemFault kind m k mid fault
+    → HasItemsFault kind n old fault
 item_is_first kind n m items k old mid fault of_input right taken k_is m_is h =
-    line_fault (λ e r f. item_at_front kind m k e (front_of r) ≡ Err f) (λ e b f. ItemFault kind n e f b) (NoRoom kind) old mid (lines_of kind items) fault of_input taken
+    line_fault (λ e r f. item_at_front kind m k e (front_of r) ≡ Err f) (λ e b f. ItemFault kind n e f b) (NoRoom kind) old mid
+        (lines_of kind items) fault of_input taken
     (λ e r next. record { items = items; rest = r; right = right; front = refl; next = rw (← m_is, ← k_is) next }) h
 
 -- ---- one more item
@@ -59,19 +75,23 @@ all_and_last : {A : Type 0} (P : A → Type 0) (items : List A) (x : A) → AllB
 all_and_last P [] x all last = (last, tt)
 all_and_last P (y ∷ ys) x all last = (all.0, all_and_last P ys x all.1 last)
 
-pub HaveLines-push : {A : Type 0} (kind : Kind A) (items : List A) (x : A) → HaveLines kind items → kind.HasLine x → length items < kind.most → HaveLines kind (items ++ x ∷ [])
+pub HaveLines-push : {A : Type 0} (kind : Kind A) (items : List A) (x : A) → HaveLines kind items → kind.HasLine x → length items < kind.most
+    → HaveLines kind (items ++ x ∷ [])
 HaveLines-push kind items x right last few = record {
   each = all_and_last kind.HasLine items x right.each last;
   few = omega (arith, length-append items (x ∷ []));
 }
 
 lines-push : {A : Type 0} (kind : Kind A) (items : List A) (x : A) → lines_of kind items ++ line_of kind x ≡ lines_of kind (items ++ x ∷ [])
-lines-push kind items x = sym (flat_map-append (line_of kind) items (x ∷ []) ∙ ap (λ (r : List ℕ). flat_map (line_of kind) items ++ r) (append-nil (line_of kind x)))
+lines-push kind items x = sym (flat_map-append (line_of kind) items (x ∷ [])
+    ∙ ap (λ (r : List ℕ). flat_map (line_of kind) items ++ r) (append-nil (line_of kind x)))
 
-pub takes_item : {A : Type 0} (kind : Kind A) (items : List A) (x : A) (old mid new : Option Ahead) → Takes old mid (lines_of kind items) → Takes mid new (line_of kind x) → Takes old new (lines_of kind (items ++ x ∷ []))
+pub takes_item : {A : Type 0} (kind : Kind A) (items : List A) (x : A) (old mid new : Option Ahead) → Takes old mid (lines_of kind items)
+    → Takes mid new (line_of kind x) → Takes old new (lines_of kind (items ++ x ∷ []))
 takes_item kind items x old mid new h k = subst (Takes old new) (lines-push kind items x) (Takes-append old mid new _ _ h k)
 
-pub no_room : {A : Type 0} (kind : Kind A) (items : List A) (x : A) (old mid new : Option Ahead) → HaveLines kind items → Takes old mid (lines_of kind items) → length items < kind.most → kind.HasLine x → Takes mid new (line_of kind x) → IfSome old (λ a. NoRoom kind a.bytes)
+pub no_room : {A : Type 0} (kind : Kind A) (items : List A) (x : A) (old mid new : Option Ahead) → HaveLines kind items
+    → Takes old mid (lines_of kind items) → length items < kind.most → kind.HasLine x → Takes mid new (line_of kind x) → IfSome old (λ a. NoRoom kind a.bytes)
 no_room kind items x None mid new right taken few range now = tt
 no_room kind items x (Some a) None new right taken few range now = absurd taken
 no_room kind items x (Some a) (Some b) None right taken few range now = absurd now
@@ -96,7 +116,8 @@ faults_by (Ok v) P Q step h = tt
 faults_by (Err fault) P Q step h = step fault h
 
 -- where the input has no fault, only memory can run out
-only_memory : (IsFault : Ending → List ℕ → TextFault → Type 0) (LacksRoom : List ℕ → Type 0) (a : Ahead) (fault : TextFault) → ((f : TextFault) → IsFault a.ending a.bytes f → ⊥) → HasFirstFault IsFault LacksRoom (Some a) fault → fault ≡ Memory
+only_memory : (IsFault : Ending → List ℕ → TextFault → Type 0) (LacksRoom : List ℕ → Type 0) (a : Ahead) (fault : TextFault)
+    → ((f : TextFault) → IsFault a.ending a.bytes f → ⊥) → HasFirstFault IsFault LacksRoom (Some a) fault → fault ≡ Memory
 only_memory F L a Memory none h = refl
 only_memory F L a Read none h = absurd (none Read h)
 only_memory F L a Header none h = absurd (none Header h)
@@ -108,6 +129,8 @@ only_memory F L a Cut none h = absurd (none Cut h)
 only_memory F L a Trailing none h = absurd (none Trailing h)
 
 -- what stands there without a fault is read, unless memory runs out
-pub is_read : {V : Type 0} (IsFault : Ending → List ℕ → TextFault → Type 0) (LacksRoom : List ℕ → Type 0) (P Q : V → Type 0) (a : Ahead) (r : Result V TextFault) → IfOk r P → IfErr r (HasFirstFault IsFault LacksRoom (Some a)) → ((v : V) → P v → Q v) → ((f : TextFault) → IsFault a.ending a.bytes f → ⊥) → MatchResult r Q (λ fault. fault ≡ Memory)
+pub is_read : {V : Type 0} (IsFault : Ending → List ℕ → TextFault → Type 0) (LacksRoom : List ℕ → Type 0) (P Q : V → Type 0) (a : Ahead)
+    (r : Result V TextFault) → IfOk r P → IfErr r (HasFirstFault IsFault LacksRoom (Some a)) → ((v : V) → P v → Q v)
+    → ((f : TextFault) → IsFault a.ending a.bytes f → ⊥) → MatchResult r Q (λ fault. fault ≡ Memory)
 is_read F L P Q a (Ok v) ok err step none = step v ok
 is_read F L P Q a (Err fault) ok err step none = only_memory F L a fault none err

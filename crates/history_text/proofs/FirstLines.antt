@@ -1,14 +1,15 @@
 -- The first line of a verdict as it is read, and what comes after it.
 use Rattle.std.proofs.Common.{◌≡◌, ℕ, ◌+◌, List, ap, subst, refl, Option, Some, None, inl, inr}
 use Rattle.verdicts.specs.declared.verifying.ViolationKind.{ViolationKind}
-use Rattle.history_text.specs.declared.fault.TextFault.{TextFault}
-use Rattle.history_text.specs.declared.fault.TextFault.TheVariants.{Line}
-use Rattle.history_text.specs.Lines.{line, front_of, Front, Whole, TooLong, Unfinished, Nothing}
+use Rattle.text_lines.specs.declared.fault.TextFault.{TextFault}
+use Rattle.text_lines.specs.declared.fault.TextFault.TheVariants.{Line}
+use Rattle.text_lines.specs.Lines.{line, front_of, Front, Whole, TooLong, Unfinished, Nothing}
 use Rattle.history_text.specs.Items.{ItemFault, NoRoom}
 use Rattle.history_text.specs.Claims.{first_line, IsNoFirstLine, FirstLineFault, operation_kind, IsVerdictTextFault, NoRoomForVerdict}
-use Rattle.history_text.specs.Input.{Ahead, Ending, Takes}
+use Rattle.text_lines.specs.Input.{Ahead, Ending, Takes}
 use Rattle.history_text.specs.Reading.{HasVerdictTextFault}
-use Rattle.history_text.specs.Taking.{IsPartOfLine, NoLineFault, HasNoLine, HasFirstLineFault, HasItemsFault, IsOfInput}
+use Rattle.text_lines.specs.Lines.{IsPartOfLine}
+use Rattle.history_text.specs.Taking.{NoLineFault, HasNoLine, HasFirstLineFault, HasItemsFault, IsOfInput}
 use Rattle.history_text.proofs.Faults.{at_line}
 use Rattle.history_text.proofs.FirstFaults.{first_is, later_fault}
 
@@ -26,20 +27,25 @@ no_first_line n None fault h = tt
 no_first_line n (Some a) fault h = no_line n a.ending fault (front_of a.bytes) h
 
 -- a line that answers nothing is none
-pub other_line : (n m : ℕ) (old new : Option Ahead) (bytes : List ℕ) → m ≡ n → Takes old new (line bytes) → IsPartOfLine bytes → IsNoFirstLine bytes → HasFirstLineFault n old (Line m)
+pub other_line : (n m : ℕ) (old new : Option Ahead) (bytes : List ℕ) → m ≡ n → Takes old new (line bytes) → IsPartOfLine bytes → IsNoFirstLine bytes
+    → HasFirstLineFault n old (Line m)
 other_line n m old new bytes same taken part other =
     at_line (λ end front. FirstLineFault n end (Line m) front) old new bytes taken part (λ end rest. (other, ap Line same))
 
 -- ---- whole verdicts
 
 -- the first line has the fault
-pub first_line_is_first : (lines n : ℕ) (old : Option Ahead) (fault : TextFault) → n ≡ lines + 1 → IsOfInput fault → HasFirstLineFault n old fault → HasVerdictTextFault lines old fault
+pub first_line_is_first : (lines n : ℕ) (old : Option Ahead) (fault : TextFault) → n ≡ lines + 1 → IsOfInput fault → HasFirstLineFault n old fault
+    → HasVerdictTextFault lines old fault
 first_line_is_first lines n None fault n_is of_input h = first_is (IsVerdictTextFault lines) NoRoomForVerdict None fault of_input tt
 first_line_is_first lines n (Some a) fault n_is of_input h =
-    first_is (IsVerdictTextFault lines) NoRoomForVerdict (Some a) fault of_input (inl (subst (λ (m : ℕ). FirstLineFault m a.ending fault (front_of a.bytes)) n_is h))
+    first_is (IsVerdictTextFault lines) NoRoomForVerdict (Some a) fault of_input
+        (inl (subst (λ (m : ℕ). FirstLineFault m a.ending fault (front_of a.bytes)) n_is h))
 
 -- a later line has it
-pub operation_is_first : (lines n : ℕ) (answer : Option ViolationKind) (old mid : Option Ahead) (fault : TextFault) → n ≡ lines + 2 → Takes old mid (line (first_line answer)) → HasItemsFault operation_kind n mid fault → HasVerdictTextFault lines old fault
+pub operation_is_first : (lines n : ℕ) (answer : Option ViolationKind) (old mid : Option Ahead) (fault : TextFault) → n ≡ lines + 2
+    → Takes old mid (line (first_line answer)) → HasItemsFault operation_kind n mid fault → HasVerdictTextFault lines old fault
 operation_is_first lines n answer old mid fault n_is taken h =
-    later_fault (λ e r f. ItemFault operation_kind n e f r) (IsVerdictTextFault lines) (NoRoom operation_kind) NoRoomForVerdict old mid (line (first_line answer)) fault taken
+    later_fault (λ e r f. ItemFault operation_kind n e f r) (IsVerdictTextFault lines) (NoRoom operation_kind) NoRoomForVerdict old mid
+        (line (first_line answer)) fault taken
     (λ e r f k. inr (answer, (r, refl, subst (λ (m : ℕ). ItemFault operation_kind m e f r) n_is k))) (λ r k. (answer, (r, refl, k))) h

@@ -1,21 +1,23 @@
 -- What is taken of a history, and its first fault.
 use Rattle.std.proofs.Common.{◌≡◌, ℕ, ◌+◌, refl, Option, Some, None, inl, inr, subst}
-use Rattle.history_text.specs.declared.fault.TextFault.{TextFault}
-use Rattle.history_text.specs.Lines.{line}
+use Rattle.text_lines.specs.declared.fault.TextFault.{TextFault}
+use Rattle.text_lines.specs.Lines.{line}
 use Rattle.history_text.specs.Items.{ItemFault, NoRoom}
 use Rattle.history_text.specs.Histories.{header, event_kind, IsHistoryTextFault, NoRoomFor}
-use Rattle.history_text.specs.Input.{Ahead, Takes}
+use Rattle.text_lines.specs.Input.{Ahead, Takes}
 use Rattle.history_text.specs.Reading.{HasHistoryTextFault}
 use Rattle.history_text.specs.Taking.{HasHeaderFault, HasItemsFault, IsOfInput}
 use Rattle.history_text.proofs.FirstFaults.{first_is, later_fault}
 
 -- the first line has the fault
-pub header_is_first : (lines : ℕ) (old : Option Ahead) (fault : TextFault) → IsOfInput fault → HasHeaderFault header old fault → HasHistoryTextFault lines old fault
+pub header_is_first : (lines : ℕ) (old : Option Ahead) (fault : TextFault) → IsOfInput fault → HasHeaderFault header old fault
+    → HasHistoryTextFault lines old fault
 header_is_first lines None fault of_input h = first_is (IsHistoryTextFault lines) NoRoomFor None fault of_input tt
 header_is_first lines (Some a) fault of_input h = first_is (IsHistoryTextFault lines) NoRoomFor (Some a) fault of_input (inl h)
 
 -- a later line has it
-pub event_is_first : (lines n : ℕ) (old mid : Option Ahead) (fault : TextFault) → n ≡ lines + 2 → Takes old mid (line header) → HasItemsFault event_kind n mid fault → HasHistoryTextFault lines old fault
+pub event_is_first : (lines n : ℕ) (old mid : Option Ahead) (fault : TextFault) → n ≡ lines + 2 → Takes old mid (line header)
+    → HasItemsFault event_kind n mid fault → HasHistoryTextFault lines old fault
 event_is_first lines n old mid fault n_is taken h =
     later_fault (λ e r f. ItemFault event_kind n e f r) (IsHistoryTextFault lines) (NoRoom event_kind) NoRoomFor old mid (line header) fault taken
     (λ e r f k. inr (r, refl, subst (λ (m : ℕ). ItemFault event_kind m e f r) n_is k)) (λ r k. (r, refl, k)) h

@@ -1,18 +1,20 @@
 -- Two texts of schedules at the front of one input are one, and an input has one first fault.
-use Rattle.std.proofs.Common.{◌≡◌, ℕ, ◌+◌, List, [], ◌++◌, length, arith, ap, sym, subst, ◌∙◌, refl, Option, Some, None, Ok, Err, inl, inr, append_assoc, IfOk, IfErr, MatchResult}
+use Rattle.std.proofs.Common.{◌≡◌, ℕ, ◌+◌, List, [], ◌++◌, length, arith, ap, sym, subst, ◌∙◌, refl, Option, Some, None, Ok, Err, inl, inr}
+use Rattle.std.proofs.Common.{append_assoc, IfOk, IfErr, MatchResult}
 use Rattle.std.specs.declared.result.Result.{Result}
 use Rattle.std.proofs.lemmas.List.{append_cancel_left}
 use Rattle.recorder_core.specs.declared.step.Step.{Step}
-use Rattle.history_text.specs.declared.fault.TextFault.{TextFault}
-use Rattle.history_text.specs.declared.fault.TextFault.TheVariants.{Memory}
+use Rattle.text_lines.specs.declared.fault.TextFault.{TextFault}
+use Rattle.text_lines.specs.declared.fault.TextFault.TheVariants.{Memory}
 use Rattle.history_text.specs.declared.schedule.Schedule.{Schedule}
-use Rattle.history_text.specs.Lines.{line, spaced, end_line, front_of, header_fault, After}
+use Rattle.text_lines.specs.Lines.{line, spaced, end_line, front_of, header_fault, After}
 use Rattle.history_text.specs.Items.{lines_of, HaveLines, item_at_front, ItemFault}
-use Rattle.history_text.specs.Schedules.{setting_fields, schedule_header, lines_before_steps, schedule_text, step_kind, IsSetting, HasScheduleText, SettingFault, AfterSetting, setting_at_front, IsScheduleTextFault, NoRoomForSchedule}
-use Rattle.history_text.specs.Input.{Ahead, Ending, EndOfInput, Takes}
+use Rattle.history_text.specs.Schedules.{setting_fields, schedule_header, lines_before_steps, schedule_text, step_kind, IsSetting, HasScheduleText}
+use Rattle.history_text.specs.Schedules.{SettingFault, AfterSetting, setting_at_front, IsScheduleTextFault, NoRoomForSchedule}
+use Rattle.text_lines.specs.Input.{Ahead, Ending, EndOfInput, Takes}
 use Rattle.history_text.specs.Reading.{HasScheduleTextFault, BeginsWith}
 use Rattle.history_text.proofs.FirstFaults.{is_read}
-use Rattle.history_text.proofs.WrittenLines.{end_front, header_front}
+use Rattle.history_text.proofs.ItemFronts.{end_front, header_front}
 use Rattle.history_text.proofs.ReadSteps.{step_front, setting_front}
 use Rattle.history_text.proofs.Runs.{some_is, none_or_some, fault_or_ok, two_faults, stops_at_last, same_items, no_item_fault, one_item_fault}
 use Rattle.history_text.proofs.OneText.{rest_is}
@@ -24,23 +26,29 @@ setting_line threads ring = line (spaced (setting_fields threads ring))
 first_lines : (threads ring : ℕ) (rest : List ℕ) → lines_before_steps threads ring ++ rest ≡ line schedule_header ++ (setting_line threads ring ++ rest)
 first_lines threads ring rest = append_assoc (line schedule_header) (setting_line threads ring) rest
 
-whole_text : (s : Schedule) (rest : List ℕ) → schedule_text s ++ rest ≡ lines_before_steps s.threads s.ring ++ (lines_of step_kind s.steps ++ (end_line (length s.steps) ++ rest))
+whole_text : (s : Schedule) (rest : List ℕ) → schedule_text s ++ rest ≡ lines_before_steps s.threads s.ring
+    ++ (lines_of step_kind s.steps ++ (end_line (length s.steps) ++ rest))
 whole_text s rest =
     append_assoc (lines_before_steps s.threads s.ring) (lines_of step_kind s.steps ++ end_line (length s.steps)) rest
     ∙ ap (λ (l : List ℕ). lines_before_steps s.threads s.ring ++ l) (append_assoc (lines_of step_kind s.steps) (end_line (length s.steps)) rest)
 
 -- the last line is read after the steps
-last_is_read : (n : ℕ) (ending : Ending) (steps : List Step) (rest : List ℕ) → HaveLines step_kind steps → item_at_front step_kind n (length steps) ending (front_of (end_line (length steps) ++ rest)) ≡ Ok (None, rest)
+last_is_read : (n : ℕ) (ending : Ending) (steps : List Step) (rest : List ℕ) → HaveLines step_kind steps
+    → item_at_front step_kind n (length steps) ending (front_of (end_line (length steps) ++ rest)) ≡ Ok (None, rest)
 last_is_read n ending steps rest text = let few = text.few in end_front step_kind n (length steps) ending rest refl (omega arith)
 
 -- ---- the first two lines
 
-header_is_right : (ending : Ending) (bytes rest : List ℕ) (fault : TextFault) → bytes ≡ line schedule_header ++ rest → header_fault schedule_header ending (front_of bytes) ≡ Some fault → ⊥
+header_is_right : (ending : Ending) (bytes rest : List ℕ) (fault : TextFault) → bytes ≡ line schedule_header ++ rest
+    → header_fault schedule_header ending (front_of bytes) ≡ Some fault → ⊥
 header_is_right ending bytes rest fault is h =
-    let none : header_fault schedule_header ending (front_of bytes) ≡ None = ap (λ (b : List ℕ). header_fault schedule_header ending (front_of b)) is ∙ header_front schedule_header ending rest (record { one = refl; short = omega arith }) refl in
+    let none : header_fault schedule_header ending (front_of bytes) ≡ None =
+        ap (λ (b : List ℕ). header_fault schedule_header ending (front_of b)) is
+        ∙ header_front schedule_header ending rest (record { one = refl; short = omega arith }) refl in
     none_or_some fault (sym none ∙ h)
 
-setting_is_right : (n threads ring : ℕ) (ending : Ending) (fault : TextFault) (rest : List ℕ) → IsSetting threads ring → SettingFault n ending fault (setting_line threads ring ++ rest) → ⊥
+setting_is_right : (n threads ring : ℕ) (ending : Ending) (fault : TextFault) (rest : List ℕ) → IsSetting threads ring
+    → SettingFault n ending fault (setting_line threads ring ++ rest) → ⊥
 setting_is_right n threads ring ending fault rest within h = fault_or_ok _ fault (sym (setting_front n threads ring ending rest within) ∙ h)
 
 -- what a setting and the bytes after it are
@@ -58,10 +66,12 @@ record IsOneSetting (threads ring count room : ℕ) (r s : List ℕ) : Type 0 wh
   pub rings_are : ring ≡ room
   pub rest : r ≡ s
 
-one_setting : (threads ring count room : ℕ) (r s : List ℕ) → IsSetting threads ring → IsSetting count room → lines_before_steps threads ring ++ r ≡ lines_before_steps count room ++ s → IsOneSetting threads ring count room r s
+one_setting : (threads ring count room : ℕ) (r s : List ℕ) → IsSetting threads ring → IsSetting count room
+    → lines_before_steps threads ring ++ r ≡ lines_before_steps count room ++ s → IsOneSetting threads ring count room r s
 one_setting threads ring count room r s within_r within_s same =
     let lines = append_cancel_left (line schedule_header) _ _ (sym (first_lines threads ring r) ∙ same ∙ first_lines count room s) in
-    let both = sym (setting_front 0 threads ring EndOfInput r within_r) ∙ ap (λ (b : List ℕ). setting_at_front 0 EndOfInput (front_of b)) lines ∙ setting_front 0 count room EndOfInput s within_s in
+    let both = sym (setting_front 0 threads ring EndOfInput r within_r) ∙ ap (λ (b : List ℕ). setting_at_front 0 EndOfInput (front_of b)) lines
+        ∙ setting_front 0 count room EndOfInput s within_s in
     record {
       threads_are = ap (λ (x : Result ((ℕ × ℕ) × List ℕ) TextFault). (setting_of x).0) both;
       rings_are = ap (λ (x : Result ((ℕ × ℕ) × List ℕ) TextFault). (setting_of x).1) both;
@@ -74,58 +84,71 @@ abbrev schedule_by : ℕ → ℕ → List Step → Schedule
 schedule_by threads ring steps = record { threads = threads; ring = ring; steps = steps }
 
 schedule_is : (s t : Schedule) → s.threads ≡ t.threads → s.ring ≡ t.ring → s.steps ≡ t.steps → s ≡ t
-schedule_is s t threads ring steps = ap (λ (n : ℕ). schedule_by n s.ring s.steps) threads ∙ ap (λ (n : ℕ). schedule_by t.threads n s.steps) ring ∙ ap (schedule_by t.threads t.ring) steps
+schedule_is s t threads ring steps = ap (λ (n : ℕ). schedule_by n s.ring s.steps) threads ∙ ap (λ (n : ℕ). schedule_by t.threads n s.steps) ring
+    ∙ ap (schedule_by t.threads t.ring) steps
 
 -- two texts at the front of one input are one text
 pub texts_agree : (s t : Schedule) (q r : List ℕ) → HasScheduleText s → HasScheduleText t → schedule_text s ++ q ≡ schedule_text t ++ r → (s ≡ t) × (q ≡ r)
 texts_agree s t q r text_s text_t same =
     let set = one_setting s.threads s.ring t.threads t.ring _ _ text_s.setting text_t.setting (sym (whole_text s q) ∙ same ∙ whole_text t r) in
-    let stop_s = stops_at_last step_kind step_front 0 (length s.steps) EndOfInput (end_line (length s.steps) ++ q) q (last_is_read 0 EndOfInput s.steps q text_s.steps) in
-    let stop_t = stops_at_last step_kind step_front 0 (length t.steps) EndOfInput (end_line (length t.steps) ++ r) r (last_is_read 0 EndOfInput t.steps r text_t.steps) in
+    let stop_s = stops_at_last step_kind step_front 0 (length s.steps) EndOfInput (end_line (length s.steps) ++ q) q
+        (last_is_read 0 EndOfInput s.steps q text_s.steps) in
+    let stop_t = stops_at_last step_kind step_front 0 (length t.steps) EndOfInput (end_line (length t.steps) ++ r) r
+        (last_is_read 0 EndOfInput t.steps r text_t.steps) in
     let parts = same_items step_kind step_front 0 0 EndOfInput s.steps t.steps _ _ text_s.steps text_t.steps stop_s stop_t set.rest in
     let counts : end_line (length t.steps) ≡ end_line (length s.steps) = ap (λ (xs : List Step). end_line (length xs)) (sym parts.0) in
     (schedule_is s t set.threads_are set.rings_are parts.0, append_cancel_left (end_line (length s.steps)) q r (parts.1 ∙ ap (λ (l : List ℕ). l ++ r) counts))
 
 -- a text that stands at the front has no fault
-pub text_has_no_fault : (lines : ℕ) (ending : Ending) (s : Schedule) (r : List ℕ) (fault : TextFault) → HasScheduleText s → IsScheduleTextFault lines ending (schedule_text s ++ r) fault → ⊥
+pub text_has_no_fault : (lines : ℕ) (ending : Ending) (s : Schedule) (r : List ℕ) (fault : TextFault) → HasScheduleText s
+    → IsScheduleTextFault lines ending (schedule_text s ++ r) fault → ⊥
 text_has_no_fault lines ending s r fault text (inl at_header) = header_is_right ending _ _ fault (whole_text s r ∙ first_lines s.threads s.ring _) at_header
 text_has_no_fault lines ending s r fault text (inr (inl after)) =
     setting_is_right (lines + 2) s.threads s.ring ending fault _ text.setting
     (rest_is (line schedule_header) _ after.0 _ (SettingFault (lines + 2) ending fault) after.1 (whole_text s r ∙ first_lines s.threads s.ring _) after.2)
 text_has_no_fault lines ending s r fault text (inr (inr after)) =
     let set = one_setting s.threads s.ring after.0 after.1 _ after.3.0 text.setting after.2 (sym (whole_text s r) ∙ after.3.1) in
-    no_item_fault step_kind step_front (lines + 3) ending fault s.steps (end_line (length s.steps) ++ r) r text.steps (λ m. last_is_read m ending s.steps r text.steps)
+    no_item_fault step_kind step_front (lines + 3) ending fault s.steps (end_line (length s.steps) ++ r) r text.steps
+        (λ m. last_is_read m ending s.steps r text.steps)
     (subst (ItemFault step_kind (lines + 3) ending fault) (sym set.rest) after.3.2)
 
-same_text : (found wanted : Schedule) (a : Ahead) (new : Option Ahead) (rest : List ℕ) → HasScheduleText found → Takes (Some a) new (schedule_text found) → HasScheduleText wanted → a.bytes ≡ schedule_text wanted ++ rest → found ≡ wanted
+same_text : (found wanted : Schedule) (a : Ahead) (new : Option Ahead) (rest : List ℕ) → HasScheduleText found
+    → Takes (Some a) new (schedule_text found) → HasScheduleText wanted → a.bytes ≡ schedule_text wanted ++ rest → found ≡ wanted
 same_text found wanted a None rest text taken has is = absurd taken
 same_text found wanted a (Some b) rest text taken has is = (texts_agree found wanted b.bytes rest text has (sym taken.0 ∙ is)).0
 
 -- what is read of a text at the front
-pub reads_what_is_there : (lines : ℕ) (old new : Option Ahead) (r : Result Schedule TextFault) → IfOk r (λ s. HasScheduleText s × Takes old new (schedule_text s)) → IfErr r (HasScheduleTextFault lines old)
+pub reads_what_is_there : (lines : ℕ) (old new : Option Ahead) (r : Result Schedule TextFault)
+    → IfOk r (λ s. HasScheduleText s × Takes old new (schedule_text s)) → IfErr r (HasScheduleTextFault lines old)
     → (schedule : Schedule) → HasScheduleText schedule → BeginsWith old (schedule_text schedule) → MatchResult r (λ s. s ≡ schedule) (λ fault. fault ≡ Memory)
 reads_what_is_there lines None new r ok err schedule wanted begins = absurd begins
 reads_what_is_there lines (Some a) new r ok err schedule wanted begins =
     is_read (IsScheduleTextFault lines) NoRoomForSchedule (λ s. HasScheduleText s × Takes (Some a) new (schedule_text s)) (λ s. s ≡ schedule) a r ok err
     (λ s found. same_text s schedule a new begins.0 found.0 found.1 wanted begins.1)
-    (λ fault first. text_has_no_fault lines a.ending schedule begins.0 fault wanted (subst (λ (b : List ℕ). IsScheduleTextFault lines a.ending b fault) begins.1 first))
+    (λ fault first. text_has_no_fault lines a.ending schedule begins.0 fault wanted
+        (subst (λ (b : List ℕ). IsScheduleTextFault lines a.ending b fault) begins.1 first))
 
 -- the second line is right, or has a fault
-setting_or_fault : (n : ℕ) (ending : Ending) (bytes : List ℕ) (f : TextFault) (P : List ℕ → Type 0) → After (line schedule_header) (SettingFault n ending f) bytes → AfterSetting P bytes → ⊥
+setting_or_fault : (n : ℕ) (ending : Ending) (bytes : List ℕ) (f : TextFault) (P : List ℕ → Type 0)
+    → After (line schedule_header) (SettingFault n ending f) bytes → AfterSetting P bytes → ⊥
 setting_or_fault n ending bytes f P a b =
-    setting_is_right n b.0 b.1 ending f b.3.0 b.2 (rest_is (line schedule_header) bytes a.0 _ (SettingFault n ending f) a.1 (b.3.1 ∙ first_lines b.0 b.1 b.3.0) a.2)
+    setting_is_right n b.0 b.1 ending f b.3.0 b.2 (rest_is (line schedule_header) bytes a.0 _ (SettingFault n ending f) a.1
+        (b.3.1 ∙ first_lines b.0 b.1 b.3.0) a.2)
 
 -- an input has one first fault
-pub one_first_fault : (lines : ℕ) (ending : Ending) (bytes : List ℕ) (f g : TextFault) → IsScheduleTextFault lines ending bytes f → IsScheduleTextFault lines ending bytes g → f ≡ g
+pub one_first_fault : (lines : ℕ) (ending : Ending) (bytes : List ℕ) (f g : TextFault) → IsScheduleTextFault lines ending bytes f
+    → IsScheduleTextFault lines ending bytes g → f ≡ g
 one_first_fault lines ending bytes f g (inl a) (inl b) = some_is f g (sym a ∙ b)
 one_first_fault lines ending bytes f g (inl a) (inr (inl b)) = absurd (header_is_right ending bytes b.0 f b.1 a)
 one_first_fault lines ending bytes f g (inl a) (inr (inr b)) = absurd (header_is_right ending bytes _ f (b.3.1 ∙ first_lines b.0 b.1 b.3.0) a)
 one_first_fault lines ending bytes f g (inr (inl a)) (inl b) = absurd (header_is_right ending bytes a.0 g a.1 b)
 one_first_fault lines ending bytes f g (inr (inl a)) (inr (inl b)) =
     two_faults f g (sym (rest_is (line schedule_header) bytes a.0 b.0 (SettingFault (lines + 2) ending f) a.1 b.1 a.2) ∙ b.2)
-one_first_fault lines ending bytes f g (inr (inl a)) (inr (inr b)) = absurd (setting_or_fault (lines + 2) ending bytes f (ItemFault step_kind (lines + 3) ending g) a b)
+one_first_fault lines ending bytes f g (inr (inl a)) (inr (inr b)) =
+    absurd (setting_or_fault (lines + 2) ending bytes f (ItemFault step_kind (lines + 3) ending g) a b)
 one_first_fault lines ending bytes f g (inr (inr a)) (inl b) = absurd (header_is_right ending bytes _ g (a.3.1 ∙ first_lines a.0 a.1 a.3.0) b)
-one_first_fault lines ending bytes f g (inr (inr a)) (inr (inl b)) = absurd (setting_or_fault (lines + 2) ending bytes g (ItemFault step_kind (lines + 3) ending f) b a)
+one_first_fault lines ending bytes f g (inr (inr a)) (inr (inl b)) =
+    absurd (setting_or_fault (lines + 2) ending bytes g (ItemFault step_kind (lines + 3) ending f) b a)
 one_first_fault lines ending bytes f g (inr (inr a)) (inr (inr b)) =
     let set = one_setting a.0 a.1 b.0 b.1 a.3.0 b.3.0 a.2 b.2 (sym a.3.1 ∙ b.3.1) in
     one_item_fault step_kind step_front (lines + 3) ending f g b.3.0 (subst (ItemFault step_kind (lines + 3) ending f) set.rest a.3.2) b.3.2

@@ -1,5 +1,6 @@
 -- Two claims whose texts are one input are one, and an input has one first fault.
-use Rattle.std.proofs.Common.{◌≡◌, ℕ, ◌+◌, List, [], ◌++◌, length, cond, arith, ap, sym, subst, ◌∙◌, refl, append-nil, Option, Some, None, Ok, inl, inr, IfOk, IfErr, MatchResult, codes}
+use Rattle.std.proofs.Common.{◌≡◌, ℕ, ◌+◌, List, [], ◌++◌, length, cond, arith, ap, sym, subst, ◌∙◌, refl, append-nil, Option, Some, None, Ok, inl}
+use Rattle.std.proofs.Common.{inr, IfOk, IfErr, MatchResult, codes}
 use Rattle.std.specs.declared.result.Result.{Result}
 use Rattle.std.specs.Str.{bytes_eq}
 use Rattle.history_merge.specs.declared.operation.Operation.{Operation}
@@ -7,16 +8,16 @@ use Rattle.verdicts.specs.declared.verifying.ViolationKind.{ViolationKind}
 use Rattle.verdicts.specs.declared.verifying.ViolationKind.TheVariants.{VFresh, VRepeat, VOrd, VWit}
 use Rattle.verdicts.specs.declared.verifying.Claimed.{Claimed}
 use Rattle.verdicts.specs.declared.verifying.Claimed.TheVariants.{Yes, No}
-use Rattle.history_text.specs.declared.fault.TextFault.{TextFault}
-use Rattle.history_text.specs.declared.fault.TextFault.TheVariants.{Memory}
-use Rattle.history_text.specs.Lines.{line, front_of, Front, Whole, TooLong, Unfinished, Nothing}
+use Rattle.text_lines.specs.declared.fault.TextFault.{TextFault}
+use Rattle.text_lines.specs.declared.fault.TextFault.TheVariants.{Memory}
+use Rattle.text_lines.specs.Lines.{line, front_of, Front, Whole, TooLong, Unfinished, Nothing}
 use Rattle.history_text.specs.Items.{lines_of, item_at_front, ItemFault}
 use Rattle.history_text.specs.Verdicts.{verdict_text}
 use Rattle.history_text.specs.Claims.{first_line, FirstLineFault, operation_kind, operations_in, HasVerdictText, IsVerdictTextFault, NoRoomForVerdict}
-use Rattle.history_text.specs.Input.{Ahead, Ending, EndOfInput, Takes, IsOver}
+use Rattle.text_lines.specs.Input.{Ahead, Ending, EndOfInput, Takes, IsOver}
 use Rattle.history_text.specs.Reading.{HasVerdictTextFault, IsAll}
-use Rattle.history_text.specs.Taking.{IsPartOfLine}
-use Rattle.history_text.proofs.Faults.{whole}
+use Rattle.text_lines.specs.Lines.{IsPartOfLine}
+use Rattle.text_lines.proofs.Fronts.{whole}
 use Rattle.history_text.proofs.FirstFaults.{is_read}
 use Rattle.history_text.proofs.ReadOperations.{operation_front}
 use Rattle.history_text.proofs.Runs.{stops_at_last, same_items, no_item_fault, one_item_fault}
@@ -33,7 +34,8 @@ first_line_is_part (Some VWit) = record { one = refl; short = omega arith }
 -- what a first line answers
 abbrev answer_of : List ℕ → Option ViolationKind
 answer_of bytes =
-    cond (bytes_eq bytes (codes "NO VFresh")) (Some VFresh) (cond (bytes_eq bytes (codes "NO VRepeat")) (Some VRepeat) (cond (bytes_eq bytes (codes "NO VOrd")) (Some VOrd) (cond (bytes_eq bytes (codes "NO VWit")) (Some VWit) None)))
+    cond (bytes_eq bytes (codes "NO VFresh")) (Some VFresh) (cond (bytes_eq bytes (codes "NO VRepeat")) (Some VRepeat)
+        (cond (bytes_eq bytes (codes "NO VOrd")) (Some VOrd) (cond (bytes_eq bytes (codes "NO VWit")) (Some VWit) None)))
 
 answer_is : (answer : Option ViolationKind) → answer_of (first_line answer) ≡ answer
 answer_is None = refl
@@ -57,7 +59,8 @@ one_first_line a b r s same =
     (sym (answer_is a) ∙ ap (λ (f : Front). answer_of (line_in f)) fronts ∙ answer_is b, ap after_line fronts)
 
 -- a right first line has no fault
-first_line_is_right : (n : ℕ) (answer : Option ViolationKind) (ending : Ending) (bytes rest : List ℕ) (fault : TextFault) → bytes ≡ line (first_line answer) ++ rest → FirstLineFault n ending fault (front_of bytes) → ⊥
+first_line_is_right : (n : ℕ) (answer : Option ViolationKind) (ending : Ending) (bytes rest : List ℕ) (fault : TextFault)
+    → bytes ≡ line (first_line answer) ++ rest → FirstLineFault n ending fault (front_of bytes) → ⊥
 first_line_is_right n answer ending bytes rest fault is h =
     let here = subst (FirstLineFault n ending fault) (ap front_of is ∙ whole (first_line answer) rest (first_line_is_part answer)) h in
     here.0 answer refl
@@ -99,7 +102,8 @@ texts_agree c d text_c text_d same =
     let ys = operations_in d in
     let lines : lines_of operation_kind xs ++ [] ≡ lines_of operation_kind ys ++ [] = ap (λ (l : List ℕ). l ++ []) first.1 in
     let parts = same_items operation_kind operation_front 0 0 EndOfInput xs ys [] [] text_c text_d
-    (stops_at_last operation_kind operation_front 0 (length xs) EndOfInput [] [] refl) (stops_at_last operation_kind operation_front 0 (length ys) EndOfInput [] [] refl) lines in
+    (stops_at_last operation_kind operation_front 0 (length xs) EndOfInput [] [] refl)
+        (stops_at_last operation_kind operation_front 0 (length ys) EndOfInput [] [] refl) lines in
     sym (claim_is c) ∙ ap (λ (a : Option ViolationKind). claim_by a xs) first.0 ∙ ap (claim_by (answer_in d)) parts.0 ∙ claim_is d
 
 -- a text has no fault
@@ -110,27 +114,33 @@ text_has_no_fault lines c fault text (inr after) =
     no_item_fault operation_kind operation_front (lines + 2) EndOfInput fault (operations_in c) [] [] text (λ m. refl)
     (subst (ItemFault operation_kind (lines + 2) EndOfInput fault) (first.1 ∙ sym (append-nil (lines_of operation_kind (operations_in c)))) after.1.2)
 
-same_text : (found wanted : Claimed) (a : Ahead) (new : Option Ahead) → HasVerdictText found → Takes (Some a) new (verdict_text found) → IsOver EndOfInput new → HasVerdictText wanted → a.bytes ≡ verdict_text wanted → found ≡ wanted
+same_text : (found wanted : Claimed) (a : Ahead) (new : Option Ahead) → HasVerdictText found → Takes (Some a) new (verdict_text found)
+    → IsOver EndOfInput new → HasVerdictText wanted → a.bytes ≡ verdict_text wanted → found ≡ wanted
 same_text found wanted a None text taken over has is = absurd taken
 same_text found wanted a (Some b) text taken over has is =
     let all : a.bytes ≡ verdict_text found = taken.0 ∙ ap (λ (r : List ℕ). verdict_text found ++ r) over.0 ∙ append-nil (verdict_text found) in
     texts_agree found wanted text has (sym all ∙ is)
 
-no_fault : (lines : ℕ) (a : Ahead) (c : Claimed) (fault : TextFault) → HasVerdictText c → a.bytes ≡ verdict_text c → a.ending ≡ EndOfInput → IsVerdictTextFault lines a.ending a.bytes fault → ⊥
+no_fault : (lines : ℕ) (a : Ahead) (c : Claimed) (fault : TextFault) → HasVerdictText c → a.bytes ≡ verdict_text c → a.ending ≡ EndOfInput
+    → IsVerdictTextFault lines a.ending a.bytes fault → ⊥
 no_fault lines a c fault text is ending h =
-    text_has_no_fault lines c fault text (subst (λ (e : Ending). IsVerdictTextFault lines e (verdict_text c) fault) ending (subst (λ (b : List ℕ). IsVerdictTextFault lines a.ending b fault) is h))
+    text_has_no_fault lines c fault text (subst (λ (e : Ending). IsVerdictTextFault lines e (verdict_text c) fault) ending
+        (subst (λ (b : List ℕ). IsVerdictTextFault lines a.ending b fault) is h))
 
 -- what is read where the rest of the input is a text
-pub reads_what_is_there : (lines : ℕ) (old new : Option Ahead) (r : Result Claimed TextFault) → IfOk r (λ c. HasVerdictText c × Takes old new (verdict_text c) × IsOver EndOfInput new) → IfErr r (HasVerdictTextFault lines old)
+pub reads_what_is_there : (lines : ℕ) (old new : Option Ahead) (r : Result Claimed TextFault)
+    → IfOk r (λ c. HasVerdictText c × Takes old new (verdict_text c) × IsOver EndOfInput new) → IfErr r (HasVerdictTextFault lines old)
     → (claimed : Claimed) → HasVerdictText claimed → IsAll old (verdict_text claimed) → MatchResult r (λ c. c ≡ claimed) (λ fault. fault ≡ Memory)
 reads_what_is_there lines None new r ok err claimed wanted all = absurd all
 reads_what_is_there lines (Some a) new r ok err claimed wanted all =
-    is_read (IsVerdictTextFault lines) NoRoomForVerdict (λ c. HasVerdictText c × Takes (Some a) new (verdict_text c) × IsOver EndOfInput new) (λ c. c ≡ claimed) a r ok err
+    is_read (IsVerdictTextFault lines) NoRoomForVerdict (λ c. HasVerdictText c × Takes (Some a) new (verdict_text c) × IsOver EndOfInput new)
+        (λ c. c ≡ claimed) a r ok err
     (λ c found. same_text c claimed a new found.0 found.1 found.2 wanted all.0)
     (λ fault first. no_fault lines a claimed fault wanted all.0 all.1 first)
 
 -- an input has one first fault
-pub one_first_fault : (lines : ℕ) (ending : Ending) (bytes : List ℕ) (f g : TextFault) → IsVerdictTextFault lines ending bytes f → IsVerdictTextFault lines ending bytes g → f ≡ g
+pub one_first_fault : (lines : ℕ) (ending : Ending) (bytes : List ℕ) (f g : TextFault) → IsVerdictTextFault lines ending bytes f
+    → IsVerdictTextFault lines ending bytes g → f ≡ g
 one_first_fault lines ending bytes f g (inl a) (inl b) = one_first_line_fault (lines + 1) ending f g (front_of bytes) a b
 one_first_fault lines ending bytes f g (inl a) (inr b) = absurd (first_line_is_right (lines + 1) b.0 ending bytes b.1.0 f b.1.1 a)
 one_first_fault lines ending bytes f g (inr a) (inl b) = absurd (first_line_is_right (lines + 1) a.0 ending bytes a.1.0 g a.1.1 b)

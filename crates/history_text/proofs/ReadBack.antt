@@ -7,21 +7,27 @@ use Rattle.event_records.specs.declared.event.Event.{Event}
 use Rattle.event_records.specs.declared.event.What.{What}
 use Rattle.event_records.specs.declared.event.What.TheVariants.{CallEnq, RetEnq, RetNot, CallDeq, RetDeq, RetEmpty}
 use Rattle.event_records.specs.declared.limits.TheConstants.{MAX_TICKET, MAX_THREAD, MAX_EVENTS}
-use Rattle.history_text.specs.Lines.{spaced, greatest_value, front_of}
+use Rattle.text_lines.specs.Lines.{spaced, greatest_value, front_of}
 use Rattle.history_text.specs.Items.{item_at_front}
-use Rattle.history_text.specs.Histories.{event_line, event_fields, what_fields, HasEventLine, HasValueInRange, event_in, stamped_event, numbered_event, event_kind}
-use Rattle.history_text.specs.Input.{Ending}
-use Rattle.history_text.proofs.WrittenLines.{IsField, number_is_field, all_digits, number_read, IsLineOf, line_of_fields, digits_begin_other, item_front, HasFields, with_value}
+use Rattle.history_text.specs.Histories.{event_line, event_fields, what_fields, HasEventLine, HasValueInRange, event_in, stamped_event}
+use Rattle.history_text.specs.Histories.{numbered_event, event_kind}
+use Rattle.text_lines.specs.Input.{Ending}
+use Rattle.text_lines.proofs.WrittenLines.{IsField, number_is_field, all_digits, number_read, IsLineOf, line_of_fields, digits_begin_other, HasFields}
+use Rattle.text_lines.proofs.WrittenLines.{with_value}
+use Rattle.history_text.proofs.ItemFronts.{item_front}
 
 -- ---- events
 
-event_read_by : (n ticket thread : ℕ) (what : What) → ticket ≤ MAX_TICKET → thread ≤ MAX_THREAD → HasValueInRange what → event_in n (decimal ticket ∷ decimal thread ∷ what_fields what) ≡ Ok (record { ticket = ticket; thread = thread; what = what })
+event_read_by : (n ticket thread : ℕ) (what : What) → ticket ≤ MAX_TICKET → thread ≤ MAX_THREAD → HasValueInRange what
+    → event_in n (decimal ticket ∷ decimal thread ∷ what_fields what) ≡ Ok (record { ticket = ticket; thread = thread; what = what })
 unfolding stamped_event numbered_event
-event_read_by n ticket thread (CallEnq v) t h r = rw (number_read n MAX_TICKET ticket t (omega arith), number_read n MAX_THREAD thread h (omega arith), number_read n greatest_value v r (omega arith)) refl
+event_read_by n ticket thread (CallEnq v) t h r = rw (number_read n MAX_TICKET ticket t (omega arith), number_read n MAX_THREAD thread h
+    (omega arith), number_read n greatest_value v r (omega arith)) refl
 event_read_by n ticket thread RetEnq t h r = rw (number_read n MAX_TICKET ticket t (omega arith), number_read n MAX_THREAD thread h (omega arith)) refl
 event_read_by n ticket thread RetNot t h r = rw (number_read n MAX_TICKET ticket t (omega arith), number_read n MAX_THREAD thread h (omega arith)) refl
 event_read_by n ticket thread CallDeq t h r = rw (number_read n MAX_TICKET ticket t (omega arith), number_read n MAX_THREAD thread h (omega arith)) refl
-event_read_by n ticket thread (RetDeq v) t h r = rw (number_read n MAX_TICKET ticket t (omega arith), number_read n MAX_THREAD thread h (omega arith), number_read n greatest_value v r (omega arith)) refl
+event_read_by n ticket thread (RetDeq v) t h r = rw (number_read n MAX_TICKET ticket t (omega arith), number_read n MAX_THREAD thread h (omega arith),
+    number_read n greatest_value v r (omega arith)) refl
 event_read_by n ticket thread RetEmpty t h r = rw (number_read n MAX_TICKET ticket t (omega arith), number_read n MAX_THREAD thread h (omega arith)) refl
 
 event_read : (n : ℕ) (e : Event) → HasEventLine e → event_in n (event_fields e) ≡ Ok e
@@ -37,7 +43,8 @@ what_has_fields RetEmpty r = record { word = codes "ret-empty"; others = []; is 
 
 -- ---- lines
 
-line_by : (ticket thread : ℕ) (fields : List (List ℕ)) → ticket ≤ MAX_TICKET → thread ≤ MAX_THREAD → HasFields fields → IsLineOf (decimal ticket ∷ decimal thread ∷ fields)
+line_by : (ticket thread : ℕ) (fields : List (List ℕ)) → ticket ≤ MAX_TICKET → thread ≤ MAX_THREAD → HasFields fields
+    → IsLineOf (decimal ticket ∷ decimal thread ∷ fields)
 line_by ticket thread fields t h what =
     let small : ticket < 2 ^ 64 = omega (arith, t) in
     let few : thread < 2 ^ 64 = omega (arith, h) in
@@ -57,5 +64,6 @@ event_is_line e range = line_by e.ticket e.thread (what_fields e.what) range.tic
 
 -- ---- the front of the input
 
-pub event_front : (n k : ℕ) (ending : Ending) (e : Event) (rest : List ℕ) → HasEventLine e → k < MAX_EVENTS → item_at_front event_kind n k ending (front_of (event_line e ++ rest)) ≡ Ok (Some e, rest)
+pub event_front : (n k : ℕ) (ending : Ending) (e : Event) (rest : List ℕ) → HasEventLine e → k < MAX_EVENTS
+    → item_at_front event_kind n k ending (front_of (event_line e ++ rest)) ≡ Ok (Some e, rest)
 event_front n k ending e rest range few = item_front event_kind n k ending e rest (event_is_line e range) (event_read n e range) few

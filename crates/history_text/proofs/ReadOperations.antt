@@ -7,19 +7,26 @@ use Rattle.event_records.specs.declared.limits.TheConstants.{MAX_TICKET, MAX_THR
 use Rattle.history_merge.specs.declared.operation.Operation.{Operation}
 use Rattle.history_merge.specs.declared.operation.OpKind.{OpKind}
 use Rattle.history_merge.specs.declared.operation.OpKind.TheVariants.{Enq, Deq, Empty, Not}
-use Rattle.history_text.specs.Lines.{spaced, greatest_value, front_of}
+use Rattle.text_lines.specs.Lines.{spaced, greatest_value, front_of}
 use Rattle.history_text.specs.Items.{line_of, item_at_front}
 use Rattle.history_text.specs.Verdicts.{kind_fields, operation_fields}
 use Rattle.history_text.specs.Claims.{IsKindInRange, HasOperationLine, operation_in, empty_operation, numbered_operation, operation_kind}
-use Rattle.history_text.specs.Input.{Ending}
-use Rattle.history_text.proofs.WrittenLines.{IsField, number_is_field, all_digits, number_read, IsLineOf, line_of_fields, digits_begin_other, item_front, HasFields, with_value}
+use Rattle.text_lines.specs.Input.{Ending}
+use Rattle.text_lines.proofs.WrittenLines.{IsField, number_is_field, all_digits, number_read, IsLineOf, line_of_fields, digits_begin_other, HasFields}
+use Rattle.text_lines.proofs.WrittenLines.{with_value}
+use Rattle.history_text.proofs.ItemFronts.{item_front}
 
-operation_read_by : (n call ret thread : ℕ) (kind : OpKind) → call ≤ MAX_TICKET → ret ≤ MAX_TICKET → thread ≤ MAX_THREAD → IsKindInRange kind → operation_in n (decimal call ∷ decimal ret ∷ decimal thread ∷ kind_fields kind) ≡ Ok (record { call = call; ret = ret; thread = thread; kind = kind })
+operation_read_by : (n call ret thread : ℕ) (kind : OpKind) → call ≤ MAX_TICKET → ret ≤ MAX_TICKET → thread ≤ MAX_THREAD → IsKindInRange kind
+    → operation_in n (decimal call ∷ decimal ret ∷ decimal thread ∷ kind_fields kind) ≡ Ok (record { call = call; ret = ret; thread = thread; kind = kind })
 unfolding empty_operation numbered_operation
-operation_read_by n call ret thread (Enq v) c r t range = rw (number_read n MAX_TICKET call c (omega arith), number_read n MAX_TICKET ret r (omega arith), number_read n MAX_THREAD thread t (omega arith), number_read n greatest_value v range (omega arith)) refl
-operation_read_by n call ret thread (Deq v) c r t range = rw (number_read n MAX_TICKET call c (omega arith), number_read n MAX_TICKET ret r (omega arith), number_read n MAX_THREAD thread t (omega arith), number_read n greatest_value v range (omega arith)) refl
-operation_read_by n call ret thread Empty c r t range = rw (number_read n MAX_TICKET call c (omega arith), number_read n MAX_TICKET ret r (omega arith), number_read n MAX_THREAD thread t (omega arith)) refl
-operation_read_by n call ret thread (Not v) c r t range = rw (number_read n MAX_TICKET call c (omega arith), number_read n MAX_TICKET ret r (omega arith), number_read n MAX_THREAD thread t (omega arith), number_read n greatest_value v range (omega arith)) refl
+operation_read_by n call ret thread (Enq v) c r t range = rw (number_read n MAX_TICKET call c (omega arith), number_read n MAX_TICKET ret r
+    (omega arith), number_read n MAX_THREAD thread t (omega arith), number_read n greatest_value v range (omega arith)) refl
+operation_read_by n call ret thread (Deq v) c r t range = rw (number_read n MAX_TICKET call c (omega arith), number_read n MAX_TICKET ret r
+    (omega arith), number_read n MAX_THREAD thread t (omega arith), number_read n greatest_value v range (omega arith)) refl
+operation_read_by n call ret thread Empty c r t range = rw (number_read n MAX_TICKET call c (omega arith), number_read n MAX_TICKET ret r
+    (omega arith), number_read n MAX_THREAD thread t (omega arith)) refl
+operation_read_by n call ret thread (Not v) c r t range = rw (number_read n MAX_TICKET call c (omega arith), number_read n MAX_TICKET ret r
+    (omega arith), number_read n MAX_THREAD thread t (omega arith), number_read n greatest_value v range (omega arith)) refl
 
 operation_read : (n : ℕ) (o : Operation) → HasOperationLine o → operation_in n (operation_fields o) ≡ Ok o
 operation_read n o range = operation_read_by n o.call o.ret o.thread o.kind range.call range.ret range.thread range.value
@@ -30,14 +37,16 @@ kind_has_fields (Deq v) r = with_value (codes "deq") v refl (omega arith) r
 kind_has_fields Empty r = record { word = codes "empty"; others = []; is = refl; one = refl; all = tt; short = omega arith }
 kind_has_fields (Not v) r = with_value (codes "not") v refl (omega arith) r
 
-line_by : (call ret thread : ℕ) (fields : List (List ℕ)) → call ≤ MAX_TICKET → ret ≤ MAX_TICKET → thread ≤ MAX_THREAD → HasFields fields → IsLineOf (decimal call ∷ decimal ret ∷ decimal thread ∷ fields)
+line_by : (call ret thread : ℕ) (fields : List (List ℕ)) → call ≤ MAX_TICKET → ret ≤ MAX_TICKET → thread ≤ MAX_THREAD → HasFields fields
+    → IsLineOf (decimal call ∷ decimal ret ∷ decimal thread ∷ fields)
 line_by call ret thread fields c r t kind =
     let call_small : call < 2 ^ 64 = omega (arith, c) in
     let ret_small : ret < 2 ^ 64 = omega (arith, r) in
     let few : thread < 2 ^ 64 = omega (arith, t) in
     let tail = spaced (kind.word ∷ kind.others) in
     let one = number_is_field call call_small in
-    let all : AllByRecursion IsField (decimal ret ∷ decimal thread ∷ kind.word ∷ kind.others) = (number_is_field ret ret_small, (number_is_field thread few, (kind.one, kind.all))) in
+    let all : AllByRecursion IsField (decimal ret ∷ decimal thread ∷ kind.word ∷ kind.others) =
+        (number_is_field ret ret_small, (number_is_field thread few, (kind.one, kind.all))) in
     let l1 = length-append (decimal call) (32 ∷ (decimal ret ++ 32 ∷ (decimal thread ++ 32 ∷ tail))) in
     let l2 = length-append (decimal ret) (32 ∷ (decimal thread ++ 32 ∷ tail)) in
     let l3 = length-append (decimal thread) (32 ∷ tail) in
@@ -46,10 +55,12 @@ line_by call ret thread fields c r t kind =
     let n3 = length-decimal-le 2 thread (omega arith) (omega (arith, t)) few in
     subst (λ (f : List (List ℕ)). IsLineOf (decimal call ∷ decimal ret ∷ decimal thread ∷ f)) (sym kind.is)
     (line_of_fields (decimal call) (decimal ret ∷ decimal thread ∷ kind.word ∷ kind.others) one all (omega (arith, l1, l2, l3, n1, n2, n3, kind.short))
-    (digits_begin_other (decimal call) (32 ∷ (decimal ret ++ 32 ∷ (decimal thread ++ 32 ∷ tail))) (decimal_nonempty call call_small) (all_digits call call_small)))
+    (digits_begin_other (decimal call) (32 ∷ (decimal ret ++ 32 ∷ (decimal thread ++ 32 ∷ tail))) (decimal_nonempty call call_small)
+        (all_digits call call_small)))
 
 operation_is_line : (o : Operation) → HasOperationLine o → IsLineOf (operation_fields o)
 operation_is_line o range = line_by o.call o.ret o.thread (kind_fields o.kind) range.call range.ret range.thread (kind_has_fields o.kind range.value)
 
-pub operation_front : (n k : ℕ) (ending : Ending) (o : Operation) (rest : List ℕ) → HasOperationLine o → k < MAX_OPERATIONS → item_at_front operation_kind n k ending (front_of (line_of operation_kind o ++ rest)) ≡ Ok (Some o, rest)
+pub operation_front : (n k : ℕ) (ending : Ending) (o : Operation) (rest : List ℕ) → HasOperationLine o → k < MAX_OPERATIONS
+    → item_at_front operation_kind n k ending (front_of (line_of operation_kind o ++ rest)) ≡ Ok (Some o, rest)
 operation_front n k ending o rest range few = item_front operation_kind n k ending o rest (operation_is_line o range) (operation_read n o range) few

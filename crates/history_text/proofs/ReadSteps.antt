@@ -9,12 +9,14 @@ use Rattle.recorder_core.specs.declared.step.Answer.{Answer}
 use Rattle.recorder_core.specs.declared.step.Answer.TheVariants.{Taken, Not, Got, Empty}
 use Rattle.recorder_core.specs.declared.limits.TheConstants.{MAX_THREADS, MIN_RING, MAX_RING}
 use Rattle.history_text.specs.declared.schedule.TheConstants.{MAX_STEPS, MOST_DRAINED}
-use Rattle.history_text.specs.Lines.{line, spaced, greatest_value, front_of, number_in, begins_as_end}
+use Rattle.text_lines.specs.Lines.{line, spaced, greatest_value, front_of, number_in, begins_as_end}
 use Rattle.history_text.specs.Items.{line_of, item_at_front}
-use Rattle.history_text.specs.Schedules.{step_fields, setting_fields, IsAnswerInRange, HasStepLine, step_in, draining, numbered_saying, setting_in, numbered_setting, setting_at_front, step_kind, IsSetting}
-use Rattle.history_text.specs.Input.{Ending}
-use Rattle.history_text.proofs.Faults.{whole}
-use Rattle.history_text.proofs.WrittenLines.{IsField, number_is_field, number_read, between_read, IsLineOf, line_of_fields, item_front}
+use Rattle.history_text.specs.Schedules.{step_fields, setting_fields, IsAnswerInRange, HasStepLine, step_in, draining, numbered_saying, setting_in}
+use Rattle.history_text.specs.Schedules.{numbered_setting, setting_at_front, step_kind, IsSetting}
+use Rattle.text_lines.specs.Input.{Ending}
+use Rattle.text_lines.proofs.Fronts.{whole}
+use Rattle.text_lines.proofs.WrittenLines.{IsField, number_is_field, number_read, between_read, IsLineOf, line_of_fields}
+use Rattle.history_text.proofs.ItemFronts.{item_front}
 
 -- ---- steps
 
@@ -46,11 +48,14 @@ thread_is_field t few = number_is_field t (omega (arith, few))
 thread_is_short : (t : ℕ) → t ≤ MAX_THREAD → length (decimal t) ≤ 2
 thread_is_short t few = length-decimal-le 2 t (omega arith) (omega (arith, few)) (omega (arith, few))
 
-of_two : (word : List ℕ) (t : ℕ) → IsField word → length word ≤ 7 → begins_as_end (spaced (word ∷ decimal t ∷ [])) ≡ false → t ≤ MAX_THREAD → IsLineOf (word ∷ decimal t ∷ [])
+of_two : (word : List ℕ) (t : ℕ) → IsField word → length word ≤ 7 → begins_as_end (spaced (word ∷ decimal t ∷ [])) ≡ false → t ≤ MAX_THREAD
+    → IsLineOf (word ∷ decimal t ∷ [])
 of_two word t one short other few =
-    line_of_fields word (decimal t ∷ []) one (thread_is_field t few, tt) (omega (arith, length-append word (32 ∷ decimal t), thread_is_short t few, short)) other
+    line_of_fields word (decimal t ∷ []) one (thread_is_field t few, tt)
+        (omega (arith, length-append word (32 ∷ decimal t), thread_is_short t few, short)) other
 
-of_three : (word third : List ℕ) (t : ℕ) → IsField word → IsField third → length word ≤ 7 → length third ≤ 20 → begins_as_end (spaced (word ∷ decimal t ∷ third ∷ [])) ≡ false → t ≤ MAX_THREAD → IsLineOf (word ∷ decimal t ∷ third ∷ [])
+of_three : (word third : List ℕ) (t : ℕ) → IsField word → IsField third → length word ≤ 7 → length third ≤ 20
+    → begins_as_end (spaced (word ∷ decimal t ∷ third ∷ [])) ≡ false → t ≤ MAX_THREAD → IsLineOf (word ∷ decimal t ∷ third ∷ [])
 of_three word third t one last short small other few =
     line_of_fields word (decimal t ∷ third ∷ []) one (thread_is_field t few, (last, tt))
     (omega (arith, length-append word (32 ∷ (decimal t ++ 32 ∷ third)), length-append (decimal t) (32 ∷ third), thread_is_short t few, short, small)) other
@@ -73,10 +78,12 @@ step_is_line (Effect t) few = of_two (codes "effect") t refl (omega arith) refl 
 step_is_line (Say t answer) range = saying_is_line t answer range.0 range.1
 step_is_line (Ret t) few = of_two (codes "ret") t refl (omega arith) refl few
 step_is_line (Drain t k) range =
-    of_three (codes "drain") (decimal k) t refl (number_is_field k (omega (arith, range.1))) (omega arith) (length-decimal-le 20 k (omega arith) (omega (arith, range.1)) (omega (arith, range.1))) refl range.0
+    of_three (codes "drain") (decimal k) t refl (number_is_field k (omega (arith, range.1))) (omega arith)
+        (length-decimal-le 20 k (omega arith) (omega (arith, range.1)) (omega (arith, range.1))) refl range.0
 step_is_line (Close t) few = of_two (codes "close") t refl (omega arith) refl few
 
-pub step_front : (n k : ℕ) (ending : Ending) (step : Step) (rest : List ℕ) → HasStepLine step → k < MAX_STEPS → item_at_front step_kind n k ending (front_of (line_of step_kind step ++ rest)) ≡ Ok (Some step, rest)
+pub step_front : (n k : ℕ) (ending : Ending) (step : Step) (rest : List ℕ) → HasStepLine step → k < MAX_STEPS
+    → item_at_front step_kind n k ending (front_of (line_of step_kind step ++ rest)) ≡ Ok (Some step, rest)
 step_front n k ending step rest range few = item_front step_kind n k ending step rest (step_is_line step range) (step_read n step range) few
 
 -- ---- settings
@@ -84,17 +91,21 @@ step_front n k ending step rest range few = item_front step_kind n k ending step
 setting_read : (n threads ring : ℕ) → IsSetting threads ring → setting_in n (setting_fields threads ring) ≡ Ok (threads, ring)
 unfolding numbered_setting
 setting_read n threads ring within =
-    rw (between_read n 1 MAX_THREADS threads within.some_threads within.few_threads (omega arith), between_read n MIN_RING MAX_RING ring within.some_room within.little_room (omega arith)) refl
+    rw (between_read n 1 MAX_THREADS threads within.some_threads within.few_threads (omega arith),
+        between_read n MIN_RING MAX_RING ring within.some_room within.little_room (omega arith)) refl
 
 setting_is_line : (threads ring : ℕ) → IsSetting threads ring → IsLineOf (setting_fields threads ring)
 setting_is_line threads ring within =
     let count = within.few_threads in
     let room = within.little_room in
     let tail = codes "ring" ++ 32 ∷ decimal ring in
-    line_of_fields (codes "threads") (decimal threads ∷ codes "ring" ∷ decimal ring ∷ []) refl (number_is_field threads (omega (arith, count)), (refl, (number_is_field ring (omega (arith, room)), tt)))
-    (omega (arith, length-append (decimal threads) (32 ∷ tail), length-decimal-le 20 threads (omega arith) (omega (arith, count)) (omega (arith, count)), length-decimal-le 20 ring (omega arith) (omega (arith, room)) (omega (arith, room)))) refl
+    line_of_fields (codes "threads") (decimal threads ∷ codes "ring" ∷ decimal ring ∷ []) refl
+        (number_is_field threads (omega (arith, count)), (refl, (number_is_field ring (omega (arith, room)), tt)))
+    (omega (arith, length-append (decimal threads) (32 ∷ tail), length-decimal-le 20 threads (omega arith) (omega (arith, count))
+        (omega (arith, count)), length-decimal-le 20 ring (omega arith) (omega (arith, room)) (omega (arith, room)))) refl
 
-pub setting_front : (n threads ring : ℕ) (ending : Ending) (rest : List ℕ) → IsSetting threads ring → setting_at_front n ending (front_of (line (spaced (setting_fields threads ring)) ++ rest)) ≡ Ok ((threads, ring), rest)
+pub setting_front : (n threads ring : ℕ) (ending : Ending) (rest : List ℕ) → IsSetting threads ring
+    → setting_at_front n ending (front_of (line (spaced (setting_fields threads ring)) ++ rest)) ≡ Ok ((threads, ring), rest)
 setting_front n threads ring ending rest within =
     let is = setting_is_line threads ring within in
     ap (setting_at_front n ending) (whole (spaced (setting_fields threads ring)) rest is.part) ∙ rw (is.back, setting_read n threads ring within) refl

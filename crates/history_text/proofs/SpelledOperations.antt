@@ -6,11 +6,11 @@ use Rattle.event_records.specs.declared.limits.TheConstants.{MAX_TICKET, MAX_THR
 use Rattle.history_merge.specs.declared.operation.Operation.{Operation}
 use Rattle.history_merge.specs.declared.operation.OpKind.{OpKind}
 use Rattle.history_merge.specs.declared.operation.OpKind.TheVariants.{Empty}
-use Rattle.history_text.specs.Lines.{greatest_value, number_in}
+use Rattle.text_lines.specs.Lines.{greatest_value, number_in}
 use Rattle.history_text.specs.Verdicts.{kind_fields}
 use Rattle.history_text.specs.Claims.{IsKindInRange, has_value, kind_of_value, empty_operation, numbered_operation, operation_in, operation_kind}
 use Rattle.history_text.specs.Taking.{IsSpelled}
-use Rattle.history_text.proofs.Numbers.{chosen, by_test, other_true, bind_ok, text_is, number_ok}
+use Rattle.text_lines.proofs.Numbers.{chosen, by_test, other_true, bind_ok, text_is, number_ok}
 
 -- a kind that is written with these fields
 abbrev IsOf : List (List ℕ) → OpKind → Type 0
@@ -25,23 +25,28 @@ kind_ok word v known small =
     by_test (IsOf (word ∷ decimal v ∷ [])) (bytes_eq word (codes "deq")) _ _ (λ e. (with_word word (codes "deq") v e, small)) (λ not_deq.
     (with_word word (codes "not") v (other_true _ _ not_deq (other_true _ _ not_enq known)), small)))
 
-is_operation : (c r t : List ℕ) (rest : List (List ℕ)) (call ret thread : ℕ) (kind : OpKind) (o : Operation) → (c ≡ decimal call) × (call ≤ MAX_TICKET) → (r ≡ decimal ret) × (ret ≤ MAX_TICKET) → (t ≡ decimal thread) × (thread ≤ MAX_THREAD) → IsOf rest kind → record { call = call; ret = ret; thread = thread; kind = kind } ≡ o → IsSpelled operation_kind (c ∷ r ∷ t ∷ rest) o
+is_operation : (c r t : List ℕ) (rest : List (List ℕ)) (call ret thread : ℕ) (kind : OpKind) (o : Operation)
+    → (c ≡ decimal call) × (call ≤ MAX_TICKET) → (r ≡ decimal ret) × (ret ≤ MAX_TICKET) → (t ≡ decimal thread) × (thread ≤ MAX_THREAD)
+    → IsOf rest kind → record { call = call; ret = ret; thread = thread; kind = kind } ≡ o → IsSpelled operation_kind (c ∷ r ∷ t ∷ rest) o
 is_operation c r t rest call ret thread kind o call_is ret_is thread_is kind_is is =
     subst (IsSpelled operation_kind (c ∷ r ∷ t ∷ rest)) is (record {
       text = rw (call_is.0, ret_is.0, thread_is.0, ← kind_is.0) refl;
       line = record { call = call_is.1; ret = ret_is.1; thread = thread_is.1; value = kind_is.1 };
     })
 
-empty_ok : (n : ℕ) (c r t word : List ℕ) (o : Operation) → bytes_eq word (codes "empty") ≡ true → empty_operation n c r t ≡ Ok o → IsSpelled operation_kind (c ∷ r ∷ t ∷ word ∷ []) o
+empty_ok : (n : ℕ) (c r t word : List ℕ) (o : Operation) → bytes_eq word (codes "empty") ≡ true → empty_operation n c r t ≡ Ok o
+    → IsSpelled operation_kind (c ∷ r ∷ t ∷ word ∷ []) o
 unfolding empty_operation
 empty_ok n c r t word o same e =
     let call = bind_ok (number_in n MAX_TICKET c) _ o e in
     let ret = bind_ok (number_in n MAX_TICKET r) _ o call.2 in
     let thread = bind_ok (number_in n MAX_THREAD t) _ o ret.2 in
-    is_operation c r t (word ∷ []) call.0 ret.0 thread.0 Empty o (number_ok n MAX_TICKET c call.0 (omega arith) call.1) (number_ok n MAX_TICKET r ret.0 (omega arith) ret.1) (number_ok n MAX_THREAD t thread.0 (omega arith) thread.1)
+    is_operation c r t (word ∷ []) call.0 ret.0 thread.0 Empty o (number_ok n MAX_TICKET c call.0 (omega arith) call.1)
+        (number_ok n MAX_TICKET r ret.0 (omega arith) ret.1) (number_ok n MAX_THREAD t thread.0 (omega arith) thread.1)
     (ap (λ (w : List ℕ). w ∷ []) (sym (text_is word (codes "empty") same)), tt) (cc (thread.2))
 
-numbered_ok : (n : ℕ) (c r t word value : List ℕ) (o : Operation) → has_value word ≡ true → numbered_operation n c r t word value ≡ Ok o → IsSpelled operation_kind (c ∷ r ∷ t ∷ word ∷ value ∷ []) o
+numbered_ok : (n : ℕ) (c r t word value : List ℕ) (o : Operation) → has_value word ≡ true → numbered_operation n c r t word value ≡ Ok o
+    → IsSpelled operation_kind (c ∷ r ∷ t ∷ word ∷ value ∷ []) o
 unfolding numbered_operation
 numbered_ok n c r t word value o known e =
     let call = bind_ok (number_in n MAX_TICKET c) _ o e in
@@ -50,7 +55,8 @@ numbered_ok n c r t word value o known e =
     let v = bind_ok (number_in n greatest_value value) _ o thread.2 in
     let value_is = number_ok n greatest_value value v.0 (omega arith) v.1 in
     let kind_is = kind_ok word v.0 known value_is.1 in
-    is_operation c r t (word ∷ value ∷ []) call.0 ret.0 thread.0 (kind_of_value word v.0) o (number_ok n MAX_TICKET c call.0 (omega arith) call.1) (number_ok n MAX_TICKET r ret.0 (omega arith) ret.1) (number_ok n MAX_THREAD t thread.0 (omega arith) thread.1)
+    is_operation c r t (word ∷ value ∷ []) call.0 ret.0 thread.0 (kind_of_value word v.0) o (number_ok n MAX_TICKET c call.0 (omega arith) call.1)
+        (number_ok n MAX_TICKET r ret.0 (omega arith) ret.1) (number_ok n MAX_THREAD t thread.0 (omega arith) thread.1)
     (kind_is.0 ∙ ap (λ (f : List ℕ). word ∷ f ∷ []) (sym value_is.0), kind_is.1) (cc (v.2))
 
 pub operation_ok : (n : ℕ) (fields : List (List ℕ)) (o : Operation) → operation_in n fields ≡ Ok o → IsSpelled operation_kind fields o

@@ -9,10 +9,12 @@ use Rattle.recorder_core.specs.declared.step.Answer.{Answer}
 use Rattle.recorder_core.specs.declared.step.Answer.TheVariants.{Got}
 use Rattle.recorder_core.specs.declared.limits.TheConstants.{MAX_THREADS, MIN_RING, MAX_RING}
 use Rattle.history_text.specs.declared.schedule.TheConstants.{MOST_DRAINED}
-use Rattle.history_text.specs.Lines.{greatest_value, number_in, number_between}
-use Rattle.history_text.specs.Schedules.{answer_fields, step_fields, setting_fields, IsAnswerInRange, HasStepLine, is_plain, plain_step, plain_answer, step_of_two, plain_saying, draining, step_of_three, numbered_saying, step_of_four, step_in, numbered_setting, setting_in, step_kind, IsSetting}
+use Rattle.text_lines.specs.Lines.{greatest_value, number_in, number_between}
+use Rattle.history_text.specs.Schedules.{answer_fields, step_fields, setting_fields, IsAnswerInRange, HasStepLine, is_plain, plain_step, plain_answer}
+use Rattle.history_text.specs.Schedules.{step_of_two, plain_saying, draining, step_of_three, numbered_saying, step_of_four, step_in, numbered_setting}
+use Rattle.history_text.specs.Schedules.{setting_in, step_kind, IsSetting}
 use Rattle.history_text.specs.Taking.{IsSpelled}
-use Rattle.history_text.proofs.Numbers.{chosen, both, by_test, other_true, bind_ok, text_is, number_ok, between_ok}
+use Rattle.text_lines.proofs.Numbers.{chosen, both, by_test, other_true, bind_ok, text_is, number_ok, between_ok}
 
 -- ---- words
 
@@ -30,7 +32,8 @@ plain_step_ok word t known few =
     by_test (IsOfTwo word t) (bytes_eq word (codes "push")) _ _ (λ e. (of_two word (codes "push") t e, few)) (λ not_push.
     by_test (IsOfTwo word t) (bytes_eq word (codes "effect")) _ _ (λ e. (of_two word (codes "effect") t e, few)) (λ not_effect.
     by_test (IsOfTwo word t) (bytes_eq word (codes "ret")) _ _ (λ e. (of_two word (codes "ret") t e, few)) (λ not_ret.
-    (of_two word (codes "close") t (other_true _ _ not_ret (other_true _ _ not_effect (other_true _ _ not_push (other_true _ _ not_ask_deq (other_true _ _ not_ask_enq known))))), few))))))
+    (of_two word (codes "close") t (other_true _ _ not_ret (other_true _ _ not_effect
+        (other_true _ _ not_push (other_true _ _ not_ask_deq (other_true _ _ not_ask_enq known))))), few))))))
 
 -- an answer that is written as one word
 abbrev IsOfWord : List ℕ → Option Answer → Type 0
@@ -68,7 +71,8 @@ two_ok n word thread step e =
       | inr h ↦ absurd (cc (h.1))
     ]
 
-draining_ok : (n : ℕ) (word thread count : List ℕ) (step : Step) → bytes_eq word (codes "drain") ≡ true → draining n thread count ≡ Ok step → IsSpelled step_kind (word ∷ thread ∷ count ∷ []) step
+draining_ok : (n : ℕ) (word thread count : List ℕ) (step : Step) → bytes_eq word (codes "drain") ≡ true → draining n thread count ≡ Ok step
+    → IsSpelled step_kind (word ∷ thread ∷ count ∷ []) step
 unfolding draining
 draining_ok n word thread count step same e =
     let t = bind_ok (number_in n MAX_THREAD thread) _ step e in
@@ -76,17 +80,21 @@ draining_ok n word thread count step same e =
     let thread_is = number_ok n MAX_THREAD thread t.0 (omega arith) t.1 in
     let count_is = number_ok n MOST_DRAINED count k.0 (omega arith) k.1 in
     let word_is : word ≡ codes "drain" = text_is word (codes "drain") same in
-    is_step (word ∷ thread ∷ count ∷ []) (Drain t.0 k.0) step (three_are _ _ _ word thread count word_is thread_is.0 count_is.0, (thread_is.1, count_is.1)) (cc (k.2))
+    is_step (word ∷ thread ∷ count ∷ []) (Drain t.0 k.0) step (three_are _ _ _ word thread count word_is thread_is.0 count_is.0,
+        (thread_is.1, count_is.1)) (cc (k.2))
 
-plain_saying_ok : (n : ℕ) (word thread third : List ℕ) (answer : Option Answer) (step : Step) → bytes_eq word (codes "say") ≡ true → IsOfWord third answer → plain_saying n thread answer ≡ Ok step → IsSpelled step_kind (word ∷ thread ∷ third ∷ []) step
+plain_saying_ok : (n : ℕ) (word thread third : List ℕ) (answer : Option Answer) (step : Step) → bytes_eq word (codes "say") ≡ true
+    → IsOfWord third answer → plain_saying n thread answer ≡ Ok step → IsSpelled step_kind (word ∷ thread ∷ third ∷ []) step
 plain_saying_ok n word thread third None step same is e = absurd (cc)
 plain_saying_ok n word thread third (Some answer) step same is e =
     let t = bind_ok (number_in n MAX_THREAD thread) _ step e in
     let thread_is = number_ok n MAX_THREAD thread t.0 (omega arith) t.1 in
     let word_is : word ≡ codes "say" = text_is word (codes "say") same in
-    is_step (word ∷ thread ∷ third ∷ []) (Say t.0 answer) step (ap (λ (r : List (List ℕ)). codes "say" ∷ decimal t.0 ∷ r) is.0 ∙ three_are _ _ _ word thread third word_is thread_is.0 refl, (thread_is.1, is.1)) (cc (t.2))
+    is_step (word ∷ thread ∷ third ∷ []) (Say t.0 answer) step (ap (λ (r : List (List ℕ)). codes "say" ∷ decimal t.0 ∷ r) is.0
+        ∙ three_are _ _ _ word thread third word_is thread_is.0 refl, (thread_is.1, is.1)) (cc (t.2))
 
-three_ok : (n : ℕ) (word thread third : List ℕ) (step : Step) → step_of_three n word thread third ≡ Ok step → IsSpelled step_kind (word ∷ thread ∷ third ∷ []) step
+three_ok : (n : ℕ) (word thread third : List ℕ) (step : Step) → step_of_three n word thread third ≡ Ok step
+    → IsSpelled step_kind (word ∷ thread ∷ third ∷ []) step
 three_ok n word thread third step e =
     elim (chosen (bytes_eq word (codes "drain")) _ _ _ e) [
       | inl h ↦ draining_ok n word thread third step h.0 h.1
@@ -96,7 +104,8 @@ three_ok n word thread third step e =
       ]
     ]
 
-saying_ok : (n : ℕ) (word thread third value : List ℕ) (step : Step) → bytes_eq word (codes "say") ≡ true → bytes_eq third (codes "got") ≡ true → numbered_saying n thread value ≡ Ok step → IsSpelled step_kind (word ∷ thread ∷ third ∷ value ∷ []) step
+saying_ok : (n : ℕ) (word thread third value : List ℕ) (step : Step) → bytes_eq word (codes "say") ≡ true → bytes_eq third (codes "got") ≡ true
+    → numbered_saying n thread value ≡ Ok step → IsSpelled step_kind (word ∷ thread ∷ third ∷ value ∷ []) step
 unfolding numbered_saying
 saying_ok n word thread third value step same got e =
     let t = bind_ok (number_in n MAX_THREAD thread) _ step e in
@@ -105,12 +114,15 @@ saying_ok n word thread third value step same got e =
     let value_is = number_ok n greatest_value value v.0 (omega arith) v.1 in
     let word_is : word ≡ codes "say" = text_is word (codes "say") same in
     let third_is : third ≡ codes "got" = text_is third (codes "got") got in
-    is_step (word ∷ thread ∷ third ∷ value ∷ []) (Say t.0 (Got v.0)) step (four_are _ _ _ _ word thread third value word_is thread_is.0 third_is value_is.0, (thread_is.1, value_is.1)) (cc (v.2))
+    is_step (word ∷ thread ∷ third ∷ value ∷ []) (Say t.0 (Got v.0)) step
+        (four_are _ _ _ _ word thread third value word_is thread_is.0 third_is value_is.0, (thread_is.1, value_is.1)) (cc (v.2))
 
-four_ok : (n : ℕ) (word thread third value : List ℕ) (step : Step) → step_of_four n word thread third value ≡ Ok step → IsSpelled step_kind (word ∷ thread ∷ third ∷ value ∷ []) step
+four_ok : (n : ℕ) (word thread third value : List ℕ) (step : Step) → step_of_four n word thread third value ≡ Ok step
+    → IsSpelled step_kind (word ∷ thread ∷ third ∷ value ∷ []) step
 four_ok n word thread third value step e =
     elim (chosen (bytes_eq word (codes "say") && bytes_eq third (codes "got")) _ _ _ e) [
-      | inl h ↦ let words = both (bytes_eq word (codes "say")) (bytes_eq third (codes "got")) h.0 in saying_ok n word thread third value step words.0 words.1 h.1
+      | inl h ↦ let words = both (bytes_eq word (codes "say")) (bytes_eq third (codes "got")) h.0 in
+          saying_ok n word thread third value step words.0 words.1 h.1
       | inr h ↦ absurd (cc (h.1))
     ]
 
@@ -129,7 +141,8 @@ pub record IsSpelledSetting (fields : List (List ℕ)) (setting : ℕ × ℕ) : 
   pub text : fields ≡ setting_fields setting.0 setting.1
   pub within : IsSetting setting.0 setting.1
 
-numbered_ok : (n : ℕ) (word threads other ring : List ℕ) (setting : ℕ × ℕ) → bytes_eq word (codes "threads") ≡ true → bytes_eq other (codes "ring") ≡ true → numbered_setting n threads ring ≡ Ok setting → IsSpelledSetting (word ∷ threads ∷ other ∷ ring ∷ []) setting
+numbered_ok : (n : ℕ) (word threads other ring : List ℕ) (setting : ℕ × ℕ) → bytes_eq word (codes "threads") ≡ true
+    → bytes_eq other (codes "ring") ≡ true → numbered_setting n threads ring ≡ Ok setting → IsSpelledSetting (word ∷ threads ∷ other ∷ ring ∷ []) setting
 unfolding numbered_setting
 numbered_ok n word threads other ring setting first third e =
     let count = bind_ok (number_between n 1 MAX_THREADS threads) _ setting e in

@@ -41,11 +41,13 @@ has_line events o all among =
     record { call = call.ticket; ret = answer.ticket; thread = call.thread; value = value_by o.kind call.value answer.value }
 
 -- what holds of all operations holds of those at some places
-at_places : (P : Operation → Type 0) (operations : List Operation) (places : List ℕ) → ((o : Operation) → Contains operations o → P o) → AllByRecursion P (operations_at operations places)
+at_places : (P : Operation → Type 0) (operations : List Operation) (places : List ℕ) → ((o : Operation) → Contains operations o → P o)
+    → AllByRecursion P (operations_at operations places)
 at_places P operations [] all = tt
 at_places P operations (p ∷ places) all = by_place (slice_get operations p) refl (at_places P operations places all)
   where
-    by_place : (here : Option Operation) → slice_get operations p ≡ here → AllByRecursion P (operations_at operations places) → AllByRecursion P (cons_option here (operations_at operations places))
+    by_place : (here : Option Operation) → slice_get operations p ≡ here → AllByRecursion P (operations_at operations places)
+        → AllByRecursion P (cons_option here (operations_at operations places))
     by_place None is others = others
     by_place (Some o) is others = (all o (contains_at operations p o is), others)
 
@@ -60,12 +62,14 @@ few_places operations (p ∷ places) =
     let others = few_places operations places in
     omega (arith, more, others)
 
-places_have_text : (events : List Event) (places : List ℕ) → HasHistoryText events → length places ≤ MAX_OPERATIONS → HasVerdictText (claim_of (operations_of events) (found.Yes places))
+places_have_text : (events : List Event) (places : List ℕ) → HasHistoryText events → length places ≤ MAX_OPERATIONS
+    → HasVerdictText (claim_of (operations_of events) (found.Yes places))
 places_have_text events places text few = record {
   each = at_places HasOperationLine (operations_of events) places (λ o among. has_line events o text.each among);
   few = let fewer = few_places (operations_of events) places in omega (arith, fewer, few);
 }
 
-pub claim_has_text : (events : List Event) (verdict : Verdict) → HasHistoryText events → length (places_of verdict) ≤ MAX_OPERATIONS → HasVerdictText (claim_of (operations_of events) verdict)
+pub claim_has_text : (events : List Event) (verdict : Verdict) → HasHistoryText events → length (places_of verdict) ≤ MAX_OPERATIONS
+    → HasVerdictText (claim_of (operations_of events) verdict)
 claim_has_text events (found.Yes places) text few = places_have_text events places text few
 claim_has_text events (found.No violation) text few = places_have_text events (places_of_violation violation) text few

@@ -10,10 +10,10 @@ use Rattle.history_merge.specs.declared.operation.OpKind.TheVariants.{Enq, Deq, 
 use Rattle.verdicts.specs.declared.verifying.ViolationKind.{ViolationKind}
 use Rattle.verdicts.specs.declared.verifying.Claimed.{Claimed}
 use Rattle.verdicts.specs.declared.verifying.Claimed.TheVariants.{Yes, No}
-use Rattle.history_text.specs.declared.fault.TextFault.{TextFault}
-use Rattle.history_text.specs.declared.fault.TextFault.TheVariants.{Line}
-use Rattle.history_text.specs.Input.{Ending}
-use Rattle.history_text.specs.Lines.{line, greatest_value, Front, Whole, TooLong, Unfinished, Nothing, front_of, fault_at, number_in, ◌>>=◌, After}
+use Rattle.text_lines.specs.declared.fault.TextFault.{TextFault}
+use Rattle.text_lines.specs.declared.fault.TextFault.TheVariants.{Line}
+use Rattle.text_lines.specs.Input.{Ending}
+use Rattle.text_lines.specs.Lines.{line, greatest_value, Front, Whole, TooLong, Unfinished, Nothing, front_of, fault_at, number_in, ◌>>=◌, After}
 use Rattle.history_text.specs.Items.{Kind, HaveLines, ItemFault, NoRoom}
 use Rattle.history_text.specs.Verdicts.{operation_fields, kind_name}
 

@@ -8,10 +8,10 @@ use Rattle.event_records.specs.declared.event.Event.{Event}
 use Rattle.event_records.specs.declared.event.What.{What}
 use Rattle.event_records.specs.declared.event.What.TheVariants.{CallEnq, RetEnq, RetNot, CallDeq, RetDeq, RetEmpty}
 use Rattle.event_records.specs.declared.limits.TheConstants.{MAX_TICKET, MAX_THREAD, MAX_EVENTS}
-use Rattle.history_text.specs.declared.fault.TextFault.{TextFault}
-use Rattle.history_text.specs.declared.fault.TextFault.TheVariants.{Line}
-use Rattle.history_text.specs.Input.{Ending}
-use Rattle.history_text.specs.Lines.{line, spaced, end_line, greatest_value, front_of, header_fault, number_in, ◌>>=◌, After}
+use Rattle.text_lines.specs.declared.fault.TextFault.{TextFault}
+use Rattle.text_lines.specs.declared.fault.TextFault.TheVariants.{Line}
+use Rattle.text_lines.specs.Input.{Ending}
+use Rattle.text_lines.specs.Lines.{line, spaced, end_line, greatest_value, front_of, header_fault, number_in, ◌>>=◌, After}
 use Rattle.history_text.specs.Items.{Kind, HaveLines, ItemFault, NoRoom}
 
 -- ---- what is written

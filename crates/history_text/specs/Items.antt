@@ -3,10 +3,10 @@ use Rattle.std.specs.Prelude.{◌≡◌, ℕ, ◌+◌, ◌≤◌, ◌&&◌, nat_
 use Rattle.std.specs.Prelude.{List, [], ◌∷◌, ◌++◌, length, drop, Option, Some, None, Ok, Err}
 use Rattle.std.specs.declared.result.Result.{Result}
 use Rattle.std.specs.List.{flat_map, AllByRecursion}
-use Rattle.history_text.specs.declared.fault.TextFault.{TextFault}
-use Rattle.history_text.specs.declared.fault.TextFault.TheVariants.{Line, Limit}
-use Rattle.history_text.specs.Input.{Ending, EndOfInput, Failure}
-use Rattle.history_text.specs.Lines.{line, spaced, Front, Whole, TooLong, Unfinished, Nothing, front_of, fault_at, fields_of, ◌>>=◌, begins_as_end, end_in}
+use Rattle.text_lines.specs.declared.fault.TextFault.{TextFault}
+use Rattle.text_lines.specs.declared.fault.TextFault.TheVariants.{Line, Limit}
+use Rattle.text_lines.specs.Input.{Ending, EndOfInput, Failure}
+use Rattle.text_lines.specs.Lines.{line, spaced, Front, Whole, TooLong, Unfinished, Nothing, front_of, fault_at, fields_of, ◌>>=◌, begins_as_end, end_in}
 
 -- what a text lists
 pub record Kind (A : Type 0) : Type 1 where

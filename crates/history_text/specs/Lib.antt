@@ -1,6 +1,3 @@
-pub mod Input
-pub mod Pieces
-pub mod Lines
 pub mod Items
 pub mod Histories
 pub mod Schedules
@@ -8,6 +5,3 @@ pub mod Verdicts
 pub mod Claims
 pub mod Reading
 pub mod Taking
-pub mod Writing
-pub mod Watching
-pub mod Holding

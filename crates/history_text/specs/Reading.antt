@@ -1,11 +1,22 @@
 -- What a call on a reader says of the input that the reader had ahead.
-use Rattle.std.specs.Prelude.{◌≡◌, ℕ, List, ◌∷◌, ◌++◌, Option, Some, None, IfSome}
-use Rattle.history_text.specs.declared.fault.TextFault.{TextFault}
-use Rattle.history_text.specs.declared.fault.TextFault.TheVariants.{Read, Trailing, Memory}
-use Rattle.history_text.specs.Input.{Ahead, Ending, EndOfInput, Failure, IsOver}
+use Rattle.std.specs.Prelude.{◌≡◌, ℕ, Bool, List, ◌∷◌, ◌++◌, Option, Some, None, IfSome}
+use Rattle.text_lines.specs.declared.fault.TextFault.{TextFault}
+use Rattle.text_lines.specs.declared.fault.TextFault.TheVariants.{Read, Trailing, Memory}
+use Rattle.text_lines.specs.Input.{Ahead, Ending, EndOfInput, Failure, IsOver}
 use Rattle.history_text.specs.Histories.{IsHistoryTextFault, NoRoomFor}
 use Rattle.history_text.specs.Schedules.{IsScheduleTextFault, NoRoomForSchedule}
 use Rattle.history_text.specs.Claims.{IsVerdictTextFault, NoRoomForVerdict}
+
+-- a reader of texts: what is still to be judged, where the source tells it, and what became of the rest
+pub record Input : Type 0 where
+  pub left : Option Ahead
+  pub lines : ℕ  -- how many lines were taken
+  pub is_stopped : Bool  -- a call answered a fault
+
+-- these bytes first, and then what is known ahead
+abbrev pub with_front : List ℕ → Option Ahead → Option Ahead
+with_front front None = None
+with_front front (Some a) = Some (record { bytes = front ++ a.bytes; ending = a.ending })
 
 -- the first fault of what is ahead, as far as that is known; want of memory says that a line without fault was there
 abbrev pub HasFirstFault : (Ending → List ℕ → TextFault → Type 0) → (List ℕ → Type 0) → Option Ahead → TextFault → Type 0

@@ -1,30 +1,22 @@
 -- What the steps of a reader take of its input.
-use Rattle.std.specs.Prelude.{◌≡◌, ℕ, ◌<◌, ◌≤◌, Bool, true, false, List, [], ◌∷◌, ◌++◌, length, Option, Some, None, Err, IfSome, not}
-use Rattle.std.specs.List.{list_all}
-use Rattle.history_text.specs.declared.fault.TextFault.{TextFault}
-use Rattle.history_text.specs.declared.fault.TextFault.TheVariants.{Line, Memory}
+use Rattle.std.specs.Prelude.{◌≡◌, ℕ, ◌<◌, Bool, true, false, List, [], ◌∷◌, ◌++◌, length, Option, Some, None, Err, IfSome}
+use Rattle.text_lines.specs.declared.fault.TextFault.{TextFault}
+use Rattle.text_lines.specs.declared.fault.TextFault.TheVariants.{Line, Memory}
 use Rattle.history_text.specs.declared.reader.FrontLine.{FrontLine}
 use Rattle.history_text.specs.declared.reader.FrontLine.TheVariants as at_front
-use Rattle.history_text.specs.Input.{Ahead, Ending, EndOfInput, Failure, Takes, IsOver}
-use Rattle.history_text.specs.Lines.{line, end_line, longest_line, is_line_feed, front_of, header_fault, Front, Whole, TooLong, Unfinished, Nothing, fault_at}
+use Rattle.text_lines.specs.Input.{Ahead, Ending, EndOfInput, Failure, Takes, IsOver}
+use Rattle.text_lines.specs.Lines.{line, end_line, longest_line, is_line_feed, IsPartOfLine, front_of, header_fault, Front, Whole, TooLong}
+use Rattle.text_lines.specs.Lines.{Unfinished, Nothing, fault_at}
 use Rattle.history_text.specs.Items.{Kind, line_of, lines_of, item_at_front, ItemFault, NoRoom}
 use Rattle.history_text.specs.Schedules.{SettingFault}
 use Rattle.history_text.specs.Claims.{FirstLineFault}
 use Rattle.history_text.specs.Reading.{HasFirstFault}
 
--- no byte ends the line
-abbrev pub has_no_line_feed : List ℕ → Bool
-has_no_line_feed bytes = list_all (λ b. not (is_line_feed b)) bytes
-
--- bytes with no line feed, few enough for a line
-pub record IsPartOfLine (bytes : List ℕ) : Type 0 where
-  pub one : has_no_line_feed bytes ≡ true
-  pub short : length bytes ≤ longest_line
-
 -- the bytes that a line took, by how it stands
 abbrev pub TakesLine : Option Ahead → Option Ahead → FrontLine → Type 0
 TakesLine old new (at_front.Whole bytes) = Takes old new (line bytes) × IsPartOfLine bytes
-TakesLine old new at_front.TooLong = (given : List ℕ) × (b : ℕ) × Takes old new (given ++ b ∷ []) × IsPartOfLine given × (length given ≡ longest_line) × (is_line_feed b ≡ false)
+TakesLine old new at_front.TooLong = (given : List ℕ) × (b : ℕ) × Takes old new (given ++ b ∷ []) × IsPartOfLine given × (length given ≡ longest_line)
+    × (is_line_feed b ≡ false)
 TakesLine old new at_front.Unfinished = (given : List ℕ) × Takes old new given × IsPartOfLine given × IsOver EndOfInput new × (0 < length given)
 TakesLine old new at_front.Nothing = Takes old new [] × IsOver EndOfInput new
 

@@ -1,15 +1,13 @@
 //! The line of an event, judged field by field, or found in one pass.
 ghost use Rattle.std.specs.Prelude.{◌≡◌, ◌++◌, ⊤, IfErr, IfSome};
-ghost use Rattle.history_text.specs.Lines.{IsLineFault, fields_of, spaced};
+ghost use Rattle.text_lines.specs.Lines.{IsLineFault, fields_of, spaced};
 ghost use Rattle.history_text.specs.Histories as judged;
 ghost use Rattle.history_text.specs.Histories.{event_line, what_fields, HasValueInRange, HasEventLine, event_kind};
 ghost use Rattle.std.proofs.Common.{lit≤};
 
-use crate::fault::TextFault;
-use crate::field::{number_in, split_field};
 use crate::item::Item;
-use crate::scan::{after_word, number_front};
 use event_records::{Event, MAX_EVENTS, MAX_THREAD, MAX_TICKET, What};
+use text_lines::{TextFault, after_word, number_front, number_in, split_field};
 
 fn plain_what(word: &[u8]) -> Option<What>
     ensures { result ≡ judged.plain_what word.now }

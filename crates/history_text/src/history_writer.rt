@@ -3,14 +3,13 @@ ghost use Rattle.std.specs.Prelude.{◌≡◌, ◌+◌, ◌≤◌, ◌||◌, ◌
 ghost use Rattle.std.specs.List.{flat_map};
 ghost use Rattle.std.specs.Io.KnownBytes.{Appends};
 ghost use Rattle.event_records.specs.declared.limits.TheConstants.{MAX_EVENTS};
-ghost use Rattle.history_text.specs.Lines.{spaced};
+ghost use Rattle.text_lines.specs.Lines.{spaced};
 ghost use Rattle.history_text.specs.Histories.{what_fields, event_line, history_text, HasHistoryText, HasValueInRange};
-ghost use Rattle.history_text.specs.Writing.{AppendsFront, Puts, IsWritten, IsRefused};
+ghost use Rattle.text_lines.specs.Writing.{AppendsFront, Puts, IsWritten, IsRefused};
 
-use crate::kept::{Kept, make_room};
-use crate::sink::{TextSink, WriteFault, write_piece};
 use event_records::{Event, What};
 use history_merge::History;
+use text_lines::{Kept, TextSink, WriteFault, make_room, write_piece};
 
 fn push_what(kept: &mut Kept, what: What)
     requires { length kept.old + 29 ≤ 4096 }

@@ -1,12 +1,11 @@
 //! What texts list: events, steps or operations, each in its line.
 ghost use Rattle.std.specs.Prelude.{◌≡◌, ◌≤◌, ◌&&◌, ◌++◌, IfOk, IfErr, IfSome};
-ghost use Rattle.history_text.specs.Lines.{IsLineFault, fields_of, begins_as_end};
+ghost use Rattle.text_lines.specs.Lines.{IsLineFault, fields_of, begins_as_end};
 ghost use Rattle.history_text.specs.Items as judged;
 ghost use Rattle.history_text.specs.Items.{Kind, line_of};
 ghost use Rattle.history_text.specs.Taking.{IsSpelled, IsItemLine};
 
-use crate::fault::TextFault;
-use crate::field::end_in;
+use text_lines::{TextFault, end_in};
 
 /// What a line of a text stands for.
 pub(crate) trait Item: Drop {

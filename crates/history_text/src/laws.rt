@@ -5,13 +5,13 @@ ghost use Rattle.history_merge.specs.Operations.{operations_of};
 ghost use Rattle.event_records.specs.declared.event.Event.{Event};
 ghost use Rattle.verdicts.specs.declared.verifying.Claimed.{Claimed};
 ghost use Rattle.verdicts.specs.declared.verdict.Verdict.{Verdict};
-ghost use Rattle.history_text.specs.declared.fault.TextFault.{TextFault};
+ghost use Rattle.text_lines.specs.declared.fault.TextFault.{TextFault};
 ghost use Rattle.history_text.specs.declared.schedule.Schedule.{Schedule};
 ghost use Rattle.history_text.specs.Verdicts.{claim_of, places_of, verdict_text};
 ghost use Rattle.history_text.specs.Claims.{HasVerdictText, IsVerdictTextFault};
 ghost use Rattle.history_text.specs.Histories.{HasHistoryText, history_text, IsHistoryTextFault};
 ghost use Rattle.history_text.specs.Schedules.{HasScheduleText, schedule_text, IsScheduleTextFault};
-ghost use Rattle.history_text.specs.Input.{Ending, EndOfInput};
+ghost use Rattle.text_lines.specs.Input.{Ending, EndOfInput};
 
 /// A text is the text of one list of events.
 pub fn a_text_has_one_history()

@@ -6,37 +6,27 @@
 //! text stands, and otherwise the first fault with its line.
 #![tactic(auto)]
 
-mod buffered;
 mod collecting;
 mod event_line;
-mod fault;
-mod field;
 mod history_writer;
 mod item;
-mod kept;
 mod laws;
-mod line;
-mod memory;
 mod operation_line;
 mod reader;
-mod scan;
 mod schedule;
-mod sink;
-mod source;
 mod step_line;
 mod verdict_writer;
 
-pub use buffered::Buffered;
-pub use fault::TextFault;
 pub use history_writer::write_history;
 pub use laws::{
     a_claim_on_a_text_has_a_text, a_text_has_no_fault, a_text_has_one_claim,
     a_text_has_one_history, a_text_has_one_schedule, no_schedule_text_begins_another,
     no_text_begins_another, one_first_fault,
 };
-pub use memory::MemorySource;
 pub use reader::{TextReader, at_end, gather_history, read_history, read_schedule, read_verdict};
 pub use schedule::{MAX_STEPS, MOST_DRAINED, Schedule, Steps};
-pub use sink::{TextSink, WriteFault, write_piece};
-pub use source::{ReadFailed, TextSource, Watched};
+pub use text_lines::{
+    Buffered, MemorySource, ReadFailed, TextFault, TextSink, TextSource, Watched, WriteFault,
+    write_piece,
+};
 pub use verdict_writer::{write_verdict, write_verdict_on};

@@ -1,15 +1,14 @@
 //! The lines of a verdict: its first one, and its operations, judged field by field.
 ghost use Rattle.std.specs.Prelude.{◌≡◌, IfOk, IfErr, MatchOption};
 ghost use Rattle.std.proofs.Common.{lit≤};
-ghost use Rattle.history_text.specs.Lines.{IsLineFault, fields_of};
+ghost use Rattle.text_lines.specs.Lines.{IsLineFault, fields_of};
 ghost use Rattle.history_text.specs.Claims as judged;
 ghost use Rattle.history_text.specs.Claims.{operation_kind, IsNoFirstLine, first_line};
 
-use crate::fault::TextFault;
-use crate::field::{number_in, split_field};
 use crate::item::Item;
 use event_records::{MAX_OPERATIONS, MAX_THREAD, MAX_TICKET};
 use history_merge::{OpKind, Operation};
+use text_lines::{TextFault, number_in, split_field};
 use verdicts::ViolationKind;
 
 /// What the first line of a verdict answers: a yes, for which no kind stands, or a no of some kind.

@@ -4,28 +4,27 @@ ghost use Rattle.event_records.specs.declared.event.Event.{Event};
 ghost use Rattle.history_merge.specs.Gathering.{HasGathered};
 ghost use Rattle.verdicts.specs.declared.verifying.Claimed.{Claimed};
 ghost use Rattle.history_text.specs.declared.schedule.Schedule.{Schedule};
-ghost use Rattle.history_text.specs.Input.{EndOfInput, Failure, Takes, IsOver};
-ghost use Rattle.history_text.specs.Lines.{line, spaced};
+ghost use Rattle.text_lines.specs.Input.{EndOfInput, Failure, Takes, IsOver};
+ghost use Rattle.text_lines.specs.Lines.{line, spaced};
 ghost use Rattle.history_text.specs.Items.{line_of, HaveLines};
 ghost use Rattle.history_text.specs.Histories.{history_text, HasHistoryText};
 ghost use Rattle.history_text.specs.Schedules.{schedule_text, setting_fields, HasScheduleText, IsSetting};
 ghost use Rattle.history_text.specs.Verdicts.{verdict_text};
 ghost use Rattle.history_text.specs.Claims.{operations_in, HasVerdictText, first_line};
 ghost use Rattle.history_text.specs.Reading.{HasHistoryTextFault, HasScheduleTextFault, HasVerdictTextFault, HasEndFault, BeginsWith, IsAll};
-ghost use Rattle.history_text.specs.Taking.{TakesLine, StopsInLine, IsPartOfLine, TakesItem, TakesItems, HasNoLine, HasHeaderFault, HasSettingFault, HasFirstLineFault, HasItemFault, HasItemsFault, IsOfInput};
+ghost use Rattle.history_text.specs.Taking.{TakesLine, StopsInLine, TakesItem, TakesItems, HasNoLine, HasHeaderFault, HasSettingFault, HasFirstLineFault, HasItemFault, HasItemsFault, IsOfInput};
+ghost use Rattle.text_lines.specs.Lines.{IsPartOfLine};
 
 use crate::collecting::Collects;
-use crate::fault::TextFault;
 use crate::item::{Item, item_in};
-use crate::line::{LONGEST_LINE, Line};
 use crate::operation_line::answer_in;
 use crate::schedule::{Schedule, Steps};
-use crate::source::{ReadFailed, TextSource};
 use crate::step_line::setting_in;
 use event_records::Event;
 use history_merge::HistoryBuilder;
 use std::alloc::Global;
 use std::marker::Model;
+use text_lines::{LONGEST_LINE, Line, ReadFailed, TextFault, TextSource};
 use verdicts::{Claimed, Lines, ViolationKind};
 
 /// The most bytes that a source is asked for at a time.
@@ -49,7 +48,7 @@ pub struct TextReader<R: TextSource> {
 
 impl<R: TextSource> Model for TextReader<R> {
     ghost use Rattle.std.specs.Prelude.{◌-◌, ◌≤◌, take, drop};
-    ghost use Rattle.history_text.specs.Input.{Input, with_front};
+    ghost use Rattle.history_text.specs.Reading.{Input, with_front};
 
     ghost Value = { Input };
 

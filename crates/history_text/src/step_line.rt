@@ -1,16 +1,15 @@
 //! The lines of a schedule: its setting and its steps, judged field by field.
 ghost use Rattle.std.specs.Prelude.{◌≡◌, IfOk, IfErr};
 ghost use Rattle.std.proofs.Common.{lit≤};
-ghost use Rattle.history_text.specs.Lines.{IsLineFault, fields_of, number_in as judged_number};
+ghost use Rattle.text_lines.specs.Lines.{IsLineFault, fields_of, number_in as judged_number};
 ghost use Rattle.history_text.specs.Schedules as judged;
 ghost use Rattle.history_text.specs.Schedules.{step_kind};
 
-use crate::fault::TextFault;
-use crate::field::{number_between, number_in, split_field};
 use crate::item::Item;
 use crate::schedule::{MAX_STEPS, MOST_DRAINED};
 use event_records::MAX_THREAD;
 use recorder_core::{Answer, MAX_RING, MAX_THREADS, MIN_RING, Step};
+use text_lines::{TextFault, number_between, number_in, split_field};
 
 fn is_plain(word: &[u8]) -> bool
     ensures { result ≡ judged.is_plain word.now }

@@ -4,13 +4,12 @@ ghost use Rattle.std.specs.List.{flat_map};
 ghost use Rattle.std.specs.Io.KnownBytes.{Appends};
 ghost use Rattle.std.specs.Option.{option_to_list};
 ghost use Rattle.history_merge.specs.Operations.{operations_of};
-ghost use Rattle.history_text.specs.Lines.{line, spaced};
+ghost use Rattle.text_lines.specs.Lines.{line, spaced};
 ghost use Rattle.history_text.specs.Verdicts.{kind_fields, kind_name, operation_line, verdict_text, lines_at, places_of, places_of_violation, places_of_step, violation_kind, claim_of};
-ghost use Rattle.history_text.specs.Writing.{AppendsFront, Puts, IsWritten, IsRefused};
+ghost use Rattle.text_lines.specs.Writing.{AppendsFront, Puts, IsWritten, IsRefused};
 
-use crate::kept::{Kept, make_room};
-use crate::sink::{TextSink, WriteFault, write_piece};
 use history_merge::{History, OpId, OpKind, Operation};
+use text_lines::{Kept, TextSink, WriteFault, make_room, write_piece};
 use value_match::{CoverStep, Violation};
 use verdicts::Verdict;
 

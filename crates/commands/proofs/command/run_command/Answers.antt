@@ -6,7 +6,8 @@ use Rattle.commands.proofs.Runs.{memory_ran_out, reads_out_of_memory, reads_prin
 use Rattle.commands.proofs.command.run_command.Goals as goal
 
 pub returns-in-Err-clause-reads : goal.returns-in-Err-clause-reads
-returns-in-Err-clause-reads g c = λ request none asked. reads_out_of_memory request c.in-Err.error _ _ _ _ _ _ none c.in-Err.ensures.err c.explain.ensures.printed
+returns-in-Err-clause-reads g c = λ request none asked. reads_out_of_memory request c.in-Err.error _ _ _ _ _ _ none c.in-Err.ensures.err
+    c.explain.ensures.printed
 
 pub returns-in-Err-clause-stresses : goal.returns-in-Err-clause-stresses
 returns-in-Err-clause-stresses g c = λ settings none asked. record {
@@ -16,7 +17,8 @@ returns-in-Err-clause-stresses g c = λ settings none asked. record {
 }
 
 pub returns-in-Ok-clause-reads : goal.returns-in-Ok-clause-reads
-returns-in-Ok-clause-reads g c = λ request none asked. reads_printed _ _ c.in-Ok.ensures.task _ _ _ _ _ c.print_outcome.ensures.printed request _ asked c.outcome_of-outcome.ensures.reads
+returns-in-Ok-clause-reads g c = λ request none asked. reads_printed _ _ c.in-Ok.ensures.task _ _ _ _ _ c.print_outcome.ensures.printed request _
+    asked c.outcome_of-outcome.ensures.reads
 
 pub returns-in-Ok-clause-stresses : goal.returns-in-Ok-clause-stresses
 returns-in-Ok-clause-stresses g c = λ settings none asked. record {

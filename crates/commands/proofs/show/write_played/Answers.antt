@@ -3,27 +3,31 @@ use Rattle.std.proofs.lemmas.Result.{on_ok_weaker, on_err_weaker}
 use Rattle.history_merge.specs.Operations.{operations_of}
 use Rattle.history_text.specs.Histories.{history_text}
 use Rattle.history_text.specs.Verdicts.{claim_of, verdict_text}
-use Rattle.history_text.proofs.Appending.{on_err, front_first}
+use Rattle.text_lines.proofs.Appending.{on_err, front_first}
 use Rattle.commands.specs.Answers.{rejection_lines}
 use Rattle.commands.proofs.Fronts.{front_next}
-use Rattle.history_text.proofs.Asking.{written_then, refused_then}
+use Rattle.text_lines.proofs.Asking.{written_then, refused_then}
 use Rattle.commands.proofs.show.write_played.Goals as goal
 
 pub returns-in_err-write_rejections-clause-err : goal.returns-in_err-write_rejections-clause-err
 returns-in_err-write_rejections-clause-err g c =
     let first = rw c.as_slice.ensures at c.in_err-write_rejections.ensures.err in
     on_err c.from_residual.result _
-    (front_first _ _ (rejection_lines c.args.rejections.now) (history_text c.args.history.now ++ verdict_text (claim_of (operations_of c.args.history.now) c.args.verdict.now)) first)
+    (front_first _ _ (rejection_lines c.args.rejections.now) (history_text c.args.history.now ++ verdict_text
+        (claim_of (operations_of c.args.history.now) c.args.verdict.now)) first)
 
 pub returns-clause-err : goal.returns-clause-err
 returns-clause-err g c =
     let first = rw c.as_slice.ensures at c.in_ok-write_rejections.ensures.ok in
     on_err_weaker c.write_shown.result
-    (front_next _ _ _ (rejection_lines c.args.rejections.now) (history_text c.args.history.now ++ verdict_text (claim_of (operations_of c.args.history.now) c.args.verdict.now)) first)
+    (front_next _ _ _ (rejection_lines c.args.rejections.now) (history_text c.args.history.now ++ verdict_text
+        (claim_of (operations_of c.args.history.now) c.args.verdict.now)) first)
     c.write_shown.ensures.err
 
 pub returns-clause-written : goal.returns-clause-written
-returns-clause-written g c = on_ok_weaker c.write_shown.result (written_then g.W.TextSink.goes _ _ _ c.in_ok-write_rejections.ensures.written) c.write_shown.ensures.written
+returns-clause-written g c = on_ok_weaker c.write_shown.result
+    (written_then g.W.TextSink.goes _ _ _ c.in_ok-write_rejections.ensures.written) c.write_shown.ensures.written
 
 pub returns-clause-stopped : goal.returns-clause-stopped
-returns-clause-stopped g c = on_err_weaker c.write_shown.result (refused_then g.W.TextSink.goes _ _ _ c.in_ok-write_rejections.ensures.written) c.write_shown.ensures.stopped
+returns-clause-stopped g c = on_err_weaker c.write_shown.result
+    (refused_then g.W.TextSink.goes _ _ _ c.in_ok-write_rejections.ensures.written) c.write_shown.ensures.stopped

@@ -1,7 +1,7 @@
 use Rattle.std.proofs.lemmas.Result.{on_ok_weaker, on_err_weaker}
-use Rattle.history_text.proofs.Appending.{on_err}
+use Rattle.text_lines.proofs.Appending.{on_err}
 use Rattle.commands.proofs.Rejections.{front_of_words, front_of_number, front_of_reason}
-use Rattle.history_text.proofs.Asking.{written_then, refused_then}
+use Rattle.text_lines.proofs.Asking.{written_then, refused_then}
 use Rattle.commands.proofs.show.write_rejection.Goals as goal
 
 pub returns-in_err-write_piece-clause-err : goal.returns-in_err-write_piece-clause-err
@@ -9,7 +9,8 @@ returns-in_err-write_piece-clause-err g c = on_err c.from_residual.result _ (fro
 
 pub returns-in_err-write_number-clause-err : goal.returns-in_err-write_number-clause-err
 returns-in_err-write_number-clause-err g c =
-    on_err c.from_residual-in_err-write_number.result _ (front_of_number c.args.rejection _ _ _ c.in_ok-write_piece.ensures.ok c.in_err-write_number.ensures.err)
+    on_err c.from_residual-in_err-write_number.result _ (front_of_number c.args.rejection _ _ _ c.in_ok-write_piece.ensures.ok
+        c.in_err-write_number.ensures.err)
 
 pub returns-clause-err : goal.returns-clause-err
 returns-clause-err g c =
@@ -17,12 +18,15 @@ returns-clause-err g c =
     on_err_weaker c.write_piece-2.result (front_of_reason c.args.rejection _ _ _ _ c.in_ok-write_piece.ensures.ok c.in_ok-write_number.ensures.ok) last
 
 pub returns-in_err-write_number-clause-stopped : goal.returns-in_err-write_number-clause-stopped
-returns-in_err-write_number-clause-stopped g c = on_err c.from_residual-in_err-write_number.result _ (refused_then g.W.TextSink.goes _ _ _ c.in_ok-write_piece.ensures.written c.in_err-write_number.ensures.stopped)
+returns-in_err-write_number-clause-stopped g c = on_err c.from_residual-in_err-write_number.result _
+    (refused_then g.W.TextSink.goes _ _ _ c.in_ok-write_piece.ensures.written c.in_err-write_number.ensures.stopped)
 
 pub returns-clause-written : goal.returns-clause-written
 returns-clause-written g c =
-    on_ok_weaker c.write_piece-2.result (written_then g.W.TextSink.goes _ _ _ (written_then g.W.TextSink.goes _ _ _ c.in_ok-write_piece.ensures.written c.in_ok-write_number.ensures.written)) c.write_piece-2.ensures.written
+    on_ok_weaker c.write_piece-2.result (written_then g.W.TextSink.goes _ _ _
+        (written_then g.W.TextSink.goes _ _ _ c.in_ok-write_piece.ensures.written c.in_ok-write_number.ensures.written)) c.write_piece-2.ensures.written
 
 pub returns-clause-stopped : goal.returns-clause-stopped
 returns-clause-stopped g c =
-    on_err_weaker c.write_piece-2.result (refused_then g.W.TextSink.goes _ _ _ (written_then g.W.TextSink.goes _ _ _ c.in_ok-write_piece.ensures.written c.in_ok-write_number.ensures.written)) c.write_piece-2.ensures.stopped
+    on_err_weaker c.write_piece-2.result (refused_then g.W.TextSink.goes _ _ _
+        (written_then g.W.TextSink.goes _ _ _ c.in_ok-write_piece.ensures.written c.in_ok-write_number.ensures.written)) c.write_piece-2.ensures.stopped

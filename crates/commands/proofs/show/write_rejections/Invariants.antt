@@ -1,6 +1,6 @@
 use Rattle.std.proofs.Common.{◌≡◌, take}
 use Rattle.std.specs.Io.KnownBytes.{Appends}
-use Rattle.history_text.specs.Writing.{IsWritten}
+use Rattle.text_lines.specs.Writing.{IsWritten}
 use Rattle.commands.specs.Answers.{rejection_lines}
 use Rattle.commands.proofs.show.write_rejections.Given as goal
 

@@ -14,7 +14,8 @@ returns-in-Err-clause-found c =
     ]
 
 pub returns-in-Ok-Yes-clause-places : goal.returns-in-Ok-Yes-clause-places
-returns-in-Ok-Yes-clause-places c = rw c.into_operations.ensures.operations (evidence_within (operations_of c.in-Ok.history) (Yes c.in-Ok-Yes.order) (rw c.in-Ok-Yes.field-0-is at c.in-Ok-Yes.ensures.evidence))
+returns-in-Ok-Yes-clause-places c = rw c.into_operations.ensures.operations
+    (evidence_within (operations_of c.in-Ok.history) (Yes c.in-Ok-Yes.order) (rw c.in-Ok-Yes.field-0-is at c.in-Ok-Yes.ensures.evidence))
 
 pub returns-in-Ok-No-clause-found : goal.returns-in-Ok-No-clause-found
 returns-in-Ok-No-clause-found c =

@@ -6,6 +6,7 @@ use Rattle.drawing.proofs.terminal.push_effects.Given as goal
 
 abbrev pub invariant-loop-i : goal.invariant-loop-i
 invariant-loop-i l = record {
-  text : l.text.items ≡ l.fn.text.items ++ flat_map (effect_if l.sheet.columns l.sheet.lanes.now l.sheet.operations.now l.order l.ticket) (enumerate_from 0 (take l.i l.order));
+  text : l.text.items ≡ l.fn.text.items ++ flat_map (effect_if l.sheet.columns l.sheet.lanes.now l.sheet.operations.now l.order l.ticket)
+      (enumerate_from 0 (take l.i l.order));
   greatest : l.greatest ≡ greatest_call (take l.i l.order);
 }

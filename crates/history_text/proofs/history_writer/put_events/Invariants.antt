@@ -1,7 +1,7 @@
 use Rattle.std.proofs.Common.{◌≡◌, take}
 use Rattle.std.specs.List.{flat_map, All}
 use Rattle.history_text.specs.Histories.{event_line, HasValueInRange}
-use Rattle.history_text.specs.Writing.{Puts, IsWritten}
+use Rattle.text_lines.specs.Writing.{Puts, IsWritten}
 use Rattle.history_text.proofs.history_writer.put_events.Given as goal
 
 abbrev pub invariant-loop-event : goal.invariant-loop-event

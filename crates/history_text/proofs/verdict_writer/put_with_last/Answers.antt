@@ -1,9 +1,9 @@
 use Rattle.std.proofs.Common.{◌<◌, length}
 use Rattle.std.specs.Option.{option_to_list}
 use Rattle.std.proofs.lemmas.Result.{on_ok_weaker, on_err_weaker}
-use Rattle.history_text.proofs.Appending.{on_err}
+use Rattle.text_lines.proofs.Appending.{on_err}
 use Rattle.history_text.proofs.Named.{first_stops, next_stops, both_put, All-last}
-use Rattle.history_text.proofs.Asking.{written_then, refused_then}
+use Rattle.text_lines.proofs.Asking.{written_then, refused_then}
 use Rattle.history_text.proofs.verdict_writer.put_with_last.Goals as goal
 
 pub returns-in_err-put_places-clause-err : goal.returns-in_err-put_places-clause-err
@@ -14,13 +14,17 @@ pub put_maybe-requires : goal.put_maybe-requires
 put_maybe-requires g c = All-last (λ p. p < length c.args.operations.now) c.args.first.now (option_to_list c.args.last) c.requires
 
 pub returns-clause-ok : goal.returns-clause-ok
-returns-clause-ok g c = on_ok_weaker c.put_maybe.result (both_put c.args.operations.now c.args.first.now (option_to_list c.args.last) _ _ _ _ _ _ c.in_ok-put_places.ensures.ok) c.put_maybe.ensures.ok
+returns-clause-ok g c = on_ok_weaker c.put_maybe.result (both_put c.args.operations.now c.args.first.now
+    (option_to_list c.args.last) _ _ _ _ _ _ c.in_ok-put_places.ensures.ok) c.put_maybe.ensures.ok
 
 pub returns-clause-err : goal.returns-clause-err
-returns-clause-err g c = on_err_weaker c.put_maybe.result (next_stops c.args.operations.now c.args.first.now (option_to_list c.args.last) _ _ _ _ _ c.in_ok-put_places.ensures.ok) c.put_maybe.ensures.err
+returns-clause-err g c = on_err_weaker c.put_maybe.result (next_stops c.args.operations.now c.args.first.now
+    (option_to_list c.args.last) _ _ _ _ _ c.in_ok-put_places.ensures.ok) c.put_maybe.ensures.err
 
 pub returns-clause-written : goal.returns-clause-written
-returns-clause-written g c = on_ok_weaker c.put_maybe.result (written_then g.W.TextSink.goes _ _ _ c.in_ok-put_places.ensures.written) c.put_maybe.ensures.written
+returns-clause-written g c = on_ok_weaker c.put_maybe.result (written_then g.W.TextSink.goes _ _ _ c.in_ok-put_places.ensures.written)
+    c.put_maybe.ensures.written
 
 pub returns-clause-stopped : goal.returns-clause-stopped
-returns-clause-stopped g c = on_err_weaker c.put_maybe.result (refused_then g.W.TextSink.goes _ _ _ c.in_ok-put_places.ensures.written) c.put_maybe.ensures.stopped
+returns-clause-stopped g c = on_err_weaker c.put_maybe.result
+    (refused_then g.W.TextSink.goes _ _ _ c.in_ok-put_places.ensures.written) c.put_maybe.ensures.stopped

@@ -1,5 +1,5 @@
 use Rattle.history_text.specs.Histories.{event_kind}
-use Rattle.history_text.proofs.Numbers.{read_ok}
+use Rattle.history_text.proofs.ItemLines.{read_ok}
 use Rattle.history_text.proofs.Spelled.{event_ok}
 use Rattle.history_text.proofs.event_line.EventItem.from_line.Goals as goal
 

@@ -1,5 +1,5 @@
 use Rattle.history_text.specs.Claims.{operation_kind}
-use Rattle.history_text.proofs.Numbers.{read_ok}
+use Rattle.history_text.proofs.ItemLines.{read_ok}
 use Rattle.history_text.proofs.SpelledOperations.{operation_ok}
 use Rattle.history_text.proofs.operation_line.OperationItem.from_line.Goals as goal
 

@@ -1,5 +1,5 @@
 use Rattle.std.proofs.Common.{◌≡◌, ◌+◌, ◌-◌, List, [], length}
-use Rattle.history_text.specs.Input.{Takes}
+use Rattle.text_lines.specs.Input.{Takes}
 use Rattle.history_text.specs.Items.{HaveLines, lines_of}
 use Rattle.history_text.proofs.reader.TextReader.collect_items.Given as goal
 

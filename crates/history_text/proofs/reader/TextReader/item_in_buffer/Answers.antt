@@ -1,7 +1,8 @@
 use Rattle.std.proofs.Common.{◌≤◌, ◌-◌, ap, subst, Option, length, rules}
-use Rattle.history_text.specs.Input.{Ahead, Input, Takes, with_front}
+use Rattle.text_lines.specs.Input.{Ahead, Takes}
+use Rattle.history_text.specs.Reading.{Input, with_front}
 use Rattle.history_text.specs.Items.{line_of}
-use Rattle.history_text.proofs.Scanning.{takes_from_buffer, part}
+use Rattle.history_text.proofs.Buffers.{takes_from_buffer, part}
 use Rattle.history_text.proofs.reader.TextReader.item_in_buffer.Goals as goal
 
 pub returns-clause-item : goal.returns-clause-item
@@ -10,6 +11,8 @@ returns-clause-item g c =
     let found = c.in_ok-item.ensures in
     let within : reader.filled ≤ length reader.buffer = search (rules, c.self.invariant.1, c.self.ranges) in
     let text = line_of g.T.Item.kind c.in_ok-item.item in
-    let taken = takes_from_buffer reader.buffer reader.at reader.filled text c.in_ok-item.rest.now (g.R.TextSource.ahead reader.source) c.self.invariant.0 within found.0 in
-    let left : Option Ahead = with_front (part reader.buffer (reader.filled - length c.in_ok-item.rest.now) reader.filled) (g.R.TextSource.ahead reader.source) in
+    let taken = takes_from_buffer reader.buffer reader.at reader.filled text c.in_ok-item.rest.now
+        (g.R.TextSource.ahead reader.source) c.self.invariant.0 within found.0 in
+    let left : Option Ahead = with_front (part reader.buffer (reader.filled - length c.in_ok-item.rest.now) reader.filled)
+        (g.R.TextSource.ahead reader.source) in
     (subst (λ (l : Option Ahead). Takes l left text) (ap (λ (i : Input). i.left) c.self.view_is) taken, found.1)

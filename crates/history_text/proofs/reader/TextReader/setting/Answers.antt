@@ -1,5 +1,5 @@
 use Rattle.std.proofs.Common.{◌≡◌, ◌+◌, ap, ◌∙◌}
-use Rattle.history_text.specs.Input.{Input}
+use Rattle.history_text.specs.Reading.{Input}
 use Rattle.history_text.proofs.Settings.{setting_taken, setting_faulty}
 use Rattle.history_text.proofs.reader.TextReader.setting.Goals as goal
 
@@ -11,4 +11,5 @@ pub returns-clause-fault : goal.returns-clause-fault
 returns-clause-fault g c =
     let taken = c.in_ok-line.ensures.ok in
     let n : c.self.inside.lines ≡ c.args.self.now.lines + 1 = ap (λ (i : Input). i.lines) c.self.view_is ∙ c.in_ok-line.ensures.lines in
-    rw (← n) (setting_faulty c.self.inside.lines _ _ c.in_ok-line.line c.setting_in.result taken.0 taken.1 (rw c.as_slice.ensures at c.setting_in.ensures.value))
+    rw (← n) (setting_faulty c.self.inside.lines _ _ c.in_ok-line.line c.setting_in.result taken.0 taken.1
+        (rw c.as_slice.ensures at c.setting_in.ensures.value))

@@ -1,6 +1,6 @@
 use Rattle.std.proofs.Common.{◌≡◌, ◌+◌, ap, ◌∙◌, refl}
-use Rattle.history_text.specs.declared.fault.TextFault.TheVariants.{Read, Cut, Line}
-use Rattle.history_text.specs.Input.{Input}
+use Rattle.text_lines.specs.declared.fault.TextFault.TheVariants.{Read, Cut, Line}
+use Rattle.history_text.specs.Reading.{Input}
 use Rattle.history_text.specs.Taking.{NoLineFault}
 use Rattle.history_text.proofs.Faults.{at_failure, at_cut, at_nothing, at_long}
 use Rattle.history_text.proofs.reader.TextReader.whole_line.Goals as goal
@@ -24,4 +24,5 @@ pub returns-in-Ok-TooLong-clause-fault : goal.returns-in-Ok-TooLong-clause-fault
 returns-in-Ok-TooLong-clause-fault g c =
     let long = rw c.in-Ok-TooLong.field-0-is at c.in-Ok-TooLong.ensures.taken in
     let n : c.self.inside.lines ≡ c.args.self.now.lines + 1 = ap (λ (i : Input). i.lines) c.self.view_is ∙ c.in-Ok-TooLong.ensures.lines in
-    at_long (λ end front. NoLineFault (c.args.self.now.lines + 1) end (Line c.self.inside.lines) front) _ _ long.0 long.1 long.2 long.3 long.4 long.5 (λ end. ap Line n)
+    at_long (λ end front. NoLineFault (c.args.self.now.lines + 1) end (Line c.self.inside.lines) front) _ _ long.0 long.1 long.2 long.3 long.4 long.5
+        (λ end. ap Line n)

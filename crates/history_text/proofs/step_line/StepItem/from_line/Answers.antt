@@ -1,5 +1,5 @@
 use Rattle.history_text.specs.Schedules.{step_kind}
-use Rattle.history_text.proofs.Numbers.{read_ok}
+use Rattle.history_text.proofs.ItemLines.{read_ok}
 use Rattle.history_text.proofs.SpelledSteps.{step_ok}
 use Rattle.history_text.proofs.step_line.StepItem.from_line.Goals as goal
 

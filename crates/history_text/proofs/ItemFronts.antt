@@ -1,0 +1,42 @@
+-- The first line, an item's and the last one, read from what is written of them, whatever comes after.
+use Rattle.std.proofs.Common.{◌≡◌, ℕ, ◌^◌, ◌<◌, List, ◌++◌, Bool, true, false, ◌&&◌, nat_lt, arith, ap, ◌∙◌, refl, Some, None, Ok, codes}
+use Rattle.std.specs.Prelude.{decimal}
+use Rattle.std.specs.Str.{bytes_eq}
+use Rattle.std.proofs.lemmas.Bool.Decides.{nat_tests}
+use Rattle.std.proofs.lemmas.Fmt.{length-decimal-le}
+use Rattle.text_lines.specs.Lines.{line, spaced, end_line, begins_as_end, front_of, header_fault}
+use Rattle.text_lines.specs.Input.{Ending}
+use Rattle.text_lines.specs.Lines.{IsPartOfLine}
+use Rattle.text_lines.proofs.Fronts.{whole}
+use Rattle.text_lines.proofs.WrittenLines.{IsLineOf, number_is_field, field_is_clean, end_read}
+use Rattle.history_text.specs.Items.{Kind, line_of, item_at_front}
+
+and_false : (a b : Bool) → b ≡ false → (a && b) ≡ false
+and_false true b e = e
+and_false false b e = refl
+
+-- an item whose fields are read back is read from its line
+pub item_front : {A : Type 0} (kind : Kind A) (n k : ℕ) (ending : Ending) (item : A) (rest : List ℕ) → IsLineOf (kind.fields item)
+    → kind.read n (kind.fields item) ≡ Ok item → k < kind.most → item_at_front kind n k ending (front_of (line_of kind item ++ rest)) ≡ Ok (Some item, rest)
+item_front kind n k ending item rest is read few =
+    let more : nat_lt k kind.most ≡ true = grind (arith, nat_tests, few) in
+    let other : (kind.is_counted && begins_as_end (spaced (kind.fields item))) ≡ false = and_false kind.is_counted _ is.other in
+    ap (item_at_front kind n k ending) (whole (spaced (kind.fields item)) rest is.part)
+    ∙ rw (other, more, is.back, read) refl
+
+end_is_part : (k : ℕ) → k < 2 ^ 64 → IsPartOfLine (codes "end " ++ decimal k)
+end_is_part k small = record {
+  one = field_is_clean (decimal k) (number_is_field k small);
+  short = omega (arith, length-decimal-le 20 k (omega arith) (omega arith) small);
+}
+
+-- the last line is read
+pub end_front : {A : Type 0} (kind : Kind A) (n k : ℕ) (ending : Ending) (rest : List ℕ) → kind.is_counted ≡ true → k < 2 ^ 64
+    → item_at_front kind n k ending (front_of (end_line k ++ rest)) ≡ Ok (None, rest)
+end_front kind n k ending rest counted small =
+    ap (item_at_front kind n k ending) (whole (codes "end " ++ decimal k) rest (end_is_part k small)) ∙ rw (counted, end_read n k small) refl
+
+-- a first line is as expected
+pub header_front : (expected : List ℕ) (ending : Ending) (rest : List ℕ) → IsPartOfLine expected → bytes_eq expected expected ≡ true
+    → header_fault expected ending (front_of (line expected ++ rest)) ≡ None
+header_front expected ending rest part same = ap (header_fault expected ending) (whole expected rest part) ∙ rw same refl

@@ -1,5 +1,0 @@
-use Rattle.std.proofs.Common.{◌≡◌, take, true}
-use Rattle.history_text.proofs.scan.after_word.Given as goal
-
-abbrev pub invariant-loop-i : goal.invariant-loop-i
-invariant-loop-i l = l.is_same ≡ true → take l.i l.bytes ≡ take l.i l.word

@@ -1,0 +1,10 @@
+pub mod Digits
+pub mod Fields
+pub mod Consuming
+pub mod Fronts
+pub mod Numbers
+pub mod Appending
+pub mod Asking
+pub mod Holding
+pub mod WrittenLines
+pub mod Scanning

@@ -1,0 +1,142 @@
+-- What is written of fields, numbers and lines is read back, whatever comes after it.
+use Rattle.std.proofs.Common.{◌≡◌, ℕ, zero, suc, ◌^◌, ◌<◌, ◌≤◌, List, [], ◌∷◌, ◌++◌, length, Bool, true, false, ◌||◌, not, nat_lt, nat_le, nat_eq}
+use Rattle.std.proofs.Common.{arith, ap, ◌∙◌, refl, Ok, length-append}
+use Rattle.std.specs.Prelude.{◌==◌, decimal}
+use Rattle.std.specs.Char.{is_ascii_digit}
+use Rattle.std.specs.List.{All, AllByRecursion, list_all}
+use Rattle.std.specs.Str.Parse.{digits_value}
+use Rattle.std.proofs.Common.{get_or}
+use Rattle.std.proofs.lemmas.Bool.Decides.{nat_tests}
+use Rattle.std.proofs.lemmas.List.Elements.{All-cons}
+use Rattle.std.proofs.lemmas.List.Folds.{list_all-append}
+use Rattle.std.proofs.lemmas.List.Splits.{slice_split_at, slice_split_none}
+use Rattle.std.proofs.lemmas.Str.Parse.{numerals_by_value}
+use Rattle.std.proofs.lemmas.Fmt.{decimal_digit, digits_decimal, digits_value-decimal, decimal_nonempty, first_decimal, length-decimal-le}
+use Rattle.text_lines.specs.Lines.{spaced, greatest_value, is_number, number_in, number_between, fields_of, begins_as_end, end_in, is_line_feed}
+use Rattle.text_lines.specs.Lines.{has_no_line_feed, IsPartOfLine}
+use Rattle.text_lines.proofs.Numbers.{tells, both}
+
+-- ---- fields
+
+-- a byte that ends neither a field nor a line
+abbrev pub is_inner : ℕ → Bool
+is_inner b = nat_lt 32 b
+
+abbrev is_space : ℕ → Bool
+is_space b = b == 32
+
+abbrev pub IsField : List ℕ → Type 0
+IsField bytes = list_all is_inner bytes ≡ true
+
+no_space : (bytes : List ℕ) → IsField bytes → All (λ b. is_space b ≡ false) bytes
+no_space [] one = λ k d h. absurd (omega (arith, h))
+no_space (b ∷ bytes) one =
+    let p = both (is_inner b) _ one in
+    All-cons (λ x. is_space x ≡ false) b bytes (grind (arith, nat_tests, p.0)) (no_space bytes p.1)
+
+fields_of_spaced : (f : List ℕ) (fs : List (List ℕ)) → IsField f → AllByRecursion IsField fs → fields_of (spaced (f ∷ fs)) ≡ f ∷ fs
+fields_of_spaced f [] one all = slice_split_none is_space f (no_space f one)
+fields_of_spaced f (g ∷ gs) one all =
+    slice_split_at is_space f 32 (spaced (g ∷ gs)) (no_space f one) refl ∙ ap (λ (r : List (List ℕ)). f ∷ r) (fields_of_spaced g gs all.0 all.1)
+
+pub field_is_clean : (bytes : List ℕ) → IsField bytes → has_no_line_feed bytes ≡ true
+field_is_clean [] one = refl
+field_is_clean (b ∷ bytes) one =
+    let p = both (is_inner b) _ one in
+    let other : is_line_feed b ≡ false = grind (arith, nat_tests, p.0) in
+    rw (other, field_is_clean bytes p.1) refl
+
+fields_are_clean : (f : List ℕ) (fs : List (List ℕ)) → IsField f → AllByRecursion IsField fs → has_no_line_feed (spaced (f ∷ fs)) ≡ true
+fields_are_clean f [] one all = field_is_clean f one
+fields_are_clean f (g ∷ gs) one all =
+    list_all-append (λ b. not (is_line_feed b)) f (32 ∷ spaced (g ∷ gs)) ∙ rw (field_is_clean f one, fields_are_clean g gs all.0 all.1) refl
+
+-- ---- numbers
+
+pub all_digits : (v : ℕ) → v < 2 ^ 64 → list_all is_ascii_digit (decimal v) ≡ true
+all_digits v small = digits_decimal (numerals_by_value _ tells) v small
+
+digits_are_field : (ds : List ℕ) → list_all is_ascii_digit ds ≡ true → IsField ds
+digits_are_field [] all = refl
+digits_are_field (d ∷ ds) all =
+    let p = both (is_ascii_digit d) _ all in
+    let inner : is_inner d ≡ true = grind (arith, nat_tests, p.0) in
+    rw (inner, digits_are_field ds p.1) refl
+
+pub number_is_field : (v : ℕ) → v < 2 ^ 64 → IsField (decimal v)
+number_is_field v small = digits_are_field (decimal v) (all_digits v small)
+
+or_true : (a : Bool) → (a || true) ≡ true
+or_true true = refl
+or_true false = refl
+
+is_number_decimal : (v : ℕ) → v < 2 ^ 64 → is_number (decimal v) ≡ true
+is_number_decimal zero small = rw (decimal_digit 0 (omega arith)) refl
+is_number_decimal (suc v) small =
+    let some : nat_lt 0 (length (decimal (suc v))) ≡ true = grind (arith, nat_tests, decimal_nonempty (suc v) small) in
+    let first = first_decimal (suc v) (omega arith) small in
+    let lead : (get_or (decimal (suc v)) 0 0 == 48) ≡ false = grind (arith, nat_tests, first) in
+    rw (some, all_digits (suc v) small, lead, or_true) refl
+
+value_decimal : (v : ℕ) → v < 2 ^ 64 → digits_value 10 (decimal v) ≡ v
+value_decimal v small = digits_value-decimal (numerals_by_value _ tells) v small
+
+pub number_read : (n greatest v : ℕ) → v ≤ greatest → greatest < 2 ^ 64 → number_in n greatest (decimal v) ≡ Ok v
+number_read n greatest v within small =
+    let few : v < 2 ^ 64 = omega (arith, within, small) in
+    let ok : nat_le v greatest ≡ true = grind (arith, nat_tests, within) in
+    rw (is_number_decimal v few, value_decimal v few, ok) refl
+
+-- the same of a number that has a least one
+pub between_read : (n least greatest v : ℕ) → least ≤ v → v ≤ greatest → greatest < 2 ^ 64 → number_between n least greatest (decimal v) ≡ Ok v
+between_read n least greatest v more within small =
+    let enough : nat_le least v ≡ true = grind (arith, nat_tests, more) in
+    rw (number_read n greatest v within small, enough) refl
+
+pub end_read : (n k : ℕ) → k < 2 ^ 64 → end_in n k (decimal k) ≡ Ok tt
+end_read n k small =
+    let same : (k == k) ≡ true = grind (arith, nat_tests) in
+    rw (is_number_decimal k small, value_decimal k small, same) refl
+
+-- a word, and perhaps others after it
+pub record HasFields (fields : List (List ℕ)) : Type 0 where
+  pub word : List ℕ
+  pub others : List (List ℕ)
+  pub is : fields ≡ word ∷ others
+  pub one : IsField word
+  pub all : AllByRecursion IsField others
+  pub short : length (spaced (word ∷ others)) ≤ 29
+
+pub with_value : (word : List ℕ) (v : ℕ) → IsField word → length word ≤ 8 → v ≤ greatest_value → HasFields (word ∷ decimal v ∷ [])
+with_value word v one few r = record {
+  word = word;
+  others = decimal v ∷ [];
+  is = refl;
+  one = one;
+  all = (number_is_field v (omega (arith, r)), tt);
+  short = omega (arith, length-append word (32 ∷ decimal v), few, length-decimal-le 20 v (omega arith) (omega (arith, r)) (omega (arith, r)));
+}
+
+-- ---- lines
+
+-- a list of fields is a line, and its fields are read back
+pub record IsLineOf (fields : List (List ℕ)) : Type 0 where
+  pub part : IsPartOfLine (spaced fields)
+  pub back : fields_of (spaced fields) ≡ fields
+  pub other : begins_as_end (spaced fields) ≡ false
+
+-- such fields are those of a line
+pub line_of_fields : (f : List ℕ) (fs : List (List ℕ)) → IsField f → AllByRecursion IsField fs → length (spaced (f ∷ fs)) ≤ 80
+    → begins_as_end (spaced (f ∷ fs)) ≡ false → IsLineOf (f ∷ fs)
+line_of_fields f fs one all short other = record {
+  part = record { one = fields_are_clean f fs one all; short = short };
+  back = fields_of_spaced f fs one all;
+  other = other;
+}
+
+pub digits_begin_other : (ds rest : List ℕ) → 0 < length ds → list_all is_ascii_digit ds ≡ true → begins_as_end (ds ++ rest) ≡ false
+digits_begin_other [] rest some all = absurd (omega (arith, some))
+digits_begin_other (d ∷ ds) rest some all =
+    let p = both (is_ascii_digit d) _ all in
+    let differs : nat_eq 101 d ≡ false = grind (arith, nat_tests, p.0) in
+    rw differs refl

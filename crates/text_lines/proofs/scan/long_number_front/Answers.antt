@@ -1,0 +1,20 @@
+use Rattle.std.proofs.Common.{◌≡◌, ◌<◌, get_or, arith}
+use Rattle.text_lines.proofs.Scanning.{one_more_digit, number_stands}
+use Rattle.text_lines.proofs.scan.long_number_front.Goals.{else-count-gt1-via-then-count-gt1+else-bytes-eq48, else-count-gt1-via-else-count-gt1}
+use Rattle.text_lines.proofs.scan.long_number_front.Goals as goal
+
+pub loop-count-preserved : goal.loop-count-preserved
+loop-count-preserved c = record {
+  digits = rw c.in_ok-value.ensures.number (one_more_digit c.args.bytes.now c.loop-count.count c.loop-count.value c.from.result c.loop-count-test.true
+      c.loop-count.invariant.digits c.if-not-is_ascii_digit.ensures.cases c.from.ensures);
+  in_range = c.in_ok-value.ensures.in_range;
+}
+
+pub returns : goal.returns
+returns c =
+    let lead : 1 < c.loop-count.count → get_or c.args.bytes.now 0 0 ≡ 48 → ⊥ = elim c.else-count-gt1.branch [
+      | else-count-gt1-via-then-count-gt1+else-bytes-eq48 w ↦ λ many zero. w.if-bytes-eq48.false zero
+      | else-count-gt1-via-else-count-gt1 w ↦ λ many zero. let few = w.if-count-gt1.false in absurd (omega (arith, few, many))
+    ] in
+    number_stands c.args.bytes.now c.loop-count.count c.loop-count.value c.loop-count.invariant.digits
+        (omega (arith, c.if-count-eq0.false)) lead c.loop-count.invariant.in_range

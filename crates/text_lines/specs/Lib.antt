@@ -1,0 +1,6 @@
+pub mod Input
+pub mod Pieces
+pub mod Lines
+pub mod Writing
+pub mod Watching
+pub mod Holding

@@ -1,0 +1,83 @@
+//! What stands at the front of some bytes, found in one pass.
+ghost use Rattle.std.specs.Prelude.{◌≡◌, ◌+◌, ◌*◌, ◌^◌, ◌<◌, ◌++◌, IfSome, decimal};
+
+/// The least number of 19 digits. With one digit more, a lesser one is in range.
+const LEAST_LONG: u64 = 1_000_000_000_000_000_000;
+
+/// The number at the front, and the bytes after it.
+#[inline(always)]
+pub fn number_front(bytes: &[u8]) -> Option<(u64, &[u8])>
+    ensures { IfSome result (λ p. bytes.now ≡ decimal p.0 ++ p.1.now) }
+{
+    let mut value = 0u64;
+    let mut count = 0;
+    while count < bytes.len() {
+        let byte = bytes[count];
+        if !byte.is_ascii_digit() {
+            break;
+        }
+        if value >= LEAST_LONG {
+            return long_number_front(bytes);
+        }
+        value = value * 10 + u64::from(byte - b'0');
+        count += 1;
+    }
+    if count == 0 {
+        return None;
+    }
+    if count > 1 && bytes[0] == b'0' {
+        return None;
+    }
+    Some((value, &bytes[count..]))
+}
+
+/// The same of a number that may have 20 digits; none where it is out of range.
+#[inline(never)]
+fn long_number_front(bytes: &[u8]) -> Option<(u64, &[u8])>
+    ensures { IfSome result (λ p. bytes.now ≡ decimal p.0 ++ p.1.now) }
+{
+    let mut value = 0u64;
+    let mut count = 0;
+    while count < bytes.len() {
+        let byte = bytes[count];
+        if !byte.is_ascii_digit() {
+            break;
+        }
+        value = one_digit_more(value, u64::from(byte - b'0'))?;
+        count += 1;
+    }
+    if count == 0 {
+        return None;
+    }
+    if count > 1 && bytes[0] == b'0' {
+        return None;
+    }
+    Some((value, &bytes[count..]))
+}
+
+/// The number with one digit more, where it is in range.
+#[inline(always)]
+fn one_digit_more(value: u64, digit: u64) -> Option<u64>
+    ensures number { IfSome result (λ more. more ≡ value * 10 + digit) }
+    ensures in_range { IfSome result (λ more. more < 2 ^ 64) }
+{
+    value.checked_mul(10)?.checked_add(digit)
+}
+
+/// The bytes after the word that they begin with.
+#[inline(always)]
+pub fn after_word<'a>(bytes: &'a [u8], word: &[u8]) -> Option<&'a [u8]>
+    ensures { IfSome result (λ rest. bytes.now ≡ word.now ++ rest.now) }
+{
+    if bytes.len() < word.len() {
+        return None;
+    }
+    let mut is_same = true;
+    for i in 0..word.len() {
+        is_same &= bytes[i] == word[i];
+    }
+    if !is_same {
+        return None;
+    }
+    Some(&bytes[word.len()..])
+}

@@ -1,0 +1,105 @@
+ghost use Rattle.std.specs.Prelude.{◌≡◌, ◌≤◌, ◌||◌, ℕ, Bool, false, List, Option, IfOk, OnOk, OnErr, is_err, length};
+ghost use Rattle.std.specs.Io.KnownBytes.{Keeps, WriteAppends, Appends};
+ghost use Rattle.text_lines.specs.Watching.{IsNoted};
+ghost use Rattle.text_lines.specs.Writing.{is_refusal, AppendsFront, Asked, asked_to_write, asked_to_flush, IsWritten, IsRefused};
+
+use crate::source::Watched;
+use std::io::Write;
+
+/// Why a text isn't written whole.
+#[derive(Clone, Copy, Debug, PartialEq, Eq)]
+pub enum WriteFault {
+    /// The writer failed, or took no byte of a piece that wasn't empty.
+    Write,
+}
+
+/// What texts are written to.
+///
+/// Beside std's `Write` it tells contracts whether it has refused bytes, and what each call on it makes of it. With the bytes
+/// alone, a body that always answers a failed write would meet every contract of a writer, and so would one that never
+/// flushes.
+pub trait TextSink {
+    /// The bytes that it took, where they are known.
+    ghost contents: { Self → Option (List ℕ) };
+
+    /// A call has failed, or took no byte of a piece that wasn't empty.
+    ghost has_refused: { Self → Bool };
+
+    /// Some of the bytes that it took may not be passed on yet.
+    ghost holds_back: { Self → Bool };
+
+    /// A call that ended so makes the later sink of the earlier one. So contracts tell which calls were made, and in which
+    /// order.
+    ghost goes: { Self → Asked → Self → Type 0 };
+
+    /// Takes bytes from the front of the piece, and tells how many.
+    fn write(&mut self, piece: &[u8]) -> Result<usize, WriteFault>
+        ensures bound { IfOk result (λ n. n ≤ length piece.now) }
+        ensures bytes { WriteAppends (contents self.old) (contents self.new) result piece.now }
+        ensures refused { has_refused self.new ≡ (has_refused self.old || is_refusal result piece.now) }
+        ensures asked { goes self.old (asked_to_write result piece.now) self.new };
+
+    /// Passes on what the writer holds back.
+    fn flush(&mut self) -> Result<(), WriteFault>
+        ensures bytes { Keeps (contents self.old) (contents self.new) }
+        ensures refused { has_refused self.new ≡ (has_refused self.old || is_err result) }
+        ensures passed_on { OnOk result (holds_back self.new ≡ false) }
+        ensures asked { goes self.old (asked_to_flush result) self.new };
+}
+
+impl<W: Write> TextSink for Watched<W> {
+    ghost contents = { λ w. W.contents w.inner };
+
+    ghost has_refused = { λ w. w.has_refused };
+
+    ghost holds_back = { λ w. w.holds_back };
+
+    ghost goes = { λ old asked new. IsNoted old asked new };
+
+    fn write(&mut self, piece: &[u8]) -> Result<usize, WriteFault> {
+        self.holds_back = true;
+        match self.inner.write(piece) {
+            Ok(count) => {
+                if count == 0 && !piece.is_empty() {
+                    self.has_refused = true;
+                }
+                Ok(count)
+            }
+            Err(_) => {
+                self.has_refused = true;
+                Err(WriteFault::Write)
+            }
+        }
+    }
+
+    fn flush(&mut self) -> Result<(), WriteFault> {
+        match self.inner.flush() {
+            Ok(()) => {
+                self.holds_back = false;
+                Ok(())
+            }
+            Err(_) => {
+                self.has_refused = true;
+                Err(WriteFault::Write)
+            }
+        }
+    }
+}
+
+/// Writes all of the bytes, in as many calls as the writer needs, or fails after a front of them. The writer isn't flushed.
+pub fn write_piece<W: TextSink>(writer: &mut W, piece: &[u8]) -> Result<(), WriteFault>
+    ensures ok { OnOk result (Appends (W.contents writer.old) (W.contents writer.new) piece.now) }
+    ensures err { OnErr result (AppendsFront (W.contents writer.old) (W.contents writer.new) piece.now) }
+    ensures refused { W.has_refused writer.new ≡ (W.has_refused writer.old || is_err result) }
+    ensures written { OnOk result (IsWritten W.goes writer.old writer.new) }
+    ensures stopped { OnErr result (IsRefused W.goes writer.old writer.new) }
+{
+    let mut done = 0;
+    while done < piece.len() {
+        match writer.write(&piece[done..])? {
+            0 => return Err(WriteFault::Write),
+            count => done += count,
+        }
+    }
+    Ok(())
+}

@@ -1,0 +1,91 @@
+ghost use Rattle.std.specs.Prelude.{◌≡◌, ◌≤◌, false, Option, None, IfOk, length};
+ghost use Rattle.std.specs.Io.KnownBytes.{ReadConsumes};
+ghost use Rattle.text_lines.specs.Input.{Ahead, ReadTakes};
+
+use std::io::Read;
+use std::marker::Model;
+
+/// A read failed.
+#[derive(Clone, Copy, Debug, PartialEq, Eq)]
+pub struct ReadFailed;
+
+/// What texts are read from.
+///
+/// Beside std's `Read` it tells contracts how its bytes end. With the bytes alone, a body that always answers a failed
+/// read would meet every contract of a reader.
+pub trait TextSource {
+    /// The bytes that reads will give from here on and how they end, where this is known.
+    ghost ahead: { Self → Option Ahead };
+
+    /// Puts bytes at the front of the piece, and tells how many. It gives none only where the piece is empty or the bytes
+    /// have come to their end.
+    fn read(&mut self, piece: &mut [u8]) -> Result<usize, ReadFailed>
+        ensures bound { IfOk result (λ n. n ≤ length piece.new) }
+        ensures bytes { ReadTakes (ahead self.old) (ahead self.new) result piece.new };
+}
+
+/// A reader or a writer of std as a source or a sink of texts, with whether a write or a flush has failed.
+///
+/// Each call makes one call of the reader or writer, and fails where that fails: a call that is interrupted isn't tried
+/// again. std's traits don't tell contracts of failures, so that tests show this. Of a reader nothing is known to contracts,
+/// since none of std says how its bytes end; `MemorySource` tells it.
+#[derive(Drop)]
+pub struct Watched<T> {
+    pub(crate) inner: T,
+    pub(crate) has_refused: bool,
+    pub(crate) holds_back: bool,
+}
+
+impl<T> Model for Watched<T> {
+    ghost use Rattle.text_lines.specs.Watching.{Watching};
+
+    ghost Value = { Watching T };
+
+    ghost view = { λ w. record { inner = w.inner; has_refused = w.has_refused; holds_back = w.holds_back } };
+}
+
+impl<T> Watched<T> {
+    pub fn new(inner: T) -> Self
+        ensures { result ≡ record { inner = inner; has_refused = false; holds_back = false } }
+    {
+        Watched {
+            inner,
+            has_refused: false,
+            holds_back: false,
+        }
+    }
+
+    pub fn into_inner(self) -> T
+        ensures { result ≡ self.inner }
+    {
+        let Watched {
+            inner,
+            has_refused: _,
+            holds_back: _,
+        } = self;
+        inner
+    }
+}
+
+impl<R: Read> TextSource for Watched<R> {
+    ghost ahead = { λ _. None };
+
+    fn read(&mut self, piece: &mut [u8]) -> Result<usize, ReadFailed>
+        ensures bound { IfOk result (λ n. n ≤ length piece.new) }
+        ensures bytes { ReadTakes None None result piece.new }
+        ensures inner { ReadConsumes (R.remaining self.old.inner) (R.remaining self.new.inner) result piece.new }
+    {
+        match self.inner.read(piece) {
+            Ok(count) => Ok(count),
+            Err(_) => Err(ReadFailed),
+        }
+    }
+}
+
+impl<S: TextSource> TextSource for &mut S {
+    ghost ahead = { λ s. S.ahead s.now };
+
+    fn read(&mut self, piece: &mut [u8]) -> Result<usize, ReadFailed> {
+        TextSource::read(&mut **self, piece)
+    }
+}
