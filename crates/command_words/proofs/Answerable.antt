@@ -133,7 +133,7 @@ module _ (rest : List Text) (none : level_fault stress_built [] nothing_held res
   has_settings = record {
     queue = any_text _ (λ v. test (codes "queue") v ≡ true)
         (first_given test stress_built rest well defaults_do none (codes "queue")
-            (given_queue (rows_after stress_built.rules [] rest) (last_checks test stress_built rest well defaults_do none)));
+        (given_queue (rows_after stress_built.rules [] rest) (last_checks test stress_built rest well defaults_do none)));
     threads = number (codes "threads") 1 16 (λ v e. e) (inr (inl (refl, tt)));
     operations = number (codes "ops") 0 100000 (λ v e. e) (inr (inr (inl (refl, tt))));
     seed = number (codes "seed") 0 4294967295 (λ v e. e) (inr (inr (inr (inl (refl, tt)))));
@@ -191,7 +191,7 @@ module _ (a : App) (words : List Text) (required : a.top.subcommand_required ≡
   has_one = wanted has a.top.subcommand_required (a.top.arg_required_else_help && not
       (list_any (λ r. explicit_source r.source) (finished a.top.rules last.held)))
       (not (a.top.subcommand_negates_reqs && has) && list_any (λ r. r.required && not (is_given r.id (finished a.top.rules last.held))) a.top.rules)
-          required check
+      required check
 
   answers_shape : (name : Text) (rest : List Text) → IsNotHelp name → (o : Option Shape) → IfSome o (λ s. AnswersWell s × (answers_to name (label_of s) ≡ true))
       → is_some (option_map (λ s. rows_at s rest) o) ≡ true → option_map_or (λ s. level_fault s [] nothing_held rest false []) o [] ≡ []

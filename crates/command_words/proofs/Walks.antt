@@ -110,7 +110,7 @@ module _ (test : Text → Text → Bool) (c : List Rule) (well : FindsWell test 
     where
       go : (o : Option ℕ) (skip : ℕ) → bundle_step_fault c again o flags skip h (flags_fault c again k) ≡ []
           → ((rest : Text) (left : ℕ) (o : Outcome) (g : Held) → flags_fault c again k rest left g ≡ [] → RowsPass test g.rows
-              → RowsPass test (bundle_met c k rest left o g).0.rows)
+          → RowsPass test (bundle_met c k rest left o g).0.rows)
           → RowsPass test (bundle_step c o flags skip so_far h (bundle_met c k)).0.rows
       go None skip e step = p
       go (Some x) zero e step =
@@ -148,7 +148,7 @@ module _ (test : Text → Text → Bool) (c : List Rule) (well : FindsWell test 
   flag_word_passes None waiting word h e p = short_word_passes (short_of word) waiting word h e p
   flag_word_passes (Some q) waiting word h e p =
       after_flag_passes waiting word (long_met c (arg_by_long c q.0) q.1 h).0 (long_met c (arg_by_long c q.0) q.1 h).1
-          (long_passes (arg_by_long c q.0) q.1 h (well _) e p)
+      (long_passes (arg_by_long c q.0) q.1 h (well _) e p)
 
   positional_passes : (a : Rule) (word : Text) (h : Held) → positional_fault c again a h ≡ [] → RowsPass test h.rows
       → RowsPass test (positional_held c a word h).rows
@@ -179,7 +179,7 @@ module _ (test : Text → Text → Bool) (s : Shape) (names : Names) (well : Fin
 
   to_positional_passes : (o : Option Rule) (word : Text) (w : Walk) (h : Held)
       → option_map_or (λ a. positional_fault s.rules s.args_override_self a h) o (stray_fault s) ≡ [] → RowsPass test h.rows
-          → RowsPass test (to_positional s.rules o word w h).held.rows
+      → RowsPass test (to_positional s.rules o word w h).held.rows
   to_positional_passes None word w h e p = p
   to_positional_passes (Some a) word w h e p = positional_passes test s.rules well s.args_override_self a word h e p
 

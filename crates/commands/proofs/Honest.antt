@@ -32,7 +32,9 @@ pub honest_gets_a_yes : (setting : Setting) (schedule : List Attempt) (answer : 
     → (events : List Event) × (order : List Operation) × (answer ≡ played (rejections setting schedule) events (claim.Yes order))
 honest_gets_a_yes setting schedule answer few honest done (inl undone) = absurd (undone.undone done)
 honest_gets_a_yes setting schedule answer few honest done (inr ended) =
-    let legal : IsLinearizable (operations_of ended.events) = (effects_order setting (accepted setting schedule),
-        effects_order_is_legal setting schedule ended.events few honest done ended.merged) in
+    let legal : IsLinearizable (operations_of ended.events) = (
+      effects_order setting (accepted setting schedule),
+      effects_order_is_legal setting schedule ended.events few honest done ended.merged,
+    ) in
     let yes = claims_yes (operations_of ended.events) ended.right.verdict ended.claimed legal ended.right.exact ended.right.claim in
     (ended.events, yes.0, ended.is ∙ ap (λ (claimed : Claimed). played (rejections setting schedule) ended.events claimed) yes.1)

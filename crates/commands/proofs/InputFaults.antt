@@ -34,8 +34,18 @@ module _ {A : Type 0} (HasText : A → Type 0) (text_of : A → List ℕ) (IsTex
   end_fault (Some a) (Some b) value Trailing text taken h =
       inr (value, text, inl (refl, record { byte = h.0; more = h.1; bytes = taken.0 ∙ ap (λ (r : List ℕ). text_of value ++ r) h.2 }))
   end_fault (Some a) (Some b) value Read text taken h =
-      inr (value, text, inr (refl, record { bytes = taken.0 ∙ ap (λ (r : List ℕ). text_of value ++ r) h.0 ∙ append-nil (text_of value); ending =
-          sym taken.1 ∙ h.1 }))
+      inr (
+        value,
+        text,
+        inr (
+          refl,
+          record {
+            bytes = taken.0 ∙ ap (λ (r : List ℕ). text_of value ++ r) h.0 ∙ append-nil (text_of value);
+            ending =
+                sym taken.1 ∙ h.1;
+          },
+        ),
+      )
   end_fault (Some a) (Some b) value Header text taken h = absurd h
   end_fault (Some a) (Some b) value (Line n) text taken h = absurd h
   end_fault (Some a) (Some b) value (Number n) text taken h = absurd h

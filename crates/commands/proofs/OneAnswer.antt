@@ -109,7 +109,7 @@ one_small events a b x y =
     let kept = subst (λ v. KeepsViolation operations v (operations_of y.small)) violations y.kept in
     let same = subst (λ v. StaysChosen operations v (operations_of y.small)) violations y.same in
     let selected = selection_is_one operations (operations_of x.small) (operations_of y.small) x.violation (x.small, x.small_is_complete, refl)
-        (y.small, y.small_is_complete, refl) x.kept kept x.same same x.minimal y.minimal in
+    (y.small, y.small_is_complete, refl) x.kept kept x.same same x.minimal y.minimal in
     part_is_one events x.small y.small x.complete x.part y.part x.small_is_complete y.small_is_complete selected
 
 one_shrunk : (events : List Event) (a b : Answer) → IsShrunk events a → IsShrunk events b → a ≡ b
@@ -197,9 +197,9 @@ of_history : (OfEvents : List Event → Answer → Type 0) → ((events : List E
 of_history OfEvents one = of_input IsHistoryOf IsFaultOfHistoryInput OfEvents
     (one_value HasHistoryText history_text (IsHistoryTextFault 0) NoRoomFor histories.texts_agree (histories.text_has_no_fault 0) (histories.one_first_fault 0))
     (only_memory HasHistoryText history_text (IsHistoryTextFault 0) NoRoomFor histories.texts_agree (histories.text_has_no_fault 0)
-        (histories.one_first_fault 0))
+    (histories.one_first_fault 0))
     (one_known_fault HasHistoryText history_text (IsHistoryTextFault 0) NoRoomFor histories.texts_agree (histories.text_has_no_fault 0)
-        (histories.one_first_fault 0))
+    (histories.one_first_fault 0))
     one
 
 pub check_has_one : HasOneAnswer check
@@ -217,9 +217,9 @@ draw_has_one = of_input IsClaimOf IsFaultOfClaimInput Draws one_claim only_memor
 pub sim_has_one : HasOneAnswer sim
 sim_has_one = of_input IsScheduleOf IsFaultOfScheduleInput Simulates
     (one_value HasScheduleText schedule_text (IsScheduleTextFault 0) NoRoomForSchedule schedules.texts_agree (schedules.text_has_no_fault 0)
-        (schedules.one_first_fault 0))
+    (schedules.one_first_fault 0))
     (only_memory HasScheduleText schedule_text (IsScheduleTextFault 0) NoRoomForSchedule schedules.texts_agree (schedules.text_has_no_fault 0)
-        (schedules.one_first_fault 0))
+    (schedules.one_first_fault 0))
     (one_known_fault HasScheduleText schedule_text (IsScheduleTextFault 0) NoRoomForSchedule schedules.texts_agree (schedules.text_has_no_fault 0)
-        (schedules.one_first_fault 0))
+    (schedules.one_first_fault 0))
     one_simulation

@@ -104,7 +104,7 @@ is_claim_fault input text.Trailing known is = is
 pub one_claim : (input : Ahead) (x y : ClaimOnEvents) → IsClaimOf input x → IsClaimOf input y → x ≡ y
 one_claim input x y is_x is_y =
     let parts = histories.texts_agree x.events y.events (verdict_text x.claimed) (verdict_text y.claimed) is_x.history is_y.history
-        (sym is_x.whole.bytes ∙ is_y.whole.bytes) in
+    (sym is_x.whole.bytes ∙ is_y.whole.bytes) in
     let events = parts.0 in
     let claims = verdict_texts.texts_agree x.claimed y.claimed is_x.verdict is_y.verdict parts.1 in
     λ i. record { events = events i; claimed = claims i }
@@ -114,7 +114,7 @@ no_history_fault : (input : Ahead) (P : ℕ → List ℕ → Type 0) (fault : Te
     → IsHistoryTextFault 0 input.ending input.bytes fault → ⊥
 no_history_fault input P fault after first =
     histories.text_has_no_fault 0 input.ending after.events after.rest fault after.history
-        (subst (λ bytes. IsHistoryTextFault 0 input.ending bytes fault) after.front first)
+    (subst (λ bytes. IsHistoryTextFault 0 input.ending bytes fault) after.front first)
 
 -- the verdict's text of a whole claim has no fault
 no_verdict_fault : (input : Ahead) (x : ClaimOnEvents) (fault : TextFault) → IsClaimOf input x
@@ -123,13 +123,13 @@ no_verdict_fault input x fault is after =
     let parts = histories.texts_agree x.events after.events (verdict_text x.claimed) after.rest is.history after.history (sym is.whole.bytes ∙ after.front) in
     let ended = subst (λ ending. IsVerdictTextFault (length after.events + 2) ending after.rest fault) is.whole.ending after.after in
     verdict_texts.text_has_no_fault (length after.events + 2) x.claimed fault is.verdict
-        (subst (λ rest. IsVerdictTextFault (length after.events + 2) EndOfInput rest fault) (sym parts.1) ended)
+    (subst (λ rest. IsVerdictTextFault (length after.events + 2) EndOfInput rest fault) (sym parts.1) ended)
 
 no_fault_of_claim : (input : Ahead) (x : ClaimOnEvents) (fault : TextFault) → IsClaimOf input x → IsClaimFault input fault → ⊥
 no_fault_of_claim input x fault is (inl first) =
     let front : input.bytes ≡ history_text x.events ++ verdict_text x.claimed = is.whole.bytes in
     histories.text_has_no_fault 0 input.ending x.events (verdict_text x.claimed) fault is.history
-        (subst (λ bytes. IsHistoryTextFault 0 input.ending bytes fault) front first)
+    (subst (λ bytes. IsHistoryTextFault 0 input.ending bytes fault) front first)
 no_fault_of_claim input x fault is (inr after) = no_verdict_fault input x fault is after
 
 one_fault_of_claim : (input : Ahead) (f g : TextFault) → IsClaimFault input f → IsClaimFault input g → f ≡ g

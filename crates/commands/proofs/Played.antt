@@ -43,7 +43,7 @@ module _ (setting : Setting) (schedule : List Attempt) (few : setting.threads �
   pub merges_to_complete : (merged : List Event) → IsMerged lists merged → IsCompleteHistory merged
   merges_to_complete merged is =
       merged_is_complete (collected_lists setting schedule) merged (collected_is_fit setting schedule few ended.0)
-          (subst (λ (ls : List (List Event)). IsMerged ls merged) ended.1 is)
+      (subst (λ (ls : List (List Event)). IsMerged ls merged) ended.1 is)
 
   -- and is short enough for one
   pub few_events : length (flat_map (λ list. list) lists) ≤ MAX_EVENTS

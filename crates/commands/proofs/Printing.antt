@@ -27,7 +27,7 @@ module _ {A E : Type 0} (old : Option (List ℕ)) (text : List ℕ) (status : �
   pub printed : {F : Type 0} (mid new : Option (List ℕ)) (first between refused : Bool) (result : ℕ) (r : Result A E) (flushed : Result (Unit {0}) F)
       → is_err r ≡ false → first ≡ false → between ≡ (first || is_err r)
       → OnOk r (Appends old mid text) → Keeps mid new → refused ≡ (between || is_err flushed) → is_err flushed ≡ false → result ≡ status
-          → Prints old new refused result text status
+      → Prints old new refused result text status
   printed mid new first between refused result (Err e) flushed done fresh is whole keeps then fine same = cc
   printed mid new first between refused result (Ok x) flushed done fresh is whole keeps then fine same =
       let now : refused ≡ false = then ∙ (λ i. (is ∙ (λ j. fresh j || false)) i || fine i) in

@@ -34,14 +34,14 @@ pub front_of_number : (r : Rejection) (a b c : Option (List ℕ)) → Appends a 
     → AppendsFront a c (rejection_line r)
 front_of_number r a b c h k =
     subst (λ (t : List ℕ). AppendsFront a c t) (sym (in_pieces r))
-        (front_next a b c beginning (decimal r.step ++ ending r) h (front_first b c (decimal r.step) (ending r) k))
+    (front_next a b c beginning (decimal r.step ++ ending r) h (front_first b c (decimal r.step) (ending r) k))
 
 -- the first words, the number, and a front of the rest
 pub front_of_reason : (r : Rejection) (a b c d : Option (List ℕ)) → Appends a b beginning → Appends b c (decimal r.step) → AppendsFront c d (ending r)
     → AppendsFront a d (rejection_line r)
 front_of_reason r a b c d h k m =
     subst (λ (t : List ℕ). AppendsFront a d t) (sym (in_pieces r))
-        (front_next a b d beginning (decimal r.step ++ ending r) h (front_next b c d (decimal r.step) (ending r) k m))
+    (front_next a b d beginning (decimal r.step ++ ending r) h (front_next b c d (decimal r.step) (ending r) k m))
 
 -- ---- several lines
 

@@ -82,7 +82,7 @@ shown_is_written input small claimed (inl read) = by_answer read.answered
         let claims : claimed ≡ is.claimed = one_claim is.small is.claimed is.is in
         let has_text = subst HasHistoryText (sym is.part.1) (part_has_text is.part.0 read.value read.input_of.0) in
         subst (λ es. IsWritten es claimed) (sym smalls) (subst (IsWritten is.small) (sym claims)
-            (record { complete = is.small_is_complete; history = has_text; right = is.right }))
+        (record { complete = is.small_is_complete; history = has_text; right = is.right }))
       where
         one_small : (es : List Event) (other : Claimed) → shown small claimed ≡ shown es other → small ≡ es
         one_small es other e = cc
@@ -100,7 +100,7 @@ shrunk_is_valid bytes small claimed answer shrinks verifies =
 -- a whole text has no fault but want of memory
 whole_has_no_fault : (events : List Event) (fault : TextFault) → HasHistoryText events
     → IsHistoryTextFault 0 EndOfInput (history_text events) fault
-        ⊎ ((value : List Event) × HasHistoryText value × IsFaultAfter (history_text value) (input_of (history_text events)) fault) → ⊥
+    ⊎ ((value : List Event) × HasHistoryText value × IsFaultAfter (history_text value) (input_of (history_text events)) fault) → ⊥
 whole_has_no_fault events fault has (inl first) = histories.text_has_no_fault 0 EndOfInput events [] fault has
     (subst (λ bytes. IsHistoryTextFault 0 EndOfInput bytes fault) (sym (append-nil (history_text events))) first)
 whole_has_no_fault events fault has (inr (value, has_value, inl (same, goes_on))) =

@@ -74,7 +74,7 @@ no_text_fault events claimed fault written said (inl first) = histories.text_has
 no_text_fault events claimed fault written said (inr after) =
     let same = histories.texts_agree events after.events (verdict_text claimed) after.rest written after.history after.front in
     verdict_texts.text_has_no_fault (length after.events + 2) claimed fault said
-        (subst (λ rest. IsVerdictTextFault (length after.events + 2) EndOfInput rest fault) (sym same.1) after.after)
+    (subst (λ rest. IsVerdictTextFault (length after.events + 2) EndOfInput rest fault) (sym same.1) after.after)
 
 only_memory : (events : List Event) (claimed : Claimed) (fault : TextFault) → HasHistoryText events → HasVerdictText claimed
     → IsFaultOfClaimInput (input_of (history_text events ++ verdict_text claimed)) fault → answer_of_text_fault fault ≡ memory_fault
@@ -103,11 +103,11 @@ written_is_valid events claimed answer is (inl read) =
     let said = claim_is_written events claimed is in
     let whole = read.input_of.whole in
     let parts = histories.texts_agree events read.value.events (verdict_text claimed)
-        (verdict_text read.value.claimed) is.history read.input_of.history whole.bytes in
+    (verdict_text read.value.claimed) is.history read.input_of.history whole.bytes in
     let claims_same = verdict_texts.texts_agree claimed read.value.claimed said read.input_of.verdict parts.1 in
     let complete = subst IsCompleteHistory parts.0 is.complete in
     let holds = subst (λ c. IsTrueClaim (operations_of read.value.events) c) claims_same
-        (subst (λ es. IsTrueClaim (operations_of es) claimed) parts.0 (claim_is_true events claimed is)) in
+    (subst (λ es. IsTrueClaim (operations_of es) claimed) parts.0 (claim_is_true events claimed is)) in
     true_is_valid read.value answer complete holds read.answered
 written_is_valid events claimed answer is (inr faulty) = inr (faulty.is
     ∙ only_memory events claimed faulty.fault is.history (claim_is_written events claimed is) faulty.first)
@@ -121,9 +121,16 @@ judged_is_written input claimed (inl read) = by_answer read.answered
     by_answer (inr none) = absurd (cc)
     by_answer (inl (inl faulty)) = absurd (judged_is_no_history_fault claimed faulty.fault faulty.is)
     by_answer (inl (inr is)) =
-        let same : claimed ≡ is.claimed = one_claim is.claimed is.is in
-        (read.value, read.input_of.1.bytes, record { complete = is.complete; history = read.input_of.0; right =
-            subst (IsVerdictClaim (operations_of read.value)) (sym same) is.right })
+        let same : claimed ≡ is.claimed = one_claim is.claimed is.is in (
+          read.value,
+          read.input_of.1.bytes,
+          record {
+            complete = is.complete;
+            history = read.input_of.0;
+            right =
+                subst (IsVerdictClaim (operations_of read.value)) (sym same) is.right;
+          },
+        )
       where
         one_claim : (other : Claimed) → judged claimed ≡ judged other → claimed ≡ other
         one_claim other e = cc

@@ -57,7 +57,7 @@ module _ (events : List Event) (complete : IsCompleteHistory events) where
     | inr above ↦ elim (cases_lt tx.returned_at ty.called_at) [
       | inl before ↦
           let less = pairs_at (λ e r. e.ticket < r.ticket) events tx.returned_at ty.called_at tx.answer ty.call complete.tickets_rise before
-              tx.at_return ty.at_call in
+          tx.at_return ty.at_call in
           let order : x.ret < y.call = omega (arith, tx.made.returned, ty.made.called) in
           omega arith
       | inr not_before ↦

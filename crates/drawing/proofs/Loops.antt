@@ -29,14 +29,14 @@ map_range_more f n = ap (map f) (range_more n) ∙ map-append f (range_with_len 
 pub flat_map_range_more : {A : Type 0} (f : ℕ → List A) (n : ℕ) → flat_map f (range_with_len 0 (n + 1)) ≡ flat_map f (range_with_len 0 n) ++ f n
 flat_map_range_more f n =
     ap (flat_map f) (range_more n) ∙ flat_map-append f (range_with_len 0 n) (n ∷ [])
-        ∙ ap (λ (r : List _). flat_map f (range_with_len 0 n) ++ r) (append-nil (f n))
+    ∙ ap (λ (r : List _). flat_map f (range_with_len 0 n) ++ r) (append-nil (f n))
 
 -- the pieces of one element more
 pub flat_map_more : {X A : Type 0} (f : X → List A) (xs : List X) (i : ℕ) (d : X) → i < length xs
     → flat_map f (take (i + 1) xs) ≡ flat_map f (take i xs) ++ f (get_or xs i d)
 flat_map_more f xs i d within =
     ap (flat_map f) (take_more xs i d within) ∙ flat_map-append f (take i xs) (get_or xs i d ∷ [])
-        ∙ ap (λ (r : List _). flat_map f (take i xs) ++ r) (append-nil (f (get_or xs i d)))
+    ∙ ap (λ (r : List _). flat_map f (take i xs) ++ r) (append-nil (f (get_or xs i d)))
 
 -- what is found from one element on is that element, or is found from the next one on
 pub find_step : {X : Type 0} (p : X → Bool) (xs : List X) (i : ℕ) (d : X) → i < length xs
@@ -77,14 +77,14 @@ pub enumerated_more : {X : Type 0} (xs : List X) (i : ℕ) (d : X) → i < lengt
 enumerated_more xs i d within =
     let e : 0 + length (take i xs) ≡ i = omega (arith, length-take-le i xs (omega arith)) in
     ap (enumerate_from 0) (take_more xs i d within) ∙ enumerated-append 0 (take i xs) (get_or xs i d)
-        ∙ ap (λ (k : ℕ). enumerate_from 0 (take i xs) ++ (k, get_or xs i d) ∷ []) e
+    ∙ ap (λ (k : ℕ). enumerate_from 0 (take i xs) ++ (k, get_or xs i d) ∷ []) e
 
 -- the pieces of one element more, with its place
 pub flat_map_enumerated_more : {X A : Type 0} (f : ℕ × X → List A) (xs : List X) (i : ℕ) (d : X) → i < length xs
     → flat_map f (enumerate_from 0 (take (i + 1) xs)) ≡ flat_map f (enumerate_from 0 (take i xs)) ++ f (i, get_or xs i d)
 flat_map_enumerated_more f xs i d within =
     ap (flat_map f) (enumerated_more xs i d within) ∙ flat_map-append f (enumerate_from 0 (take i xs)) ((i, get_or xs i d) ∷ [])
-        ∙ ap (λ (r : List _). flat_map f (enumerate_from 0 (take i xs)) ++ r) (append-nil (f (i, get_or xs i d)))
+    ∙ ap (λ (r : List _). flat_map f (enumerate_from 0 (take i xs)) ++ r) (append-nil (f (i, get_or xs i d)))
 
 -- ---- words of a line
 
@@ -106,8 +106,8 @@ pub words_enumerated_more : {X : Type 0} (f : ℕ × X → Word) (line : List �
     → with_words line (map f (enumerate_from 0 (take (i + 1) xs))) ≡ placed (with_words line (map f (enumerate_from 0 (take i xs)))) (f (i, get_or xs i d))
 words_enumerated_more f line xs i d within =
     ap (λ (r : List _). with_words line (map f r)) (enumerated_more xs i d within)
-        ∙ ap (with_words line) (map-append f (enumerate_from 0 (take i xs)) ((i, get_or xs i d) ∷ []))
-        ∙ words_push line (map f (enumerate_from 0 (take i xs))) (f (i, get_or xs i d))
+    ∙ ap (with_words line) (map-append f (enumerate_from 0 (take i xs)) ((i, get_or xs i d) ∷ []))
+    ∙ words_push line (map f (enumerate_from 0 (take i xs))) (f (i, get_or xs i d))
 
 -- the words of one number more
 pub words_range_more : (f : ℕ → Word) (line : List ℕ) (n : ℕ)
@@ -127,7 +127,7 @@ pub flat_map_enumerated_step : {X : Type 0} (f : ℕ × X → List ℕ) (text : 
     → new ≡ text ++ flat_map f (enumerate_from 0 (take (i + 1) xs))
 flat_map_enumerated_step f text xs i d old new within before now =
     now ∙ ap (λ (t : List ℕ). t ++ f (i, get_or xs i d)) before ∙ append_assoc text _ _
-        ∙ ap (λ (t : List ℕ). text ++ t) (sym (flat_map_enumerated_more f xs i d within))
+    ∙ ap (λ (t : List ℕ). text ++ t) (sym (flat_map_enumerated_more f xs i d within))
 
 -- a piece of one element more was added
 pub flat_map_step : {X : Type 0} (f : X → List ℕ) (text : List ℕ) (xs : List X) (i : ℕ) (d : X) (old new : List ℕ) → i < length xs

@@ -51,9 +51,9 @@ places_are_empty operations places named = All-from_get_or (IsEmptyAnswerAt oper
     at : (i : ℕ) → i < length places → IsEmptyAnswerAt operations (get_or places i 0)
     at i within =
         let found = listed_at operations places (filter is_empty_answer operations) i (get_or places i 0) named within
-            (get_or_default places i 0 (get_or places i 0) within) in
+        (get_or_default places i 0 (get_or places i 0) within) in
         let among = subst (Contains (filter is_empty_answer operations)) (sym found.3)
-            (Contains-get_or (filter is_empty_answer operations) i found.0 found.2) in
+        (Contains-get_or (filter is_empty_answer operations) i found.0 found.2) in
         (found.0, found.1, (is_empty_did operations found.0 among).1)
 
 pub answer_is_empty : (operations : List Operation) (places : List ℕ) (i place : ℕ) → All (IsEmptyAnswerAt operations) places → i < length places
@@ -138,10 +138,13 @@ module _ (operations : List Operation) where
       → IsSoonerOf a b r → IsFirstCovered operations (low ++ high) r
   sooner_is_first low high a b r is_a is_b sooner =
       first_of (low ++ high) r
-      (elim sooner.is_one [ inl same ↦ subst IsCoveredAnswer (sym same) (covered_of low a is_a) | inr same ↦
-          subst IsCoveredAnswer (sym same) (covered_of high b is_b) ])
+      (elim sooner.is_one [
+        | inl same ↦ subst IsCoveredAnswer (sym same) (covered_of low a is_a)
+        | inr same ↦
+            subst IsCoveredAnswer (sym same) (covered_of high b is_b)
+      ])
       (All-append (ReturnsLater r) low high (later_than_later a r low sooner.before_first is_a.first)
-          (later_than_later b r high sooner.before_second is_b.first))
+      (later_than_later b r high sooner.before_second is_b.first))
 
   -- where each of the others has a gap, the first is the first of all
   pub low_is_first : (low high gaps : List ℕ) (a : EmptyAnswer) → IsFirstCovered operations low a → AreGapsAt operations high gaps
@@ -170,13 +173,13 @@ module _ (operations : List Operation) where
       let here = high_is_first (take i places) (x.place ∷ []) gaps x zip (first_of_one x covered) in
       let seen = subst (λ ps. IsFirstCovered operations ps x) (sym (one_more places i x.place within is)) here in
       subst (λ ps. IsFirstCovered operations ps r) (take-append-drop (i + 1) places)
-          (subst (λ ps. IsFirstCovered operations (take (i + 1) places ++ ps) r) rest (goes_on (take (i + 1) places) seen))
+      (subst (λ ps. IsFirstCovered operations (take (i + 1) places ++ ps) r) rest (goes_on (take (i + 1) places) seen))
 
   one_further : (seen others : List ℕ) (i place : ℕ) (r : EmptyAnswer) → i < length others → place ≡ get_or others i place
       → IsFirstCovered operations ((seen ++ take i others) ++ place ∷ []) r → IsFirstCovered operations (seen ++ take (i + 1) others) r
   one_further seen others i place r within is first =
       subst (λ ps. IsFirstCovered operations (seen ++ ps) r) (sym (one_more others i place within is))
-          (subst (λ ps. IsFirstCovered operations ps r) (append_assoc seen (take i others) (place ∷ [])) first)
+      (subst (λ ps. IsFirstCovered operations ps r) (append_assoc seen (take i others) (place ∷ [])) first)
 
   -- the window of one more of the others is covered
   pub one_more_covered : (seen others : List ℕ) (i : ℕ) (first x r : EmptyAnswer) → i < length others → x.place ≡ get_or others i x.place
@@ -197,7 +200,7 @@ module _ (operations : List Operation) where
       → AreGapsAt operations (take (i + 1) places) (gaps ++ c ∷ [])
   one_more_gap places gaps i place c o within is zip at free =
       subst (λ seen. AreGapsAt operations seen (gaps ++ c ∷ [])) (sym (one_more places i place within is))
-          (one_more_zipped HasGap (take i places) gaps place c zip (o, at, free))
+      (one_more_zipped HasGap (take i places) gaps place c zip (o, at, free))
 
   -- the gaps of two lists of places
   pub gaps_together : (low high gaps more : List ℕ) → AreGapsAt operations low gaps → AreGapsAt operations high more

@@ -108,7 +108,7 @@ stays_past empty (Some d) past = past
 cover_from : (left : ℕ) (operations : List Operation) (empty before : Operation) → IsClear operations → Did operations empty Empty
     → IsCovered operations empty → Contains operations before
     → empty.call ≤ before.call → before.call < empty.ret → empty.ret ≤ before.call + left
-        → (cover : List Life) × IsChosenCoverFrom operations empty before.call cover × CoversFrom operations empty before cover
+    → (cover : List Life) × IsChosenCoverFrom operations empty before.call cover × CoversFrom operations empty before cover
 cover_from zero operations empty before clear did covered among above below left = absurd (omega arith)
 cover_from (suc left) operations empty before clear did covered among above below near =
     let z = covered before.call (above, below) in
@@ -124,20 +124,23 @@ cover_from (suc left) operations empty before clear did covered among above belo
 
     step : (life : Life) → IsNextOfCover operations before.call life → before.call < dequeue_call life
         → ((d : Operation) → Contains operations d → empty.call ≤ d.call → d.call < empty.ret → empty.ret ≤ d.call + left
-            → (cover : List Life) × IsChosenCoverFrom operations empty d.call cover × CoversFrom operations empty d cover)
+        → (cover : List Life) × IsChosenCoverFrom operations empty d.call cover × CoversFrom operations empty d cover)
         → (cover : List Life) × IsChosenCoverFrom operations empty before.call cover × CoversFrom operations empty before cover
     step life next past more =
         let range = return_in_range operations empty clear.complete did.0 in
         let cases : (empty.ret < dequeue_call life) ⊎ (dequeue_call life ≤ empty.ret) = grind arith in
         elim cases [
-          | inl stays ↦ (life ∷ [], (next, rw (lt-ltb empty.ret (dequeue_call life) stays) refl),
-              (next.is_life, next.before_frontier, stays_past empty (dequeue_of life) stays))
+          | inl stays ↦ (
+            life ∷ [],
+            (next, rw (lt-ltb empty.ret (dequeue_call life) stays) refl),
+            (next.is_life, next.before_frontier, stays_past empty (dequeue_of life) stays),
+          )
           | inr leaves ↦
               let found = dequeued_if_called life (omega arith) in
               let d = found.0 in
               let calls : dequeue_call life ≡ d.call = ap call_or_never found.1 in
               let did_d = subst (λ o. MatchOption o (NoneDid operations (Deq next.is_life.0)) (λ d. Did operations d (Deq next.is_life.0))) found.1
-                  next.is_life.2 in
+              next.is_life.2 in
               let differs = return_differs_from_call operations empty d clear.complete did.0 did_d.0 in
               let below' : d.call < empty.ret = strictly d.call empty.ret (omega arith) (λ same. differs (sym same)) in
               let rest = more d did_d.0 (omega arith) below' (omega arith) in (
@@ -169,7 +172,7 @@ covered_by operations empty before (life ∷ next ∷ rest) c covers above below
   where
     go : (dequeue : Option Operation) → dequeue_of life ≡ dequeue → MatchOption dequeue ⊥ (λ d. CoversFrom operations empty d (next ∷ rest))
         → ((d : Operation) → CoversFrom operations empty d (next ∷ rest) → d.call ≤ c → (life : Life) × IsLife operations life × Covers life c)
-            → (life : Life) × IsLife operations life × Covers life c
+        → (life : Life) × IsLife operations life × Covers life c
     go None same further more = absurd further
     go (Some d) same further more =
         let calls : dequeue_call life ≡ d.call = ap call_or_never same in
@@ -208,13 +211,13 @@ no_shorter operations empty before frontier (x ∷ xs) (y ∷ []) in_range chose
 no_shorter operations empty before frontier (x ∷ xs) (y ∷ next ∷ ys) in_range chosen covers le =
     let stays = chosen.0.longest y covers.0 (omega (arith, covers.1)) in
     go (dequeue_of y) refl covers.2 stays.0 (nat_lt empty.ret (dequeue_call x)) refl chosen.1
-        (λ d more further le'. no_shorter operations empty d (dequeue_call x) xs (next ∷ ys) in_range more further le')
+    (λ d more further le'. no_shorter operations empty d (dequeue_call x) xs (next ∷ ys) in_range more further le')
   where
     go : (dequeue : Option Operation) → dequeue_of y ≡ dequeue → MatchOption dequeue ⊥ (λ d. CoversFrom operations empty d (next ∷ ys))
         → dequeue_call y ≤ dequeue_call x
         → (b : Bool) → nat_lt empty.ret (dequeue_call x) ≡ b → MatchBool b (xs ≡ []) (IsChosenCoverFrom operations empty (dequeue_call x) xs)
         → ((d : Operation) → IsChosenCoverFrom operations empty (dequeue_call x) xs → CoversFrom operations empty d (next ∷ ys)
-            → d.call ≤ dequeue_call x → length xs ≤ length (next ∷ ys))
+        → d.call ≤ dequeue_call x → length xs ≤ length (next ∷ ys))
         → length (x ∷ xs) ≤ length (y ∷ next ∷ ys)
     go None same further stays b test chosen' more = absurd further
     go (Some d) same further stays true test chosen' more = let long : length xs ≡ 0 = ap length chosen' in omega arith
@@ -235,15 +238,15 @@ chosen_covers : (operations : List Operation) (empty before : Operation) (fronti
 chosen_covers operations empty before frontier [] in_range same chosen = absurd chosen
 chosen_covers operations empty before frontier (life ∷ rest) in_range same chosen =
     go (nat_lt empty.ret (dequeue_call life)) refl chosen.1 (λ d calls further. chosen_covers operations empty d
-        (dequeue_call life) rest in_range calls further)
+    (dequeue_call life) rest in_range calls further)
   where
     go : (b : Bool) → nat_lt empty.ret (dequeue_call life) ≡ b → MatchBool b (rest ≡ []) (IsChosenCoverFrom operations empty (dequeue_call life) rest)
         → ((d : Operation) → d.call ≡ dequeue_call life → IsChosenCoverFrom operations empty (dequeue_call life) rest
-            → CoversFrom operations empty d rest) → CoversFrom operations empty before (life ∷ rest)
+        → CoversFrom operations empty d rest) → CoversFrom operations empty before (life ∷ rest)
     go true test ends more =
         let past = ltb-true empty.ret (dequeue_call life) test in
         subst (λ r. CoversFrom operations empty before (life ∷ r)) (sym ends)
-            (chosen.0.is_life, before_call chosen.0.before_frontier, stays_past empty (dequeue_of life) past)
+        (chosen.0.is_life, before_call chosen.0.before_frontier, stays_past empty (dequeue_of life) past)
       where
         before_call : enqueue_return life < frontier → Precedes (enqueue_of life) before
         before_call less = omega (arith, same)
@@ -251,7 +254,7 @@ chosen_covers operations empty before frontier (life ∷ rest) in_range same cho
         let leaves = ltb-false empty.ret (dequeue_call life) test in
         let found = dequeued_if_called life (omega arith) in
         go_on operations empty before found.0 life rest chosen.0.is_life (before_call chosen.0.before_frontier) found.1
-            (more found.0 (sym (ap call_or_never found.1)) further)
+        (more found.0 (sym (ap call_or_never found.1)) further)
       where
         before_call : enqueue_return life < frontier → Precedes (enqueue_of life) before
         before_call less = omega (arith, same)

@@ -88,7 +88,7 @@ begins_anew seen spans last stay so_far after some = record {
   apart = spans_push spans last so_far.apart so_far.below so_far.holds_some;
   below = All-push (λ span. span.end < stay.start) spans last
       (All-weaker (λ span. span.end < last.start) (λ span. span.end < stay.start)
-          (λ span less. let before = so_far.holds_some in omega arith) spans so_far.below) after;
+      (λ span less. let before = so_far.holds_some in omega arith) spans so_far.below) after;
   holds_some = some;
   lies = λ c lies. elim (lies_cases seen stay c lies) [
     | inl before ↦ elim (so_far.lies c before) [ inl done ↦ inl (lies_left spans last c done) | inr here ↦ inl (lies_last spans last c here) ]

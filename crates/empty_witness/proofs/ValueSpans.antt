@@ -24,7 +24,7 @@ stays_hold_some values stays sorted are moved =
     All-permutation (λ stay. stay.start < stay.end) stays sorted moved
     (subst (All (λ stay. stay.start < stay.end)) (sym are)
     (All-weaker (λ stay. holds_some stay ≡ true) (λ stay. stay.start < stay.end) (λ stay yes. ltb-true stay.start stay.end yes) (stays_of values)
-        (filter_passes holds_some (map (λ value. stay_of value.life) values))))
+    (filter_passes holds_some (map (λ value. stay_of value.life) values))))
 
 module _ (operations : List Operation) (values : List MatchedValue) (clear : IsClear operations) (holds : HoldsLives operations values) where
   -- a gap lies in the span of a value exactly where a value covers it

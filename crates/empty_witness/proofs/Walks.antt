@@ -79,7 +79,7 @@ module _ (operations : List Operation) (values : List MatchedValue) (o : Operati
         let held = value_of_life operations values other clear holds is_other in
         subst (StaysAtLeast value.life) held.2
         (All-contains (λ other. EntersBefore frontier other.life → StaysAtLeast value.life other.life) values held.0 is.longest held.1
-            (subst (EntersBefore frontier) (sym held.2) before));
+        (subst (EntersBefore frontier) (sym held.2) before));
   }
 
   -- it stays past the frontier

@@ -13,7 +13,7 @@ module _ {X : Type 0} where
       → start ≡ length old → n ≡ start + length front → take n (take start whole ++ (front ++ post) ++ tail) ≡ old ++ front
   written_over old blanks whole front post tail start more n e m s h =
       let kept : take start whole ≡ old = ap (λ l. take start l) (e ∙ ap (λ l. l ++ blanks) (take_all more old m))
-          ∙ ap (λ k. take k (old ++ blanks)) s ∙ take-append_seam old blanks in
+      ∙ ap (λ k. take k (old ++ blanks)) s ∙ take-append_seam old blanks in
       let many : n ≡ length (old ++ front) = h ∙ ap (λ k. k + length front) s ∙ sym (length-append old front) in
       ap (λ l. take n (l ++ (front ++ post) ++ tail)) kept
       ∙ ap (λ l. take n (l ++ tail)) (sym (append_assoc old front post))

@@ -248,14 +248,14 @@ return_in_range operations o complete among =
     let t = trace_of operations o complete among in
     let bound = complete.1.tickets_in_range t.returned_at t.answer (slice_get_within complete.0 t.returned_at t.answer t.at_return) in
     let here : t.answer.ticket ≤ MAX_TICKET = subst (λ e. e.ticket ≤ MAX_TICKET)
-        (get_or_from_slice_get complete.0 t.returned_at t.answer t.answer t.at_return) bound in
+    (get_or_from_slice_get complete.0 t.returned_at t.answer t.answer t.at_return) bound in
     omega (arith, t.made.returned)
 
 pub call_before_return : (operations : List Operation) (o : Operation) → AreComplete operations → Contains operations o → o.call < o.ret
 call_before_return operations o complete among =
     let t = trace_of operations o complete among in
     let less = pairs_at (λ x y. x.ticket < y.ticket) complete.0 t.called_at t.returned_at t.call t.answer complete.1.tickets_rise t.in_order t.at_call
-        t.at_return in
+    t.at_return in
     omega (arith, t.made.called, t.made.returned)
 
 kind_at : (xs : List Operation) (i : ℕ) (o : Operation) → slice_get xs i ≡ Some o → slice_get (map (λ o. o.kind) xs) i ≡ Some o.kind

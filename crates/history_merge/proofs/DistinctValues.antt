@@ -41,9 +41,11 @@ distinct_moved xs ys moved distinct i j d below within same =
 pub distinct_from_sorted : (xs ys : List ℕ) (rises : Bool) → IsPermutation xs ys → IsSorted nat_cmp ys
     → IsAllAdjacentAnswer (λ x y b. b ≡ nat_lt x y) ys rises → IsTrue rises ↔ AreDistinct xs
 distinct_from_sorted xs ys true moved sorted answer =
-    let strictly = sorted_from_strictly_increasing ys (λ k within. ltb-true _ _ (sym (answer k 0 within))) in
-    (λ rises. distinct_moved ys xs (IsPermutation-sym xs ys moved)
-        (λ i j d below within same. let lt = below_from_sorted ys i j d strictly below within in omega arith), λ distinct. refl)
+    let strictly = sorted_from_strictly_increasing ys (λ k within. ltb-true _ _ (sym (answer k 0 within))) in (
+      λ rises. distinct_moved ys xs (IsPermutation-sym xs ys moved)
+          (λ i j d below within same. let lt = below_from_sorted ys i j d strictly below within in omega arith),
+      λ distinct. refl,
+    )
 distinct_from_sorted xs ys false moved sorted answer = (
   λ rises. absurd (false≢true rises),
   λ distinct.
@@ -208,7 +210,7 @@ rises_more name events i e v least here calls fits above r = record {
       | inl h ↦ subst (λ x. x < get_or (set least (name v) (v + 1)) (name x) 0) h.1 (rw (get_or-set_same least (name v) (v + 1) 0 within) (omega arith))
       | inr h ↦
           let before : was_called (take i events) w ≡ true = sym (was_called-more events i e (Some v) w here calls
-              ∙ ap (λ b. was_called (take i events) w || b) h.0 ∙ or_false (was_called (take i events) w)) ∙ called in
+          ∙ ap (λ b. was_called (take i events) w || b) h.0 ∙ or_false (was_called (take i events) w)) ∙ called in
           let less = r.below w before in
           elim (eqb_tells (name w) (name v)) [
             | inl same ↦ let at : get_or least (name w) 0 ≤ v = rw same.1 above in rw (same.1, get_or-set_same least (name v) (v + 1) 0 within) (omega arith)

@@ -48,7 +48,7 @@ above_all : (events : List Event) (ticket : ℕ) → TicketsRise events → Matc
 above_all [] ticket rise above k d below = absurd (omega arith)
 above_all (e ∷ events) ticket rise above k d below =
     let last : (get_or (e ∷ events) (length events) d).ticket < ticket =
-        subst (λ o. MatchOption o ⊤ (λ l. l.ticket < ticket)) (last_is None e events d) above in
+    subst (λ o. MatchOption o ⊤ (λ l. l.ticket < ticket)) (last_is None e events d) above in
     elim (cases_lt k (length events)) [
       | inl earlier ↦ let less = rise k (length events) d earlier (omega arith) in omega arith
       | inr here ↦ let same : length events ≡ k = omega arith in subst (λ j. (get_or (e ∷ events) j d).ticket < ticket) same last
@@ -130,7 +130,7 @@ may_follow_in before later e complete = record {
         let last = get_or_append_left (x ∷ xs) (e ∷ later) x (length xs) (omega arith) in
         let own = get_or-append_seam (x ∷ xs) e later x in
         let below : (get_or (x ∷ xs) (length xs) x).ticket < e.ticket =
-            subst (λ l. l.ticket < e.ticket) last (subst (λ r. (get_or ((x ∷ xs) ++ e ∷ later) (length xs) x).ticket < r.ticket) own less) in
+        subst (λ l. l.ticket < e.ticket) last (subst (λ r. (get_or ((x ∷ xs) ++ e ∷ later) (length xs) x).ticket < r.ticket) own less) in
         subst (λ o. MatchOption o ⊤ (λ l. l.ticket < e.ticket)) (sym (last_is None x xs x)) below
 
 pub no_fault_in_complete : (events : List Event) → IsCompleteHistory events → NoFaultBefore events (length events)
@@ -156,7 +156,7 @@ first_fault_at events i e fault none here found =
     let at_place : (f : HistoryFault) → fault_at (take i events) i e ≡ Some f → IsFirstFaultAt events i f = λ f is. (none, (e, here, is)) in
     one_of_rules (λ f. fault_at (take i events) i e ≡ Some f → IsFirstFault events f) (take i events) i e fault found
     (at_place (TicketOrder i)) (at_place (BadThread i)) (at_place (CallWhilePending i)) (at_place (ReturnWithoutCall i)) (at_place (WrongReturn i))
-        (at_place (DuplicateValue i)) found
+    (at_place (DuplicateValue i)) found
 
 -- the place of the first repeat tells of each event whether it repeats a value
 pub repeats_at : (events : List Event) (repeat : Option ℕ) (i : ℕ) (e : Event) → IsFirstRepeat events repeat → NoFaultBefore events i

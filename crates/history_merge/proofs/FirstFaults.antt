@@ -84,7 +84,7 @@ pub may_follow : (before : List Event) (i : ℕ) (e : Event) → fault_at before
 may_follow before i e none =
     let pending = pending_call e.thread before in
     let rules = all_false (breaks_ticket_order before e) (nat_lt MAX_THREAD e.thread) (is_call e.what && is_some pending)
-        (not (is_call e.what) && is_none pending)
+    (not (is_call e.what) && is_none pending)
     (not (is_call e.what) && not (answers_pending pending e)) (repeats_value before e) _ _ _ _ _ _ none in
     let order = or_parts (nat_lt MAX_TICKET e.ticket) (option_map_or (λ l. nat_le e.ticket l.ticket) (last_or None before) false) rules.first in
     record {

@@ -51,7 +51,7 @@ waits_more events e own waits thread = elim (eqb_tells e.thread thread) [
 pub formed_after_call : (events : List Event) (e : Event) (old new : Forming) (place : ℕ) → place ≡ length old.operations.items
     → e.thread ≤ MAX_THREAD → is_call e.what ≡ true → pending_call e.thread events ≡ None → HasFormed events old
     → new.operations.items ≡ old.operations.items ++ operation_so_far e None ∷ [] → new.places ≡ set old.places e.thread place
-        → HasFormed (events ++ e ∷ []) new
+    → HasFormed (events ++ e ∷ []) new
 formed_after_call events e old new place last below call none known added placed = record {
   operations = added ∙ ap (λ os. os ++ operation_so_far e None ∷ []) known.operations
       ∙ sym (formed_call events e (none_waits _ (known.waits e.thread ∙ none)) call);

@@ -49,7 +49,7 @@ waits_found thread (e ∷ later) w h = join (waits_found thread later) (waiting 
   where
     join : ((w' : ℕ × Event) → waiting thread later ≡ Some w' → (r : Event) × (next_of thread later ≡ Some r))
         → (o : Option (ℕ × Event)) → waiting thread later ≡ o → (next : Option Event) → next_of thread later ≡ next → (own : Bool)
-            → nat_eq e.thread thread ≡ own
+        → nat_eq e.thread thread ≡ own
         → (r : Event) × (next_of thread (e ∷ later) ≡ Some r)
     join more o is next is' true own = (e, rw own refl)
     join more (Some w') is next is' false own = let r = more w' is in (r.0, rw own r.1)
@@ -90,7 +90,7 @@ formed_call (e ∷ later) r none call = join (waiting r.thread later) refl (form
 
     join : (o : Option (ℕ × Event)) → waiting r.thread later ≡ o
         → (waiting r.thread later ≡ None → is_call r.what ≡ true → operations_so_far
-            (later ++ r ∷ []) ≡ operations_so_far later ++ operation_so_far r None ∷ [])
+        (later ++ r ∷ []) ≡ operations_so_far later ++ operation_so_far r None ∷ [])
         → operations_so_far ((e ∷ later) ++ r ∷ []) ≡ operations_so_far (e ∷ later) ++ operation_so_far r None ∷ []
     join None is more = step (stays is) (more is call) (is_call e.what) refl
     join (Some w) is more = absurd (let some : waiting r.thread (e ∷ later) ≡ Some ((cond (is_call e.what) (suc w.0) w.0), w.1) = rw is refl in cc)
@@ -121,7 +121,7 @@ pub waits_other : (thread : ℕ) (events : List Event) (r : Event) → nat_eq r.
 waits_other thread [] r other = rw other refl
 waits_other thread (e ∷ later) r other =
     ap (λ o. waits_behind thread e o (next_of thread (later ++ r ∷ []))) (waits_other thread later r other)
-        ∙ ap (waits_behind thread e (waiting thread later)) (next_other thread later r other)
+    ∙ ap (waits_behind thread e (waiting thread later)) (next_other thread later r other)
 
 -- a return of a thread that has no event there changes no operation
 unanswered : (events : List Event) (r : Event) → next_of r.thread events ≡ None → is_call r.what ≡ false
@@ -151,7 +151,7 @@ formed_answer (e ∷ later) r place call waits returns = join (formed_answer lat
   where
     join : ((p : ℕ) (c : Event) → waiting r.thread later ≡ Some (p, c) → is_call r.what ≡ false → IsAnswered later r p c)
         → (o : Option (ℕ × Event)) → waiting r.thread later ≡ o → (next : Option Event) → next_of r.thread later ≡ next → (own : Bool)
-            → nat_eq e.thread r.thread ≡ own
+        → nat_eq e.thread r.thread ≡ own
         → (called : Bool) → is_call e.what ≡ called → IsAnswered (e ∷ later) r place call
     join more (Some (p, c)) is next is' own mine false is_return =
         let found : ◌≡◌ {A = Option (ℕ × Event)} (Some (p, c)) (Some (place, call)) = rw (is, is_return) at waits in
@@ -182,8 +182,11 @@ formed_answer (e ∷ later) r place call waits returns = join (formed_answer lat
         let same_thread : r.thread ≡ e.thread = sym (eq_of mine) in
         let none : next_of e.thread later ≡ None = subst (λ t. next_of t later ≡ None) same_thread is' in
         let now : next_of e.thread (later ++ r ∷ []) ≡ Some r = subst (λ t. next_of t (later ++ r ∷ []) ≡ Some r) same_thread (next_new later r is') in
-        record { operations = rw (is_called, ← same_place, ← same_call, now, unanswered later r is' returns) refl; was =
-            rw (is_called, ← same_place, ← same_call, none) refl }
+        record {
+          operations = rw (is_called, ← same_place, ← same_call, now, unanswered later r is' returns) refl;
+          was =
+              rw (is_called, ← same_place, ← same_call, none) refl;
+        }
       where
         eq_of : nat_eq e.thread r.thread ≡ true → e.thread ≡ r.thread
         eq_of h = elim (eqb_tells e.thread r.thread) [ inl same ↦ same.1 | inr other ↦ absurd (false≢true (sym other.0 ∙ h)) ]
@@ -213,7 +216,7 @@ called_in_operations (e ∷ later) v = join e.what refl (next_of e.thread later)
   where
     join : (what : What) → e.what ≡ what → (next : Option Event) → was_called later v ≡ is_called_in (operations_so_far later) v
         → (option_map_or (λ w. nat_eq w v) (called_value what) false || was_called later v) ≡ is_called_in
-            (cond (is_call what) (operation_so_far (record e { what = what }) next ∷ operations_so_far later) (operations_so_far later)) v
+        (cond (is_call what) (operation_so_far (record e { what = what }) next ∷ operations_so_far later) (operations_so_far later)) v
     join (CallEnq w) is None more = ap (λ b. nat_eq w v || b) more
     join (CallEnq w) is (Some answer) more = rw (enqueued_answered w answer.what) (ap (λ b. nat_eq w v || b) more)
     join CallDeq is None more = more

@@ -28,7 +28,7 @@ was_called-push : (events : List Event) (e : Event) (called : Option ℕ) (v : �
 was_called-push events e called v is =
     let p = λ (x : Event). option_map_or (λ w. nat_eq w v) (called_value x.what) false in
     list_any-append p events (e ∷ []) ∙ ap (λ b. was_called events v || b) (or_false (p e))
-        ∙ ap (λ o. was_called events v || option_map_or (λ w. nat_eq w v) o false) is
+    ∙ ap (λ o. was_called events v || option_map_or (λ w. nat_eq w v) o false) is
 
 -- an event that calls with no value
 pub knows_none : (events : List Event) (e : Event) (values : CalledValues) → called_value e.what ≡ None → KnowsCalled events values
@@ -41,7 +41,7 @@ knows_none events e values none known = record { one_each = known.one_each; know
     join : (others : Option (BTreeSet ℕ)) → MatchOption others ((v : ℕ) → was_called events v ≡ true → v < get_or values.least (name_in v) 0)
         (λ s. (v : ℕ) → contains nat_cmp s v ≡ was_called events v)
         → MatchOption others ((v : ℕ) → was_called (events ++ e ∷ []) v ≡ true → v < get_or values.least (name_in v) 0)
-            (λ s. (v : ℕ) → contains nat_cmp s v ≡ was_called (events ++ e ∷ []) v)
+        (λ s. (v : ℕ) → contains nat_cmp s v ≡ was_called (events ++ e ∷ []) v)
     join None below = λ v called. below v (sym (same v) ∙ called)
     join (Some s) has = λ v. has v ∙ sym (same v)
 
@@ -50,8 +50,8 @@ pub new_above : (events : List Event) (values : CalledValues) (v : ℕ) → valu
     → KnowsCalled events values → was_called events v ≡ false
 new_above events values v rising above known =
     false_from_ne_true (was_called events v) (λ called. let below =
-        subst (λ o. MatchOption o ((w : ℕ) → was_called events w ≡ true → w < get_or values.least (name_in w) 0)
-        (λ s. (w : ℕ) → contains nat_cmp s w ≡ was_called events w)) rising known.known v called in omega arith)
+    subst (λ o. MatchOption o ((w : ℕ) → was_called events w ≡ true → w < get_or values.least (name_in w) 0)
+    (λ s. (w : ℕ) → contains nat_cmp s w ≡ was_called events w)) rising known.known v called in omega arith)
 
 pub knows_rising : (events : List Event) (e : Event) (old new : CalledValues) (v : ℕ) → called_value e.what ≡ Some v → old.others ≡ None
     → get_or old.least (name_in v) 0 ≤ v → KnowsCalled events old
@@ -74,7 +74,7 @@ knows_rising events e old new v calls rising above known still raised = record {
       | inl h ↦ subst (λ x. x < get_or new.least (name_in x) 0) h.1 (rw (raised, get_or-set_same old.least (name_in v) (v + 1) 0 within) (omega arith))
       | inr h ↦
           let before : was_called events w ≡ true = sym (was_called-push events e (Some v) w calls ∙ ap (λ b. was_called events w || b) h.0
-              ∙ or_false (was_called events w)) ∙ called in
+          ∙ or_false (was_called events w)) ∙ called in
           let less = below w before in
           elim (eqb_tells (name_in w) (name_in v)) [
             | inl same ↦ let at : get_or old.least (name_in w) 0 ≤ v = rw same.1 above in

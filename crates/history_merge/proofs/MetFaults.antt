@@ -41,7 +41,7 @@ no_fault-push events e here none i x below at = elim (cases_lt i (length events)
       let last : length events ≡ i = omega arith in
       subst (λ k. slice_get (events ++ e ∷ []) k ≡ Some x → fault_at (take k (events ++ e ∷ [])) k x ≡ None) last
       (λ at_last. let same : e ≡ x = cc (slice_get-append_seam events e) in
-          subst (λ y. fault_at (take (length events) (events ++ e ∷ [])) (length events) y ≡ None) same (rw take-append_seam here)) at
+      subst (λ y. fault_at (take (length events) (events ++ e ∷ [])) (length events) y ≡ None) same (rw take-append_seam here)) at
 ]
 
 -- a fault that was met stays the first
@@ -49,8 +49,13 @@ pub met_fault-append : (events later : List Event) (fault : HistoryFault) → Ha
 met_fault-append events later fault (inl memory) = inl memory
 met_fault-append events later fault (inr (i, (none, (e, here, found)))) =
     let within = slice_get_within events i e here in
-    inr (i, (no_fault-append events later i (omega (arith, within)) none,
-        (e, slice_get-append_left events later i within ∙ here, rw (take-append-le i events later (omega (arith, within))) found)))
+    inr (
+      i,
+      (
+        no_fault-append events later i (omega (arith, within)) none,
+        (e, slice_get-append_left events later i within ∙ here, rw (take-append-le i events later (omega (arith, within))) found),
+      ),
+    )
 
 -- the fault of one more event is the first
 pub met_fault-push : (events : List Event) (e : Event) (fault : HistoryFault) → fault_at events (length events) e ≡ Some fault

@@ -27,6 +27,8 @@ rest_of_part bytes at filled text rest begins within is =
 pub takes_from_buffer : (bytes : List ℕ) (at filled : ℕ) (text rest : List ℕ) (ahead : Option Ahead) → at ≤ filled → filled ≤ length bytes
     → part bytes at filled ≡ text ++ rest → Takes (with_front (part bytes at filled) ahead) (with_front (part bytes (filled - length rest) filled) ahead) text
 takes_from_buffer bytes at filled text rest None begins within is = tt
-takes_from_buffer bytes at filled text rest (Some a) begins within is =
-    (ap (λ (r : List ℕ). r ++ a.bytes) is ∙ append_assoc text rest a.bytes
-        ∙ ap (λ (r : List ℕ). text ++ (r ++ a.bytes)) (sym (rest_of_part bytes at filled text rest begins within is)), refl)
+takes_from_buffer bytes at filled text rest (Some a) begins within is = (
+  ap (λ (r : List ℕ). r ++ a.bytes) is ∙ append_assoc text rest a.bytes
+      ∙ ap (λ (r : List ℕ). text ++ (r ++ a.bytes)) (sym (rest_of_part bytes at filled text rest begins within is)),
+  refl,
+)

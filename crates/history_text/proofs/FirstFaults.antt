@@ -66,7 +66,7 @@ pub item_is_first : {A : Type 0} (kind : Kind A) (n m : ℕ) (items : List A) (k
     → HasItemsFault kind n old fault
 item_is_first kind n m items k old mid fault of_input right taken k_is m_is h =
     line_fault (λ e r f. item_at_front kind m k e (front_of r) ≡ Err f) (λ e b f. ItemFault kind n e f b) (NoRoom kind) old mid
-        (lines_of kind items) fault of_input taken
+    (lines_of kind items) fault of_input taken
     (λ e r next. record { items = items; rest = r; right = right; front = refl; next = rw (← m_is, ← k_is) next }) h
 
 -- ---- one more item

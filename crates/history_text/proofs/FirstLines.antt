@@ -40,12 +40,12 @@ pub first_line_is_first : (lines n : ℕ) (old : Option Ahead) (fault : TextFaul
 first_line_is_first lines n None fault n_is of_input h = first_is (IsVerdictTextFault lines) NoRoomForVerdict None fault of_input tt
 first_line_is_first lines n (Some a) fault n_is of_input h =
     first_is (IsVerdictTextFault lines) NoRoomForVerdict (Some a) fault of_input
-        (inl (subst (λ (m : ℕ). FirstLineFault m a.ending fault (front_of a.bytes)) n_is h))
+    (inl (subst (λ (m : ℕ). FirstLineFault m a.ending fault (front_of a.bytes)) n_is h))
 
 -- a later line has it
 pub operation_is_first : (lines n : ℕ) (answer : Option ViolationKind) (old mid : Option Ahead) (fault : TextFault) → n ≡ lines + 2
     → Takes old mid (line (first_line answer)) → HasItemsFault operation_kind n mid fault → HasVerdictTextFault lines old fault
 operation_is_first lines n answer old mid fault n_is taken h =
     later_fault (λ e r f. ItemFault operation_kind n e f r) (IsVerdictTextFault lines) (NoRoom operation_kind) NoRoomForVerdict old mid
-        (line (first_line answer)) fault taken
+    (line (first_line answer)) fault taken
     (λ e r f k. inr (answer, (r, refl, subst (λ (m : ℕ). ItemFault operation_kind m e f r) n_is k))) (λ r k. (answer, (r, refl, k))) h

@@ -16,26 +16,26 @@ use Rattle.text_lines.proofs.Appending.{Puts-append, Puts-last, front_first, fro
 pub lines_at-append : (operations : List Operation) (xs ys : List ℕ) → lines_at operations (xs ++ ys) ≡ lines_at operations xs ++ lines_at operations ys
 lines_at-append operations xs ys =
     ap (flat_map operation_line) (filter_map-append (slice_get operations) xs ys)
-        ∙ flat_map-append operation_line (filter_map (slice_get operations) xs) (filter_map (slice_get operations) ys)
+    ∙ flat_map-append operation_line (filter_map (slice_get operations) xs) (filter_map (slice_get operations) ys)
 
 -- the line of one place
 lines_at-one : (operations : List Operation) (place : ℕ) (d : Operation) → place < length operations
     → lines_at operations (place ∷ []) ≡ operation_line (get_or operations place d)
 lines_at-one operations place d within =
     ap (λ (o : Option Operation). flat_map operation_line (cons_option o [])) (slice_get-get_or operations place d within)
-        ∙ append-nil (operation_line (get_or operations place d))
+    ∙ append-nil (operation_line (get_or operations place d))
 
 -- one more line is kept back
 pub place_is_put : (operations : List Operation) (places : List ℕ) (i p : ℕ) (d : Operation) (a b c : Option (List ℕ)) (kept mid room rest : List ℕ)
     → i < length places → p ≡ get_or places i p → p < length operations
     → Puts a b kept mid (lines_at operations (take i places)) → Puts b c mid room [] → rest ≡ room ++ operation_line (get_or operations p d)
-        → Puts a c kept rest (lines_at operations (take (i + 1) places))
+    → Puts a c kept rest (lines_at operations (take (i + 1) places))
 place_is_put operations places i p d a b c kept mid room rest within p_is place before room_is last =
     let so_far : Puts a c kept room (lines_at operations (take i places)) =
-        subst (Puts a c kept room) (append-nil (lines_at operations (take i places))) (Puts-append a b c kept mid room _ _ before room_is) in
+    subst (Puts a c kept room) (append-nil (lines_at operations (take i places))) (Puts-append a b c kept mid room _ _ before room_is) in
     let more : take (i + 1) places ≡ take i places ++ p ∷ [] = take_more places i p within ∙ ap (λ (q : ℕ). take i places ++ q ∷ []) (sym p_is) in
     let line = ap (lines_at operations) more ∙ lines_at-append operations (take i places) (p ∷ [])
-        ∙ ap (λ (l : List ℕ). lines_at operations (take i places) ++ l) (lines_at-one operations p d place) in
+    ∙ ap (λ (l : List ℕ). lines_at operations (take i places) ++ l) (lines_at-one operations p d place) in
     subst (Puts a c kept rest) (sym line) (Puts-last a c kept room rest _ _ last so_far)
 
 -- a front of what was kept back of the first places goes out
@@ -43,7 +43,7 @@ pub stops_at_place : (operations : List Operation) (places : List ℕ) (i : ℕ)
     → Puts a b kept mid (lines_at operations (take i places)) → AppendsFront b c mid → AppendsFront a c (kept ++ lines_at operations places)
 stops_at_place operations places i a b c kept mid before now =
     subst (λ (t : List ℕ). AppendsFront a c (kept ++ t)) (sym (lines_at-append operations (take i places) (drop i places))
-        ∙ ap (lines_at operations) (take-append-drop i places))
+    ∙ ap (lines_at operations) (take-append-drop i places))
     (front_of_kept a b c kept mid _ (lines_at operations (drop i places)) before now)
 
 -- ---- some places, and then others
@@ -61,7 +61,7 @@ pub first_stops : (operations : List Operation) (xs ys : List ℕ) (a b : Option
     → AppendsFront a b (kept ++ lines_at operations xs) → AppendsFront a b (kept ++ lines_at operations (xs ++ ys))
 first_stops operations xs ys a b kept h =
     subst (AppendsFront a b) (append_assoc kept (lines_at operations xs) (lines_at operations ys)
-        ∙ ap (λ (l : List ℕ). kept ++ l) (sym (lines_at-append operations xs ys))) (front_first a b _ (lines_at operations ys) h)
+    ∙ ap (λ (l : List ℕ). kept ++ l) (sym (lines_at-append operations xs ys))) (front_first a b _ (lines_at operations ys) h)
 
 -- the lines of the others went out in part
 pub next_stops : (operations : List Operation) (xs ys : List ℕ) (a b c : Option (List ℕ)) (kept mid : List ℕ)
@@ -87,7 +87,7 @@ module _ {X : Type 0} (operations : List Operation) (f : X → List ℕ) where
       → (flat_map f (take i xs) ++ f x) ++ flat_map f (drop (i + 1) xs) ≡ flat_map f xs
   step_rest xs i x within is =
       ap (λ (r : List ℕ). r ++ flat_map f (drop (i + 1) xs)) (sym (step_places xs i x within is))
-          ∙ sym (flat_map-append f (take (i + 1) xs) (drop (i + 1) xs)) ∙ ap (flat_map f) (take-append-drop (i + 1) xs)
+      ∙ sym (flat_map-append f (take (i + 1) xs) (drop (i + 1) xs)) ∙ ap (flat_map f) (take-append-drop (i + 1) xs)
 
   -- the lines of one more step are put
   pub step_is_put : (xs : List X) (i : ℕ) (x : X) (a b c : Option (List ℕ)) (kept mid rest : List ℕ) → i < length xs → x ≡ get_or xs i x
@@ -104,10 +104,10 @@ module _ {X : Type 0} (operations : List Operation) (f : X → List ℕ) where
   step_stops xs i x a b c kept mid within is before now =
       subst (λ (p : List ℕ). AppendsFront a c (kept ++ lines_at operations p)) (step_rest xs i x within is)
       (first_stops operations (flat_map f (take i xs) ++ f x) (flat_map f (drop (i + 1) xs)) a c kept
-          (next_stops operations (flat_map f (take i xs)) (f x) a b c kept mid before now))
+      (next_stops operations (flat_map f (take i xs)) (f x) a b c kept mid before now))
 
   -- the places of one step are among those of all
   pub step_within : (P : ℕ → Type 0) (xs : List X) (i : ℕ) (x : X) → i < length xs → x ≡ get_or xs i x → All P (flat_map f xs) → All P (f x)
   step_within P xs i x within is all =
       All-last P (flat_map f (take i xs)) (f x) (All-first P (flat_map f (take i xs) ++ f x) (flat_map f (drop (i + 1) xs))
-          (subst (All P) (sym (step_rest xs i x within is)) all))
+      (subst (All P) (sym (step_rest xs i x within is)) all))

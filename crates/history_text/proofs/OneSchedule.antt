@@ -43,8 +43,8 @@ header_is_right : (ending : Ending) (bytes rest : List ℕ) (fault : TextFault) 
     → header_fault schedule_header ending (front_of bytes) ≡ Some fault → ⊥
 header_is_right ending bytes rest fault is h =
     let none : header_fault schedule_header ending (front_of bytes) ≡ None =
-        ap (λ (b : List ℕ). header_fault schedule_header ending (front_of b)) is
-        ∙ header_front schedule_header ending rest (record { one = refl; short = omega arith }) refl in
+    ap (λ (b : List ℕ). header_fault schedule_header ending (front_of b)) is
+    ∙ header_front schedule_header ending rest (record { one = refl; short = omega arith }) refl in
     none_or_some fault (sym none ∙ h)
 
 setting_is_right : (n threads ring : ℕ) (ending : Ending) (fault : TextFault) (rest : List ℕ) → IsSetting threads ring
@@ -71,7 +71,7 @@ one_setting : (threads ring count room : ℕ) (r s : List ℕ) → IsSetting thr
 one_setting threads ring count room r s within_r within_s same =
     let lines = append_cancel_left (line schedule_header) _ _ (sym (first_lines threads ring r) ∙ same ∙ first_lines count room s) in
     let both = sym (setting_front 0 threads ring EndOfInput r within_r) ∙ ap (λ (b : List ℕ). setting_at_front 0 EndOfInput (front_of b)) lines
-        ∙ setting_front 0 count room EndOfInput s within_s in
+    ∙ setting_front 0 count room EndOfInput s within_s in
     record {
       threads_are = ap (λ (x : Result ((ℕ × ℕ) × List ℕ) TextFault). (setting_of x).0) both;
       rings_are = ap (λ (x : Result ((ℕ × ℕ) × List ℕ) TextFault). (setting_of x).1) both;
@@ -92,9 +92,9 @@ pub texts_agree : (s t : Schedule) (q r : List ℕ) → HasScheduleText s → Ha
 texts_agree s t q r text_s text_t same =
     let set = one_setting s.threads s.ring t.threads t.ring _ _ text_s.setting text_t.setting (sym (whole_text s q) ∙ same ∙ whole_text t r) in
     let stop_s = stops_at_last step_kind step_front 0 (length s.steps) EndOfInput (end_line (length s.steps) ++ q) q
-        (last_is_read 0 EndOfInput s.steps q text_s.steps) in
+    (last_is_read 0 EndOfInput s.steps q text_s.steps) in
     let stop_t = stops_at_last step_kind step_front 0 (length t.steps) EndOfInput (end_line (length t.steps) ++ r) r
-        (last_is_read 0 EndOfInput t.steps r text_t.steps) in
+    (last_is_read 0 EndOfInput t.steps r text_t.steps) in
     let parts = same_items step_kind step_front 0 0 EndOfInput s.steps t.steps _ _ text_s.steps text_t.steps stop_s stop_t set.rest in
     let counts : end_line (length t.steps) ≡ end_line (length s.steps) = ap (λ (xs : List Step). end_line (length xs)) (sym parts.0) in
     (schedule_is s t set.threads_are set.rings_are parts.0, append_cancel_left (end_line (length s.steps)) q r (parts.1 ∙ ap (λ (l : List ℕ). l ++ r) counts))
@@ -109,7 +109,7 @@ text_has_no_fault lines ending s r fault text (inr (inl after)) =
 text_has_no_fault lines ending s r fault text (inr (inr after)) =
     let set = one_setting s.threads s.ring after.0 after.1 _ after.3.0 text.setting after.2 (sym (whole_text s r) ∙ after.3.1) in
     no_item_fault step_kind step_front (lines + 3) ending fault s.steps (end_line (length s.steps) ++ r) r text.steps
-        (λ m. last_is_read m ending s.steps r text.steps)
+    (λ m. last_is_read m ending s.steps r text.steps)
     (subst (ItemFault step_kind (lines + 3) ending fault) (sym set.rest) after.3.2)
 
 same_text : (found wanted : Schedule) (a : Ahead) (new : Option Ahead) (rest : List ℕ) → HasScheduleText found
@@ -126,14 +126,14 @@ reads_what_is_there lines (Some a) new r ok err schedule wanted begins =
     is_read (IsScheduleTextFault lines) NoRoomForSchedule (λ s. HasScheduleText s × Takes (Some a) new (schedule_text s)) (λ s. s ≡ schedule) a r ok err
     (λ s found. same_text s schedule a new begins.0 found.0 found.1 wanted begins.1)
     (λ fault first. text_has_no_fault lines a.ending schedule begins.0 fault wanted
-        (subst (λ (b : List ℕ). IsScheduleTextFault lines a.ending b fault) begins.1 first))
+    (subst (λ (b : List ℕ). IsScheduleTextFault lines a.ending b fault) begins.1 first))
 
 -- the second line is right, or has a fault
 setting_or_fault : (n : ℕ) (ending : Ending) (bytes : List ℕ) (f : TextFault) (P : List ℕ → Type 0)
     → After (line schedule_header) (SettingFault n ending f) bytes → AfterSetting P bytes → ⊥
 setting_or_fault n ending bytes f P a b =
     setting_is_right n b.0 b.1 ending f b.3.0 b.2 (rest_is (line schedule_header) bytes a.0 _ (SettingFault n ending f) a.1
-        (b.3.1 ∙ first_lines b.0 b.1 b.3.0) a.2)
+    (b.3.1 ∙ first_lines b.0 b.1 b.3.0) a.2)
 
 -- an input has one first fault
 pub one_first_fault : (lines : ℕ) (ending : Ending) (bytes : List ℕ) (f g : TextFault) → IsScheduleTextFault lines ending bytes f

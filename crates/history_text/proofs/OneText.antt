@@ -43,7 +43,7 @@ header_is_right : (ending : Ending) (bytes rest : List ℕ) (fault : TextFault) 
     → header_fault header ending (front_of bytes) ≡ Some fault → ⊥
 header_is_right ending bytes rest fault is h =
     let none : header_fault header ending (front_of bytes) ≡ None =
-        ap (λ (b : List ℕ). header_fault header ending (front_of b)) is ∙ header_front header ending rest (record { one = refl; short = omega arith }) refl in
+    ap (λ (b : List ℕ). header_fault header ending (front_of b)) is ∙ header_front header ending rest (record { one = refl; short = omega arith }) refl in
     none_or_some fault (sym none ∙ h)
 
 -- what comes after a front is determined
@@ -70,23 +70,23 @@ pub reads_what_is_there : {V : Type 0} (items : V → List Event) (lines : ℕ) 
 reads_what_is_there items lines None new r ok err events wanted begins = absurd begins
 reads_what_is_there {V} items lines (Some a) new r ok err events wanted begins =
     is_read (IsHistoryTextFault lines) NoRoomFor (λ v. HasHistoryText (items v) × Takes (Some a) new (history_text (items v)))
-        (λ v. items v ≡ events) a r ok err
+    (λ v. items v ≡ events) a r ok err
     (λ v found. same_text (items v) events a new begins.0 found.0 found.1 wanted begins.1)
     (λ fault first. text_has_no_fault lines a.ending events begins.0 fault wanted
-        (subst (λ (b : List ℕ). IsHistoryTextFault lines a.ending b fault) begins.1 first))
+    (subst (λ (b : List ℕ). IsHistoryTextFault lines a.ending b fault) begins.1 first))
 
 -- the same where only something is told of the events
 pub tells_what_is_there : {V : Type 0} (Told : List Event → Type 0) (lines : ℕ) (old new : Option Ahead) (count : ℕ) (r : Result V TextFault)
     → IfOk r (λ v. (events : List Event) × HasHistoryText events × Takes old new (history_text events) × (count ≡ lines + 2 + length events)
-        × Told events) → IfErr r (HasHistoryTextFault lines old)
+    × Told events) → IfErr r (HasHistoryTextFault lines old)
     → (events : List Event) → HasHistoryText events → BeginsWith old (history_text events) → MatchResult r (λ v. Told events) (λ fault. fault ≡ Memory)
 tells_what_is_there Told lines None new count r ok err events wanted begins = absurd begins
 tells_what_is_there {V} Told lines (Some a) new count r ok err events wanted begins =
     is_read (IsHistoryTextFault lines) NoRoomFor (λ v. (found : List Event) × HasHistoryText found × Takes (Some a) new (history_text found)
-        × (count ≡ lines + 2 + length found) × Told found) (λ v. Told events) a r ok err
+    × (count ≡ lines + 2 + length found) × Told found) (λ v. Told events) a r ok err
     (λ v found. subst Told (same_text found.0 events a new begins.0 found.1 found.2 wanted begins.1) found.4)
     (λ fault first. text_has_no_fault lines a.ending events begins.0 fault wanted
-        (subst (λ (b : List ℕ). IsHistoryTextFault lines a.ending b fault) begins.1 first))
+    (subst (λ (b : List ℕ). IsHistoryTextFault lines a.ending b fault) begins.1 first))
 
 -- an input has one first fault
 pub one_first_fault : (lines : ℕ) (ending : Ending) (bytes : List ℕ) (f g : TextFault) → IsHistoryTextFault lines ending bytes f
@@ -96,4 +96,4 @@ one_first_fault lines ending bytes f g (inl a) (inr b) = absurd (header_is_right
 one_first_fault lines ending bytes f g (inr a) (inl b) = absurd (header_is_right ending bytes a.0 g a.1 b)
 one_first_fault lines ending bytes f g (inr a) (inr b) =
     one_item_fault event_kind event_front (lines + 2) ending f g b.0
-        (rest_is (line header) bytes a.0 b.0 (ItemFault event_kind (lines + 2) ending f) a.1 b.1 a.2) b.2
+    (rest_is (line header) bytes a.0 b.0 (ItemFault event_kind (lines + 2) ending f) a.1 b.1 a.2) b.2

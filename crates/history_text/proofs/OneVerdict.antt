@@ -35,7 +35,7 @@ first_line_is_part (Some VWit) = record { one = refl; short = omega arith }
 abbrev answer_of : List ℕ → Option ViolationKind
 answer_of bytes =
     cond (bytes_eq bytes (codes "NO VFresh")) (Some VFresh) (cond (bytes_eq bytes (codes "NO VRepeat")) (Some VRepeat)
-        (cond (bytes_eq bytes (codes "NO VOrd")) (Some VOrd) (cond (bytes_eq bytes (codes "NO VWit")) (Some VWit) None)))
+    (cond (bytes_eq bytes (codes "NO VOrd")) (Some VOrd) (cond (bytes_eq bytes (codes "NO VWit")) (Some VWit) None)))
 
 answer_is : (answer : Option ViolationKind) → answer_of (first_line answer) ≡ answer
 answer_is None = refl
@@ -103,7 +103,7 @@ texts_agree c d text_c text_d same =
     let lines : lines_of operation_kind xs ++ [] ≡ lines_of operation_kind ys ++ [] = ap (λ (l : List ℕ). l ++ []) first.1 in
     let parts = same_items operation_kind operation_front 0 0 EndOfInput xs ys [] [] text_c text_d
     (stops_at_last operation_kind operation_front 0 (length xs) EndOfInput [] [] refl)
-        (stops_at_last operation_kind operation_front 0 (length ys) EndOfInput [] [] refl) lines in
+    (stops_at_last operation_kind operation_front 0 (length ys) EndOfInput [] [] refl) lines in
     sym (claim_is c) ∙ ap (λ (a : Option ViolationKind). claim_by a xs) first.0 ∙ ap (claim_by (answer_in d)) parts.0 ∙ claim_is d
 
 -- a text has no fault
@@ -125,7 +125,7 @@ no_fault : (lines : ℕ) (a : Ahead) (c : Claimed) (fault : TextFault) → HasVe
     → IsVerdictTextFault lines a.ending a.bytes fault → ⊥
 no_fault lines a c fault text is ending h =
     text_has_no_fault lines c fault text (subst (λ (e : Ending). IsVerdictTextFault lines e (verdict_text c) fault) ending
-        (subst (λ (b : List ℕ). IsVerdictTextFault lines a.ending b fault) is h))
+    (subst (λ (b : List ℕ). IsVerdictTextFault lines a.ending b fault) is h))
 
 -- what is read where the rest of the input is a text
 pub reads_what_is_there : (lines : ℕ) (old new : Option Ahead) (r : Result Claimed TextFault)
@@ -134,7 +134,7 @@ pub reads_what_is_there : (lines : ℕ) (old new : Option Ahead) (r : Result Cla
 reads_what_is_there lines None new r ok err claimed wanted all = absurd all
 reads_what_is_there lines (Some a) new r ok err claimed wanted all =
     is_read (IsVerdictTextFault lines) NoRoomForVerdict (λ c. HasVerdictText c × Takes (Some a) new (verdict_text c) × IsOver EndOfInput new)
-        (λ c. c ≡ claimed) a r ok err
+    (λ c. c ≡ claimed) a r ok err
     (λ c found. same_text c claimed a new found.0 found.1 found.2 wanted all.0)
     (λ fault first. no_fault lines a claimed fault wanted all.0 all.1 first)
 

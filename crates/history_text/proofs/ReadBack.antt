@@ -21,13 +21,20 @@ use Rattle.history_text.proofs.ItemFronts.{item_front}
 event_read_by : (n ticket thread : ℕ) (what : What) → ticket ≤ MAX_TICKET → thread ≤ MAX_THREAD → HasValueInRange what
     → event_in n (decimal ticket ∷ decimal thread ∷ what_fields what) ≡ Ok (record { ticket = ticket; thread = thread; what = what })
 unfolding stamped_event numbered_event
-event_read_by n ticket thread (CallEnq v) t h r = rw (number_read n MAX_TICKET ticket t (omega arith), number_read n MAX_THREAD thread h
-    (omega arith), number_read n greatest_value v r (omega arith)) refl
+event_read_by n ticket thread (CallEnq v) t h r = rw (
+  number_read n MAX_TICKET ticket t (omega arith),
+  number_read n MAX_THREAD thread h
+      (omega arith),
+  number_read n greatest_value v r (omega arith),
+) refl
 event_read_by n ticket thread RetEnq t h r = rw (number_read n MAX_TICKET ticket t (omega arith), number_read n MAX_THREAD thread h (omega arith)) refl
 event_read_by n ticket thread RetNot t h r = rw (number_read n MAX_TICKET ticket t (omega arith), number_read n MAX_THREAD thread h (omega arith)) refl
 event_read_by n ticket thread CallDeq t h r = rw (number_read n MAX_TICKET ticket t (omega arith), number_read n MAX_THREAD thread h (omega arith)) refl
-event_read_by n ticket thread (RetDeq v) t h r = rw (number_read n MAX_TICKET ticket t (omega arith), number_read n MAX_THREAD thread h (omega arith),
-    number_read n greatest_value v r (omega arith)) refl
+event_read_by n ticket thread (RetDeq v) t h r = rw (
+  number_read n MAX_TICKET ticket t (omega arith),
+  number_read n MAX_THREAD thread h (omega arith),
+  number_read n greatest_value v r (omega arith),
+) refl
 event_read_by n ticket thread RetEmpty t h r = rw (number_read n MAX_TICKET ticket t (omega arith), number_read n MAX_THREAD thread h (omega arith)) refl
 
 event_read : (n : ℕ) (e : Event) → HasEventLine e → event_in n (event_fields e) ≡ Ok e

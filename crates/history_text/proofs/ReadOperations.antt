@@ -19,14 +19,33 @@ use Rattle.history_text.proofs.ItemFronts.{item_front}
 operation_read_by : (n call ret thread : ℕ) (kind : OpKind) → call ≤ MAX_TICKET → ret ≤ MAX_TICKET → thread ≤ MAX_THREAD → IsKindInRange kind
     → operation_in n (decimal call ∷ decimal ret ∷ decimal thread ∷ kind_fields kind) ≡ Ok (record { call = call; ret = ret; thread = thread; kind = kind })
 unfolding empty_operation numbered_operation
-operation_read_by n call ret thread (Enq v) c r t range = rw (number_read n MAX_TICKET call c (omega arith), number_read n MAX_TICKET ret r
-    (omega arith), number_read n MAX_THREAD thread t (omega arith), number_read n greatest_value v range (omega arith)) refl
-operation_read_by n call ret thread (Deq v) c r t range = rw (number_read n MAX_TICKET call c (omega arith), number_read n MAX_TICKET ret r
-    (omega arith), number_read n MAX_THREAD thread t (omega arith), number_read n greatest_value v range (omega arith)) refl
-operation_read_by n call ret thread Empty c r t range = rw (number_read n MAX_TICKET call c (omega arith), number_read n MAX_TICKET ret r
-    (omega arith), number_read n MAX_THREAD thread t (omega arith)) refl
-operation_read_by n call ret thread (Not v) c r t range = rw (number_read n MAX_TICKET call c (omega arith), number_read n MAX_TICKET ret r
-    (omega arith), number_read n MAX_THREAD thread t (omega arith), number_read n greatest_value v range (omega arith)) refl
+operation_read_by n call ret thread (Enq v) c r t range = rw (
+  number_read n MAX_TICKET call c (omega arith),
+  number_read n MAX_TICKET ret r
+      (omega arith),
+  number_read n MAX_THREAD thread t (omega arith),
+  number_read n greatest_value v range (omega arith),
+) refl
+operation_read_by n call ret thread (Deq v) c r t range = rw (
+  number_read n MAX_TICKET call c (omega arith),
+  number_read n MAX_TICKET ret r
+      (omega arith),
+  number_read n MAX_THREAD thread t (omega arith),
+  number_read n greatest_value v range (omega arith),
+) refl
+operation_read_by n call ret thread Empty c r t range = rw (
+  number_read n MAX_TICKET call c (omega arith),
+  number_read n MAX_TICKET ret r
+      (omega arith),
+  number_read n MAX_THREAD thread t (omega arith),
+) refl
+operation_read_by n call ret thread (Not v) c r t range = rw (
+  number_read n MAX_TICKET call c (omega arith),
+  number_read n MAX_TICKET ret r
+      (omega arith),
+  number_read n MAX_THREAD thread t (omega arith),
+  number_read n greatest_value v range (omega arith),
+) refl
 
 operation_read : (n : ℕ) (o : Operation) → HasOperationLine o → operation_in n (operation_fields o) ≡ Ok o
 operation_read n o range = operation_read_by n o.call o.ret o.thread o.kind range.call range.ret range.thread range.value
@@ -46,7 +65,7 @@ line_by call ret thread fields c r t kind =
     let tail = spaced (kind.word ∷ kind.others) in
     let one = number_is_field call call_small in
     let all : AllByRecursion IsField (decimal ret ∷ decimal thread ∷ kind.word ∷ kind.others) =
-        (number_is_field ret ret_small, (number_is_field thread few, (kind.one, kind.all))) in
+    (number_is_field ret ret_small, (number_is_field thread few, (kind.one, kind.all))) in
     let l1 = length-append (decimal call) (32 ∷ (decimal ret ++ 32 ∷ (decimal thread ++ 32 ∷ tail))) in
     let l2 = length-append (decimal ret) (32 ∷ (decimal thread ++ 32 ∷ tail)) in
     let l3 = length-append (decimal thread) (32 ∷ tail) in
@@ -56,7 +75,7 @@ line_by call ret thread fields c r t kind =
     subst (λ (f : List (List ℕ)). IsLineOf (decimal call ∷ decimal ret ∷ decimal thread ∷ f)) (sym kind.is)
     (line_of_fields (decimal call) (decimal ret ∷ decimal thread ∷ kind.word ∷ kind.others) one all (omega (arith, l1, l2, l3, n1, n2, n3, kind.short))
     (digits_begin_other (decimal call) (32 ∷ (decimal ret ++ 32 ∷ (decimal thread ++ 32 ∷ tail))) (decimal_nonempty call call_small)
-        (all_digits call call_small)))
+    (all_digits call call_small)))
 
 operation_is_line : (o : Operation) → HasOperationLine o → IsLineOf (operation_fields o)
 operation_is_line o range = line_by o.call o.ret o.thread (kind_fields o.kind) range.call range.ret range.thread (kind_has_fields o.kind range.value)

@@ -52,7 +52,7 @@ of_two : (word : List ℕ) (t : ℕ) → IsField word → length word ≤ 7 → 
     → IsLineOf (word ∷ decimal t ∷ [])
 of_two word t one short other few =
     line_of_fields word (decimal t ∷ []) one (thread_is_field t few, tt)
-        (omega (arith, length-append word (32 ∷ decimal t), thread_is_short t few, short)) other
+    (omega (arith, length-append word (32 ∷ decimal t), thread_is_short t few, short)) other
 
 of_three : (word third : List ℕ) (t : ℕ) → IsField word → IsField third → length word ≤ 7 → length third ≤ 20
     → begins_as_end (spaced (word ∷ decimal t ∷ third ∷ [])) ≡ false → t ≤ MAX_THREAD → IsLineOf (word ∷ decimal t ∷ third ∷ [])
@@ -79,7 +79,7 @@ step_is_line (Say t answer) range = saying_is_line t answer range.0 range.1
 step_is_line (Ret t) few = of_two (codes "ret") t refl (omega arith) refl few
 step_is_line (Drain t k) range =
     of_three (codes "drain") (decimal k) t refl (number_is_field k (omega (arith, range.1))) (omega arith)
-        (length-decimal-le 20 k (omega arith) (omega (arith, range.1)) (omega (arith, range.1))) refl range.0
+    (length-decimal-le 20 k (omega arith) (omega (arith, range.1)) (omega (arith, range.1))) refl range.0
 step_is_line (Close t) few = of_two (codes "close") t refl (omega arith) refl few
 
 pub step_front : (n k : ℕ) (ending : Ending) (step : Step) (rest : List ℕ) → HasStepLine step → k < MAX_STEPS
@@ -91,8 +91,10 @@ step_front n k ending step rest range few = item_front step_kind n k ending step
 setting_read : (n threads ring : ℕ) → IsSetting threads ring → setting_in n (setting_fields threads ring) ≡ Ok (threads, ring)
 unfolding numbered_setting
 setting_read n threads ring within =
-    rw (between_read n 1 MAX_THREADS threads within.some_threads within.few_threads (omega arith),
-        between_read n MIN_RING MAX_RING ring within.some_room within.little_room (omega arith)) refl
+    rw (
+      between_read n 1 MAX_THREADS threads within.some_threads within.few_threads (omega arith),
+      between_read n MIN_RING MAX_RING ring within.some_room within.little_room (omega arith),
+    ) refl
 
 setting_is_line : (threads ring : ℕ) → IsSetting threads ring → IsLineOf (setting_fields threads ring)
 setting_is_line threads ring within =
@@ -100,9 +102,14 @@ setting_is_line threads ring within =
     let room = within.little_room in
     let tail = codes "ring" ++ 32 ∷ decimal ring in
     line_of_fields (codes "threads") (decimal threads ∷ codes "ring" ∷ decimal ring ∷ []) refl
-        (number_is_field threads (omega (arith, count)), (refl, (number_is_field ring (omega (arith, room)), tt)))
-    (omega (arith, length-append (decimal threads) (32 ∷ tail), length-decimal-le 20 threads (omega arith) (omega (arith, count))
-        (omega (arith, count)), length-decimal-le 20 ring (omega arith) (omega (arith, room)) (omega (arith, room)))) refl
+    (number_is_field threads (omega (arith, count)), (refl, (number_is_field ring (omega (arith, room)), tt)))
+    (omega (
+      arith,
+      length-append (decimal threads) (32 ∷ tail),
+      length-decimal-le 20 threads (omega arith) (omega (arith, count))
+          (omega (arith, count)),
+      length-decimal-le 20 ring (omega arith) (omega (arith, room)) (omega (arith, room)),
+    )) refl
 
 pub setting_front : (n threads ring : ℕ) (ending : Ending) (rest : List ℕ) → IsSetting threads ring
     → setting_at_front n ending (front_of (line (spaced (setting_fields threads ring)) ++ rest)) ≡ Ok ((threads, ring), rest)

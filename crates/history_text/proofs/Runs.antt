@@ -73,12 +73,12 @@ module _ {A : Type 0} (kind : Kind A) (back : IsReadBack kind) where
       let here : i ≡ k = omega arith in
       let next = back n k ending y (lines_of kind ys ++ s) all_y.0 (omega arith) in
       absurd (subst (λ (c : ℕ). Stops kind n c ending r) here stop_r y (lines_of kind ys ++ s)
-          (ap (λ (b : List ℕ). item_at_front kind n k ending (front_of b)) (same ∙ first_line y ys s) ∙ next))
+      (ap (λ (b : List ℕ). item_at_front kind n k ending (front_of b)) (same ∙ first_line y ys s) ∙ next))
   same_run k i j n m ending (x ∷ xs) [] r s i_is j_is all_x all_y few_i few_j stop_r stop_s same =
       let here : j ≡ k = omega arith in
       let next = back m k ending x (lines_of kind xs ++ r) all_x.0 (omega arith) in
       absurd (subst (λ (c : ℕ). Stops kind m c ending s) here stop_s x (lines_of kind xs ++ r)
-          (ap (λ (b : List ℕ). item_at_front kind m k ending (front_of b)) (sym same ∙ first_line x xs r) ∙ next))
+      (ap (λ (b : List ℕ). item_at_front kind m k ending (front_of b)) (sym same ∙ first_line x xs r) ∙ next))
   same_run k i j n m ending (x ∷ xs) (y ∷ ys) r s i_is j_is all_x all_y few_i few_j stop_r stop_s same =
       let left = back 0 k ending x (lines_of kind xs ++ r) all_x.0 (omega arith) in
       let right = back 0 k ending y (lines_of kind ys ++ s) all_y.0 (omega arith) in
@@ -97,7 +97,7 @@ module _ {A : Type 0} (kind : Kind A) (back : IsReadBack kind) where
   no_item_fault n ending fault xs r after right last faulty =
       let ys = faulty.items in
       let same = same_items 0 (n + length ys) ending xs ys r faulty.rest right faulty.right (stops_at_last 0 (length xs) ending r after (last 0))
-          (stops_at_fault (n + length ys) (length ys) ending faulty.rest fault faulty.next) faulty.front in
+      (stops_at_fault (n + length ys) (length ys) ending faulty.rest fault faulty.next) faulty.front in
       let here = ap (λ (zs : List A). item_at_front kind (n + length ys) (length zs) ending (front_of faulty.rest)) same.0 ∙ faulty.next in
       fault_or_ok _ fault (one_front (n + length ys) (length xs) ending _ _ _ _ same.1 (last (n + length ys)) here)
 
@@ -107,7 +107,7 @@ module _ {A : Type 0} (kind : Kind A) (back : IsReadBack kind) where
       let xs = a.items in
       let ys = b.items in
       let same = same_items (n + length xs) (n + length ys) ending xs ys a.rest b.rest a.right b.right
-          (stops_at_fault (n + length xs) (length xs) ending a.rest f a.next) (stops_at_fault (n + length ys) (length ys) ending b.rest g b.next)
-          (sym a.front ∙ b.front) in
+      (stops_at_fault (n + length xs) (length xs) ending a.rest f a.next) (stops_at_fault (n + length ys) (length ys) ending b.rest g b.next)
+      (sym a.front ∙ b.front) in
       let here = ap (λ (zs : List A). item_at_front kind (n + length zs) (length zs) ending (front_of b.rest)) same.0 ∙ b.next in
       two_faults f g (one_front (n + length xs) (length xs) ending _ _ _ _ same.1 a.next here)

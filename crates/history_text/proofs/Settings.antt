@@ -68,6 +68,6 @@ pub step_is_first : (lines n threads ring : ℕ) (old first mid : Option Ahead) 
     → HasScheduleTextFault lines old fault
 step_is_first lines n threads ring old first mid fault n_is within taken setting h =
     later_fault (λ e r f. ItemFault step_kind n e f r) (IsScheduleTextFault lines) (NoRoom step_kind) NoRoomForSchedule old mid
-        (lines_before_steps threads ring) fault (Takes-append old first mid _ _ taken setting)
+    (lines_before_steps threads ring) fault (Takes-append old first mid _ _ taken setting)
     (λ e r f k. inr (inr (threads, ring, within, (r, refl, subst (λ (m : ℕ). ItemFault step_kind m e f r) n_is k))))
-        (λ r k. (threads, ring, within, (r, refl, k))) h
+    (λ r k. (threads, ring, within, (r, refl, k))) h

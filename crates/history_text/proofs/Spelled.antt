@@ -41,7 +41,7 @@ what_of_ok : (word : List ℕ) (v : ℕ) → has_value word ≡ true → v ≤ g
     → (what_fields (what_of word v) ≡ word ∷ decimal v ∷ []) × HasValueInRange (what_of word v)
 what_of_ok word v e small =
     elim (bytes_eq word (codes "call-enq")) as (λ b. bytes_eq word (codes "call-enq") ≡ b → (b || bytes_eq word (codes "ret-deq")) ≡ true
-        → (what_fields (cond b (CallEnq v) (RetDeq v)) ≡ word ∷ decimal v ∷ []) × HasValueInRange (cond b (CallEnq v) (RetDeq v))) [
+    → (what_fields (cond b (CallEnq v) (RetDeq v)) ≡ word ∷ decimal v ∷ []) × HasValueInRange (cond b (CallEnq v) (RetDeq v))) [
       | true ↦ λ same any. (ap (λ (t : List ℕ). t ∷ decimal v ∷ []) (sym (text_is word _ same)), small)
       | false ↦ λ other same. (ap (λ (t : List ℕ). t ∷ decimal v ∷ []) (sym (text_is word _ same)), small)
     ] refl e
@@ -65,7 +65,7 @@ plain_event_ok n t th word (Some what) e is h =
     let a = bind_ok (number_in n MAX_TICKET t) _ e h in
     let b = bind_ok (number_in n MAX_THREAD th) _ e a.2 in
     spelled_by t th (word ∷ []) a.0 b.0 what e (number_ok n MAX_TICKET t a.0 (omega arith) a.1) (number_ok n MAX_THREAD th b.0 (omega arith) b.1)
-        (plain_what_ok word what is) (cc (b.2))
+    (plain_what_ok word what is) (cc (b.2))
 
 event_with_value_ok : (n : ℕ) (t th word value : List ℕ) (e : Event) → event_with_value n t th word value ≡ Ok e
     → IsSpelled event_kind (t ∷ th ∷ word ∷ value ∷ []) e
@@ -79,7 +79,7 @@ event_with_value_ok n t th word value e h =
           let value_is = number_ok n greatest_value value v.0 (omega arith) v.1 in
           let what_is = what_of_ok word v.0 known.0 value_is.1 in
           spelled_by t th (word ∷ value ∷ []) a.0 b.0 (what_of word v.0) e (number_ok n MAX_TICKET t a.0 (omega arith) a.1)
-              (number_ok n MAX_THREAD th b.0 (omega arith) b.1)
+          (number_ok n MAX_THREAD th b.0 (omega arith) b.1)
           (what_is.0 ∙ ap (λ (f : List ℕ). word ∷ f ∷ []) (sym value_is.0), what_is.1) (cc (v.2))
       | inr other ↦ absurd (cc (other.1))
     ]

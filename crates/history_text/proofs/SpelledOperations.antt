@@ -42,7 +42,7 @@ empty_ok n c r t word o same e =
     let ret = bind_ok (number_in n MAX_TICKET r) _ o call.2 in
     let thread = bind_ok (number_in n MAX_THREAD t) _ o ret.2 in
     is_operation c r t (word ∷ []) call.0 ret.0 thread.0 Empty o (number_ok n MAX_TICKET c call.0 (omega arith) call.1)
-        (number_ok n MAX_TICKET r ret.0 (omega arith) ret.1) (number_ok n MAX_THREAD t thread.0 (omega arith) thread.1)
+    (number_ok n MAX_TICKET r ret.0 (omega arith) ret.1) (number_ok n MAX_THREAD t thread.0 (omega arith) thread.1)
     (ap (λ (w : List ℕ). w ∷ []) (sym (text_is word (codes "empty") same)), tt) (cc (thread.2))
 
 numbered_ok : (n : ℕ) (c r t word value : List ℕ) (o : Operation) → has_value word ≡ true → numbered_operation n c r t word value ≡ Ok o
@@ -56,7 +56,7 @@ numbered_ok n c r t word value o known e =
     let value_is = number_ok n greatest_value value v.0 (omega arith) v.1 in
     let kind_is = kind_ok word v.0 known value_is.1 in
     is_operation c r t (word ∷ value ∷ []) call.0 ret.0 thread.0 (kind_of_value word v.0) o (number_ok n MAX_TICKET c call.0 (omega arith) call.1)
-        (number_ok n MAX_TICKET r ret.0 (omega arith) ret.1) (number_ok n MAX_THREAD t thread.0 (omega arith) thread.1)
+    (number_ok n MAX_TICKET r ret.0 (omega arith) ret.1) (number_ok n MAX_THREAD t thread.0 (omega arith) thread.1)
     (kind_is.0 ∙ ap (λ (f : List ℕ). word ∷ f ∷ []) (sym value_is.0), kind_is.1) (cc (v.2))
 
 pub operation_ok : (n : ℕ) (fields : List (List ℕ)) (o : Operation) → operation_in n fields ≡ Ok o → IsSpelled operation_kind fields o

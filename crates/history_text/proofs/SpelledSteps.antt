@@ -31,9 +31,11 @@ plain_step_ok word t known few =
     by_test (IsOfTwo word t) (bytes_eq word (codes "ask-deq")) _ _ (λ e. (of_two word (codes "ask-deq") t e, few)) (λ not_ask_deq.
     by_test (IsOfTwo word t) (bytes_eq word (codes "push")) _ _ (λ e. (of_two word (codes "push") t e, few)) (λ not_push.
     by_test (IsOfTwo word t) (bytes_eq word (codes "effect")) _ _ (λ e. (of_two word (codes "effect") t e, few)) (λ not_effect.
-    by_test (IsOfTwo word t) (bytes_eq word (codes "ret")) _ _ (λ e. (of_two word (codes "ret") t e, few)) (λ not_ret.
-    (of_two word (codes "close") t (other_true _ _ not_ret (other_true _ _ not_effect
-        (other_true _ _ not_push (other_true _ _ not_ask_deq (other_true _ _ not_ask_enq known))))), few))))))
+    by_test (IsOfTwo word t) (bytes_eq word (codes "ret")) _ _ (λ e. (of_two word (codes "ret") t e, few)) (λ not_ret. (
+      of_two word (codes "close") t (other_true _ _ not_ret (other_true _ _ not_effect
+          (other_true _ _ not_push (other_true _ _ not_ask_deq (other_true _ _ not_ask_enq known))))),
+      few,
+    ))))))
 
 -- an answer that is written as one word
 abbrev IsOfWord : List ℕ → Option Answer → Type 0
@@ -80,8 +82,10 @@ draining_ok n word thread count step same e =
     let thread_is = number_ok n MAX_THREAD thread t.0 (omega arith) t.1 in
     let count_is = number_ok n MOST_DRAINED count k.0 (omega arith) k.1 in
     let word_is : word ≡ codes "drain" = text_is word (codes "drain") same in
-    is_step (word ∷ thread ∷ count ∷ []) (Drain t.0 k.0) step (three_are _ _ _ word thread count word_is thread_is.0 count_is.0,
-        (thread_is.1, count_is.1)) (cc (k.2))
+    is_step (word ∷ thread ∷ count ∷ []) (Drain t.0 k.0) step (
+      three_are _ _ _ word thread count word_is thread_is.0 count_is.0,
+      (thread_is.1, count_is.1),
+    ) (cc (k.2))
 
 plain_saying_ok : (n : ℕ) (word thread third : List ℕ) (answer : Option Answer) (step : Step) → bytes_eq word (codes "say") ≡ true
     → IsOfWord third answer → plain_saying n thread answer ≡ Ok step → IsSpelled step_kind (word ∷ thread ∷ third ∷ []) step
@@ -90,8 +94,11 @@ plain_saying_ok n word thread third (Some answer) step same is e =
     let t = bind_ok (number_in n MAX_THREAD thread) _ step e in
     let thread_is = number_ok n MAX_THREAD thread t.0 (omega arith) t.1 in
     let word_is : word ≡ codes "say" = text_is word (codes "say") same in
-    is_step (word ∷ thread ∷ third ∷ []) (Say t.0 answer) step (ap (λ (r : List (List ℕ)). codes "say" ∷ decimal t.0 ∷ r) is.0
-        ∙ three_are _ _ _ word thread third word_is thread_is.0 refl, (thread_is.1, is.1)) (cc (t.2))
+    is_step (word ∷ thread ∷ third ∷ []) (Say t.0 answer) step (
+      ap (λ (r : List (List ℕ)). codes "say" ∷ decimal t.0 ∷ r) is.0
+          ∙ three_are _ _ _ word thread third word_is thread_is.0 refl,
+      (thread_is.1, is.1),
+    ) (cc (t.2))
 
 three_ok : (n : ℕ) (word thread third : List ℕ) (step : Step) → step_of_three n word thread third ≡ Ok step
     → IsSpelled step_kind (word ∷ thread ∷ third ∷ []) step
@@ -115,7 +122,7 @@ saying_ok n word thread third value step same got e =
     let word_is : word ≡ codes "say" = text_is word (codes "say") same in
     let third_is : third ≡ codes "got" = text_is third (codes "got") got in
     is_step (word ∷ thread ∷ third ∷ value ∷ []) (Say t.0 (Got v.0)) step
-        (four_are _ _ _ _ word thread third value word_is thread_is.0 third_is value_is.0, (thread_is.1, value_is.1)) (cc (v.2))
+    (four_are _ _ _ _ word thread third value word_is thread_is.0 third_is value_is.0, (thread_is.1, value_is.1)) (cc (v.2))
 
 four_ok : (n : ℕ) (word thread third value : List ℕ) (step : Step) → step_of_four n word thread third value ≡ Ok step
     → IsSpelled step_kind (word ∷ thread ∷ third ∷ value ∷ []) step

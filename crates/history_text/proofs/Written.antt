@@ -21,7 +21,7 @@ pub history_stops_late : (events : List Event) (a b c : Option (List ℕ)) (kept
     → Puts a b kept mid (flat_map event_line events) → AppendsFront b c mid → AppendsFront a c (history_text events)
 history_stops_late events a b c kept mid is h k =
     subst (AppendsFront a c) (sym (append_assoc kept (flat_map event_line events) (end_line (length events)))
-        ∙ ap (λ (f : List ℕ). (f ++ flat_map event_line events) ++ end_line (length events)) is)
+    ∙ ap (λ (f : List ℕ). (f ++ flat_map event_line events) ++ end_line (length events)) is)
     (front_of_kept a b c kept mid (flat_map event_line events) (end_line (length events)) h k)
 
 -- all lines are written or kept back
@@ -29,13 +29,17 @@ pub history_is_put : (events : List Event) (a b c : Option (List ℕ)) (kept mid
     → Puts a b kept mid (flat_map event_line events) → Puts b c mid room [] → rest ≡ room ++ end_line (length events) → Puts a c [] rest (history_text events)
 history_is_put events a b c kept mid room rest is h k last_is =
     Puts-last a c [] room rest _ _ last_is (Puts-first a c kept room (line header) _ is
-        (subst (Puts a c kept room) (append-nil (flat_map event_line events)) (Puts-append a b c kept mid room _ _ h k)))
+    (subst (Puts a c kept room) (append-nil (flat_map event_line events)) (Puts-append a b c kept mid room _ _ h k)))
 
 -- a complete history has a text
 pub complete_has_text : (events : List Event) → IsCompleteHistory events → All (λ e. HasValueInRange e.what) events → length events ≤ MAX_EVENTS
     → HasHistoryText events
 complete_has_text events complete values few = record {
-  each = recursion_from_All HasEventLine events (λ k d h. record { ticket = complete.tickets_in_range k d h; thread =
-      complete.threads_in_range k d h; value = values k d h });
+  each = recursion_from_All HasEventLine events (λ k d h. record {
+    ticket = complete.tickets_in_range k d h;
+    thread =
+        complete.threads_in_range k d h;
+    value = values k d h;
+  });
   few = few;
 }

@@ -88,7 +88,7 @@ pub adds_empty : (operations read : List Operation) (k p gap : ℕ) (d : Operati
     (is : IsNamed operations (filter is_empty_answer operations) k p)
     → Adds operations (take k (filter is_empty_answer operations)) old new → read ≡ operations → IsLeastFreeGap operations is.o gap → placed.operation ≡ p
     → position_of placed.position ≡ record { gap = gap; class = idle_answers; rank = (get_or read p d).call }
-        → Adds operations (take (k + 1) (filter is_empty_answer operations)) old (new ++ placed ∷ [])
+    → Adds operations (take (k + 1) (filter is_empty_answer operations)) old (new ++ placed ∷ [])
 adds_empty operations read k p gap d old new placed is adds reads free names stands =
     adds_more operations (filter is_empty_answer operations) k is.o old new placed adds is.is_listed
     (λ lives. (
@@ -104,7 +104,7 @@ pub adds_refused : (operations read : List Operation) (k p : ℕ) (d : Operation
     → IsNamed operations (filter is_refused operations) k p
     → Adds operations (take k (filter is_refused operations)) old new → read ≡ operations → placed.operation ≡ p
     → position_of placed.position ≡ record { gap = (get_or read p d).call; class = idle_answers; rank = (get_or read p d).call }
-        → Adds operations (take (k + 1) (filter is_refused operations)) old (new ++ placed ∷ [])
+    → Adds operations (take (k + 1) (filter is_refused operations)) old (new ++ placed ∷ [])
 adds_refused operations read k p d old new placed is adds reads names stands =
     adds_more operations (filter is_refused operations) k is.o old new placed adds is.is_listed
     (λ lives. (

@@ -74,7 +74,7 @@ nothing_swept values entries dequeues = record {
 pub some_left : (number : Life → ℕ) (values : List MatchedValue) (entries : List Timed) (taken : List Bool) (ordered : List ℕ)
     → AreByTime number values entries → All (λ place. place < length values) ordered
     → IsOrderedSoFar values (elements_at values ordered) (left_of values taken) → length ordered < length values
-        → (timed : Timed) × Contains entries timed × IsLeft taken timed
+    → (timed : Timed) × Contains entries timed × IsLeft taken timed
 some_left number values entries taken ordered are within so_far fewer = from_rest (left_of values taken) refl
   where
     count : length (elements_at values ordered ++ left_of values taken) ≡ length values
@@ -92,7 +92,7 @@ pub flags_within : (number : Life → ℕ) (values : List MatchedValue) (entries
     → length taken ≡ length values → All (λ timed. timed.place < length taken) entries
 flags_within number values entries taken are same =
     All-weaker (IsTimeOf number values) (λ timed. timed.place < length taken)
-        (λ timed is. subst (λ n. timed.place < n) (sym same) (within timed (slice_get values timed.place) refl is)) entries are.are_timed
+    (λ timed is. subst (λ n. timed.place < n) (sym same) (within timed (slice_get values timed.place) refl is)) entries are.are_timed
   where
     within : (timed : Timed) (o : Option MatchedValue) → slice_get values timed.place ≡ o → IsSomeAnd o (λ m. timed.time ≡ number m.life)
         → timed.place < length values
@@ -113,7 +113,7 @@ swept_more values entries dequeues taken i j first_in first_out ordered place ne
   so_far =
       subst (λ done. IsOrderedSoFar values done (left_of values (set taken place true))) (sym (elements_push values ordered place next.value next.is_at))
       (ordered_more values (elements_at values ordered) (left_of values taken) (left_of values (set taken place true)) next.value swept.so_far
-          (one_taken values taken place next.value next.is_at next.is_left) next.is_choice);
+      (one_taken values taken place next.value next.is_at next.is_left) next.is_choice);
 }
 
 pub all_swept : (values : List MatchedValue) (entries dequeues : List Timed) (taken : List Bool) (i j : ℕ) (ordered : List ℕ)
@@ -123,20 +123,20 @@ all_swept values entries dequeues taken i j ordered swept all =
     let count = length_permutation values (elements_at values ordered ++ left_of values taken) swept.so_far.holds_each_once in
     let long = elements_long values ordered swept.within in
     let none : left_of values taken ≡ [] = nil_from_length (left_of values taken)
-        (omega (arith, count, length-append (elements_at values ordered) (left_of values taken))) in
+    (omega (arith, count, length-append (elements_at values ordered) (left_of values taken))) in
     all_ordered values (elements_at values ordered) (subst (IsOrderedSoFar values (elements_at values ordered)) none swept.so_far)
 
 -- put in order, the places of the accepted values are in the chosen order
 pub places_in_order : {E : Type 0} {X : Type 0} (operations : List Operation) (values : List MatchedValue) (items : X → List ℕ) (result : Result X E)
     → HoldsLives operations values → IfOk result (λ v. All (λ place. place < length values) (items v))
     → IfOk result (λ v. IsPermutation values (elements_at values (items v)))
-        → IfOk result (λ v. EachIsChoice (lives_in (elements_at values (items v)))) → IfOk result (λ v. IsOrderOfPlaces operations (items v))
+    → IfOk result (λ v. EachIsChoice (lives_in (elements_at values (items v)))) → IfOk result (λ v. IsOrderOfPlaces operations (items v))
 places_in_order operations values items (Ok v) holds within moved each = record {
   within = subst (λ n. All (λ place. place < n) (items v)) (sym (length-map values (λ m. m.life)) ∙ ap length holds.0) within;
   in_order = record {
     holds_each_once = subst (IsPermutation (lives_of operations)) (lives_are operations values (items v) holds)
         (subst (λ lives. IsPermutation lives (lives_in (elements_at values (items v)))) holds.0
-            (IsPermutation-map (λ m. m.life) values (elements_at values (items v)) moved));
+        (IsPermutation-map (λ m. m.life) values (elements_at values (items v)) moved));
     each_is_choice = subst EachIsChoice (lives_are operations values (items v) holds) each;
   };
 }

@@ -56,7 +56,7 @@ all_well_placed operations lives [] (p ∷ placed) zip = absurd zip
 all_well_placed operations lives (o ∷ listed) [] zip = absurd zip
 all_well_placed operations lives (o ∷ listed) (p ∷ placed) zip =
     All-cons (λ p. IsPlaced operations lives (operation_of operations p) p) p placed (well_placed operations lives o p zip.0).1
-        (all_well_placed operations lives listed placed zip.1)
+    (all_well_placed operations lives listed placed zip.1)
 
 places_named : (operations : List Operation) (lives : List Life) (placed : List Placed)
     → All (λ p. IsPlaced operations lives (operation_of operations p) p) placed
@@ -82,7 +82,7 @@ positions_never_fall placed never i j d below within =
     let long = length-map placed (λ p. position_of p.position) in
     let inside : j < length placed = omega arith in
     rw (get_or-map (λ p. position_of p.position) placed i nowhere d (omega arith), get_or-map (λ p. position_of p.position) placed j nowhere d inside)
-        (never i j nowhere below inside)
+    (never i j nowhere below inside)
 
 -- what is added to no operations, and sorted
 pub idles_held : (operations : List Operation) (empties all idles : List Placed) → Adds operations (filter is_empty_answer operations) [] empties
@@ -93,7 +93,7 @@ idles_held operations empties all idles first second moved never = record {
   each_placed = λ lives. subst (AllZip (IsPlaced operations lives) (filter is_empty_answer operations ++ filter is_refused operations))
       (sym (second.after ∙ ap (λ xs. xs ++ second.added) first.after))
       (zip_joined (IsPlaced operations lives) (filter is_empty_answer operations) (filter is_refused operations) first.added second.added
-          (first.each_placed lives) (second.each_placed lives));
+      (first.each_placed lives) (second.each_placed lives));
   each_once = moved;
   never_fall = never;
 }
@@ -109,9 +109,9 @@ chosen_and_legal operations idles places clear none idle merged =
     (subst (IsPermutation operations) same listed_once)
     (IsPermutation-map (operation_of operations) all sorted.sorted all_sorted) in
     let well = All-permutation (λ p. IsPlaced operations lives (operation_of operations p) p) all sorted.sorted all_sorted
-        (all_well_placed operations lives listed all zipped) in
+    (all_well_placed operations lives listed all zipped) in
     let chosen = sorted_is_chosen operations (map (operation_of operations) sorted.sorted) lives
-        (map (λ p. position_of p.position) sorted.sorted) clear held.in_order moved
+    (map (λ p. position_of p.position) sorted.sorted) clear held.in_order moved
     (positions_named operations lives sorted.sorted well) (positions_never_fall sorted.sorted sorted.never_falls) in (
       map (operation_of operations) sorted.sorted,
       subst (λ ps. ArePlacesOf operations ps (map (operation_of operations) sorted.sorted)) (sym sorted.places_are)
@@ -149,7 +149,7 @@ chosen_and_legal operations idles places clear none idle merged =
     listed_once =
         IsPermutation-trans operations (values_listed ++ idle_listed) listed
         (subst (IsPermutation operations) (append_assoc values_listed (filter is_empty_answer operations) (filter is_refused operations))
-            (each_once operations clear held.lives held.in_order (operations_rise operations clear.complete)))
+        (each_once operations clear held.lives held.in_order (operations_rise operations clear.complete)))
         (IsPermutation-append_left idle_listed values_listed held.listed held.each_once)
 
     zipped : AllZip (IsPlaced operations held.lives) listed all

@@ -63,7 +63,7 @@ pub entered_at_return : (operations : List Operation) (life : Life) → IsClear 
 entered_at_return operations life clear is =
     let times = times_of_life operations life clear is in
     let first : (entered_by life ≡ enqueue_return life) ⊎ ((entered_by life ≡ dequeue_return life) × (dequeue_return life < enqueue_return life)) =
-        grind arith in
+    grind arith in
     elim first [
       | inl enqueued ↦ record { o = enqueue_of life; among = is.1.0; is_of = inl refl; returns = sym enqueued }
       | inr dequeued ↦ elim (dequeue_returns operations life is) [
@@ -90,7 +90,7 @@ pub not_both_kinds : (operations : List Operation) (x y : Life) (o : Operation) 
     → dequeue_of y ≡ Some o → ⊥
 not_both_kinds operations x y o is_x is_y enqueues dequeues =
     let did_y : Did operations o (Deq is_y.0) = subst (λ e. MatchOption e (NoneDid operations (Deq is_y.0)) (λ d. Did operations d (Deq is_y.0)))
-        dequeues is_y.2 in
+    dequeues is_y.2 in
     let clash : Enq is_x.0 ≡ Deq is_y.0 = sym is_x.1.1 ∙ ap (λ o. o.kind) enqueues ∙ did_y.1 in
     cc
 
@@ -113,7 +113,7 @@ pub one_life_of_entering : (operations : List Operation) (x y : Life) → IsClea
     → entered_by x ≡ entered_by y → x ≡ y
 one_life_of_entering operations x y clear is_x is_y same =
     one_life_of_return operations x y (entered_by x) (entered_by y) clear is_x is_y (entered_at_return operations x clear is_x)
-        (entered_at_return operations y clear is_y) same
+    (entered_at_return operations y clear is_y) same
 
 pub one_life_of_dequeue_return : (operations : List Operation) (x y : Life) → IsClear operations → IsLife operations x → IsLife operations y
     → dequeue_return x ≡ dequeue_return y → (x ≡ y) ⊎ (dequeue_return x ≡ NEVER)
@@ -177,7 +177,7 @@ pub lives_have_distinct_times : (operations : List Operation) → IsClear operat
     → AllPairs (λ x y. HaveDistinctTimes x y × HaveDistinctTimes y x) (lives_of operations)
 lives_have_distinct_times operations clear i j d below within =
     pair (get_or (lives_of operations) i d) (get_or (lives_of operations) j d) (Contains-get_or (lives_of operations) i d (omega arith))
-        (Contains-get_or (lives_of operations) j d within)
+    (Contains-get_or (lives_of operations) j d within)
     (lives_rise operations clear.complete i j d below within)
   where
     pair : (x y : Life) → Contains (lives_of operations) x → Contains (lives_of operations) y → enqueue_call x < enqueue_call y

@@ -83,8 +83,11 @@ enqueue_of_dequeued operations o v clear did = elim (one_did (Enq v) (λ k. is_e
 
 pub life_of_enqueue : (operations : List Operation) (e : Operation) (v : ℕ) → Did operations e (Enq v)
     → (life : Life) × IsLife operations life × (enqueue_of life ≡ e)
-life_of_enqueue operations e v did = (record { enqueue = e; dequeue = find (is_dequeue_of v) operations },
-    (v, did, found_dequeue operations v (find (is_dequeue_of v) operations) refl), refl)
+life_of_enqueue operations e v did = (
+  record { enqueue = e; dequeue = find (is_dequeue_of v) operations },
+  (v, did, found_dequeue operations v (find (is_dequeue_of v) operations) refl),
+  refl,
+)
 
 pub life_of_dequeue : (operations : List Operation) (o : Operation) (v : ℕ) → IsClear operations → Did operations o (Deq v)
     → (life : Life) × IsLife operations life × (dequeue_of life ≡ Some o)
@@ -129,7 +132,7 @@ one_position_for : (operations : List Operation) (lives : List Life) → IsClear
     → IsPositionFor operations lives o k p → IsPositionFor operations lives o k q → p ≡ q
 one_position_for operations lives clear order o (Enq v) p q at_p at_q =
     let other = position_of_enqueue operations lives at_p.0 at_p.1 (Enq v) v q clear order at_p.2 refl
-        (subst (λ x. IsPositionFor operations lives x (Enq v) q) (sym at_p.3) at_q) in
+    (subst (λ x. IsPositionFor operations lives x (Enq v) q) (sym at_p.3) at_q) in
     at_p.4 ∙ sym other
 one_position_for operations lives clear order o (Deq v) p q at_p at_q =
     let other = position_of_dequeue operations lives at_p.0 at_p.1 o (Deq v) v q clear order at_p.2 at_p.3 refl at_q in

@@ -44,7 +44,7 @@ one_with_key key k (x ∷ xs) rises =
     elim (eqb_tells (key x) k) [
       | inl h ↦
           let none = none_with_key key k xs (λ i y at. let less = pairs_at (λ x y. key x < key y) (x ∷ xs) zero (suc i) x y rises
-              (omega arith) refl at in omega (arith, h.1)) in
+          (omega arith) refl at in omega (arith, h.1)) in
           rw h.0 (omega arith)
       | inr h ↦ rw h.0 (omega arith)
     ]

@@ -49,7 +49,7 @@ gaps_from_before lives i j least entered least' gap life gaps so_far next at ent
     here =
         let later : least ≡ least_entered_by (drop (i + 1) lives) = so_far.least_is ∙ ap (λ k. least_entered_by (drop k lives)) next in
         least'_is ∙ ap (min least) entered_is ∙ ap (λ n. min n (entered_by life)) later
-            ∙ sym (ap least_entered_by rest ∙ least_of_more life (drop (i + 1) lives))
+        ∙ sym (ap least_entered_by rest ∙ least_of_more life (drop (i + 1) lives))
 
     cases : (k : ℕ) → i ≤ k → (i ≡ k) ⊎ (i < k)
     cases k above = grind arith

@@ -98,7 +98,7 @@ module _ (operations order : List Operation) (clear : IsClear operations) (none 
   accepted : IsAccepted [] (map (λ o. o.kind) order)
   accepted =
       run_is_accepted (length chosen.lives) (enqueue_gap chosen.lives) (dequeue_gap chosen.lives) (are_gaps chosen.lives) (HoldsValue chosen.lives)
-          (one_value chosen.lives)
+      (one_value chosen.lives)
       (IsDequeued chosen.lives) (dequeued_first operations chosen.lives clear none chosen.values_in_order)
       (map (λ o. o.kind) order) chosen.positions
       (items_of operations chosen.lives clear chosen.values_in_order order chosen.positions is_operation chosen.each_has_position)

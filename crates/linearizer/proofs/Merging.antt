@@ -62,7 +62,7 @@ next_idle idles k x p never at from before =
     elim order [
       | inl later ↦ never k n x later (slice_get_within idles n y from.3)
           (subst (λ a. StandsBefore (position_of (get_or idles n x).position) (position_of a.position)) (sym here)
-              (subst (λ b. StandsBefore (position_of b.position) (position_of x.position)) (sym that) there))
+          (subst (λ b. StandsBefore (position_of b.position) (position_of x.position)) (sym that) there))
       | inr same ↦
           let both : y ≡ x = sym that ∙ ap (λ m. get_or idles m x) same ∙ here in
           not_itself (position_of x.position) (subst (λ y. StandsBefore (position_of y.position) (position_of x.position)) both there)
@@ -74,7 +74,7 @@ module _ (operations : List Operation) (lives : List Life) (idles : List Placed)
   pub grown : (i' j' left' k' : ℕ) (x : Placed) (values' : List Placed) → HoldsUpTo operations lives i' j' left' values'
       → IsPermutation ((merged.values ++ take k idles) ++ x ∷ []) (values' ++ take k' idles)
       → IsAhead lives idles i j k (position_of x.position) → ((p : Position) → IsAhead lives idles i' j' k' p → IsAhead lives idles i j k p)
-          → NoneBelow (IsAhead lives idles i' j' k') (Some x.position)
+      → NoneBelow (IsAhead lives idles i' j' k') (Some x.position)
       → IsMergedUpTo operations lives idles i' j' left' k' (places ++ x.operation ∷ [])
   grown i' j' left' k' x values' held moved ahead still none = record {
     values = values';
@@ -85,10 +85,10 @@ module _ (operations : List Operation) (lives : List Life) (idles : List Placed)
         (IsPermutation-append_left (x ∷ []) (merged.values ++ take k idles) merged.sorted merged.each_once);
     never_fall = all_pairs_push (λ p q. ¬ (StandsBefore (position_of q.position) (position_of p.position))) merged.sorted x merged.never_fall
         (λ n d below. All-get_or (λ y. NoneBelow (IsAhead lives idles i j k) (Some y.position)) merged.sorted n d below merged.none_below
-            (position_of x.position) ahead);
+        (position_of x.position) ahead);
     none_below = All-push (λ y. NoneBelow (IsAhead lives idles i' j' k') (Some y.position)) merged.sorted x
         (All-weaker (λ y. NoneBelow (IsAhead lives idles i j k) (Some y.position)) (λ y. NoneBelow (IsAhead lives idles i' j' k') (Some y.position))
-            (λ y none p is. none p (still p is)) merged.sorted merged.none_below) none;
+        (λ y none p is. none p (still p is)) merged.sorted merged.none_below) none;
     places_are = ap (λ ps. ps ++ x.operation ∷ []) merged.places_are ∙ sym (map-append (λ p. p.operation) merged.sorted (x ∷ []));
   }
 
@@ -114,11 +114,11 @@ module _ (operations : List Operation) (lives : List Life) (idles : List Placed)
   pub dequeue_added : (left' : ℕ) (x : Placed) → HoldsUpTo operations lives i (j + 1) left' (merged.values ++ x ∷ []) → j < length lives
       → position_of x.position ≡ dequeue_position lives j
       → NoneBelow (IsEnqueueFrom lives i) (Some x.position) → NoneBelow (IsIdleFrom idles k) (Some x.position)
-          → IsMergedUpTo operations lives idles i (j + 1) left' k (places ++ x.operation ∷ [])
+      → IsMergedUpTo operations lives idles i (j + 1) left' k (places ++ x.operation ∷ [])
   dequeue_added left' x held within stands enqueues idle =
       grown i (j + 1) left' k x (merged.values ++ x ∷ []) held
       (IsPermutation-sym ((merged.values ++ x ∷ []) ++ take k idles) ((merged.values ++ take k idles) ++ x ∷ [])
-          (one_more_among merged.values (take k idles) (merged.values ++ take k idles) x (IsPermutation-refl (merged.values ++ take k idles))))
+      (one_more_among merged.values (take k idles) (merged.values ++ take k idles) x (IsPermutation-refl (merged.values ++ take k idles))))
       (inl (inr (j, omega arith, within, stands))) later none
     where
       later : (p : Position) → IsAhead lives idles i (j + 1) k p → IsAhead lives idles i j k p
@@ -135,11 +135,11 @@ module _ (operations : List Operation) (lives : List Life) (idles : List Placed)
   pub enqueue_added : (x : Placed) → HoldsUpTo operations lives (i + 1) j left (merged.values ++ x ∷ []) → i < length lives
       → position_of x.position ≡ enqueue_position lives i
       → NoneBelow (IsDequeueFrom lives j) (Some x.position) → NoneBelow (IsIdleFrom idles k) (Some x.position)
-          → IsMergedUpTo operations lives idles (i + 1) j left k (places ++ x.operation ∷ [])
+      → IsMergedUpTo operations lives idles (i + 1) j left k (places ++ x.operation ∷ [])
   enqueue_added x held within stands dequeues idle =
       grown (i + 1) j left k x (merged.values ++ x ∷ []) held
       (IsPermutation-sym ((merged.values ++ x ∷ []) ++ take k idles) ((merged.values ++ take k idles) ++ x ∷ [])
-          (one_more_among merged.values (take k idles) (merged.values ++ take k idles) x (IsPermutation-refl (merged.values ++ take k idles))))
+      (one_more_among merged.values (take k idles) (merged.values ++ take k idles) x (IsPermutation-refl (merged.values ++ take k idles))))
       (inl (inl (i, omega arith, within, stands))) later none
     where
       later : (p : Position) → IsAhead lives idles (i + 1) j k p → IsAhead lives idles i j k p
@@ -158,8 +158,8 @@ module _ (operations : List Operation) (lives : List Life) (idles : List Placed)
   idle_added x never at values =
       grown i j left (k + 1) x merged.values merged.held
       (subst (IsPermutation ((merged.values ++ take k idles) ++ x ∷ []))
-          (append_assoc merged.values (take k idles) (x ∷ []) ∙ ap (λ xs. merged.values ++ xs) (sym longer))
-          (IsPermutation-refl ((merged.values ++ take k idles) ++ x ∷ [])))
+      (append_assoc merged.values (take k idles) (x ∷ []) ∙ ap (λ xs. merged.values ++ xs) (sym longer))
+      (IsPermutation-refl ((merged.values ++ take k idles) ++ x ∷ [])))
       (inr (k, x, omega arith, at, refl)) later none
     where
       longer : take (k + 1) idles ≡ take k idles ++ x ∷ []

@@ -45,8 +45,11 @@ taken_out {X} (y ∷ xs) x none among = elim (contains_cons y xs x among) [
       rest = y ∷ out.rest;
       moved = IsPermutation-trans (y ∷ xs) (y ∷ x ∷ out.rest) (x ∷ y ∷ out.rest) (IsPermutation-cons y xs (x ∷ out.rest) out.moved)
           (IsPermutation-middle (y ∷ []) x out.rest);
-      none_twice = (λ there. none.0 (Contains-permutation (x ∷ out.rest) xs y (IsPermutation-sym xs (x ∷ out.rest) out.moved)
-          (one_deeper x out.rest y there)), out.none_twice);
+      none_twice = (
+        λ there. none.0 (Contains-permutation (x ∷ out.rest) xs y (IsPermutation-sym xs (x ∷ out.rest) out.moved)
+            (one_deeper x out.rest y there)),
+        out.none_twice,
+      );
       gone = λ there. elim (contains_cons y out.rest x there) [ inl same ↦ differs same | inr later ↦ out.gone later ];
     }
 
@@ -68,7 +71,7 @@ same_elements_permute {X} (x ∷ xs) ys none_x none_y into back =
           | inr there ↦ there
         ])
         (λ z among. elim (contains_cons x xs z (back z (Contains-permutation (x ∷ out.rest) ys z (IsPermutation-sym ys (x ∷ out.rest) out.moved)
-            (one_deeper x out.rest z among)))) [
+        (one_deeper x out.rest z among)))) [
           | inl same ↦ absurd (out.gone (subst (Contains out.rest) (sym same) among))
           | inr there ↦ there
         ])))

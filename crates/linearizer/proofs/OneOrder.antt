@@ -184,7 +184,7 @@ chosen_order_exists operations gaps clear none free =
 one_sorted : (R : Operation → Position → Type 0) (xs ys : List Operation) (ps qs : List Position) → AreSame xs ys → AllZip R xs ps → AllZip R ys qs
     → Rises ps → Rises qs
     → ((o : Operation) (p q : Position) → R o p → R o q → p ≡ q) → ((x y : Operation) (p : Position) → Contains xs x → Contains xs y → R x p → R y p
-        → x ≡ y) → xs ≡ ys
+    → x ≡ y) → xs ≡ ys
 one_sorted R [] [] ps qs same zip_x zip_y rising_x rising_y one distinct = refl
 one_sorted R [] (y ∷ ys) ps qs same zip_x zip_y rising_x rising_y one distinct = absurd (not_in_none y (same.back y (zero, omega arith, refl)))
 one_sorted R (x ∷ xs) [] ps qs same zip_x zip_y rising_x rising_y one distinct = absurd (not_in_none x (same.into x (zero, omega arith, refl)))
@@ -192,7 +192,7 @@ one_sorted R (x ∷ xs) (y ∷ ys) [] qs same zip_x zip_y rising_x rising_y one 
 one_sorted R (x ∷ xs) (y ∷ ys) (p ∷ ps) [] same zip_x zip_y rising_x rising_y one distinct = absurd zip_y
 one_sorted R (x ∷ xs) (y ∷ ys) (p ∷ ps) (q ∷ qs) same zip_x zip_y rising_x rising_y one distinct =
     let heads = first_alike (among_other y ys q qs x p (same.into x (zero, omega arith, refl)) zip_y zip_x.0)
-        (among_other x xs p ps y q (same.back y (zero, omega arith, refl)) zip_x zip_y.0) in
+    (among_other x xs p ps y q (same.back y (zero, omega arith, refl)) zip_x zip_y.0) in
     let rest = one_sorted R xs ys ps qs (rest_alike x y xs ys heads same) zip_x.1 zip_y.1 rising_x.1 rising_y.1 one
     (λ u v r in_u in_v at_u at_v. distinct u v r (one_deeper x xs u in_u) (one_deeper x xs v in_v) at_u at_v) in
     cc
@@ -246,7 +246,7 @@ beside_back R (x ∷ xs) (z ∷ ys) (suc i) y zip at = beside_back R xs ys i y z
 pub sorted_is_chosen : (operations order : List Operation) (lives : List Life) (positions : List Position) → IsClear operations
     → IsValueOrder operations lives → IsPermutation operations order
     → AllZip (λ o position. IsPositionOf operations lives o position) order positions → AllPairs (λ p q. ¬ (StandsBefore q p)) positions
-        → IsChosenOrder operations order
+    → IsChosenOrder operations order
 sorted_is_chosen operations order lives positions clear values moved zip never_fall = record {
   lives = lives;
   positions = positions;
@@ -268,10 +268,10 @@ sorted_is_chosen operations order lives positions clear values moved zip never_f
           | inl before ↦ before
           | inr (inl same) ↦
               let one = one_operation operations lives x.0 y.0 q clear (in_operations x.0 (contains_at order i x.0 x.1))
-                  (in_operations y.0 (contains_at order j y.0 y.1))
+              (in_operations y.0 (contains_at order j y.0 y.1))
               (subst (λ r. IsPositionOf operations lives x.0 r) same x.2) y.2 in
               let places = one_place (λ o. o.call) operations order i j x.0 y.0 (operations_rise operations clear.complete) moved x.1 y.1
-                  (ap (λ o. o.call) one) in
+              (ap (λ o. o.call) one) in
               absurd (omega arith)
           | inr (inr after) ↦ absurd (not_after after)
         ]

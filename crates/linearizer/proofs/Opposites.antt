@@ -31,11 +31,27 @@ order_violated operations x y none is_x is_y first later before_never = go (dequ
         → return_or_never dy < call_or_never dx → return_or_never dy < NEVER → ⊥
     go dx None did_x did_y less bound = omega arith
     go None (Some d) did_x did_y less bound =
-        none (enqueue_of x) (enqueue_of y) d None (record { a = is_x.0; b = is_y.0; enqueues_a = is_x.1; enqueues_b = is_y.1; dequeues_b =
-            did_y; enqueued_first = first; dequeued_later = did_x })
+        none (enqueue_of x) (enqueue_of y) d None (record {
+          a = is_x.0;
+          b = is_y.0;
+          enqueues_a = is_x.1;
+          enqueues_b = is_y.1;
+          dequeues_b =
+              did_y;
+          enqueued_first = first;
+          dequeued_later = did_x;
+        })
     go (Some c) (Some d) did_x did_y less bound =
-        none (enqueue_of x) (enqueue_of y) d (Some c) (record { a = is_x.0; b = is_y.0; enqueues_a = is_x.1; enqueues_b = is_y.1; dequeues_b =
-            did_y; enqueued_first = first; dequeued_later = (did_x, less) })
+        none (enqueue_of x) (enqueue_of y) d (Some c) (record {
+          a = is_x.0;
+          b = is_y.0;
+          enqueues_a = is_x.1;
+          enqueues_b = is_y.1;
+          dequeues_b =
+              did_y;
+          enqueued_first = first;
+          dequeued_later = (did_x, less);
+        })
 
 -- no two lives stand in opposite orders, from what is known of their tickets
 pub unopposed_from_times : (operations : List Operation) (x y : Life) → NoOrderViolation operations → HasLifeTimes x → HasLifeTimes y
@@ -112,7 +128,7 @@ no_two_opposite operations x y clear none is_x is_y =
 pub is_life : (operations : List Operation) (lives : List Life) → IsValueOrder operations lives → (x : Life) → Contains lives x → IsLife operations x
 is_life operations lives order x among =
     life_of_contained operations x (Contains-permutation lives (lives_of operations) x
-        (IsPermutation-sym (lives_of operations) lives order.holds_each_once) among)
+    (IsPermutation-sym (lives_of operations) lives order.holds_each_once) among)
 
 pub stands_in_order : (operations : List Operation) (lives : List Life) → IsClear operations → IsValueOrder operations lives → (x : Life)
     → IsLife operations x → Contains lives x

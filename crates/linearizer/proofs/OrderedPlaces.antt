@@ -89,7 +89,7 @@ value_at operations values places rank place holds order at = with_value (get_or
       is_at = at_place;
       has_rank =
           element_at (lives_of operations) places rank place order.within at ∙ ap (λ lives. slice_get lives place) (sym holds.0)
-              ∙ slice_get-map (λ m. m.life) values place ∙ ap (option_map (λ m. m.life)) at_place;
+          ∙ slice_get-map (λ m. m.life) values place ∙ ap (option_map (λ m. m.life)) at_place;
       has_places = All-contains (HasPlaces operations) values m holds.1 (contains_at values place m at_place);
     }
 

@@ -27,7 +27,7 @@ by_class : (lives : List Life) → IsPermutation (flat_map operations_of_life li
 by_class [] = IsPermutation-refl []
 by_class (life ∷ lives) =
     IsPermutation-cons (enqueue_of life) (option_to_list (dequeue_of life) ++ flat_map operations_of_life lives)
-        (enqueues_of lives ++ cons_option (dequeue_of life) (dequeues_of lives)) (step (dequeue_of life) (by_class lives))
+    (enqueues_of lives ++ cons_option (dequeue_of life) (dequeues_of lives)) (step (dequeue_of life) (by_class lives))
   where
     step : (o : Option Operation) → IsPermutation (flat_map operations_of_life lives) (enqueues_of lives ++ dequeues_of lives)
         → IsPermutation (option_to_list o ++ flat_map operations_of_life lives) (enqueues_of lives ++ cons_option o (dequeues_of lives))
@@ -36,7 +36,7 @@ by_class (life ∷ lives) =
         IsPermutation-trans (d ∷ flat_map operations_of_life lives) (d ∷ (enqueues_of lives ++ dequeues_of lives)) (enqueues_of lives ++ d ∷ dequeues_of lives)
         (IsPermutation-cons d (flat_map operations_of_life lives) (enqueues_of lives ++ dequeues_of lives) more)
         (IsPermutation-sym (enqueues_of lives ++ d ∷ dequeues_of lives) (d ∷ (enqueues_of lives ++ dequeues_of lives))
-            (IsPermutation-middle (enqueues_of lives) d (dequeues_of lives)))
+        (IsPermutation-middle (enqueues_of lives) d (dequeues_of lives)))
 
 abbrev moves_kind : OpKind → Bool
 moves_kind (Enq v) = true
@@ -68,7 +68,7 @@ split_by_kind (o ∷ operations) =
 none_twice_by_calls : (operations : List Operation) → AllPairs (λ x y. x.call < y.call) operations → NoneTwice operations
 none_twice_by_calls operations rise =
     none_twice_from_places operations (λ i j x y at_x at_y same. one_place (λ o. o.call) operations operations i j x y rise
-        (IsPermutation-refl operations) at_x at_y (ap (λ o. o.call) same))
+    (IsPermutation-refl operations) at_x at_y (ap (λ o. o.call) same))
 
 -- the operations in a life are those of it
 of_life : (life : Life) (o : Operation) → Contains (operations_of_life life) o → IsOf life o
@@ -107,13 +107,13 @@ module _ (operations : List Operation) (clear : IsClear operations) where
   none_twice_in_lives [] none are = tt
   none_twice_in_lives (life ∷ lives) none are =
       none_twice-append (operations_of_life life) (flat_map operations_of_life lives) (none_twice_in_life life (are life (zero, omega arith, refl)))
-          (none_twice_in_lives lives none.1 (λ x among. are x (one_deeper life lives x among)))
+      (none_twice_in_lives lives none.1 (λ x among. are x (one_deeper life lives x among)))
       (λ o here there. shared o (of_life life o here) (from_flat_map operations_of_life lives o there))
     where
       shared : (o : Operation) → IsOf life o → (x : Life) × Contains lives x × Contains (operations_of_life x) o → ⊥
       shared o of (x, among, at) =
           let one = one_life_of_operation operations life x o clear (are life (zero, omega arith, refl)) (are x (one_deeper life lives x among)) of
-              (of_life x o at) in
+          (of_life x o at) in
           none.0 (subst (Contains lives) (sym one) among)
 
   module _ (lives : List Life) (order : IsValueOrder operations lives) where
@@ -139,7 +139,7 @@ module _ (operations : List Operation) (clear : IsClear operations) where
             passes_filter moves_value operations o (ap moves_kind did.1) did.0
         moved life is (inr dequeues) =
             let did : Did operations o (Deq is.0) = subst (λ e. MatchOption e (NoneDid operations (Deq is.0)) (λ d. Did operations d (Deq is.0)))
-                dequeues is.2 in
+            dequeues is.2 in
             passes_filter moves_value operations o (ap moves_kind did.1) did.0
 
     -- the operations by kind
@@ -151,8 +151,8 @@ module _ (operations : List Operation) (clear : IsClear operations) where
         let there = enqueues_of lives ++ dequeues_of lives in
         let lives_once = none_twice_from_places lives (λ i j x y at_x at_y same. one_place_of_life operations lives i j x y clear order at_x at_y same) in
         let moved = same_elements_permute here by_value (none_twice-filter moves_value operations (none_twice_by_calls operations rise))
-            (none_twice_in_lives lives lives_once (is_life operations lives order)) into_lives from_lives in
+        (none_twice_in_lives lives lives_once (is_life operations lives order)) into_lives from_lives in
         IsPermutation-trans operations (here ++ filter is_empty_answer operations ++ filter is_refused operations)
-            (there ++ filter is_empty_answer operations ++ filter is_refused operations) (split_by_kind operations)
+        (there ++ filter is_empty_answer operations ++ filter is_refused operations) (split_by_kind operations)
         (IsPermutation-append_left (filter is_refused operations) (here ++ filter is_empty_answer operations) (there ++ filter is_empty_answer operations)
         (IsPermutation-append_left (filter is_empty_answer operations) here there (IsPermutation-trans here by_value there moved (by_class lives))))

@@ -32,7 +32,7 @@ one_more_among xs ys zs x moved =
     subst (λ l. IsPermutation l (zs ++ x ∷ [])) (sym (append_assoc xs (x ∷ []) ys))
     (IsPermutation-trans (xs ++ x ∷ ys) (x ∷ (xs ++ ys)) (zs ++ x ∷ []) (IsPermutation-middle xs x ys)
     (IsPermutation-trans (x ∷ (xs ++ ys)) (x ∷ zs) (zs ++ x ∷ []) (IsPermutation-cons x (xs ++ ys) zs moved)
-        (IsPermutation-sym (zs ++ x ∷ []) (x ∷ zs) (IsPermutation-to_front zs x))))
+    (IsPermutation-sym (zs ++ x ∷ []) (x ∷ zs) (IsPermutation-to_front zs x))))
 
 -- two zipped lists joined
 pub zip_joined : {A B : Type 0} (R : A → B → Type 0) (xs xs' : List A) (ys ys' : List B) → AllZip R xs ys → AllZip R xs' ys' → AllZip R (xs ++ xs') (ys ++ ys')
@@ -45,7 +45,7 @@ zip_joined R (x ∷ xs) xs' (y ∷ ys) ys' zip zip' = (zip.0, zip_joined R xs xs
 pub dequeue_stands : (lives : List Life) (i gap left later : ℕ) (placed : Placed) → gap ≡ enqueue_gap lives i
     → left ≡ greatest_leaves_from (take (i + 1) lives) → later ≡ max left gap
     → position_of placed.position ≡ record { gap = later; class = (if nat_lt gap later then earlier_dequeues else other_dequeues); rank = i }
-        → position_of placed.position ≡ dequeue_position lives i
+    → position_of placed.position ≡ dequeue_position lives i
 dequeue_stands lives i gap left later placed gap_is left_is later_is stands =
     let last : later ≡ dequeue_gap lives i = later_is ∙ ap (λ m. max m gap) left_is ∙ ap (max (greatest_leaves_from (take (i + 1) lives))) gap_is in
     stands ∙ ap (λ g. record { gap = later; class = (if nat_lt g later then earlier_dequeues else other_dequeues); rank = i }) gap_is
@@ -63,7 +63,7 @@ module _ (operations : List Operation) (lives : List Life) (order : IsValueOrder
   greatest_more : greatest_leaves_from (take (i + 1) lives) ≡ max (greatest_leaves_from (take i lives)) (leaves_from life)
   greatest_more =
       ap greatest_leaves_from longer ∙ ap (fold max 0) (map-append leaves_from (take i lives) (life ∷ []))
-          ∙ fold_max-append 0 (map leaves_from (take i lives)) (leaves_from life ∷ [])
+      ∙ fold_max-append 0 (map leaves_from (take i lives)) (leaves_from life ∷ [])
 
   enqueues_more : enqueues_of (take (i + 1) lives) ≡ enqueues_of (take i lives) ++ enqueue_of life ∷ []
   enqueues_more = ap enqueues_of longer ∙ map-append enqueue_of (take i lives) (life ∷ [])
@@ -89,7 +89,7 @@ module _ (operations : List Operation) (lives : List Life) (order : IsValueOrder
   dequeue_placed : (gap left later : ℕ) (d : Operation) (placed : Placed) → gap ≡ enqueue_gap lives i
       → left ≡ greatest_leaves_from (take (i + 1) lives) → later ≡ max left gap → dequeue_of life ≡ Some d
       → IsAt operations placed.operation d → position_of placed.position
-          ≡ record { gap = later; class = (if nat_lt gap later then earlier_dequeues else other_dequeues); rank = i } → IsPlaced operations lives d placed
+      ≡ record { gap = later; class = (if nat_lt gap later then earlier_dequeues else other_dequeues); rank = i } → IsPlaced operations lives d placed
   dequeue_placed gap left later d placed gap_is left_is later_is dequeues names stands = (names, stands_for d.kind did.1)
     where
       did : Did operations d (Deq is.0)
@@ -170,9 +170,11 @@ module _ (operations : List Operation) (lives : List Life) (i : ℕ) (m : Matche
     each_once = subst (λ os. IsPermutation (os ++ dequeues_of (take j lives)) (so_far.listed ++ enqueue_of m.life ∷ []))
         (sym (enqueues_more operations lives turn.order i m.life turn.at))
         (one_more_among (enqueues_of (take i lives)) (dequeues_of (take j lives)) so_far.listed (enqueue_of m.life) so_far.each_once);
-    each_placed = zip_joined (IsPlaced operations lives) so_far.listed (enqueue_of m.life ∷ []) placed (first ∷ []) so_far.each_placed
-        (enqueue_placed operations lives turn.order i m.life turn.at gap first turn.gap_is
-            (subst (λ p. IsAt operations p (enqueue_of m.life)) (sym names) turn.places.0) stands, tt);
+    each_placed = zip_joined (IsPlaced operations lives) so_far.listed (enqueue_of m.life ∷ []) placed (first ∷ []) so_far.each_placed (
+      enqueue_placed operations lives turn.order i m.life turn.at gap first turn.gap_is
+          (subst (λ p. IsAt operations p (enqueue_of m.life)) (sym names) turn.places.0) stands,
+      tt,
+    );
   }
 
 -- the turn of the next dequeue
@@ -188,9 +190,9 @@ module _ (operations : List Operation) (lives : List Life) (j : ℕ) (m : Matche
     listed = so_far.listed ++ option_to_list (dequeue_of m.life);
     each_once = subst (λ os. IsPermutation os (so_far.listed ++ option_to_list (dequeue_of m.life)))
         (append_assoc (enqueues_of (take i lives)) (dequeues_of (take j lives)) (option_to_list (dequeue_of m.life))
-            ∙ ap (λ os. enqueues_of (take i lives) ++ os) (sym (dequeues_more operations lives turn.order j m.life turn.at)))
+        ∙ ap (λ os. enqueues_of (take i lives) ++ os) (sym (dequeues_more operations lives turn.order j m.life turn.at)))
         (IsPermutation-append_left (option_to_list (dequeue_of m.life))
-            (enqueues_of (take i lives) ++ dequeues_of (take j lives)) so_far.listed so_far.each_once);
+        (enqueues_of (take i lives) ++ dequeues_of (take j lives)) so_far.listed so_far.each_once);
     each_placed = zip_joined (IsPlaced operations lives) so_far.listed (option_to_list (dequeue_of m.life)) placed rest so_far.each_placed zip;
   }
 
@@ -206,15 +208,18 @@ module _ (operations : List Operation) (lives : List Life) (j : ℕ) (m : Matche
 
   pub turn_with_dequeue : (p later : ℕ) (second : Placed) → m.dequeue ≡ Some p → later ≡ max left' gap → second.operation ≡ p
       → position_of second.position ≡ record { gap = later; class = (if nat_lt gap later then earlier_dequeues else other_dequeues); rank = j }
-          → HoldsUpTo operations lives i (j + 1) left' (placed ++ second ∷ [])
+      → HoldsUpTo operations lives i (j + 1) left' (placed ++ second ∷ [])
   turn_with_dequeue p later second same later_is names stands = with_rest (second ∷ []) (one m.dequeue (dequeue_of m.life) same turn.places.1 refl)
     where
       one : (place : Option ℕ) (dequeue : Option Operation) → place ≡ Some p → IsMaybeAt operations place dequeue → dequeue_of m.life ≡ dequeue
           → AllZip (IsPlaced operations lives) (option_to_list dequeue) (second ∷ [])
       one None dequeue same places is = cc
       one (Some q) None same places is = absurd places
-      one (Some q) (Some d) same places is = (dequeue_placed operations lives turn.order j m.life turn.at gap left' later d second turn.gap_is
-          left_more later_is is at_second stands, tt)
+      one (Some q) (Some d) same places is = (
+        dequeue_placed operations lives turn.order j m.life turn.at gap left' later d second turn.gap_is
+            left_more later_is is at_second stands,
+        tt,
+      )
         where
           at_second : IsAt operations second.operation d
           at_second = let here : q ≡ second.operation = cc in subst (λ r. IsAt operations r d) here places

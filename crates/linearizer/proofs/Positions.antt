@@ -104,7 +104,7 @@ gone_at_free_gap operations lives c clear order free in_range i within entered =
     let later = entered_later lives i c in_range (omega arith) in
     let each : (j : ℕ) (x : Life) → j ≤ i → slice_get lives j ≡ Some x → leaves_from x < suc c =
     λ j x le at. let left = left_before_entered operations lives c j later.0 x later.1 clear order free (omega (arith, later.2)) at later.3 later.4 in
-        omega arith in
+    omega arith in
     let greatest = below_greatest lives i (suc c) (omega arith) each in
     let x = life_at lives i within in
     let left = each i x.0 (omega arith) x.1 in
@@ -122,20 +122,27 @@ item_of operations lives clear order o among (Deq v) is position stands =
     let lives_here = is_life operations lives order stands.1 (contains_at lives stands.0 stands.1 stands.2) in
     let did = subst (λ e. MatchOption e (NoneDid operations (Deq lives_here.0)) (λ d. Did operations d (Deq lives_here.0))) stands.3 lives_here.2 in
     let kinds : Deq lives_here.0 ≡ Deq v = sym did.1 ∙ is in
-    let values : lives_here.0 ≡ v = cc in
-    (stands.0, slice_get_within lives stands.0 stands.1 stands.2, (stands.1, stands.2, lives_here.1.1 ∙ ap (λ u. Enq u) values),
-        (stands.1, o, stands.2, stands.3), stands.4)
+    let values : lives_here.0 ≡ v = cc in (
+      stands.0,
+      slice_get_within lives stands.0 stands.1 stands.2,
+      (stands.1, stands.2, lives_here.1.1 ∙ ap (λ u. Enq u) values),
+      (stands.1, o, stands.2, stands.3),
+      stands.4,
+    )
 item_of operations lives clear order o among Empty is position stands =
     let range = return_in_range operations o clear.complete among in
     let window = stands.1.in_window in
-    subst (IsItemOf lives Empty) (sym stands.2) (refl, λ i within entered. gone_at_free_gap operations lives stands.0 clear order stands.1.is_free
-        (omega (arith, window.1)) i within entered)
+    subst (IsItemOf lives Empty) (sym stands.2) (
+      refl,
+      λ i within entered. gone_at_free_gap operations lives stands.0 clear order stands.1.is_free
+          (omega (arith, window.1)) i within entered,
+    )
 item_of operations lives clear order o among (Not v) is position stands = ap (λ p. p.class) stands
 
 pub items_of : (operations : List Operation) (lives : List Life) → IsClear operations → IsValueOrder operations lives
     → (order : List Operation) (positions : List Position)
     → ((o : Operation) → Contains order o → Contains operations o) → AllZip (λ o position. IsPositionOf operations lives o position) order positions
-        → AllZip (IsItemOf lives) (map (λ o. o.kind) order) positions
+    → AllZip (IsItemOf lives) (map (λ o. o.kind) order) positions
 items_of operations lives clear values [] [] among stands = stands
 items_of operations lives clear values [] (p ∷ positions) among stands = stands
 items_of operations lives clear values (o ∷ order) [] among stands = stands
@@ -163,5 +170,8 @@ before_each p (x ∷ ps) each = (each zero x refl, before_each p ps (λ i r at. 
 
 pub rises : (ps : List Position) → AllPairs StandsBefore ps → Rises ps
 rises [] pairs = search rules
-rises (x ∷ ps) pairs = (before_each x ps (λ i r at. pairs_at StandsBefore (x ∷ ps) zero (suc i) x r pairs (omega arith) refl at), rises ps
-    (λ i j d below within. pairs (suc i) (suc j) d (omega arith) (omega arith)))
+rises (x ∷ ps) pairs = (
+  before_each x ps (λ i r at. pairs_at StandsBefore (x ∷ ps) zero (suc i) x r pairs (omega arith) refl at),
+  rises ps
+      (λ i j d below within. pairs (suc i) (suc j) d (omega arith) (omega arith)),
+)

@@ -61,7 +61,7 @@ module _ (n : ℕ) (enter leave : ℕ → ℕ) (gaps : AreGaps n enter leave) (H
             let there = past_first (enqueue_at enter e) x xs differs (state.enqueues_left e (omega arith) (omega arith)) in
             let after = before_one x (enqueue_at enter e) xs rises there in
             absurd (not_both (enqueue_at enter e) (enqueue_at enter r) (enqueues_rise n enter leave gaps e r above within)
-                (subst (λ y. StandsBefore y (enqueue_at enter e)) is after))
+            (subst (λ y. StandsBefore y (enqueue_at enter e)) is after))
       ]
 
   -- the next dequeue is that of the first value not yet dequeued, which is in the queue
@@ -75,10 +75,10 @@ module _ (n : ℕ) (enter leave : ℕ → ℕ) (gaps : AreGaps n enter leave) (H
         | inr (inr above) ↦
             let differs : ¬ (x ≡ dequeue_at enter leave d) = λ same. let ranks : r ≡ d = ap (λ p. p.rank) (sym is ∙ same) in omega arith in
             let there = past_first (dequeue_at enter leave d) x xs differs
-                (state.dequeues_left d (omega arith) (omega arith) (leaves_first d r (omega arith) within leaves)) in
+            (state.dequeues_left d (omega arith) (omega arith) (leaves_first d r (omega arith) within leaves)) in
             let after = before_one x (dequeue_at enter leave d) xs rises there in
             absurd (not_both (dequeue_at enter leave d) (dequeue_at enter leave r) (dequeues_rise n enter leave gaps d r above within)
-                (subst (λ y. StandsBefore y (dequeue_at enter leave d)) is after))
+            (subst (λ y. StandsBefore y (dequeue_at enter leave d)) is after))
       ]
 
   not_too_early : (e d : ℕ) (queue : List ℕ) (x : Position) (xs : List Position) → IsBetween n enter leave Holds Leaves e d queue (x ∷ xs)
@@ -92,7 +92,7 @@ module _ (n : ℕ) (enter leave : ℕ → ℕ) (gaps : AreGaps n enter leave) (H
             let there = past_first (enqueue_at enter d) x xs differs (state.enqueues_left d early within) in
             let after = before_one x (enqueue_at enter d) xs rises there in
             absurd (not_both (enqueue_at enter d) (dequeue_at enter leave d) (enqueued_before_dequeued n enter leave gaps d within)
-                (subst (λ y. StandsBefore y (enqueue_at enter d)) is after))
+            (subst (λ y. StandsBefore y (enqueue_at enter d)) is after))
       ]
 
   -- where an answer finds the queue empty, no value is in it
@@ -107,7 +107,7 @@ module _ (n : ℕ) (enter leave : ℕ → ℕ) (gaps : AreGaps n enter leave) (H
             let entered : enter d < x.gap = gap_below before is.0 in
             let gone = is.1 d (omega arith) entered in
             let there = past_first (dequeue_at enter leave d) x xs (idle_is_no_dequeue n enter leave gaps x d is.0)
-                (state.dequeues_left d (omega arith) (omega arith) gone.1) in
+            (state.dequeues_left d (omega arith) (omega arith) gone.1) in
             let after = before_one x (dequeue_at enter leave d) xs rises there in
             absurd (not_both (dequeue_at enter leave d) x (left_before entered gone.0 is.0) after)
       ]
@@ -220,7 +220,7 @@ module _ (n : ℕ) (enter leave : ℕ → ℕ) (gaps : AreGaps n enter leave) (H
   -- a run of which the positions rise, and in which each value is enqueued, and dequeued if it leaves, is accepted
   pub run_is_accepted : (kinds : List OpKind) (positions : List Position) → AllZip (IsItem n enter leave Holds Leaves) kinds positions → Rises positions
       → ((i : ℕ) → i < n → Among (enqueue_at enter i) positions) → ((i : ℕ) → i < n → Leaves i → Among (dequeue_at enter leave i) positions)
-          → IsAccepted [] kinds
+      → IsAccepted [] kinds
   run_is_accepted kinds positions items rises enqueued dequeued = is_accepted kinds positions 0 0 [] items rises (record {
     in_order = omega arith;
     within = omega arith;

@@ -34,12 +34,12 @@ before_is_less p q before = grind (arith, nat_tests)
 less_where_before : (p q : Stored) → StandsBefore (position_of p) (position_of q) → is_lt (positions.cmp-value.it p q) ≡ true
 less_where_before p q before =
     ap (λ o. is_lt (ordering_then (nat_cmp p.gap q.gap) (ordering_then o (nat_cmp p.rank q.rank)))) (class_order p.class q.class)
-        ∙ before_is_less (position_of p) (position_of q) before
+    ∙ before_is_less (position_of p) (position_of q) before
 
 pub sorted_never_falls : (placed : List Placed) → IsSortedByKey (λ p. p.position) positions.cmp-value.it placed
     → AllPairs (λ p q. ¬ (StandsBefore (position_of q.position) (position_of p.position))) placed
 sorted_never_falls placed sorted i j d below within before =
     let later = sorted_far (λ x y. is_lt (positions.cmp-value.it x.position y.position)) (ranks_by total-law (λ p. p.position)) placed sorted i j d
-        (omega arith) within in
+    (omega arith) within in
     let clash : true ≡ false = sym (less_where_before (get_or placed j d).position (get_or placed i d).position before) ∙ later in
     cc

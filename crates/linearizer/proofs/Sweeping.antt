@@ -60,7 +60,7 @@ one_taken (y ∷ ys) (false ∷ taken) zero x at flag =
 one_taken (y ∷ ys) (false ∷ taken) (suc p) x at flag =
     let rest = left_of ys (set taken p true) in
     IsPermutation-trans (y ∷ left_of ys taken) (y ∷ x ∷ rest) (x ∷ y ∷ rest)
-        (IsPermutation-cons y (left_of ys taken) (x ∷ rest) (one_taken ys taken p x at flag)) (IsPermutation-middle (y ∷ []) x rest)
+    (IsPermutation-cons y (left_of ys taken) (x ∷ rest) (one_taken ys taken p x at flag)) (IsPermutation-middle (y ∷ []) x rest)
 
 -- a flag that is set stays set
 pub flag_stays : (taken : List Bool) (p k : ℕ) → slice_get taken k ≡ Some true → slice_get (set taken p true) k ≡ Some true
@@ -100,7 +100,7 @@ one_more_timed number values i time entries m so_far at is = record { one_each =
           | inl before ↦
               let inside : place < length entries = omega (arith, so_far.one_each) in
               so_far.at_each place timed (slice_get_read entries (length entries) place timed refl inside
-                  (sym read ∙ get_or_append_left entries (last ∷ []) timed place inside))
+              (sym read ∙ get_or_append_left entries (last ∷ []) timed place inside))
           | inr here ↦
               let same : timed ≡ last = sym read ∙ get_or_push entries last timed place (so_far.one_each ∙ sym here) in
               (ap (λ e. e.place) same ∙ sym here, subst (IsTimeOf number values) (sym same) is_last)
@@ -112,7 +112,7 @@ sorted_by_time number values n entries sorted are all moved rises = record {
   never_falls = rises;
   are_timed = All-permutation (IsTimeOf number values) entries sorted moved
       (All-weaker (Contains entries) (IsTimeOf number values) (λ timed among. let place = place_of entries timed among in
-          (are.at_each place.0 timed place.1).1) entries (All-contains_itself entries));
+      (are.at_each place.0 timed place.1).1) entries (All-contains_itself entries));
   has_each = each;
 }
   where
@@ -121,9 +121,12 @@ sorted_by_time number values n entries sorted are all moved rises = record {
 
     each : (place : ℕ) → place < length values → (timed : Timed) × Contains sorted timed × (timed.place ≡ place)
     each place below =
-        let at = slice_get-get_or entries place nowhere (omega (arith, are.one_each)) in
-        (get_or entries place nowhere, Contains-permutation entries sorted (get_or entries place nowhere) moved
-            (contains_at entries place (get_or entries place nowhere) at), (are.at_each place (get_or entries place nowhere) at).0)
+        let at = slice_get-get_or entries place nowhere (omega (arith, are.one_each)) in (
+          get_or entries place nowhere,
+          Contains-permutation entries sorted (get_or entries place nowhere) moved
+              (contains_at entries place (get_or entries place nowhere) at),
+          (are.at_each place (get_or entries place nowhere) at).0,
+        )
 
 -- an entry before the cursor is taken, so one that is left stands at or after it
 stands_after : (taken : List Bool) (entries : List Timed) (i k : ℕ) (timed : Timed) → All (IsTaken taken) (take i entries)
@@ -170,8 +173,13 @@ pub stopped : (taken : List Bool) (entries : List Timed) (i : ℕ) (d : Timed) (
     → get_or taken (get_or entries i d).place e ≡ false → IsFirstLeft entries taken i
 stopped taken entries i d e flagged before left is =
     let within = not_past taken entries i before left in
-    record { entry = get_or entries i d; is_at = slice_get-get_or entries i d within; is_left =
-        flag_at taken entries i d e false flagged within is; before = before }
+    record {
+      entry = get_or entries i d;
+      is_at = slice_get-get_or entries i d within;
+      is_left =
+          flag_at taken entries i d e false flagged within is;
+      before = before;
+    }
 
 -- at the first entry whose value is left stands the least of the values that are left
 pub record IsLeastLeft (number : Life → ℕ) (values : List MatchedValue) (taken : List Bool) (timed : Timed) : Type 0 where
@@ -190,7 +198,7 @@ module _ (number : Life → ℕ) (values : List MatchedValue) (entries : List Ti
       → (m : MatchedValue) × (slice_get values timed.place ≡ Some m) × (timed.time ≡ number m.life)
   value_of k timed at =
       from_some_and (slice_get values timed.place) (λ m. timed.time ≡ number m.life)
-          (All-contains (IsTimeOf number values) entries timed are.are_timed (contains_at entries k timed at))
+      (All-contains (IsTimeOf number values) entries timed are.are_timed (contains_at entries k timed at))
 
   none_less : (i : ℕ) (first : IsFirstLeft entries taken i) (y : MatchedValue) → Contains (left_of values taken) y → first.entry.time ≤ number y.life
   none_less i first y among =
@@ -204,10 +212,10 @@ module _ (number : Life → ℕ) (values : List MatchedValue) (entries : List Ti
       let here = get_or_from_slice_get entries i first.entry entry.0 first.is_at in
       let there = get_or_from_slice_get entries stands.0 entry.0 entry.0 stands.1 in
       let same = one_at values place.0 (value_of stands.0 entry.0 stands.1).0 y
-          (sym (ap (slice_get values) entry.2) ∙ (value_of stands.0 entry.0 stands.1).1) place.1 in
+      (sym (ap (slice_get values) entry.2) ∙ (value_of stands.0 entry.0 stands.1).1) place.1 in
       let time : entry.0.time ≡ number y.life = (value_of stands.0 entry.0 stands.1).2 ∙ ap (λ m. number m.life) same in
       let times : first.entry.time ≤ entry.0.time = subst (λ e. first.entry.time ≤ e.time) there
-          (subst (λ e. e.time ≤ (get_or entries stands.0 entry.0).time) here rises) in
+      (subst (λ e. e.time ≤ (get_or entries stands.0 entry.0).time) here rises) in
       subst (λ n. first.entry.time ≤ n) time times
 
   pub least_left : (i : ℕ) (first : IsFirstLeft entries taken i) → IsLeastLeft number values taken first.entry
@@ -222,7 +230,7 @@ module _ (number : Life → ℕ) (values : List MatchedValue) (entries : List Ti
           mapped_to (λ m. m.life) (left_of values taken) found.0 (left_where values taken first.entry.place found.0 found.1 first.is_left),
           All-map (λ other. number found.0.life ≤ number other) (λ m. m.life) (left_of values taken)
               (All-weaker (Contains (left_of values taken)) (λ y. number found.0.life ≤ number y.life)
-                  (λ y among. subst (λ n. n ≤ number y.life) found.2 (none_less i first y among)) (left_of values taken)
+              (λ y among. subst (λ n. n ≤ number y.life) found.2 (none_less i first y among)) (left_of values taken)
               (All-contains_itself (left_of values taken))),
         );
       }
@@ -276,14 +284,14 @@ least_read : (number : Life → ℕ) (values : List MatchedValue) (entries : Lis
     → AreByTime number values entries → IsFirstLeft entries taken i → read ≡ get_or entries i read → IsLeastLeft number values taken read
 least_read number values entries taken i read are first is =
     subst (IsLeastLeft number values taken) (sym (is ∙ get_or_from_slice_get entries i first.entry read first.is_at))
-        (least_left number values entries taken are i first)
+    (least_left number values entries taken are i first)
 
 pub next_at : (values : List MatchedValue) (entries dequeues : List Timed) (taken : List Bool) (i j : ℕ) (first_in first_out : Timed) (place : ℕ)
     → AreByTime entered_by values entries → AreByTime dequeue_return values dequeues → IsFirstLeft entries taken i → IsFirstLeft dequeues taken j
     → first_in ≡ get_or entries i first_in → first_out ≡ get_or dequeues j first_out → TakesOneOf values first_in first_out place → IsNext values taken place
 next_at values entries dequeues taken i j first_in first_out place are_in are_out a b is_in is_out takes =
     chosen values taken first_in first_out place (least_read entered_by values entries taken i first_in are_in a is_in)
-        (least_read dequeue_return values dequeues taken j first_out are_out b is_out) takes
+    (least_read dequeue_return values dequeues taken j first_out are_out b is_out) takes
 
 -- the place in an entry is that of a value
 pub place_within : (number : Life → ℕ) (values : List MatchedValue) (entries : List Timed) (taken : List Bool) (i : ℕ) (read : Timed)

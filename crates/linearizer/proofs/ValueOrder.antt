@@ -17,8 +17,14 @@ use Rattle.linearizer.proofs.Opposites.{is_life, one_deeper}
 use Rattle.linearizer.proofs.DifferentTimes.{one_life_of_entering, one_life_of_dequeue_return, one_place_of_life}
 
 least_by : (number : Life → ℕ) (x : Life) (xs : List Life) → (life : Life) × IsLeastBy number (x ∷ xs) life
-least_by number x [] = (x, ((zero, omega arith, refl), All-cons (λ other. number x ≤ number other) x [] (omega arith)
-    (All-nil (λ other. number x ≤ number other))))
+least_by number x [] = (
+  x,
+  (
+    (zero, omega arith, refl),
+    All-cons (λ other. number x ≤ number other) x [] (omega arith)
+        (All-nil (λ other. number x ≤ number other)),
+  ),
+)
 least_by number x (y ∷ xs) =
     let rest = least_by number y xs in
     let cases : (number rest.0 < number x) ⊎ (number x ≤ number rest.0) = grind arith in
@@ -40,15 +46,38 @@ choice_of x xs =
     let b = least_by dequeue_return x xs in
     let cases : (dequeue_return b.0 < leaves_from a.0) ⊎ (leaves_from a.0 ≤ dequeue_return b.0) = grind arith in
     elim cases [
-      | inl less ↦ (b.0, record { first_entered = a.0; first_dequeued = b.0; enters_first = a.1; dequeued_first = b.1; takes_dequeued =
-          λ _. refl; takes_entered = λ more. absurd (omega arith) })
-      | inr more ↦ (a.0, record { first_entered = a.0; first_dequeued = b.0; enters_first = a.1; dequeued_first = b.1; takes_dequeued =
-          λ less. absurd (omega arith); takes_entered = λ _. refl })
+      | inl less ↦ (
+        b.0,
+        record {
+          first_entered = a.0;
+          first_dequeued = b.0;
+          enters_first = a.1;
+          dequeued_first = b.1;
+          takes_dequeued =
+              λ _. refl;
+          takes_entered = λ more. absurd (omega arith);
+        },
+      )
+      | inr more ↦ (
+        a.0,
+        record {
+          first_entered = a.0;
+          first_dequeued = b.0;
+          enters_first = a.1;
+          dequeued_first = b.1;
+          takes_dequeued =
+              λ less. absurd (omega arith);
+          takes_entered = λ _. refl;
+        },
+      )
     ]
 
 least_in_other_order : (number : Life → ℕ) (xs ys : List Life) (life : Life) → IsPermutation xs ys → IsLeastBy number xs life → IsLeastBy number ys life
-least_in_other_order number xs ys life moved is = (Contains-permutation xs ys life moved is.0, All-permutation
-    (λ other. number life ≤ number other) xs ys moved is.1)
+least_in_other_order number xs ys life moved is = (
+  Contains-permutation xs ys life moved is.0,
+  All-permutation
+      (λ other. number life ≤ number other) xs ys moved is.1,
+)
 
 pub choice_in_other_order : (xs ys : List Life) (life : Life) → IsPermutation xs ys → IsChoice xs life → IsChoice ys life
 choice_in_other_order xs ys life moved is = record {
@@ -77,7 +106,7 @@ in_order (suc n) (x ∷ xs) long =
     let shorter = length_permutation (x ∷ xs) (choice.0 ∷ remove (x ∷ xs) among.0) moved in
     let rest = in_order n (remove (x ∷ xs) among.0) (omega arith) in
     let all_moved = IsPermutation-trans (x ∷ xs) (choice.0 ∷ remove (x ∷ xs) among.0) (choice.0 ∷ rest.0) moved
-        (IsPermutation-cons choice.0 (remove (x ∷ xs) among.0) rest.0 rest.1) in
+    (IsPermutation-cons choice.0 (remove (x ∷ xs) among.0) rest.0 rest.1) in
     (choice.0 ∷ rest.0, all_moved, (choice_in_other_order (x ∷ xs) (choice.0 ∷ rest.0) choice.0 all_moved choice.1, rest.2))
 
 pub values_have_order : (operations : List Operation) → IsClear operations → (lives : List Life) × IsValueOrder operations lives

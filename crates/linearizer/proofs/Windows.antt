@@ -123,7 +123,7 @@ dequeue_gap_before_return operations lives i life clear none order at returned =
     let is = is_life operations lives order life (contains_at lives i life at) in
     let left = left_before_returned operations lives i i life life clear none order (omega arith) at at returned in
     let greatest = below_greatest lives i (dequeue_return life) (omega arith)
-        (λ j y le at_y. left_before_returned operations lives i j life y clear none order le at at_y returned) in
+    (λ j y le at_y. left_before_returned operations lives i j life y clear none order le at at_y returned) in
     let least = least_of_later lives i i life (omega arith) at in
     let entered : entered_by life ≤ dequeue_return life = omega arith in
     omega arith

@@ -111,7 +111,7 @@ pub no_overtaking : (operations : List Operation) (values : List MatchedValue) �
 no_overtaking operations values clear holds none enq_a enq_b deq_b deq_a violation =
     let found = values_of operations values enq_a enq_b deq_b deq_a clear holds violation in
     All-contains (λ a. ¬ (Overtakes found.b.life a.life)) values found.a
-        (All-contains (λ b. NonePasses (Overtakes b.life) values) values found.b none found.among_b) found.among_a found.overtakes
+    (All-contains (λ b. NonePasses (Overtakes b.life) values) values found.b none found.among_b) found.among_a found.overtakes
 
 place_named : (operations : List Operation) (place : Option ℕ) (o : Option Operation) (d : Operation) (p : ℕ) → IsMaybeAt operations place o
     → o ≡ Some d → place ≡ Some p → IsAt operations p d
@@ -136,7 +136,7 @@ module _ (operations : List Operation) (values : List MatchedValue) (clear : IsC
   comes_first enq_a' enq_b' deq_b' deq_a' violation =
       let found = values_of operations values enq_a' enq_b' deq_b' deq_a' clear holds violation in
       let le = All-contains (λ other. (a : MatchedValue) → Contains values a → Overtakes other.life a.life
-          → dequeue_return b.life ≤ dequeue_return other.life) values found.b first.first found.among_b
+      → dequeue_return b.life ≤ dequeue_return other.life) values found.b first.first found.among_b
       found.a found.among_a found.overtakes in
       let here : dequeue_return b.life ≡ dequeue_of_b.0.ret = ap return_or_never dequeue_of_b.1 in
       let there : dequeue_return found.b.life ≡ deq_b'.ret = ap dequeue_return found.is_b in
@@ -149,7 +149,7 @@ module _ (operations : List Operation) (values : List MatchedValue) (clear : IsC
       let same : found.b.life ≡ b.life = found.is_b ∙ (λ i. record { enqueue = enqueue_of b.life; dequeue = sym dequeue_of_b.1 i }) in
       subst (StaysAtLeast a.life) found.is_a
       (All-contains (λ other. Overtakes b.life other.life → StaysAtLeast a.life other.life) values found.a longest.longest found.among_a
-          (subst (λ l. Overtakes l found.a.life) same found.overtakes))
+      (subst (λ l. Overtakes l found.a.life) same found.overtakes))
 
   -- the first value that overtakes another, with the longest that it overtakes, is the chosen pair
   pub is_chosen_pair : (p : ℕ) → b.dequeue ≡ Some p → IsChosenPair operations (record { enq_a = a.enqueue; enq_b = b.enqueue; deq_b = p; deq_a = a.dequeue })

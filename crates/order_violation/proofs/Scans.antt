@@ -121,7 +121,7 @@ first_changes values candidates i x a r first within is so_far among overtakes s
 pub none_overtaken : (values : List MatchedValue) (b : Life) → NonePasses (EntersBefore (enqueue_call b)) values → NonePasses (Overtakes b) values
 none_overtaken values b none =
     All-weaker (λ value. ¬ (EntersBefore (enqueue_call b) value.life)) (λ value. ¬ (Overtakes b value.life))
-        (λ value not overtakes. not overtakes.0) values none
+    (λ value not overtakes. not overtakes.0) values none
 
 pub longest_is_overtaken : (values : List MatchedValue) (b : Life) (a : MatchedValue) → IsLongestOf (EntersBefore (enqueue_call b)) values a
     → dequeue_return b < dequeue_call a.life → IsLongestOf (Overtakes b) values a

@@ -42,7 +42,7 @@ blocks_grow {X} f g u (suc n) more within here others = elim (cases_eq u n) [
       let before : blocks f n ≡ blocks g n = blocks_same f g n (λ t below. sym (others t (λ e. omega arith))) in
       let last : g n ≡ f n ++ more = rw (← same) here in
       same_permutation _ _ (append_assoc (blocks f n) (f n) more ∙ ap (λ (l : List X). l ++ (f n ++ more)) before
-          ∙ ap (λ (l : List X). blocks g n ++ l) (sym last))
+      ∙ ap (λ (l : List X). blocks g n ++ l) (sym last))
   | inr other ↦
       let ih = blocks_grow f g u n more (omega arith) here others in
       let a = same_permutation _ _ (append_assoc (blocks f n) (f n) more) in
@@ -64,7 +64,7 @@ blocks_lead {X} f g u (suc n) more within here others = elim (cases_eq u n) [
       let a = same_permutation _ _ (sym (append_assoc more (blocks f n) (f n))) in
       let b = IsPermutation-append_left (f n) _ _ (IsPermutation-append_comm more (blocks f n)) in
       let c = same_permutation _ _ (append_assoc (blocks f n) more (f n) ∙ ap (λ (l : List X). l ++ (more ++ f n)) before
-          ∙ ap (λ (l : List X). blocks g n ++ l) (sym last)) in
+      ∙ ap (λ (l : List X). blocks g n ++ l) (sym last)) in
       IsPermutation-trans _ _ _ a (IsPermutation-trans _ _ _ b c)
   | inr other ↦
       let a = same_permutation _ _ (sym (append_assoc more (blocks f n) (f n))) in
@@ -141,8 +141,12 @@ once_map key xs once v = omega (arith, once v, count_map key v xs)
   where
     count_map : {Y : Type 0} (k : Y → ℕ) (w : ℕ) (ys : List Y) → count_by (λ y. eqb (k y) w) ys ≡ count_by (λ n. eqb n w) (map k ys)
     count_map k w [] = refl
-    count_map k w (y ∷ ys) = omega (arith, sum_by-cons (λ z. cond (eqb (k z) w) 1 0) y ys, sum_by-cons (λ n. cond (eqb n w) 1 0) (k y) (map k ys),
-        count_map k w ys)
+    count_map k w (y ∷ ys) = omega (
+      arith,
+      sum_by-cons (λ z. cond (eqb (k z) w) 1 0) y ys,
+      sum_by-cons (λ n. cond (eqb n w) 1 0) (k y) (map k ys),
+      count_map k w ys,
+    )
 
 -- numbers above v
 none_of_lower : (v a n : ℕ) → v < a → count_by (λ x. eqb x v) (range_with_len a n) ≡ 0

@@ -73,7 +73,7 @@ pub stays_closed : (setting : Setting) (t : ℕ) (later before : List Attempt) �
 stays_closed setting t [] before h = h
 stays_closed setting t (attempt ∷ later) before h =
     stays t (refusal setting (accepted setting (later ++ before)) attempt) attempt.step (accepted setting (later ++ before))
-        (stays_closed setting t later before h)
+    (stays_closed setting t later before h)
 
 -- each step of a closed thread but a drain is refused
 closed_refused : (setting : Setting) (steps : List Step) (step : Step) (starved : Bool) → NeedsOpenThread step → thread_of step < setting.threads
@@ -107,4 +107,4 @@ closes setting before later close attempt is none o =
     let here : is_closed t (accepted setting (close ∷ before)) ≡ true =
     rw (accepted_is setting before close none, is, same_number t) refl in
     closed_refused setting (accepted setting (later ++ close ∷ before)) attempt.step attempt.starved o m.known
-        (stays_closed setting t later (close ∷ before) here)
+    (stays_closed setting t later (close ∷ before) here)

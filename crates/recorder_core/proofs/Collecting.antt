@@ -36,7 +36,7 @@ tickets_grow : (setting : Setting) (step : Step) (before : List Step) (u : ℕ) 
     → tickets_of setting (step ∷ before) u ≡ tickets_of setting before u ++ tickets before ∷ []
     → ((t : ℕ) → (u ≡ t → ⊥) → tickets_of setting (step ∷ before) t ≡ tickets_of setting before t) → tickets (step ∷ before) ≡ suc (tickets before) →
     IsPermutation (range_with_len 0 (tickets before)) (blocks (tickets_of setting before) setting.threads)
-        → IsPermutation (range_with_len 0 (tickets (step ∷ before))) (blocks (tickets_of setting (step ∷ before)) setting.threads)
+    → IsPermutation (range_with_len 0 (tickets (step ∷ before))) (blocks (tickets_of setting (step ∷ before)) setting.threads)
 tickets_grow setting step before u within here others more k =
     let a = same_permutation _ _ (ap (range_with_len 0) more ∙ range_more (tickets before)) in
     let b = IsPermutation-append_left (tickets before ∷ []) _ _ k in
@@ -48,15 +48,15 @@ tickets_step : (setting : Setting) (step : Step) (starved : Bool) (before : List
     → IsPermutation (range_with_len 0 (tickets (step ∷ before))) (blocks (tickets_of setting (step ∷ before)) setting.threads)
 tickets_step setting (AskEnq u) starved before k none =
     tickets_grow setting (AskEnq u) before u (may_ask setting before u starved none).known
-        (rw (same_number u) (map_push ticket_of (events setting u before) _)) (λ t other. rw (ne_eqb u t other) refl) refl k.1
+    (rw (same_number u) (map_push ticket_of (events setting u before) _)) (λ t other. rw (ne_eqb u t other) refl) refl k.1
 tickets_step setting (AskDeq u) starved before k none =
     tickets_grow setting (AskDeq u) before u (may_ask setting before u starved none).known
-        (rw (same_number u) (map_push ticket_of (events setting u before) _)) (λ t other. rw (ne_eqb u t other) refl) refl k.1
+    (rw (same_number u) (map_push ticket_of (events setting u before) _)) (λ t other. rw (ne_eqb u t other) refl) refl k.1
 tickets_step setting (Ret u) starved before k none =
     let m = may_return setting before u starved none in
     let a = told_last setting u before (k.0 u).1 m.has_answer in
     tickets_grow setting (Ret u) before u m.known (rw (same_number u, a.1) (map_push ticket_of (events setting u before) _))
-        (λ t other. rw (ne_eqb u t other) refl) refl k.1
+    (λ t other. rw (ne_eqb u t other) refl) refl k.1
 tickets_step setting (Push u) starved before k none = k.1
 tickets_step setting (Effect u) starved before k none = k.1
 tickets_step setting (Say u answer) starved before k none = k.1
@@ -66,8 +66,10 @@ tickets_step setting (Close u) starved before k none = k.1
 pub tickets_are : (setting : Setting) (schedule : List Attempt) → TicketsAre setting (accepted setting schedule)
 tickets_are setting schedule = after_each setting (TicketsAre setting)
     (λ t. recorded setting t [], same_permutation _ _ (no_blocks setting.threads))
-    (λ before attempt k none. (λ t. recorded_goes_on setting t before attempt (k.0 t) none,
-        tickets_step setting attempt.step attempt.starved before k none)) schedule
+    (λ before attempt k none. (
+      λ t. recorded_goes_on setting t before attempt (k.0 t) none,
+      tickets_step setting attempt.step attempt.starved before k none,
+    )) schedule
 
 -- ---- a done schedule
 
@@ -107,8 +109,13 @@ module _ (setting : Setting) (schedule : List Attempt) (few : setting.threads �
       (IsPermutation-sym _ _ (tickets_are setting schedule).1)
 
   many_joined : length (flat_map (λ list. list) (collected_lists setting schedule)) ≡ tickets (accepted setting schedule)
-  many_joined = omega (arith, length_permutation _ _ tickets_joined, length-map
-      (flat_map (λ list. list) (collected_lists setting schedule)) ticket_of, length-range_with_len 0 (tickets (accepted setting schedule)))
+  many_joined = omega (
+    arith,
+    length_permutation _ _ tickets_joined,
+    length-map
+        (flat_map (λ list. list) (collected_lists setting schedule)) ticket_of,
+    length-range_with_len 0 (tickets (accepted setting schedule)),
+  )
 
   pub collected_is_fit : AreFit (collected_lists setting schedule)
   collected_is_fit = record {

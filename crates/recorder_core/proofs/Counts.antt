@@ -158,7 +158,7 @@ own_counts setting (Ret u) starved before k none =
     let m = may_return setting before u starved none in
     let some : is_some (answered setting u before) ≡ true = has_answer setting u before (omega arith) in
     rw (same_number u, length-with_map (events setting u before) _ (answered setting u before) some)
-        (counts_returned _ _ _ _ _ _ _ k m.none_held m.one_pending m.has_answer)
+    (counts_returned _ _ _ _ _ _ _ k m.none_held m.one_pending m.has_answer)
 own_counts setting (Drain u m) starved before k none = rw (same_number u) (counts_drained _ _ _ _ _ _ _ k m)
 own_counts setting (Close u) starved before k none = k
 

@@ -112,8 +112,17 @@ events_none t = record {
 module _ (t a n r next : ℕ) (asked : Option Question) (told : Option Answer) (list : List Event) (k : AreEventsOf t a n r next asked told list) where
   -- the others' steps take tickets
   events_later : (next' : ℕ) → next ≤ next' → AreEventsOf t a n r next' asked told list
-  events_later next' h = record { own = k.own; below = All-weaker (λ e. e.ticket < next) (λ e. e.ticket < next')
-      (λ e less. omega arith) list k.below; rise = k.rise; named = k.named; idle = k.idle; busy = k.busy; fits = k.fits; few = k.few }
+  events_later next' h = record {
+    own = k.own;
+    below = All-weaker (λ e. e.ticket < next) (λ e. e.ticket < next')
+        (λ e less. omega arith) list k.below;
+    rise = k.rise;
+    named = k.named;
+    idle = k.idle;
+    busy = k.busy;
+    fits = k.fits;
+    few = k.few;
+  }
 
   own_more : (what : What) → All (λ e. e.thread ≡ t) (list ++ record { ticket = next; thread = t; what = what } ∷ [])
   own_more what = All-push (λ e. e.thread ≡ t) list _ k.own refl
@@ -138,15 +147,32 @@ module _ (t a n r next : ℕ) (asked : Option Question) (told : Option Answer) (
           rw number (name_of_ask kind t a value (ap (λ (e : Event). e.what) same ∙ is))
     ];
     idle = λ e. absurd (omega arith);
-    busy = λ less. record { earlier = list; call = _; question = asked_for kind t a; events_are = refl; take_turns = k.idle (omega arith); asked_is =
-        refl; call_is = refl };
+    busy = λ less. record {
+      earlier = list;
+      call = _;
+      question = asked_for kind t a;
+      events_are = refl;
+      take_turns = k.idle (omega arith);
+      asked_is =
+          refl;
+      call_is = refl;
+    };
     fits = λ less. absurd (omega arith);
     few = few;
   }
 
   events_answered : (answer : Answer) → Fits asked (Some answer) → AreEventsOf t a (suc n) r next asked (Some answer) list
-  events_answered answer right = record { own = k.own; below = k.below; rise = k.rise; named = k.named; idle = k.idle; busy = k.busy; fits =
-      λ less. right; few = k.few }
+  events_answered answer right = record {
+    own = k.own;
+    below = k.below;
+    rise = k.rise;
+    named = k.named;
+    idle = k.idle;
+    busy = k.busy;
+    fits =
+        λ less. right;
+    few = k.few;
+  }
 
   events_returned : length list ≡ a + r → a ≡ suc r → n ≤ a → (answer : Answer) → told ≡ Some answer → r < n
       → AreEventsOf t a n (suc r) (suc next) asked told (list ++ record { ticket = next; thread = t; what = return_of answer } ∷ [])
@@ -226,7 +252,7 @@ own_events setting (Ret u) starved before c k none =
     let m = may_return setting before u starved none in
     let a = told_last setting u before k m.has_answer in
     rw (same_number u, a.1) (events_returned u (asks u before) (answers u before) (returns u before) (tickets before) (question u before) (Some a.0)
-        (events setting u before) (rw a.1 at k) c.events_are (omega arith) c.answered_below a.0 refl m.has_answer)
+    (events setting u before) (rw a.1 at k) c.events_are (omega arith) c.answered_below a.0 refl m.has_answer)
 own_events setting (Drain u n) starved before c k none = k
 own_events setting (Close u) starved before c k none = k
 

@@ -60,7 +60,7 @@ pub once_joined : (lists : List (List Event)) → AreFit lists → Once ticket_o
 once_joined lists fit =
     let all = flat_map (λ (list : List Event). list) lists in
     once_map ticket_of all (once_permutation (λ n. n) (range_with_len 0 (length all)) (map ticket_of all) (IsPermutation-sym _ _ fit.tickets)
-        (once_range 0 (length all)))
+    (once_range 0 (length all)))
 
 module _ (lists : List (List Event)) (merged : List Event) (fit : AreFit lists) (is : IsMerged lists merged) where
   rises : TicketsRise merged
@@ -140,7 +140,7 @@ module _ (lists : List (List Event)) (merged : List Event) (fit : AreFit lists) 
       let numbers : x.1 ≡ y.1 = omega (arith, names, threads) in
       let lists_same = same_Some x.0 y.0 (sym x.2 ∙ ap (slice_get lists) threads ∙ y.2) in
       let events : Some a ≡ Some b = sym x.3 ∙ ap (λ (l : List Event). slice_get l (2 * x.1)) lists_same
-          ∙ ap (λ (n : ℕ). slice_get y.0 (2 * n)) numbers ∙ y.3 in
+      ∙ ap (λ (n : ℕ). slice_get y.0 (2 * n)) numbers ∙ y.3 in
       let tickets : a.ticket ≡ b.ticket = ap ticket_of (same_Some a b events) in
       omega arith
 

@@ -30,26 +30,55 @@ ask_granted setting u before kind m = by_kind kind
         rw (a, b) refl
 
     by_kind : (k : Kind) → refusal setting before (record { step = ask_of k u; starved = false }) ≡ None
-    by_kind Enq = rw (lt-leb setting.threads u m.known, m.open_still, le-ltb (pushes u before) (asks u before + returns u before) m.none_held, le-ltb
-        (returns u before) (asks u before) m.none_pending, limits) refl
-    by_kind Deq = rw (lt-leb setting.threads u m.known, m.open_still, le-ltb (pushes u before) (asks u before + returns u before) m.none_held, le-ltb
-        (returns u before) (asks u before) m.none_pending, limits) refl
+    by_kind Enq = rw (
+      lt-leb setting.threads u m.known,
+      m.open_still,
+      le-ltb (pushes u before) (asks u before + returns u before) m.none_held,
+      le-ltb
+          (returns u before) (asks u before) m.none_pending,
+      limits,
+    ) refl
+    by_kind Deq = rw (
+      lt-leb setting.threads u m.known,
+      m.open_still,
+      le-ltb (pushes u before) (asks u before + returns u before) m.none_held,
+      le-ltb
+          (returns u before) (asks u before) m.none_pending,
+      limits,
+    ) refl
 
 pub push_granted : (setting : Setting) (u : ℕ) (before : List Step) → MayPush setting u before
     → refusal setting before (record { step = Push u; starved = false }) ≡ None
-push_granted setting u before m = rw (lt-leb setting.threads u m.known, m.open_still, lt-leb (asks u before + returns u before)
-    (pushes u before) m.one_held, lt-leb setting.ring (pushes u before - drained u before) m.has_room) refl
+push_granted setting u before m = rw (
+  lt-leb setting.threads u m.known,
+  m.open_still,
+  lt-leb (asks u before + returns u before)
+      (pushes u before) m.one_held,
+  lt-leb setting.ring (pushes u before - drained u before) m.has_room,
+) refl
 
 pub say_granted : (setting : Setting) (u : ℕ) (before : List Step) (answer : Answer) → MayAnswer setting u before
     → is_wrong answer (question u before) ≡ false → refusal setting before (record { step = Say u answer; starved = false }) ≡ None
-say_granted setting u before answer m right = rw (lt-leb setting.threads u m.known, m.open_still, lt-leb (asks u before)
-    (returns u before) m.one_pending, le-ltb (returns u before) (answers u before) m.no_answer, right) refl
+say_granted setting u before answer m right = rw (
+  lt-leb setting.threads u m.known,
+  m.open_still,
+  lt-leb (asks u before)
+      (returns u before) m.one_pending,
+  le-ltb (returns u before) (answers u before) m.no_answer,
+  right,
+) refl
 
 pub return_granted : (setting : Setting) (u : ℕ) (before : List Step) → MayReturn setting u before
     → refusal setting before (record { step = Ret u; starved = false }) ≡ None
-return_granted setting u before m = rw (lt-leb setting.threads u m.known, m.open_still, le-ltb (pushes u before)
-    (asks u before + returns u before) m.none_held, lt-leb (asks u before) (returns u before) m.one_pending, lt-leb (answers u before)
-    (returns u before) m.has_answer) refl
+return_granted setting u before m = rw (
+  lt-leb setting.threads u m.known,
+  m.open_still,
+  le-ltb (pushes u before)
+      (asks u before + returns u before) m.none_held,
+  lt-leb (asks u before) (returns u before) m.one_pending,
+  lt-leb (answers u before)
+      (returns u before) m.has_answer,
+) refl
 
 pub drain_granted : (setting : Setting) (u n : ℕ) (before : List Step) → u < setting.threads
     → refusal setting before (record { step = Drain u n; starved = false }) ≡ None
@@ -57,8 +86,13 @@ drain_granted setting u n before known = rw (lt-leb setting.threads u known) ref
 
 pub close_granted : (setting : Setting) (u : ℕ) (before : List Step) → MayClose setting u before
     → refusal setting before (record { step = Close u; starved = false }) ≡ None
-close_granted setting u before m = rw (lt-leb setting.threads u m.known, m.open_still, le-ltb (pushes u before)
-    (asks u before + returns u before) m.none_held, le-ltb (returns u before) (asks u before) m.none_pending) refl
+close_granted setting u before m = rw (
+  lt-leb setting.threads u m.known,
+  m.open_still,
+  le-ltb (pushes u before)
+      (asks u before + returns u before) m.none_held,
+  le-ltb (returns u before) (asks u before) m.none_pending,
+) refl
 
 -- ---- lists of steps that are all accepted
 
@@ -123,18 +157,39 @@ collected_other setting n t u list before other k = record {
 pub collected_granted : (setting : Setting) (n u : ℕ) (list : List Event) (before : List Step) → u < setting.threads → 1 ≤ setting.ring
     → IsOnTurn setting n u 1 list before → AllGranted setting before → AllGranted setting (collect_one u before)
 collected_granted setting n u list before known room h all =
-    let push = push_granted setting u before (record { known = known; open_still = h.still_open; one_held = omega (arith, h.pushed); has_room =
-        omega (arith, h.all_drained) }) in
+    let push = push_granted setting u before (record {
+      known = known;
+      open_still = h.still_open;
+      one_held = omega (arith, h.pushed);
+      has_room =
+          omega (arith, h.all_drained);
+    }) in
     one_granted setting (Drain u 1) (Push u ∷ before) (one_granted setting (Push u) before all push) (drain_granted setting u 1 (Push u ∷ before) known)
 
 -- ---- an ask, and an answer with its return
 
 pub ask_other : (setting : Setting) (n t u : ℕ) (list : List Event) (before : List Step) (kind : Kind) → (u ≡ t → ⊥)
     → IsOnTurn setting n t 0 list before → IsOnTurn setting n t 0 list (ask_of kind u ∷ before)
-ask_other setting n t u list before Enq other k = record { still_open = k.still_open; pushed = rw (ne_eqb u t other) k.pushed; all_drained =
-    k.all_drained; answered = k.answered; rest = k.rest; list_is = rw (ne_eqb u t other) k.list_is; later = k.later }
-ask_other setting n t u list before Deq other k = record { still_open = k.still_open; pushed = rw (ne_eqb u t other) k.pushed; all_drained =
-    k.all_drained; answered = k.answered; rest = k.rest; list_is = rw (ne_eqb u t other) k.list_is; later = k.later }
+ask_other setting n t u list before Enq other k = record {
+  still_open = k.still_open;
+  pushed = rw (ne_eqb u t other) k.pushed;
+  all_drained =
+      k.all_drained;
+  answered = k.answered;
+  rest = k.rest;
+  list_is = rw (ne_eqb u t other) k.list_is;
+  later = k.later;
+}
+ask_other setting n t u list before Deq other k = record {
+  still_open = k.still_open;
+  pushed = rw (ne_eqb u t other) k.pushed;
+  all_drained =
+      k.all_drained;
+  answered = k.answered;
+  rest = k.rest;
+  list_is = rw (ne_eqb u t other) k.list_is;
+  later = k.later;
+}
 
 pub answer_other : (setting : Setting) (n t u : ℕ) (list : List Event) (before : List Step) (answer : Answer) → (u ≡ t → ⊥)
     → IsOnTurn setting n t 0 list before → IsOnTurn setting n t 0 list (Ret u ∷ Say u answer ∷ before)

@@ -47,8 +47,13 @@ now_kind setting t before asked is = ap (λ (o : Option Question). option_map_or
 -- the effects, in their order
 abbrev pub taken : Setting → List Step → List TakenEffect
 taken setting [] = []
-taken setting (Effect t ∷ before) = taken setting before ++ record { thread = t; number = answers t before; time = tickets before; kind =
-    kind_now setting t before } ∷ []
+taken setting (Effect t ∷ before) = taken setting before ++ record {
+  thread = t;
+  number = answers t before;
+  time = tickets before;
+  kind =
+      kind_now setting t before;
+} ∷ []
 taken setting (_ ∷ before) = taken setting before
 
 -- no step tells an answer
@@ -67,8 +72,16 @@ pub record IsTaken (next n r : ℕ) (told : Option Answer) (list : List Event) (
 
 module _ (next n r : ℕ) (told : Option Answer) (list : List Event) (number time : ℕ) (kind : OpKind) (k : IsTaken next n r told list number time kind) where
   taken_later : (next' : ℕ) → next ≤ next' → IsTaken next' n r told list number time kind
-  taken_later next' h = record { in_time = omega (arith, k.in_time); was_answered = k.was_answered; call = k.call; called = k.called; called_before =
-      k.called_before; returned = k.returned; waiting = k.waiting }
+  taken_later next' h = record {
+    in_time = omega (arith, k.in_time);
+    was_answered = k.was_answered;
+    call = k.call;
+    called = k.called;
+    called_before =
+        k.called_before;
+    returned = k.returned;
+    waiting = k.waiting;
+  }
 
   still_called : (e : Event) → slice_get (list ++ e ∷ []) (2 * number) ≡ Some k.call
   still_called e = slice_get_front list e (2 * number) (slice_get_within list (2 * number) k.call k.called) ∙ k.called
@@ -135,7 +148,7 @@ told_kind Dequeue Empty right = refl
 
 taken_now : (setting : Setting) (u : ℕ) (before : List Step) → CountedAndRecorded setting u before → MayAnswer setting u before →
     IsTaken (tickets before) (suc (answers u before)) (returns u before) (Some (effect_answer setting u before)) (events setting u before)
-        (answers u before) (tickets before) (kind_now setting u before)
+    (answers u before) (tickets before) (kind_now setting u before)
 taken_now setting u before k m =
     let c = k.0 in
     let b = k.1.busy m.one_pending in
@@ -143,10 +156,10 @@ taken_now setting u before k m =
     let long : length (events setting u before) ≡ suc (2 * answers u before) = omega (arith, c.events_are, c.one_pending, m.one_pending, number) in
     let earlier : length b.earlier ≡ 2 * answers u before = omega (arith, long, ap length b.events_are, length-append b.earlier (b.call ∷ [])) in
     let at : slice_get (events setting u before) (2 * answers u before) ≡ Some b.call =
-        rw b.events_are (slice_get_at b.earlier b.call (2 * answers u before) earlier) in
+    rw b.events_are (slice_get_at b.earlier b.call (2 * answers u before) earlier) in
     let right : is_wrong (effect_answer setting u before) (Some b.question) ≡ false =
     ap (λ (o : Option Question). is_wrong (option_map_or (λ asked. queue_answer asked (queue setting before)) o Empty) (Some b.question)) b.asked_is
-        ∙ queue_is_right b.question (queue setting before) in
+    ∙ queue_is_right b.question (queue setting before) in
     let kind : kind_now setting u before ≡ kind_told b.question (effect_answer setting u before) = now_kind setting u before b.question b.asked_is in
     record {
       in_time = omega arith;
@@ -155,8 +168,12 @@ taken_now setting u before k m =
       called = at;
       called_before = All-at (λ e. e.ticket < tickets before) (events setting u before) (2 * answers u before) b.call k.1.below at;
       returned = λ ret at'. let past = slice_get_past (events setting u before) (2 * answers u before + 1) (omega (arith, long)) in cc;
-      waiting = λ none. (effect_answer setting u before, refl, ap (λ (w : What). kind_of w (return_of (effect_answer setting u before))) b.call_is
-          ∙ told_kind b.question (effect_answer setting u before) right ∙ ap (λ (x : OpKind). Some x) (sym kind));
+      waiting = λ none. (
+        effect_answer setting u before,
+        refl,
+        ap (λ (w : What). kind_of w (return_of (effect_answer setting u before))) b.call_is
+            ∙ told_kind b.question (effect_answer setting u before) right ∙ ap (λ (x : OpKind). Some x) (sym kind),
+      );
     }
   where
     All-at : {X : Type 0} (P : X → Type 0) (xs : List X) (i : ℕ) (x : X) → All P xs → slice_get xs i ≡ Some x → P x
@@ -202,8 +219,11 @@ taken_on setting (Ret u) starved before x all honest none k = elim (cases_eq u x
       let m = subst (λ (v : ℕ). MayReturn setting v before) same (may_return setting before u starved none) in
       let c = (all x.thread).0 in
       let a = told_last setting x.thread before (all x.thread).1 m.has_answer in
-      rw (e, a.1) (k.0, taken_returned _ _ _ _ _ _ _ _ (rw a.1 at k.1) _ a.0 (omega (arith, c.events_are, c.one_pending, m.one_pending))
-          (omega (arith, c.answered_below, c.one_pending)) refl refl refl)
+      rw (e, a.1) (
+        k.0,
+        taken_returned _ _ _ _ _ _ _ _ (rw a.1 at k.1) _ a.0 (omega (arith, c.events_are, c.one_pending, m.one_pending))
+            (omega (arith, c.answered_below, c.one_pending)) refl refl refl,
+      )
   | inr other ↦ rw (ne_eqb u x.thread other) (k.0, taken_later _ _ _ _ _ _ _ _ k.1 (suc (tickets before)) (omega arith))
 ]
 taken_on setting (Push u) starved before x all honest none k = k
@@ -235,7 +255,7 @@ one_effect setting u starved before all honest none k =
     record {
       each = All-push (IsTakenAt setting (Effect u ∷ before)) (taken setting before) _
           (All-weaker (IsTakenAt setting before) (IsTakenAt setting (Effect u ∷ before))
-              (λ x. taken_on setting (Effect u) starved before x all honest none) (taken setting before) k.each)
+          (λ x. taken_on setting (Effect u) starved before x all honest none) (taken setting before) k.each)
           (m.known, rw (same_number u) (taken_now setting u before (all u) m));
       in_order = all_pairs_push (λ x y. x.time ≤ y.time) (taken setting before) _ k.in_order (λ i d within. (k.each i d within).1.in_time);
       kinds_are =
@@ -243,7 +263,7 @@ one_effect setting u starved before all honest none k =
           ∙ ap (λ (l : List OpKind). l ++ kind_now setting u before ∷ []) k.kinds_are
           ∙ ap (λ (kind : OpKind). effect_kinds setting before ++ kind ∷ []) (now_kind setting u before q.0 q.1)
           ∙ ap (λ (o : Option Question). with_last (effect_kinds setting before)
-              (option_map (λ asked. kind_told asked (effect_answer setting u before)) o)) (sym q.1);
+          (option_map (λ asked. kind_told asked (effect_answer setting u before)) o)) (sym q.1);
     }
 
 abbrev HonestlyTaken : Setting → List Step → Type 0
@@ -254,7 +274,7 @@ same_effects : (setting : Setting) (step : Step) (starved : Bool) (before : List
     All (IsTakenAt setting (step ∷ before)) (taken setting before)
 same_effects setting step starved before all honest none k =
     All-weaker (IsTakenAt setting before) (IsTakenAt setting (step ∷ before)) (λ x. taken_on setting step starved before x all honest none)
-        (taken setting before) k.each
+    (taken setting before) k.each
 
 effects_on : (setting : Setting) (step : Step) (starved : Bool) (before : List Step) → ((t : ℕ) → CountedAndRecorded setting t before)
     → without_says (step ∷ before) ≡ true → refusal setting before (record { step = step; starved = starved }) ≡ None → AreTaken setting before
@@ -276,11 +296,19 @@ effects_on setting (Close u) starved before all honest none k =
 
 pub honestly_taken : (setting : Setting) (schedule : List Attempt) → without_says (accepted setting schedule) ≡ true
     → AreTaken setting (accepted setting schedule)
-honestly_taken setting schedule = (after_each setting (HonestlyTaken setting)
-    (λ t. recorded setting t [], λ honest. record { each = All-nil (IsTakenAt setting []); in_order =
-        λ i j d below within. absurd (omega arith); kinds_are = refl })
-    (λ before attempt k none. (λ t. recorded_goes_on setting t before attempt (k.0 t) none,
-        λ honest. effects_on setting attempt.step attempt.starved before k.0 honest none (k.1 (later_honest attempt.step before honest)))) schedule).1
+honestly_taken setting schedule = (after_each setting (HonestlyTaken setting) (
+  λ t. recorded setting t [],
+  λ honest. record {
+    each = All-nil (IsTakenAt setting []);
+    in_order =
+        λ i j d below within. absurd (omega arith);
+    kinds_are = refl;
+  },
+)
+    (λ before attempt k none. (
+      λ t. recorded_goes_on setting t before attempt (k.0 t) none,
+      λ honest. effects_on setting attempt.step attempt.starved before k.0 honest none (k.1 (later_honest attempt.step before honest)),
+    )) schedule).1
 
 -- the operations of the effects
 pub effected_are : (setting : Setting) (steps : List Step) → map (λ (x : TakenEffect). (x.thread, x.number)) (taken setting steps) ≡ effected steps

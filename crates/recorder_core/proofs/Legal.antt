@@ -62,7 +62,7 @@ by_thread_on setting g (Effect u) starved before k none honest =
     let a = same_permutation _ _ (filter_map-append g (effected before) ((u, answers u before) ∷ [])) in
     let b = IsPermutation-append_left more _ _ (k honest) in
     let c = blocks_grow (λ t. own g t (answers t before)) (λ t. own g t (answers t (Effect u ∷ before))) u setting.threads more
-        (may_effect setting before u starved none).known here (λ t other. rw (ne_eqb u t other) refl) in
+    (may_effect setting before u starved none).known here (λ t other. rw (ne_eqb u t other) refl) in
     IsPermutation-trans _ _ _ a (IsPermutation-trans _ _ _ b c)
 by_thread_on setting g (Say u answer) starved before k none honest = cc
 by_thread_on setting g (AskEnq u) starved before k none honest = k honest
@@ -106,7 +106,7 @@ made_of list n call ret kind at_call at_ret is =
 at_number : {X : Type 0} (f : ℕ → X) (n t : ℕ) → t < n → slice_get (map f (range_with_len 0 n)) t ≡ Some (f t)
 at_number f n t within =
     slice_get_read (map f (range_with_len 0 n)) n t (f t) (sym (length-map-range_with_len f 0 n)) within
-        (sym (get_or-map-range_with_len f 0 n t t (f t) within (omega arith)))
+    (sym (get_or-map-range_with_len f 0 n t t (f t) within (omega arith)))
 
 -- ---- the order of the effects
 
@@ -136,9 +136,13 @@ module _ (setting : Setting) (schedule : List Attempt) (merged : List Event) (fe
       let within : 2 * x.number + 1 < length list = omega (arith, a.0, a.1, k.1.was_answered) in
       let ret = get_or list (2 * x.number + 1) k.1.call in
       let at = slice_get-get_or list (2 * x.number + 1) k.1.call within in
-      let r = k.1.returned ret at in
-      (record { call = k.1.call.ticket; ret = ret.ticket; thread = k.1.call.thread; kind = x.kind },
-          made_of list x.number k.1.call ret x.kind k.1.called at r.1, refl, k.1.called_before, r.0)
+      let r = k.1.returned ret at in (
+        record { call = k.1.call.ticket; ret = ret.ticket; thread = k.1.call.thread; kind = x.kind },
+        made_of list x.number k.1.call ret x.kind k.1.called at r.1,
+        refl,
+        k.1.called_before,
+        r.0,
+      )
 
   order_is : effects_order setting steps ≡ filter_map did (taken setting steps)
   order_is = ap (filter_map (operation_at setting steps)) (sym (effected_are setting steps))
@@ -168,7 +172,7 @@ module _ (setting : Setting) (schedule : List Attempt) (merged : List Event) (fe
   thread_operations : (t : ℕ) → t < setting.threads → operations_of (projection t merged) ≡ own (operation_at setting steps) t (answers t steps)
   thread_operations t within =
       let at = at_number (λ v. collected_in setting schedule v) setting.threads t within
-          ∙ ap (λ (l : List Event). Some l) (all_collected setting schedule done t within) in
+      ∙ ap (λ (l : List Event). Some l) (all_collected setting schedule done t within) in
       let a = all_answered t within in
       let k = (recorded setting t schedule).1 in
       ap operations_of (projection_is (collected_lists setting schedule) merged (collected_is_fit setting schedule few done) is t (events setting t steps) at)
@@ -180,11 +184,15 @@ module _ (setting : Setting) (schedule : List Attempt) (merged : List Event) (fe
   each_once =
       let low : (e : Event) → Contains merged e → e.thread < setting.threads = λ e among.
       let o = owned (collected_lists setting schedule) merged (collected_is_fit setting schedule few done) is e among in
-      omega (arith, slice_get_within (collected_lists setting schedule) e.thread o.0 o.1, length-map-range_with_len
-          (λ t. collected_in setting schedule t) 0 setting.threads) in
+      omega (
+        arith,
+        slice_get_within (collected_lists setting schedule) e.thread o.0 o.1,
+        length-map-range_with_len
+            (λ t. collected_in setting schedule t) 0 setting.threads,
+      ) in
       let a = operations_by_thread merged setting.threads low in
       let b = same_permutation _ _ (blocks_same (λ t. operations_of (projection t merged))
-          (λ t. own (operation_at setting steps) t (answers t steps)) setting.threads thread_operations) in
+      (λ t. own (operation_at setting steps) t (answers t steps)) setting.threads thread_operations) in
       let c = IsPermutation-sym _ _ (effects_by_thread setting (operation_at setting steps) schedule honest) in
       IsPermutation-trans _ _ _ a (IsPermutation-trans _ _ _ b c)
 

@@ -100,7 +100,7 @@ rising_unique [] (y ∷ ys) up up' there back = absurd (none_in_nil y (back y (c
 rising_unique (x ∷ xs) [] up up' there back = absurd (none_in_nil x (there x (contains_head x xs)))
 rising_unique (x ∷ xs) (y ∷ ys) up up' there back =
     ap (λ (l : List Event). x ∷ l) (rising_unique xs ys (pairs_tail Below x xs up) (pairs_tail Below y ys up') (one_on x y xs ys up same there)
-        (one_on y x ys xs up' (sym same) back)) ∙ ap (λ (z : Event). z ∷ ys) same
+    (one_on y x ys xs up' (sym same) back)) ∙ ap (λ (z : Event). z ∷ ys) same
   where
     same : x ≡ y
     same = elim (contains_cons y ys x (there x (contains_head x xs))) [
@@ -162,7 +162,7 @@ pub pairs_filter_map : {X Y : Type 0} (R : X → X → Type 0) (S : Y → Y → 
 pairs_filter_map R S h [] turn pairs = λ i j d below within. absurd (omega arith)
 pairs_filter_map {X} {Y} R S h (x ∷ xs) turn pairs =
     by_head (h x) refl (pairs_filter_map R S h xs (λ a b c d in_a in_b. turn a b c d (contains_tail x xs a in_a) (contains_tail x xs b in_b))
-        (pairs_tail R x xs pairs))
+    (pairs_tail R x xs pairs))
   where
     by_head : (o : Option Y) → h x ≡ o → AllPairs S (filter_map h xs) → AllPairs S (cons_option o (filter_map h xs))
     by_head None is more = more

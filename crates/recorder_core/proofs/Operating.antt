@@ -42,11 +42,11 @@ operations_by_thread (e ∷ later) n low =
     let ih = operations_by_thread later n (λ x among. low x (contains_tail e later x among)) in
     let here : operations_of (projection e.thread (e ∷ later)) ≡ option_to_list made ++ operations_of (projection e.thread later) =
     rw (same_number e.thread) (ap (λ (o : Option Event). cons_option (operation_of e o) (operations_of (projection e.thread later)))
-        (find_filter p later) ∙ option_cons made (operations_of (projection e.thread later))) in
+    (find_filter p later) ∙ option_cons made (operations_of (projection e.thread later))) in
     let a = same_permutation _ _ (option_cons made (operations_of later)) in
     let b = IsPermutation-append_right (option_to_list made) _ _ ih in
     let c = blocks_lead (λ t. operations_of (projection t later)) (λ t. operations_of (projection t (e ∷ later))) e.thread n (option_to_list made)
-        (low e (contains_head e later)) here (λ t other. rw (ne_eqb e.thread t other) refl) in
+    (low e (contains_head e later)) here (λ t other. rw (ne_eqb e.thread t other) refl) in
     IsPermutation-trans _ _ _ a (IsPermutation-trans _ _ _ b c)
 
 -- ---- the operations of one thread, by their numbers
@@ -94,7 +94,7 @@ operations_in_turn t (call ∷ answer ∷ rest) zero turns own long = absurd (om
 operations_in_turn t (call ∷ answer ∷ rest) (suc h) turns own long =
     let own' = All-tail (λ (e : Event). e.thread ≡ t) call (answer ∷ rest) own in
     let threads : answer.thread ≡ call.thread = All-head (λ (e : Event). e.thread ≡ t) answer rest own'
-        ∙ sym (All-head (λ (e : Event). e.thread ≡ t) call (answer ∷ rest) own) in
+    ∙ sym (All-head (λ (e : Event). e.thread ≡ t) call (answer ∷ rest) own) in
     let found : nat_eq answer.thread call.thread ≡ true = eq-eqb answer.thread call.thread threads in
     let more = operations_in_turn t rest h turns.1 (All-tail (λ (e : Event). e.thread ≡ t) answer rest own') (omega arith) in
     rw (found, no_operation answer (find (λ r. nat_eq r.thread answer.thread) rest) (answer_is_return call.what answer.what turns.0))

@@ -45,15 +45,27 @@ of_if_map false g o y f z h is = cc
 -- the event of t that a step gives is of t, takes the next ticket, and is given by a ticket step
 pub event_is : (setting : Setting) (t : ℕ) (step : Step) (before : List Step) (event : Event) → event_of setting t step before ≡ Some event
     → (event.thread ≡ t) × (event.ticket ≡ tickets before) × (is_ticket_step step ≡ true)
-event_is setting t (AskEnq u) before event is = (of_if (eqb u t) _ event (λ e. e.thread) t refl is, of_if (eqb u t) _ event (λ e. e.ticket)
-    (tickets before) refl is, refl)
-event_is setting t (AskDeq u) before event is = (of_if (eqb u t) _ event (λ e. e.thread) t refl is, of_if (eqb u t) _ event (λ e. e.ticket)
-    (tickets before) refl is, refl)
+event_is setting t (AskEnq u) before event is = (
+  of_if (eqb u t) _ event (λ e. e.thread) t refl is,
+  of_if (eqb u t) _ event (λ e. e.ticket)
+      (tickets before) refl is,
+  refl,
+)
+event_is setting t (AskDeq u) before event is = (
+  of_if (eqb u t) _ event (λ e. e.thread) t refl is,
+  of_if (eqb u t) _ event (λ e. e.ticket)
+      (tickets before) refl is,
+  refl,
+)
 event_is setting t (Push u) before event is = cc
 event_is setting t (Effect u) before event is = cc
 event_is setting t (Say u answer) before event is = cc
-event_is setting t (Ret u) before event is = (of_if_map (eqb u t) _ (answered setting t before) event (λ e. e.thread) t (λ a. refl) is, of_if_map
-    (eqb u t) _ (answered setting t before) event (λ e. e.ticket) (tickets before) (λ a. refl) is, refl)
+event_is setting t (Ret u) before event is = (
+  of_if_map (eqb u t) _ (answered setting t before) event (λ e. e.thread) t (λ a. refl) is,
+  of_if_map
+      (eqb u t) _ (answered setting t before) event (λ e. e.ticket) (tickets before) (λ a. refl) is,
+  refl,
+)
 event_is setting t (Drain u n) before event is = cc
 event_is setting t (Close u) before event is = cc
 
@@ -103,8 +115,12 @@ kept_tickets None step steps = one (is_ticket_step step)
 pub tickets_rise : (setting : Setting) (later before : List Attempt) → tickets (accepted setting before) ≤ tickets (accepted setting (later ++ before))
 tickets_rise setting [] before = omega arith
 tickets_rise setting (attempt ∷ later) before =
-    omega (arith, tickets_rise setting later before, kept_tickets (refusal setting (accepted setting (later ++ before)) attempt) attempt.step
-        (accepted setting (later ++ before)))
+    omega (
+      arith,
+      tickets_rise setting later before,
+      kept_tickets (refusal setting (accepted setting (later ++ before)) attempt) attempt.step
+          (accepted setting (later ++ before)),
+    )
 
 ticket_is : (setting : Setting) (before : List Attempt) (attempt : Attempt) (event : Event) → Gives setting before attempt event
     → (event.ticket ≡ tickets (accepted setting before)) × (tickets (accepted setting (attempt ∷ before)) ≡ suc (tickets (accepted setting before)))
@@ -149,7 +165,7 @@ lower_stands_before setting schedule first second x y less =
       }
       | inr (inr (mid, is)) ↦
           let more = later_is_higher setting mid y.before y.attempt x.attempt second first y.gives
-              (subst (λ (l : List Attempt). Gives setting l x.attempt first) is x.gives) in
+          (subst (λ (l : List Attempt). Gives setting l x.attempt first) is x.gives) in
           absurd (omega (arith, more, less))
     ]
 

@@ -50,8 +50,11 @@ module _ (lists : List (List Event)) (fit : AreFit lists) (ring : ℕ) (room : 1
 
   low : (t : ℕ) (list : List Event) (e : Event) → slice_get lists t ≡ Some list → Contains list e → e.ticket < length all
   low t list e at among =
-      omega (arith, contains_range 0 (length all) e.ticket (Contains-permutation (map (λ (x : Event). x.ticket) all)
-          (range_with_len 0 (length all)) e.ticket fit.tickets (contains_map (λ (x : Event). x.ticket) all e (contains_joined lists t list e at among))))
+      omega (
+        arith,
+        contains_range 0 (length all) e.ticket (Contains-permutation (map (λ (x : Event). x.ticket) all)
+            (range_with_len 0 (length all)) e.ticket fit.tickets (contains_map (λ (x : Event). x.ticket) all e (contains_joined lists t list e at among))),
+      )
 
   list_collected : (t : ℕ) (list : List Event) → slice_get lists t ≡ Some list → IsCollected on t list whole.steps
   list_collected t list at =
@@ -61,7 +64,7 @@ module _ (lists : List (List Event)) (fit : AreFit lists) (ring : ℕ) (room : 1
       let in_list = subst (λ (l : List Event). Contains l e) (sym k.list_is) (Contains-append_right (events on t whole.steps) k.rest e among) in
       omega (arith, low t list e at in_list, All-contains (λ (x : Event). length all ≤ x.ticket) k.rest e k.later among)) in
       let is : events on t whole.steps ≡ list = sym (k.list_is ∙ ap (λ (l : List Event). events on t whole.steps ++ l) none
-          ∙ append-nil (events on t whole.steps)) in
+      ∙ append-nil (events on t whole.steps)) in
       record {
         pushed = omega (arith, k.pushed);
         all_drained = k.all_drained;
@@ -99,12 +102,22 @@ module _ (lists : List (List Event)) (fit : AreFit lists) (ring : ℕ) (room : 1
       record {
         steps = Close j ∷ k.steps;
         granted = one_granted on (Close j) k.steps k.granted (close_granted on j k.steps
-            (record { known = within; open_still = k.closed_are j within ∙ le-ltb j j (omega arith); none_held =
-            omega (arith, c.pushed); none_pending = c.none_pending }));
+            (record {
+              known = within;
+              open_still = k.closed_are j within ∙ le-ltb j j (omega arith);
+              none_held =
+                  omega (arith, c.pushed);
+              none_pending = c.none_pending;
+            }));
         silent = k.silent;
         closed_are = λ t below. ap (λ (b : Bool). eqb j t || b) (k.closed_are t below) ∙ closed_so_far t j;
-        each = λ t list at. let d = k.each t list at in record { pushed = d.pushed; all_drained = d.all_drained; none_pending =
-            d.none_pending; events_are = d.events_are };
+        each = λ t list at. let d = k.each t list at in record {
+          pushed = d.pushed;
+          all_drained = d.all_drained;
+          none_pending =
+              d.none_pending;
+          events_are = d.events_are;
+        };
       }
 
   closed : (j : ℕ) → j ≤ length lists → IsClosedUpTo j

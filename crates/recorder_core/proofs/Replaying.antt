@@ -151,7 +151,7 @@ module _ (lists : List (List Event)) (fit : AreFit lists) (ring : ℕ) (room : 1
   found : (n : ℕ) → n < length all → (e : Event) × (list : List Event) × (slice_get lists e.thread ≡ Some list) × Contains list e × (e.ticket ≡ n)
   found n below =
       let c = Contains-permutation (range_with_len 0 (length all)) (map ticket_of all) n (IsPermutation-sym _ _ fit.tickets)
-          (in_range 0 (length all) n (omega arith) (omega arith)) in
+      (in_range 0 (length all) n (omega arith) (omega arith)) in
       let m = map_contains ticket_of all n c in
       let j = joined_contains lists m.0 m.1 in
       let own = All-contains (λ (x : Event). x.thread ≡ j.0) j.1 m.0 (fit.each j.0 j.1 j.2).own j.3 in
@@ -178,7 +178,7 @@ module _ (lists : List (List Event)) (fit : AreFit lists) (ring : ℕ) (room : 1
           elim (cases_eq x.ticket n) [
             | inl tie ↦
                 let one = once_same ticket_of all x e (once_joined lists fit) (contains_joined lists t list x at in_list)
-                    (contains_joined lists e.thread from e at_e among) (tie ∙ sym same) in
+                (contains_joined lists e.thread from e at_e among) (tie ∙ sym same) in
                 let own = All-contains (λ (z : Event). z.thread ≡ t) list x (fit.each t list at).own in_list in
                 absurd (other (sym (ap (λ (z : Event). z.thread) one) ∙ own))
             | inr apart ↦ omega (arith, low, apart)
@@ -220,7 +220,7 @@ module _ (lists : List (List Event)) (fit : AreFit lists) (ring : ℕ) (room : 1
       let even = turns_even list own.alternates.takes_turns in
       let same : list_of u ≡ list = get_or_from_slice_get lists u list [] at in
       let more : 2 * asks u steps + 2 ≤ length (list_of u) = rw same
-          (omega (arith, even.1, ap length next.list_is, length-append (events on u steps) (e ∷ next.rest), c.0.events_are, idle)) in
+      (omega (arith, even.1, ap length next.list_is, length-append (events on u steps) (e ∷ next.rest), c.0.events_are, idle)) in
       let few = total_doubled_less (λ t. asks t steps) (λ t. length (list_of t)) u (length lists) (λ t below. asks_half n t r below) within more in
       record {
         known = within;
@@ -245,7 +245,7 @@ module _ (lists : List (List Event)) (fit : AreFit lists) (ring : ℕ) (room : 1
       | inl same ↦
           let one : list ≡ l = same_Some list l (sym at ∙ ap (slice_get lists) same ∙ at') in
           subst (λ (v : ℕ). IsOnTurn on (suc n) v 0 l (collect_one u steps)) same
-              (subst (λ (x : List Event). IsOnTurn on (suc n) u 0 x (collect_one u steps)) one (collected_own on (suc n) u list steps held))
+          (subst (λ (x : List Event). IsOnTurn on (suc n) u 0 x (collect_one u steps)) one (collected_own on (suc n) u list steps held))
       | inr other ↦ collected_other on (suc n) t u l steps other (others t l at' other)
     ];
   }
@@ -295,11 +295,17 @@ module _ (lists : List (List Event)) (fit : AreFit lists) (ring : ℕ) (room : 1
     by_answer answer busy right what =
         let within : u < length lists = slice_get_within lists u list at in
         let told = one_granted on (Say u answer) r.steps r.granted (say_granted on u r.steps answer
-            (record { known = within; open_still = on_turn.still_open; one_pending = busy; no_answer = omega (arith, on_turn.answered) }) right) in
+        (record { known = within; open_still = on_turn.still_open; one_pending = busy; no_answer = omega (arith, on_turn.answered) }) right) in
         let has : returns u (Say u answer ∷ r.steps) < answers u (Say u answer ∷ r.steps) = rw (same_number u) (omega (arith, on_turn.answered)) in
         let returned = one_granted on (Ret u) (Say u answer ∷ r.steps) told
-            (return_granted on u (Say u answer ∷ r.steps) (record { known = within; open_still = on_turn.still_open; none_held =
-            omega (arith, on_turn.pushed); one_pending = busy; has_answer = has })) in
+        (return_granted on u (Say u answer ∷ r.steps) (record {
+          known = within;
+          open_still = on_turn.still_open;
+          none_held =
+              omega (arith, on_turn.pushed);
+          one_pending = busy;
+          has_answer = has;
+        })) in
         finish n u (Ret u ∷ Say u answer ∷ r.steps) list at returned r.silent (ap suc r.counted)
         (answer_own on n u list r.steps e on_turn next refl same r.counted answer what)
         (λ t l at' other. answer_other on (suc n) t u l r.steps answer other (others t l at' other))
@@ -320,7 +326,7 @@ module _ (lists : List (List Event)) (fit : AreFit lists) (ring : ℕ) (room : 1
               elim (first_is_call e next.rest after) [
                 | inl (v, what) ↦
                     let here : slice_get list (2 * asks u r.steps) ≡ Some e = rw next.list_is
-                        (middle (events on u r.steps) e next.rest _ (omega (arith, c.0.events_are))) in
+                    (middle (events on u r.steps) e next.rest _ (omega (arith, c.0.events_are))) in
                     by_ask Enq even (what ∙ ap CallEnq ((fit.each u list at).names (asks u r.steps) v e here what))
                 | inr what ↦ by_ask Deq even what
               ]

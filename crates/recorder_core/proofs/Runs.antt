@@ -44,8 +44,15 @@ pub may_ask : (setting : Setting) (before : List Step) (u : ℕ) (starved : Bool
 may_ask setting before u starved none =
     let a = passed _ _ _ none in let b = passed _ _ _ a.1 in let c = passed _ _ _ b.1 in let d = passed _ _ _ c.1 in let e = passed _ _ _ d.1 in
     let f = or_parts _ _ e.0 in
-    record { known = leb-false _ _ a.0; open_still = b.0; none_held = ltb-false _ _ c.0; none_pending = ltb-false _ _ d.0; thread_may =
-        leb-false _ _ f.0; machine_may = leb-false _ _ f.1 }
+    record {
+      known = leb-false _ _ a.0;
+      open_still = b.0;
+      none_held = ltb-false _ _ c.0;
+      none_pending = ltb-false _ _ d.0;
+      thread_may =
+          leb-false _ _ f.0;
+      machine_may = leb-false _ _ f.1;
+    }
 
 pub record MayPush (setting : Setting) (u : ℕ) (before : List Step) : Type 0 where
   pub known : u < setting.threads

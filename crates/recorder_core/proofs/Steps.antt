@@ -62,8 +62,14 @@ thread_is setting old before u thread left is =
 pub put_thread : (setting : Setting) (old : MachineView) (before : List Step) (step : Step) (new : ThreadView) (asked next : ℕ) (items : List ℕ)
     → IsLeftBy setting old before → thread_of step < setting.threads → new ≡ thread_after setting (thread_of step) (step ∷ before)
     → asked ≡ all_asks (step ∷ before) → next ≡ tickets (step ∷ before) → items ≡ queue setting (step ∷ before)
-    → IsLeftBy setting (record { capacity = old.capacity; threads = set old.threads (thread_of step) new; asked = asked; next_ticket =
-    next; queue = items }) (step ∷ before)
+    → IsLeftBy setting (record {
+      capacity = old.capacity;
+      threads = set old.threads (thread_of step) new;
+      asked = asked;
+      next_ticket =
+          next;
+      queue = items;
+    }) (step ∷ before)
 put_thread setting old before step new asked next items left within is a n q =
     let u = thread_of step in
     record {
@@ -153,7 +159,7 @@ module _ (setting : Setting) (u : ℕ) (before : List Step) (k : Counted setting
 
   refusal_ask : (kind : Kind) → refusal setting before (record { step = ask_of kind u; starved = starved })
       ≡ or_else (find (seen (thread_after setting u before) none_other) (Closed ∷ Held ∷ PendingRefused ∷ []))
-          (cond (is_limited (asks u before) (all_asks before)) (Some Limit) None)
+      (cond (is_limited (asks u before) (all_asks before)) (Some Limit) None)
   refusal_ask Enq = rw (known, seen_held setting u before k, (seen_pending setting u before k).0)
       (three (is_closed u before) (ltb (pushes u before) (asks u before + returns u before))
       (ltb (returns u before) (asks u before)) Closed Held PendingRefused (cond (is_limited (asks u before) (all_asks before)) (Some Limit) None))
@@ -163,7 +169,7 @@ module _ (setting : Setting) (u : ℕ) (before : List Step) (k : Counted setting
 
   refusal_push : (capacity : ℕ) → capacity ≡ setting.ring → refusal setting before (record { step = Push u; starved = starved })
       ≡ find (seen (thread_after setting u before) (when_pushing (leb capacity (length (thread_after setting u before).ring)) starved))
-          (Closed ∷ NothingHeld ∷ RingFull ∷ Memory ∷ [])
+      (Closed ∷ NothingHeld ∷ RingFull ∷ Memory ∷ [])
   refusal_push capacity same = rw (known, seen_none_held setting u before k, seen_ring setting u before k, same) refl
 
   refusal_effect : refusal setting before (record { step = Effect u; starved = starved })
@@ -174,7 +180,7 @@ module _ (setting : Setting) (u : ℕ) (before : List Step) (k : Counted setting
 
   refusal_say : (answer : Answer) → refusal setting before (record { step = Say u answer; starved = starved })
       ≡ or_else (find (seen (thread_after setting u before) none_other) (Closed ∷ NotPending ∷ AnswerTaken ∷ []))
-          (cond (is_wrong answer (question u before)) (Some WrongAnswer) None)
+      (cond (is_wrong answer (question u before)) (Some WrongAnswer) None)
   refusal_say answer = rw (known, (seen_pending setting u before k).1, (seen_given setting u before k).0)
       (three (is_closed u before) (leb (asks u before) (returns u before)) (ltb (returns u before) (answers u before)) Closed NotPending AnswerTaken
       (cond (is_wrong answer (question u before)) (Some WrongAnswer) None))
@@ -206,7 +212,7 @@ module _ (old : MachineView) (u : ℕ) (thread : ThreadView) (at : slice_get old
   says_ask kind starved o is =
       refusal_ask setting u before (all u) shown.0 starved kind
       ∙ ap (λ (x : Option StepRefused). or_else x (cond (is_limited (asks u before) (all_asks before)) (Some Limit) None))
-          (by_view (λ x. find (seen x none_other) (Closed ∷ Held ∷ PendingRefused ∷ [])) o is)
+      (by_view (λ x. find (seen x none_other) (Closed ∷ Held ∷ PendingRefused ∷ [])) o is)
       ∙ ap (λ (n : ℕ). or_else o (cond (is_limited (asks u before) n) (Some Limit) None)) (sym left.asked)
       ∙ ap (λ (x : ThreadView). or_else o (cond (is_limited x.asked old.asked) (Some Limit) None)) (sym shown.1)
 
@@ -222,14 +228,14 @@ module _ (old : MachineView) (u : ℕ) (thread : ThreadView) (at : slice_get old
   says_effect starved o is =
       refusal_effect setting u before (all u) shown.0 starved
       ∙ ap (λ (x : Option StepRefused). or_else x (cond starved (Some Memory) None))
-          (by_view (λ x. find (seen x none_other) (Closed ∷ NotPending ∷ AnswerTaken ∷ [])) o is)
+      (by_view (λ x. find (seen x none_other) (Closed ∷ NotPending ∷ AnswerTaken ∷ [])) o is)
 
   says_say : (told : Answer) (starved : Bool) (o : Option StepRefused) → o ≡ find (seen thread none_other) (Closed ∷ NotPending ∷ AnswerTaken ∷ []) →
       refusal setting before (record { step = Say u told; starved = starved }) ≡ or_else o (cond (is_wrong told (question u before)) (Some WrongAnswer) None)
   says_say told starved o is =
       refusal_say setting u before (all u) shown.0 starved told
       ∙ ap (λ (x : Option StepRefused). or_else x (cond (is_wrong told (question u before)) (Some WrongAnswer) None))
-          (by_view (λ x. find (seen x none_other) (Closed ∷ NotPending ∷ AnswerTaken ∷ [])) o is)
+      (by_view (λ x. find (seen x none_other) (Closed ∷ NotPending ∷ AnswerTaken ∷ [])) o is)
 
   says_return : (starved : Bool) (o : Option StepRefused) → o ≡ find (seen thread none_other) (Closed ∷ Held ∷ NotPending ∷ NoAnswer ∷ []) →
       refusal setting before (record { step = Ret u; starved = starved }) ≡ o
@@ -250,7 +256,7 @@ module _ (old : MachineView) (u : ℕ) (thread : ThreadView) (at : slice_get old
   asked_is : (asked : Question) → thread.pending ≡ Some (record { question = asked; answer = None }) → question u before ≡ Some asked
   asked_is asked is =
       from_map (cond (ltb (returns u before) (answers u before)) (answered setting u before) None) (question u before) asked
-          (ltb (returns u before) (asks u before))
+      (ltb (returns u before) (asks u before))
       (sym (ap (λ (x : ThreadView). x.pending) shown.1) ∙ is)
 
 -- ---- asks, of either kind
@@ -292,15 +298,15 @@ module _ (old : MachineView) (u i : ℕ) (thread new : ThreadView) (same : i ≡
   pub ask_taken : (kind : Kind) → None ≡ find (seen thread none_other) (Closed ∷ Held ∷ PendingRefused ∷ []) → is_limited thread.asked old.asked ≡ false →
       new ≡ after_ask thread (asked_for kind u thread.asked) (record { ticket = old.next_ticket; thread = u; what = call_of (asked_for kind u thread.asked) }) →
       TakesStep old (ask_of kind u) (Ok (Ticket old.next_ticket)) (record old
-          { threads = set old.threads i new; asked = old.asked + 1; next_ticket = old.next_ticket + 1 })
+      { threads = set old.threads i new; asked = old.asked + 1; next_ticket = old.next_ticket + 1 })
   ask_taken kind is few changed = rw same (step_accepted old _ (ask_of kind u) (Ticket old.next_ticket) (length-set old.threads u new)
       (λ setting before all left.
       let none = says_ask old u thread at setting before all left kind false None is ∙ ap (λ (b : Bool). cond b (Some Limit) None) few in
       let f = thread_is setting old before u thread left at in
       let P : ThreadView → ℕ → ThreadView = λ x n. after_ask x (asked_for kind u x.asked)
-          (record { ticket = n; thread = u; what = call_of (asked_for kind u x.asked) }) in
+      (record { ticket = n; thread = u; what = call_of (asked_for kind u x.asked) }) in
       let is' = changed ∙ ap (λ (x : ThreadView). P x old.next_ticket) f.1 ∙ ap (P (thread_after setting u before)) left.next_ticket
-          ∙ sym (own_ask setting u before (all u) (may_ask_of setting before u kind none) kind) in
+      ∙ sym (own_ask setting u before (all u) (may_ask_of setting before u kind none) kind) in
       (none, ap Ticket left.next_ticket ∙ done_ask setting before u kind, put_ask setting old before u kind new left f.0 is')))
 
   pub push_taken : None ≡ find (seen thread (when_pushing (leb old.capacity (length thread.ring)) false)) (Closed ∷ NothingHeld ∷ RingFull ∷ Memory ∷ []) →
@@ -310,13 +316,16 @@ module _ (old : MachineView) (u i : ℕ) (thread new : ThreadView) (same : i ≡
       let none = says_push old u thread at setting before all left false None is in
       let f = thread_is setting old before u thread left at in
       let own = own_push setting u before (all u) (may_push setting before u false none) in
-      let P : ThreadView → ThreadView = λ x. record x { held = None; ring = with_last x.ring x.held } in
-      (none, refl, put_thread setting old before (Push u) new old.asked old.next_ticket old.queue left f.0
-          (changed ∙ ap P f.1 ∙ sym own) left.asked left.next_ticket left.queue_is)))
+      let P : ThreadView → ThreadView = λ x. record x { held = None; ring = with_last x.ring x.held } in (
+        none,
+        refl,
+        put_thread setting old before (Push u) new old.asked old.next_ticket old.queue left f.0
+            (changed ∙ ap P f.1 ∙ sym own) left.asked left.next_ticket left.queue_is,
+      )))
 
   pub effect_taken : (asked : Question) (answer : Answer) (items : List ℕ) → None ≡ find (seen thread none_other) (Closed ∷ NotPending ∷ AnswerTaken ∷ []) →
       thread.pending ≡ Some (record { question = asked; answer = None }) → answer ≡ queue_answer asked old.queue → items ≡ queue_after asked old.queue
-          → new ≡ after_answer thread asked answer →
+      → new ≡ after_answer thread asked answer →
       TakesStep old (Effect u) (Ok (Answered answer)) (record old { threads = set old.threads i new; queue = items })
   effect_taken asked answer items is shows gives leaves changed =
       rw same (step_accepted old _ (Effect u) (Answered answer) (length-set old.threads u new) (λ setting before all left.
@@ -325,9 +334,12 @@ module _ (old : MachineView) (u i : ℕ) (thread new : ThreadView) (same : i ≡
       let q = asked_is old u thread at setting before all left asked shows in
       let a : answer ≡ effect_answer setting u before = rw (q, ← left.queue_is) gives in
       let own = own_effect setting u before (all u) (may_effect setting before u false none) asked q in
-      let is' = changed ∙ ap (λ (x : ThreadView). after_answer x asked answer) f.1 ∙ ap (after_answer (thread_after setting u before) asked) a ∙ sym own in
-      (none, ap Answered a, put_thread setting old before (Effect u) new old.asked old.next_ticket items left f.0 is' left.asked left.next_ticket
-          (rw (q, ← left.queue_is) leaves))))
+      let is' = changed ∙ ap (λ (x : ThreadView). after_answer x asked answer) f.1 ∙ ap (after_answer (thread_after setting u before) asked) a ∙ sym own in (
+        none,
+        ap Answered a,
+        put_thread setting old before (Effect u) new old.asked old.next_ticket items left f.0 is' left.asked left.next_ticket
+            (rw (q, ← left.queue_is) leaves),
+      )))
 
   pub say_taken : (asked : Question) (told : Answer) → None ≡ find (seen thread none_other) (Closed ∷ NotPending ∷ AnswerTaken ∷ []) →
       thread.pending ≡ Some (record { question = asked; answer = None }) → is_wrong told (Some asked) ≡ false → new ≡ after_answer thread asked told →
@@ -337,7 +349,7 @@ module _ (old : MachineView) (u i : ℕ) (thread new : ThreadView) (same : i ≡
       let f = thread_is setting old before u thread left at in
       let q = asked_is old u thread at setting before all left asked shows in
       let none = says_say old u thread at setting before all left told false None is
-          ∙ ap (λ (b : Bool). cond b (Some WrongAnswer) None) (ap (is_wrong told) q ∙ right) in
+      ∙ ap (λ (b : Bool). cond b (Some WrongAnswer) None) (ap (is_wrong told) q ∙ right) in
       let own = own_say setting u before (all u) (may_say setting before u told false none).0 asked told q in
       let is' = changed ∙ ap (λ (x : ThreadView). after_answer x asked told) f.1 ∙ sym own in
       (none, refl, put_thread setting old before (Say u told) new old.asked old.next_ticket old.queue left f.0 is' left.asked left.next_ticket left.queue_is)))
@@ -354,9 +366,12 @@ module _ (old : MachineView) (u i : ℕ) (thread new : ThreadView) (same : i ≡
       let a = answer_of_pending setting u before (all u) m answer (ap (λ (x : ThreadView). given_answer x.pending) (sym f.1) ∙ shows) in
       let P : ThreadView → ℕ → ThreadView = λ x n. after_return x (record { ticket = n; thread = u; what = return_of answer }) in
       let is' = changed ∙ ap (λ (x : ThreadView). P x old.next_ticket) f.1 ∙ ap (P (thread_after setting u before)) left.next_ticket
-          ∙ sym (own_return setting u before (all u) m answer a) in
-      (none, ap Ticket left.next_ticket, put_thread setting old before (Ret u) new old.asked _ old.queue left f.0 is' left.asked
-          (omega (arith, left.next_ticket)) left.queue_is)))
+      ∙ sym (own_return setting u before (all u) m answer a) in (
+        none,
+        ap Ticket left.next_ticket,
+        put_thread setting old before (Ret u) new old.asked _ old.queue left f.0 is' left.asked
+            (omega (arith, left.next_ticket)) left.queue_is,
+      )))
 
   pub drain_taken : (n m : ℕ) → m ≡ min n (length thread.ring) → new
       ≡ record thread { ring = drop m thread.ring; collected = thread.collected ++ take m thread.ring } →
@@ -365,18 +380,24 @@ module _ (old : MachineView) (u i : ℕ) (thread new : ThreadView) (same : i ≡
       let f = thread_is setting old before u thread left at in
       let e : m ≡ min n (in_ring u before) = count ∙ ap (λ (x : ThreadView). min n (length x.ring)) f.1 ∙ ap (min n) (seen_ring setting u before (all u)) in
       let P : ThreadView → ℕ → ThreadView = λ x v. record x { ring = drop v x.ring; collected = x.collected ++ take v x.ring } in
-      let is' = changed ∙ ap (λ (x : ThreadView). P x m) f.1 ∙ ap (P (thread_after setting u before)) e ∙ sym (own_drain setting u before (all u) n) in
-      (says_drain old u thread at setting before all left n false, ap Drained e, put_thread setting old before
-          (Drain u n) new old.asked old.next_ticket old.queue left f.0 is' left.asked left.next_ticket left.queue_is)))
+      let is' = changed ∙ ap (λ (x : ThreadView). P x m) f.1 ∙ ap (P (thread_after setting u before)) e ∙ sym (own_drain setting u before (all u) n) in (
+        says_drain old u thread at setting before all left n false,
+        ap Drained e,
+        put_thread setting old before
+            (Drain u n) new old.asked old.next_ticket old.queue left f.0 is' left.asked left.next_ticket left.queue_is,
+      )))
 
   pub close_taken : None ≡ find (seen thread none_other) (Closed ∷ Held ∷ PendingRefused ∷ []) → new ≡ record thread { closed = true } →
       TakesStep old (Close u) (Ok CloseDone) (record old { threads = set old.threads i new })
   close_taken is changed = rw same (step_accepted old _ (Close u) CloseDone (length-set old.threads u new) (λ setting before all left.
       let f = thread_is setting old before u thread left at in
       let P : ThreadView → ThreadView = λ x. record x { closed = true } in
-      let is' = changed ∙ ap P f.1 ∙ sym (own_close setting u before (all u)) in
-      (says_close old u thread at setting before all left false None is, refl, put_thread setting old before
-          (Close u) new old.asked old.next_ticket old.queue left f.0 is' left.asked left.next_ticket left.queue_is)))
+      let is' = changed ∙ ap P f.1 ∙ sym (own_close setting u before (all u)) in (
+        says_close old u thread at setting before all left false None is,
+        refl,
+        put_thread setting old before
+            (Close u) new old.asked old.next_ticket old.queue left f.0 is' left.asked left.next_ticket left.queue_is,
+      )))
 
 -- ---- refused steps
 

@@ -114,7 +114,7 @@ module _ (setting : Setting) (u : ℕ) (before : List Step) (k : Counted setting
 
   new_pending : (asked : Question) → MayAsk setting u before →
       cond (ltb (returns u before) (suc (asks u before))) (option_map
-          (with_answer (cond (ltb (returns u before) (answers u before)) (answered setting u before) None)) (Some asked)) None
+      (with_answer (cond (ltb (returns u before) (answers u before)) (answered setting u before) None)) (Some asked)) None
       ≡ Some (record { question = asked; answer = None })
   new_pending asked m =
       let e1 : ltb (returns u before) (suc (asks u before)) ≡ true = lt-ltb (returns u before) (suc (asks u before)) (omega arith) in
@@ -144,7 +144,7 @@ module _ (setting : Setting) (u : ℕ) (before : List Step) (k : Counted setting
 
   own_answer : MayAnswer setting u before → (asked : Question) (answer : Answer) → question u before ≡ Some asked →
       cond (ltb (returns u before) (asks u before)) (option_map (with_answer
-          (cond (ltb (returns u before) (suc (answers u before))) (Some answer) None)) (question u before)) None
+      (cond (ltb (returns u before) (suc (answers u before))) (Some answer) None)) (question u before)) None
       ≡ Some (record { question = asked; answer = Some answer })
   own_answer m asked answer is =
       let e1 : ltb (returns u before) (asks u before) ≡ true = lt-ltb (returns u before) (asks u before) m.one_pending in
@@ -153,12 +153,12 @@ module _ (setting : Setting) (u : ℕ) (before : List Step) (k : Counted setting
 
   pub own_effect : MayAnswer setting u before → (asked : Question) → question u before ≡ Some asked →
       thread_after setting u (Effect u ∷ before) ≡ record (thread_after setting u before)
-          { pending = Some (record { question = asked; answer = Some (effect_answer setting u before) }) }
+      { pending = Some (record { question = asked; answer = Some (effect_answer setting u before) }) }
   own_effect m asked is = rw (same_number u) (same_view _ _ refl refl (own_answer m asked (effect_answer setting u before) is) refl refl refl)
 
   pub own_say : MayAnswer setting u before → (asked : Question) (answer : Answer) → question u before ≡ Some asked →
       thread_after setting u (Say u answer ∷ before) ≡ record (thread_after setting u before)
-          { pending = Some (record { question = asked; answer = Some answer }) }
+      { pending = Some (record { question = asked; answer = Some answer }) }
   own_say m asked answer is = rw (same_number u) (same_view _ _ refl refl (own_answer m asked answer is) refl refl refl)
 
   -- the answer of the pending operation
@@ -176,9 +176,9 @@ module _ (setting : Setting) (u : ℕ) (before : List Step) (k : Counted setting
 
   pub own_return : MayReturn setting u before → (answer : Answer) → answered setting u before ≡ Some answer
       → thread_after setting u (Ret u ∷ before) ≡ record (thread_after setting u before) {
-    pending = None;
-    held = Some (record { ticket = tickets before; thread = u; what = return_of answer });
-  }
+        pending = None;
+        held = Some (record { ticket = tickets before; thread = u; what = return_of answer });
+      }
   own_return m answer is =
       let e : ltb (suc (returns u before)) (asks u before) ≡ false = le-ltb (suc (returns u before)) (asks u before) k.one_pending in
       rw (same_number u, is) (same_view _ _ refl refl (rw e refl)
@@ -207,8 +207,12 @@ module _ (setting : Setting) (u : ℕ) (before : List Step) (k : Counted setting
   seen_none_held = is_none-slice_get (events setting u before) (pushes u before) ∙ ap (λ (n : ℕ). leb n (pushes u before)) k.events_are
 
   pub seen_ring : length (thread_after setting u before).ring ≡ in_ring u before
-  seen_ring = omega (arith, length-drop (drained u before) (take (pushes u before) (events setting u before)), length-take (pushes u before)
-      (events setting u before))
+  seen_ring = omega (
+    arith,
+    length-drop (drained u before) (take (pushes u before) (events setting u before)),
+    length-take (pushes u before)
+        (events setting u before),
+  )
 
   is_some-mapped : {X Y : Type 0} (f : X → Y) (o : Option X) → is_some o ≡ true → (is_some (option_map f o) ≡ true) × (is_none (option_map f o) ≡ false)
   is_some-mapped f None h = cc
@@ -257,8 +261,8 @@ module _ (setting : Setting) (u : ℕ) (before : List Step) (k : Counted setting
     | inl less ↦
         let g = given less in
         let p = some_or_none (ltb (returns u before) (answers u before)) (answered setting u before)
-            (λ e. has_answer setting u before (let f : returns u before < answers u before = ltb-true (returns u before) (answers u before) e in
-            omega arith)) in
+        (λ e. has_answer setting u before (let f : returns u before < answers u before = ltb-true (returns u before) (answers u before) e in
+        omega arith)) in
         (ap is_some g ∙ p.0, ap is_none g ∙ p.1 ∙ not-ltb (returns u before) (answers u before))
     | inr more ↦
         let e1 : ltb (returns u before) (asks u before) ≡ false = le-ltb (returns u before) (asks u before) more in

@@ -59,12 +59,12 @@ adds_step : (setting : Setting) (step : Step) (starved : Bool) (before : List St
 adds_step setting (AskEnq u) starved before k none =
     let m = may_ask setting before u starved none in
     let e = total_like (λ t. asks t (AskEnq u ∷ before)) _ setting.threads (λ t. longer (eqb u t) (AskEnq u) _)
-        ∙ total_more (λ t. asks t before) u setting.threads m.known in
+    ∙ total_more (λ t. asks t before) u setting.threads m.known in
     record { asks_are = ap suc k.asks_are ∙ sym e; tickets_are = omega (arith, k.tickets_are); limited = m.machine_may }
 adds_step setting (AskDeq u) starved before k none =
     let m = may_ask setting before u starved none in
     let e = total_like (λ t. asks t (AskDeq u ∷ before)) _ setting.threads (λ t. longer (eqb u t) (AskDeq u) _)
-        ∙ total_more (λ t. asks t before) u setting.threads m.known in
+    ∙ total_more (λ t. asks t before) u setting.threads m.known in
     record { asks_are = ap suc k.asks_are ∙ sym e; tickets_are = omega (arith, k.tickets_are); limited = m.machine_may }
 adds_step setting (Push u) starved before k none = k
 adds_step setting (Effect u) starved before k none = k
@@ -72,7 +72,7 @@ adds_step setting (Say u answer) starved before k none = k
 adds_step setting (Ret u) starved before k none =
     let m = may_return setting before u starved none in
     let e = total_like (λ t. returns t (Ret u ∷ before)) _ setting.threads (λ t. longer (eqb u t) (Ret u) _)
-        ∙ total_more (λ t. returns t before) u setting.threads m.known in
+    ∙ total_more (λ t. returns t before) u setting.threads m.known in
     record { asks_are = k.asks_are; tickets_are = omega (arith, k.tickets_are, e); limited = k.limited }
 adds_step setting (Drain u n) starved before k none = k
 adds_step setting (Close u) starved before k none = k
@@ -97,8 +97,11 @@ tickets_limited setting schedule =
 
 -- a machine that some schedule leaves has asked no more than it may, and has taken at most two tickets for each
 pub is_small : (machine : MachineView) → IsReachable machine → (machine.asked ≤ MAX_OPERATIONS) × (machine.next_ticket ≤ 2 * MAX_OPERATIONS)
-is_small machine (setting, schedule, after) = (omega (arith, after.asked, (added setting schedule).limited), omega
-    (arith, after.next_ticket, tickets_limited setting schedule))
+is_small machine (setting, schedule, after) = (
+  omega (arith, after.asked, (added setting schedule).limited),
+  omega
+      (arith, after.next_ticket, tickets_limited setting schedule),
+)
 
 -- ---- sums of two kinds, thread by thread
 

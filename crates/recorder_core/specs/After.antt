@@ -16,8 +16,11 @@ use Rattle.recorder_core.specs.View.{ThreadView, MachineView}
 abbrev pub pending : Setting → ℕ → List Step → Option Pending
 pending setting t steps =
     if nat_lt (returns t steps) (asks t steps)
-    then option_map (λ asked. record { question = asked; answer =
-        if nat_lt (returns t steps) (answers t steps) then answered setting t steps else None }) (question t steps)
+    then option_map (λ asked. record {
+      question = asked;
+      answer =
+          if nat_lt (returns t steps) (answers t steps) then answered setting t steps else None;
+    }) (question t steps)
     else None
 
 -- what a machine holds for t after these accepted steps: of its events the first are collected,

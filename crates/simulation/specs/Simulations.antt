@@ -23,7 +23,7 @@ abbrev pub rejections : Setting → List Attempt → List Rejection
 rejections setting [] = []
 rejections setting (attempt ∷ before) =
     with_last (rejections setting before) (option_map (λ reason. record { step = length before + 1; reason = reason })
-        (result_err (answer_to setting before attempt)))
+    (result_err (answer_to setting before attempt)))
 
 -- after the schedule the machine isn't done, or it is and these lists are collected
 abbrev pub EndsSo : Setting → List Attempt → Ending → Type 0

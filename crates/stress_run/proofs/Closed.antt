@@ -88,10 +88,10 @@ module _ (rest : PassView) (done : List WorkerView) (w : WorkerView) where
   still_stalls fault None running p q new = tt
   still_stalls None (Some f) running p q new =
       All-push (IsNotAfterStall f) done w (All-weaker (λ (v : WorkerView). v.stopped ≡ false) (IsNotAfterStall f)
-          (λ v runs stopped. absurd (false≢true (sym runs ∙ stopped))) done (running refl)) new
+      (λ v runs stopped. absurd (false≢true (sym runs ∙ stopped))) done (running refl)) new
   still_stalls (Some b) (Some f) running p q new =
       All-push (IsNotAfterStall f) done w (All-weaker (IsNotAfterStall b) (IsNotAfterStall f)
-          (λ v h stopped. not_after f b (Stalled v.thread) q (h stopped)) done p) new
+      (λ v h stopped. not_after f b (Stalled v.thread) q (h stopped)) done p) new
 
   still_stands : (standing fault fault' : Option RunFault) → IfSome fault (Stands standing done)
       → IfSome fault' (λ f. (fault ≡ Some f) ⊎ ((f ≡ Memory) ⊎ IsFaultOfWorker f w)) → IfSome fault' (Stands standing (done ++ w ∷ []))
@@ -126,9 +126,11 @@ module _ (rest : PassView) (done : List WorkerView) (w : WorkerView) where
   closing_more standing tokens pass fault tokens' pass' fault' p key not_later stall stands runs token left drawn = record {
     closed = at_none fault' _ (λ none.
         let run = none_of fault' _ none runs in
-        let was = none_of fault _ run.0 p.closed in
-        (was.0, closed_more rest done tokens pass w tokens' pass' was.1 run.1 (none_of fault' _ none token) key (none_of fault' _ none left)
-            (none_of fault' _ none drawn)));
+        let was = none_of fault _ run.0 p.closed in (
+          was.0,
+          closed_more rest done tokens pass w tokens' pass' was.1 run.1 (none_of fault' _ none token) key (none_of fault' _ none left)
+              (none_of fault' _ none drawn),
+        ));
     first = still_first standing fault fault' (λ none. (none_of fault _ none p.closed).0) p.first not_later;
     stalls = still_stalls fault fault' (λ none. let was = none_of fault _ none p.closed in was.1.running) p.stalls not_later stall;
     stands = still_stands standing fault fault' p.stands stands;

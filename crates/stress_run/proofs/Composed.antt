@@ -54,8 +54,15 @@ rising-join (x ∷ z ∷ xs) ys r s above (suc k) h =
 
 module _ (may : Question → Answer → Type 0) where
   pub same_then : (w v u : WorkerView) → SameWorker w v → SameWorker v u → SameWorker w u
-  same_then w v u p q = record { thread = q.thread ∙ p.thread; ring = q.ring ∙ p.ring; capacity = q.capacity ∙ p.capacity; tries =
-      q.tries ∙ p.tries; key = q.key ∙ p.key; share = q.share ∙ p.share }
+  same_then w v u p q = record {
+    thread = q.thread ∙ p.thread;
+    ring = q.ring ∙ p.ring;
+    capacity = q.capacity ∙ p.capacity;
+    tries =
+        q.tries ∙ p.tries;
+    key = q.key ∙ p.key;
+    share = q.share ∙ p.share;
+  }
 
   numbered_then : (ks ls : List Kind) (first next : ℕ) (os ps : List Operation)
       → map asked_number os ≡ range_with_len first (length ks) → map asked_number ps ≡ range_with_len next (length ls) → next ≡ first + length ks
@@ -86,7 +93,7 @@ module _ (may : Question → Answer → Type 0) where
       let os = p.operates.operations in
       let ps = q.operates.operations in
       let later : AreAbove (w.pass.drawn ++ map ticket_of p.events) (map ticket_of q.events) =
-          subst (λ (held : List ℕ). AreAbove held (map ticket_of q.events)) p.drawn q.above in
+      subst (λ (held : List ℕ). AreAbove held (map ticket_of q.events)) p.drawn q.above in
       let moved : All (IsAsked may w.thread w.pass.key) ps =
       let P : _ → Type 0 = λ t. All (IsAsked may t w.pass.key) ps in
       let Q : _ → Type 0 = λ k. All (IsAsked may v.thread k) ps in

@@ -257,8 +257,12 @@ module _ (key : TableId) (sizes : SizesView) (rows : List (List Kind)) (workers 
               let left = k.left in
               let drawn = k.drawn ∙ ap (λ (v : PassView). v.drawn ++ map ticket_of k.events) new.pass in
               let sent = k.sent ∙ ap (λ l. l ++ k.events) new.sent in
-              record { left = omega (arith, left, had, size, size_new); size = omega (arith, left, had, size, size_new, share, none); drawn =
-                  drawn ∙ sym (ap (map ticket_of) sent) }
+              record {
+                left = omega (arith, left, had, size, size_new);
+                size = omega (arith, left, had, size, size_new, share, none);
+                drawn =
+                    drawn ∙ sym (ap (map ticket_of) sent);
+              }
 
       pub whole : share_of pass ≡ 2 * sum_by length rows
       whole =
@@ -302,7 +306,7 @@ module _ (key : TableId) (sizes : SizesView) (rows : List (List Kind)) (workers 
             let sent = k.sent ∙ ap (λ l. l ++ k.events) new.sent in
             operates_as p.w.thread t p.w.pass.key p.w.asked 0 (row_of rows p.w) (get_or rows t []) k.events (get_or lists t [])
             p.place_of.thread (ap (λ (v : PassView). v.key) new.pass) new.asked (p.place_of.row_is ∙ sym (p.place_of.at_row []))
-                (sym sent ∙ sym (list_at t z.0 h z.1)) k.operates
+            (sym sent ∙ sym (list_at t z.0 h z.1)) k.operates
 
         rising_at : (t : ℕ) → t < length rows → IsStrictlyIncreasing (map ticket_of (get_or lists t []))
         rising_at t h =
@@ -321,7 +325,7 @@ module _ (key : TableId) (sizes : SizesView) (rows : List (List Kind)) (workers 
           rising = rising_at;
           tickets = subst (λ l. IsPermutation (map ticket_of (flat_map (λ list. list) l)) (numbers_below total)) (sym lists_are)
               (subst (λ l. IsPermutation l (numbers_below total)) (tickets_of rows after done_each)
-                  (subst (IsPermutation (flat_map (λ (a : WorkerView). a.pass.drawn) after)) drawn closed.drawn));
+              (subst (IsPermutation (flat_map (λ (a : WorkerView). a.pass.drawn) after)) drawn closed.drawn));
           two_each =
               (let size = whole in
               let left = closed.left in

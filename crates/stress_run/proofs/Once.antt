@@ -26,13 +26,13 @@ module _ (may : Question → Answer → Type 0) where
       → IsOfKind o.question.kind o.answer
       → may o.question o.answer
       → (u.thread ≡ w.thread) × (u.ring ≡ w.ring) × (u.asked ≡ w.asked + 1) × (u.sent ≡ w.sent ++ events_of o) × (u.stopped ≡ w.stopped)
-          × (u.capacity ≡ w.capacity) × (u.tries ≡ w.tries)
+      × (u.capacity ≡ w.capacity) × (u.tries ≡ w.tries)
       → DrawsOne w.pass o.question.call p
       → DrawsOne p o.ret u.pass
       → Works may (k ∷ []) w u
   works_one k w u o p q of_kind allowed s d e =
       let drawn : u.pass.drawn ≡ w.pass.drawn ++ (o.question.call ∷ o.ret ∷ []) =
-          e.drawn ∙ ap (λ l. l ++ o.ret ∷ []) d.drawn ∙ append_assoc w.pass.drawn (o.question.call ∷ []) (o.ret ∷ []) in
+      e.drawn ∙ ap (λ l. l ++ o.ret ∷ []) d.drawn ∙ append_assoc w.pass.drawn (o.question.call ∷ []) (o.ret ∷ []) in
       let grown = ap length drawn ∙ length-append w.pass.drawn (o.question.call ∷ o.ret ∷ []) in
       let later = subst (All (λ t. t < o.ret)) d.drawn e.above in
       record {
@@ -85,7 +85,7 @@ draws_from p p' u u' t t' d a b e =
 pub stalls_after : (k : Kind) (w u : WorkerView) (q : Question) (ret : ℕ) (p : PassView)
     → (q.thread ≡ w.thread) × (q.number ≡ w.asked) × (q.kind ≡ k)
     → (u.thread ≡ w.thread) × (u.ring ≡ w.ring) × (u.sent ≡ w.sent ++ call_event q ∷ []) × (u.stopped ≡ true) × (u.asked ≡ w.asked + 1)
-        × (u.capacity ≡ w.capacity) × (u.tries ≡ w.tries)
+    × (u.capacity ≡ w.capacity) × (u.tries ≡ w.tries)
     → u.capacity ≤ length u.sent
     → w.stopped ≡ false
     → DrawsOne w.pass q.call p

@@ -19,6 +19,6 @@ module _ (faults : List RunFault) (place : ℕ) (inside : place < length faults)
   pub still_least : All (IsNotAfter old) (take place faults) → IsNotAfter new old → IsNotAfter new fault → All (IsNotAfter new) (take (place + 1) faults)
   still_least all before at =
       let more = ap (λ (n : ℕ). take n faults) (add-one place) ∙ take-suc faults place fault inside
-          ∙ ap (λ (r : RunFault). take place faults ++ r ∷ []) (sym is) in
+      ∙ ap (λ (r : RunFault). take place faults ++ r ∷ []) (sym is) in
       subst (All (IsNotAfter new)) (sym more) (All-push (IsNotAfter new) (take place faults) fault
-          (λ k d h. not_after new old (get_or (take place faults) k d) before (all k d h)) at)
+      (λ k d h. not_after new old (get_or (take place faults) k d) before (all k d h)) at)

@@ -21,7 +21,7 @@ module _ (tokens : List TokenView) (own : threads_of_tokens tokens ≡ numbers_b
       let inside : place < length tokens = omega (arith, front, long, all) in
       let left = get_or-range_with_len 0 (length tokens) place 0 inside in
       let right = ap (λ (i : ℕ). get_or (numbers_below place ++ f.other ∷ f.rest) i 0) (sym front)
-          ∙ get_or-append_seam (numbers_below place) f.other f.rest 0 in
+      ∙ get_or-append_seam (numbers_below place) f.other f.rest 0 in
       let here = ap (λ l. get_or l place 0) same in
       f.foreign (omega (arith, left, right, here))
 

@@ -24,8 +24,11 @@ pub zip_of : {X Y : Type 0} (R : X → Y → Type 0) (xs : List X) (ys : List Y)
 zip_of R [] [] e k = tt
 zip_of R [] (y ∷ ys) e k = absurd (omega (arith, e))
 zip_of R (x ∷ xs) [] e k = absurd (omega (arith, e))
-zip_of R (x ∷ xs) (y ∷ ys) e k = (k 0 x y (omega arith) (λ d. refl) (λ d. refl), zip_of R xs ys (omega (arith, e))
-    (λ i a b h p q. k (suc i) a b (omega (arith, h)) p q))
+zip_of R (x ∷ xs) (y ∷ ys) e k = (
+  k 0 x y (omega arith) (λ d. refl) (λ d. refl),
+  zip_of R xs ys (omega (arith, e))
+      (λ i a b h p q. k (suc i) a b (omega (arith, h)) p q),
+)
 
 pub zip_push : {X Y : Type 0} (R : X → Y → Type 0) (xs : List X) (ys : List Y) (x : X) (y : Y) → AllZip R xs ys → R x y → AllZip R (xs ++ x ∷ []) (ys ++ y ∷ [])
 zip_push R [] [] x y z r = (r, tt)

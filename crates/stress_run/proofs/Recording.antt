@@ -113,7 +113,7 @@ module _ (may : Question → Answer → Type 0) (t : ℕ) (key : TableId) where
         names = λ n value call at what.
             let number : 0 + n ≡ n = omega arith in
             named os 0 n value call o.all_asked (o.numbered ∙ ap (range_with_len 0) (sym long))
-                (subst (λ (es : List Event). slice_get es (2 * n) ≡ Some call) same at) what ∙ ap (value_name t) number;
+            (subst (λ (es : List Event). slice_get es (2 * n) ≡ Some call) same at) what ∙ ap (value_name t) number;
         not_too_long = omega (arith, size, long, short);
       }
 
@@ -137,7 +137,7 @@ are_recorded may rows lists total plan run =
           let inside = slice_get_within lists t events at in
           let row : t < length rows = omega (arith, inside, one_each) in
           subst (IsListOf t) (get_or_from_slice_get lists t events [] at)
-              (is_list may t run.word (get_or rows t []) (get_or lists t []) (plan.short t [] row) (run.operates t row) (run.rising t row));
+          (is_list may t run.word (get_or rows t []) (get_or lists t []) (plan.short t [] row) (run.operates t row) (run.rising t row));
       tickets = subst (λ (n : ℕ). IsPermutation (tickets_of all) (range_with_len 0 n)) sum run.tickets;
       not_too_long = omega (arith, sum, two, small);
     }

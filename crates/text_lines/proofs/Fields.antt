@@ -38,7 +38,7 @@ pub has_field : (bytes : List ℕ) → (field : List ℕ) × (others : List (Lis
 has_field [] = ([], [], refl)
 has_field (b ∷ bytes) =
     elim (is_space b) as (λ v. (field : List ℕ) × (others : List (List ℕ))
-        × (cond v ([] ∷ fields_of bytes) (onto_first b (fields_of bytes)) ≡ field ∷ others)) [
+    × (cond v ([] ∷ fields_of bytes) (onto_first b (fields_of bytes)) ≡ field ∷ others)) [
       | true ↦ ([], fields_of bytes, refl)
       | false ↦ let rest = has_field bytes in (b ∷ rest.0, rest.1, ap (onto_first b) rest.2)
     ]
@@ -50,6 +50,6 @@ pub five_fields : {X : Type 0} (judge : List (List ℕ) → X) (x : X) (all a b 
 five_fields judge x all a b c d r1 r2 r3 r4 e1 e2 e3 e4 five =
     let last = has_field r4 in
     let fields : fields_of all ≡ a ∷ b ∷ c ∷ d ∷ last.0 ∷ last.1 =
-        e1 ∙ ap (λ (r : List (List ℕ)). a ∷ r) (e2 ∙ ap (λ (r : List (List ℕ)). b ∷ r)
-        (e3 ∙ ap (λ (r : List (List ℕ)). c ∷ r) (e4 ∙ ap (λ (r : List (List ℕ)). d ∷ r) last.2))) in
+    e1 ∙ ap (λ (r : List (List ℕ)). a ∷ r) (e2 ∙ ap (λ (r : List (List ℕ)). b ∷ r)
+    (e3 ∙ ap (λ (r : List (List ℕ)). c ∷ r) (e4 ∙ ap (λ (r : List (List ℕ)). d ∷ r) last.2))) in
     sym (ap judge fields ∙ five last.0 last.1)

@@ -14,7 +14,7 @@ place_after : (xs ys : List ℕ) → has_no_line_feed xs ≡ true → position_o
 place_after [] ys clean = sym (zero-add (position_or_len is_line_feed ys))
 place_after (x ∷ xs) ys clean =
     elim (is_line_feed x) as (λ v. (not v && has_no_line_feed xs) ≡ true
-        → cond (not v) (1 + position_or_len is_line_feed (xs ++ ys)) 0 ≡ suc (length xs) + position_or_len is_line_feed ys) [
+    → cond (not v) (1 + position_or_len is_line_feed (xs ++ ys)) 0 ≡ suc (length xs) + position_or_len is_line_feed ys) [
       | true ↦ λ bad. absurd (cc)
       | false ↦ λ rest. omega (arith, place_after xs ys rest)
     ] clean
@@ -56,6 +56,6 @@ front_too_long given b more part full other =
     let place = place_after (given ++ b ∷ []) more clean in
     let far : nat_le (81 + position_or_len is_line_feed more) longest_line ≡ false = grind (arith, nat_tests) in
     let here : position_or_len is_line_feed bytes ≡ 81 + position_or_len is_line_feed more =
-        place ∙ ap (λ (n : ℕ). n + position_or_len is_line_feed more) long in
+    place ∙ ap (λ (n : ℕ). n + position_or_len is_line_feed more) long in
     let many : nat_lt longest_line (length bytes) ≡ true = grind (arith, nat_tests, length-append (given ++ b ∷ []) more, long) in
     front_by bytes _ here ∙ rw (far, and-false, many) refl

@@ -12,7 +12,7 @@ module _ (first a b : Option (List ℕ)) (all kept : List ℕ) (at : ℕ) (known
       let rest : take (length kept - at) (drop at kept) ≡ drop at kept = take_all _ _ (omega (arith, length-drop at kept)) in
       let front : Appends a b (take n (drop at kept)) = subst (λ (t : List ℕ). Appends a b (take n t)) rest now in
       let whole : drop at kept ≡ take n (drop at kept) ++ drop (at + n) kept =
-          sym (take-append-drop n (drop at kept)) ∙ ap (λ (t : List ℕ). take n (drop at kept) ++ t) later in
+      sym (take-append-drop n (drop at kept)) ∙ ap (λ (t : List ℕ). take n (drop at kept) ++ t) later in
       Keeps-trans _ _ _ known (append_known-moved a b (take n (drop at kept)) (drop (at + n) kept) (drop at kept) front whole)
 
   -- the sink behind refused

@@ -168,12 +168,12 @@ module _ (budget : ℕ) where
       let all = flat_map drawn_of views in
       let moved = subst (IsPermutation (flat_map drawn_of (set views i w))) (append_assoc v.drawn (n ∷ []) apart.others) (apart.after w) in
       let first = IsPermutation-trans (flat_map drawn_of (set views i w)) (v.drawn ++ n ∷ apart.others) (n ∷ (v.drawn ++ apart.others)) moved
-          (IsPermutation-middle v.drawn n apart.others) in
+      (IsPermutation-middle v.drawn n apart.others) in
       let old = IsPermutation-trans (v.drawn ++ apart.others) all (numbers_below n) (IsPermutation-sym all (v.drawn ++ apart.others) apart.before) a.complete in
       let second = IsPermutation-trans (flat_map drawn_of (set views i w)) (n ∷ (v.drawn ++ apart.others)) (n ∷ numbers_below n) first
-          (IsPermutation-cons n (v.drawn ++ apart.others) (numbers_below n) old) in
+      (IsPermutation-cons n (v.drawn ++ apart.others) (numbers_below n) old) in
       let third = IsPermutation-trans (flat_map drawn_of (set views i w)) (n ∷ numbers_below n) (numbers_below n ++ n ∷ []) second
-          (IsPermutation-sym (numbers_below n ++ n ∷ []) (n ∷ numbers_below n) (IsPermutation-to_front (numbers_below n) n)) in
+      (IsPermutation-sym (numbers_below n ++ n ∷ []) (n ∷ numbers_below n) (IsPermutation-to_front (numbers_below n) n)) in
       let pushed : numbers_below n ++ n ∷ [] ≡ numbers_below (suc n) = sym (range-push 0 n ∙ ap (λ (k : ℕ). numbers_below n ++ k ∷ []) (omega arith)) in
       record {
         limited = a.limited;
@@ -196,9 +196,14 @@ module _ (budget : ℕ) where
       let same = IsPermutation-trans (numbers_below n) all (v.drawn ++ apart.others) (IsPermutation-sym all (numbers_below n) a.complete) apart.before in
       let below = all_left (λ t. t < n) v.drawn apart.others (All-permutation (λ t. t < n) (numbers_below n) (v.drawn ++ apart.others) same (below_all n)) in
       let next : suc n ≡ (n + 1) % 18446744073709551616 = omega arith in
-      let w = holding (v.left - 1) (v.drawn ++ n ∷ []) in
-      (w, keeps, tt, subst (λ (z : ℕ). KeepsAccount budget (stepped s 0 z id me.1 w keeps)) next
-          (kept s.words (suc n) (set s.views id w) r.0 (account_drawn n s.views id v a at some_left below)), ((omega arith, refl, below, omega arith), refl))
+      let w = holding (v.left - 1) (v.drawn ++ n ∷ []) in (
+        w,
+        keeps,
+        tt,
+        subst (λ (z : ℕ). KeepsAccount budget (stepped s 0 z id me.1 w keeps)) next
+            (kept s.words (suc n) (set s.views id w) r.0 (account_drawn n s.views id v a at some_left below)),
+        ((omega arith, refl, below, omega arith), refl),
+      )
 
   pub splits : (id : ℕ) (v : Holding) (n : ℕ) → n ≤ v.left → Splits (KeepsAccount budget) id v (holding (v.left - n) v.drawn) (holding n [])
   splits id v n fits s r at =
@@ -211,10 +216,10 @@ module _ (budget : ℕ) where
       let is = a.shared_out in
       let all = flat_map drawn_of s.views in
       let same = IsPermutation-trans (flat_map drawn_of (set s.views id w)) (v.drawn ++ apart.others) all (apart.after w)
-          (IsPermutation-sym all (v.drawn ++ apart.others) apart.before) in
+      (IsPermutation-sym all (v.drawn ++ apart.others) apart.before) in
       let done = IsPermutation-trans (flat_map drawn_of (set s.views id w)) all (numbers_below (get_or s.words 0 0)) same a.complete in
       let longer : flat_map drawn_of (set s.views id w) ≡ flat_map drawn_of (set s.views id w ++ new ∷ []) =
-          sym (flat_map-append drawn_of (set s.views id w) (new ∷ []) ∙ append-nil (flat_map drawn_of (set s.views id w))) in (
+      sym (flat_map-append drawn_of (set s.views id w) (new ∷ []) ∙ append-nil (flat_map drawn_of (set s.views id w))) in (
         r.0,
         record {
           limited = a.limited;
@@ -243,16 +248,16 @@ module _ (budget : ℕ) where
       let is = a.shared_out in
       let once : (x : ℕ) → times x v.drawn + times x w.drawn ≤ 1 = λ x.
       (let outer = times-append x v.drawn (w.drawn ++ two.others) in let inner = times-append x w.drawn two.others in let same =
-          times-permutation x all (v.drawn ++ (w.drawn ++ two.others)) two.before in
+      times-permutation x all (v.drawn ++ (w.drawn ++ two.others)) two.before in
       let known = times-permutation x all (numbers_below next) a.complete in omega (arith, (times-range x 0 next).0)) in
       let rise = increasing 0 (merged v.drawn w.drawn) (RisesFrom-merged v.drawn w.drawn (rises w.drawn (rising_at views other w here a.rising)) once) in
       let after = flat_map drawn_of (set (set views id m) other spent) in
       let to_parts = IsPermutation-trans after (merged v.drawn w.drawn ++ two.others) ((v.drawn ++ w.drawn) ++ two.others) (two.after m spent)
       (IsPermutation-append_left two.others (merged v.drawn w.drawn) (v.drawn ++ w.drawn)
-          (IsPermutation-sym (v.drawn ++ w.drawn) (merged v.drawn w.drawn) both)) in
+      (IsPermutation-sym (v.drawn ++ w.drawn) (merged v.drawn w.drawn) both)) in
       let to_old = IsPermutation-trans after (v.drawn ++ (w.drawn ++ two.others)) all
-          (subst (IsPermutation after) (append_assoc v.drawn w.drawn two.others) to_parts)
-          (IsPermutation-sym all (v.drawn ++ (w.drawn ++ two.others)) two.before) in (
+      (subst (IsPermutation after) (append_assoc v.drawn w.drawn two.others) to_parts)
+      (IsPermutation-sym all (v.drawn ++ (w.drawn ++ two.others)) two.before) in (
         r.0,
         record {
           limited = a.limited;
@@ -270,9 +275,13 @@ module _ (budget : ℕ) where
       let n : ℕ = get_or s.words 0 0 in
       let within = share_within s.views id me.0 at in
       let limit = a.limited in
-      let is = a.shared_out in
-      (me.0, keeps, tt, kept s.words n (set s.views id me.0) r.0 (subst (IsAccount budget n) (sym (set_again s.views id me.0 at)) a),
-          ((omega arith, rising_at s.views id me.0 at a.rising), refl))
+      let is = a.shared_out in (
+        me.0,
+        keeps,
+        tt,
+        kept s.words n (set s.views id me.0) r.0 (subst (IsAccount budget n) (sym (set_again s.views id me.0 at)) a),
+        ((omega arith, rising_at s.views id me.0 at a.rising), refl),
+      )
 
   -- the pass that has the whole budget holds each number below the word once
   pub closes : (id : ℕ) (v : Holding) (words : List ℕ) (slots : List (Unit {0})) (next : ℕ) → whole_of v ≡ budget
@@ -291,9 +300,9 @@ module _ (budget : ℕ) where
       let long = length_permutation (flat_map drawn_of (set s.views id none)) apart.others (apart.after none) in
       let empty = nothing apart.others (omega arith) in
       let alone = subst (λ (l : List ℕ). IsPermutation (flat_map drawn_of s.views) l)
-          (ap (λ (l : List ℕ). v.drawn ++ l) empty ∙ append-nil v.drawn) apart.before in
+      (ap (λ (l : List ℕ). v.drawn ++ l) empty ∙ append-nil v.drawn) apart.before in
       let mine = IsPermutation-trans v.drawn (flat_map drawn_of s.views) (numbers_below (get_or s.words 0 0))
-          (IsPermutation-sym (flat_map drawn_of s.views) v.drawn alone) a.complete in
+      (IsPermutation-sym (flat_map drawn_of s.views) v.drawn alone) a.complete in
       all_below (get_or s.words 0 0) v.drawn (rising_at s.views id v at a.rising) mine ∙ ap numbers_below last
     where
       word_at : (l : List ℕ) (n : ℕ) → get_elem? l 0 ≡ some n → get_or l 0 0 ≡ n

@@ -61,8 +61,11 @@ named_if_found operations names v (Some place) some found = found.1
 module _ (operations : List Operation) (names : Names) (i : ℕ) (o : Operation) (calls : List Call) (here : IsAt operations i o)
     (met : MetOthers operations names i calls) where
   pub others_no_call : enqueued_value o.kind ≡ None → MetOthers operations names (i + 1) calls
-  others_no_call none = record { are_calls = met.are_calls; has_all =
-      λ v unnamed none_of. met_no_call operations i o v None here none (met.has_all v unnamed none_of) }
+  others_no_call none = record {
+    are_calls = met.are_calls;
+    has_all =
+        λ v unnamed none_of. met_no_call operations i o v None here none (met.has_all v unnamed none_of);
+  }
 
   pub others_named : (w : ℕ) → enqueued_value o.kind ≡ Some w → IsNamed operations names w → MetOthers operations names (i + 1) calls
   others_named w called named = record {
@@ -76,7 +79,7 @@ module _ (operations : List Operation) (names : Names) (i : ℕ) (o : Operation)
     are_calls = All-push (IsCall operations) calls (record { value = w; place = i }) met.are_calls (o, here, called);
     has_all = λ v unnamed none_of.
         let parts = All-pop (λ (call : Call). ¬ (call.value ≡ v)) (calls ++ record { value = w; place = i } ∷ []) calls
-            (Some (record { value = w; place = i })) refl none_of in
+        (Some (record { value = w; place = i })) refl none_of in
         met_other operations i o v None here (λ same. parts.1 (let e = sym called ∙ same in cc)) (met.has_all v unnamed parts.0);
   }
 
@@ -125,7 +128,7 @@ call_within operations v place (o, here, called) = slice_get_within operations p
 -- where the calls from place i on have this value or a greater one, and those before a smaller one, and that at i isn't of this value, none is
 pub none_among : (calls : List Call) (v i : ℕ) → IsNonDecreasingBy (λ call. call.value) calls
     → IsPartitionPoint (λ (call : Call). ltb call.value v ≡ true) (λ (call : Call). ltb call.value v ≡ false) calls i
-        → ((d : Call) → i < length calls → ¬ ((get_or calls i d).value ≡ v)) → NoneOf calls v
+    → ((d : Call) → i < length calls → ¬ ((get_or calls i d).value ≡ v)) → NoneOf calls v
 none_among calls v i rises point differs k d below same =
     let cases : (k < i) ⊎ (i ≤ k) = grind arith in
     elim cases [

@@ -48,10 +48,18 @@ fresh_by_call operations i p o call v here is there calls = (λ soon. (Some call
     late : (is_refused call || nat_lt o.ret call.call) ≡ true → (call.kind ≡ Enq v) ⊎ (call.kind ≡ Not v) → IsEnqueuedTooLate operations o call
     late soon (inl accepted) =
         let before : nat_lt o.ret call.call ≡ true = rw accepted at soon in
-        record { value = v; dequeues = (contains_at operations i o here, is); enqueues =
-            inr ((contains_at operations p call there, accepted), ltb-true _ _ before) }
-    late soon (inr refused) = record { value = v; dequeues = (contains_at operations i o here, is); enqueues =
-        inl (contains_at operations p call there, refused) }
+        record {
+          value = v;
+          dequeues = (contains_at operations i o here, is);
+          enqueues =
+              inr ((contains_at operations p call there, accepted), ltb-true _ _ before);
+        }
+    late soon (inr refused) = record {
+      value = v;
+      dequeues = (contains_at operations i o here, is);
+      enqueues =
+          inl (contains_at operations p call there, refused);
+    }
 
     only : IsFreshFrom operations (Some p) o → (is_refused call || nat_lt o.ret call.call) ≡ true
     only (None, at, violates) = elim at [ ]
@@ -85,19 +93,19 @@ fresh_at_none operations sources i o x v holds here is from there =
     let same : o ≡ x = one_at operations i o x here there in
     subst (λ y. IsTrue true ↔ IsFreshFrom operations (get_or sources i None) y) same
     (subst (λ source. IsTrue true ↔ IsFreshFrom operations source o) (sym from)
-        (fresh_without_call operations i o v here is (source_of_dequeue operations sources i o v None holds here is from)))
+    (fresh_without_call operations i o v here is (source_of_dequeue operations sources i o v None holds here is from)))
 
 pub fresh_at_some : (operations : List Operation) (sources : List (Option ℕ)) (i : ℕ) (o x : Operation) (v p : ℕ) (soon : Bool)
     → HoldsSources operations sources → IsAt operations i o → o.kind ≡ Deq v → get_or sources i None ≡ Some p
     → ((call : Operation) → IsAt operations p call → soon ≡ (is_refused call || nat_lt o.ret call.call)) → IsAt operations i x
-        → IsTrue soon ↔ IsFreshFrom operations (get_or sources i None) x
+    → IsTrue soon ↔ IsFreshFrom operations (get_or sources i None) x
 fresh_at_some operations sources i o x v p soon holds here is from tells there =
     let call = source_of_dequeue operations sources i o v (Some p) holds here is from in
     let same : o ≡ x = one_at operations i o x here there in
     let answer : IsTrue soon ↔ IsFreshFrom operations (Some p) o =
     subst (λ b. IsTrue b ↔ IsFreshFrom operations (Some p) o) (sym (tells call.0 call.1)) (fresh_by_call operations i p o call.0 v here is call.1 call.2) in
     subst (λ y. IsTrue soon ↔ IsFreshFrom operations (get_or sources i None) y) same
-        (subst (λ source. IsTrue soon ↔ IsFreshFrom operations source o) (sym from) answer)
+    (subst (λ source. IsTrue soon ↔ IsFreshFrom operations source o) (sym from) answer)
 
 -- the call that a violation names is the source
 pub named_by_source : (operations : List Operation) (o : Operation) (enq : Option Operation) (source : Option ℕ) → AreComplete operations
@@ -123,7 +131,7 @@ named_by_source operations o (Some e) source complete from violates = named sour
     named None none = absurd (none e among (elim for_it [ inl accepted ↦ ap enqueued_value accepted | inr refused ↦ ap enqueued_value refused ]))
     named (Some p) (call, there, calls) =
         let same = same_value_call operations call e violates.value complete (contains_at operations p call there) among
-            (calls_for call.kind violates.value calls) for_it in
+        (calls_for call.kind violates.value calls) for_it in
         subst (IsAt operations p) same there
 
 pub violates_among : (operations : List Operation) (o : Operation) (enq : Option Operation) → IsFreshViolation operations o enq → Contains operations o
@@ -171,9 +179,13 @@ first_more operations sources i o (Some place) sooner here violates none some fo
       | inl before ↦
           let kept : sooner ≡ place = some found.0 o found.1 here ∙ ap (λ b. cond b place i) before in
           let less = ltb-true _ _ before in
-          subst (λ p. IsFirstFresh operations sources (i + 1) (Some p)) (sym kept)
-          (found.0, found.1, found.2, each_more (λ k x. (enq : Option Operation) → IsFreshViolation operations x enq → found.0.ret ≤ x.ret) operations
-              i o here (λ enq violates'. omega arith) found.3)
+          subst (λ p. IsFirstFresh operations sources (i + 1) (Some p)) (sym kept) (
+            found.0,
+            found.1,
+            found.2,
+            each_more (λ k x. (enq : Option Operation) → IsFreshViolation operations x enq → found.0.ret ≤ x.ret) operations
+                i o here (λ enq violates'. omega arith) found.3,
+          )
       | inr after ↦
           let taken : sooner ≡ i = some found.0 o found.1 here ∙ ap (λ b. cond b place i) after in
           let most = ltb-false _ _ after in
@@ -223,11 +235,11 @@ not_fresh operations source o b is tells violates = false≢true (sym is ∙ tel
 pub first_skip_at : (operations : List Operation) (sources : List (Option ℕ)) (i : ℕ) (d : Operation) (first : Option ℕ) (b : Bool)
     → AreComplete operations → HoldsSources operations sources → i < length operations
     → b ≡ false → ((o : Operation) → IsAt operations i o → IsTrue b ↔ IsFreshFrom operations (get_or sources i None) o)
-        → IsFirstFresh operations sources i first → IsFirstFresh operations sources (i + 1) first
+    → IsFirstFresh operations sources i first → IsFirstFresh operations sources (i + 1) first
 first_skip_at operations sources i d first b complete holds below is tells found =
     let here = slice_get-get_or operations i d below in
     first_skip operations sources i (get_or operations i d) first complete holds here
-        (not_fresh operations (get_or sources i None) (get_or operations i d) b is (tells (get_or operations i d) here)) found
+    (not_fresh operations (get_or sources i None) (get_or operations i d) b is (tells (get_or operations i d) here)) found
 
 pub first_more_at : (operations : List Operation) (sources : List (Option ℕ)) (i : ℕ) (d : Operation) (first : Option ℕ) (sooner : ℕ) (b : Bool)
     → i < length operations

@@ -95,7 +95,7 @@ longer_at values d (Some q) place p longer = longer
 pub one_more_front : (values : List MatchedValue) (entries : List Front) (n p : ℕ) (e : Front) (fronts : List Front) (so_far : Option ℕ)
     → n < length fronts → e ≡ get_or fronts n e → HasSoFar values entries n fronts so_far
     → p < length values → ((d : MatchedValue) → MatchOption so_far (p ≡ e.place)
-        (λ q. IsLongerOf (get_or values q d) (get_or values e.place d) (get_or values p d)))
+    (λ q. IsLongerOf (get_or values q d) (get_or values e.place d) (get_or values p d)))
     → HasSoFar values entries (n + 1) (set fronts n (record e { place = p })) (Some p)
 one_more_front values entries n p e fronts so_far inside read known within longer = record {
   one_each = length-set fronts n front ∙ known.one_each;
@@ -120,9 +120,9 @@ one_more_front values entries n p e fronts so_far inside read known within longe
         let x = get_or values e.place d in
         let many = length-map entries (λ (e : Front). get_or values e.place d) in
         let here : x ≡ get_or order n x = sym (get_or-map (λ (e : Front). get_or values e.place d) entries n e x below
-            ∙ ap (λ (e : Front). get_or values e.place d) (sym is)) in
+        ∙ ap (λ (e : Front). get_or values e.place d) (sym is)) in
         longest_changes Any order n x (get_or values p d) (value_at values d so_far) (omega (arith, many)) here (known.longest d) tt
-            (longer_at values d so_far e.place p (longer d))
+        (longer_at values d so_far e.place p (longer d))
 
     is_front : IsFrontAt values entries n front
     is_front = record {
@@ -159,7 +159,7 @@ longest_within values fronts i front table inside is = subst (λ (f : Front). f.
 -- what the fronts tell of the values that entered before a limit, where the first i of them returned before it
 module _ (values : List MatchedValue) (fronts : List Front) (limit i : ℕ) (table : IsTableOf values fronts)
     (point : IsPartitionPoint (λ (f : Front). ltb f.enqueue_return limit ≡ true) (λ (f : Front). ltb f.enqueue_return limit ≡ false) fronts i)
-        (within : i ≤ length fronts) where
+    (within : i ≤ length fronts) where
   counted : (d : MatchedValue) → length (values_at values table.0 d) ≡ length fronts
   counted d = length-map table.0 (λ (e : Front). get_or values e.place d) ∙ sym table.2.one_each
 
@@ -208,7 +208,7 @@ module _ (values : List MatchedValue) (fronts : List Front) (limit i : ℕ) (tab
       is_longest =
           let front_at = (table.2.each last (omega (arith, table.2.one_each)) front).longest d in
           subst (λ n. IsLongestOf Any (take n order) value) is (subst (λ (f : Front). IsLongestOf Any (take (last + 1) order)
-              (get_or values f.place d)) (sym here) front_at)
+          (get_or values f.place d)) (sym here) front_at)
 
       k : ℕ
       k = is_longest.among.0

@@ -70,7 +70,7 @@ same_dequeue operations enq x y v clear did did_x did_y =
 -- what is found where the value was enqueued is one answer
 pub same_found : (operations : List Operation) (enq : Operation) (v : ℕ) (a b : Option Operation) → IsClear operations → Did operations enq (Enq v)
     → MatchOption a (NoneDid operations (Deq v)) (λ d. Did operations d (Deq v))
-        → MatchOption b (NoneDid operations (Deq v)) (λ d. Did operations d (Deq v)) → a ≡ b
+    → MatchOption b (NoneDid operations (Deq v)) (λ d. Did operations d (Deq v)) → a ≡ b
 same_found operations enq v None None clear did x y = refl
 same_found operations enq v None (Some d) clear did x y = absurd (x d y.0 y.1)
 same_found operations enq v (Some d) None clear did x y = absurd (y d x.0 x.1)
@@ -80,7 +80,7 @@ pub life_is_contained : (operations : List Operation) (life : Life) → IsClear 
 life_is_contained operations life clear is =
     let v = is.0 in
     let dequeue = same_found operations (enqueue_of life) v (find (is_dequeue_of v) operations) (dequeue_of life) clear is.1
-        (found_dequeue operations v (find (is_dequeue_of v) operations) refl) is.2 in
+    (found_dequeue operations v (find (is_dequeue_of v) operations) refl) is.2 in
     keeps (λ o. life_from operations o o.kind) operations (enqueue_of life) life is.1.0 (begins dequeue)
   where
     begins : find (is_dequeue_of is.0) operations ≡ dequeue_of life → life_from operations (enqueue_of life) (enqueue_of life).kind ≡ Some life
@@ -101,9 +101,9 @@ pub one_life_of_dequeue : (operations : List Operation) (x y : Life) (d : Operat
     → dequeue_of x ≡ Some d → dequeue_of y ≡ Some d → x ≡ y
 one_life_of_dequeue operations x y d clear is_x is_y same_x same_y =
     let did_x : Did operations d (Deq is_x.0) = subst (λ e. MatchOption e (NoneDid operations (Deq is_x.0)) (λ d. Did operations d (Deq is_x.0)))
-        same_x is_x.2 in
+    same_x is_x.2 in
     let did_y : Did operations d (Deq is_y.0) = subst (λ e. MatchOption e (NoneDid operations (Deq is_y.0)) (λ d. Did operations d (Deq is_y.0)))
-        same_y is_y.2 in
+    same_y is_y.2 in
     let kinds : Deq is_x.0 ≡ Deq is_y.0 = sym did_x.1 ∙ did_y.1 in
     let values : is_x.0 ≡ is_y.0 = cc in
     let enq_y : Did operations (enqueue_of y) (Enq is_x.0) = subst (λ v. Did operations (enqueue_of y) (Enq v)) (sym values) is_y.1 in

@@ -52,7 +52,7 @@ module _ (Passes : Life → Type 0) where
     passes = elim longer.is_one [ inl same ↦ subst (λ y. Passes y.life) (sym same) is.passes | inr same ↦ subst (λ y. Passes y.life) (sym same) passes ];
     longest = All-push (StaysPast r) seen x
         (All-weaker (StaysPast a) (StaysPast r) (λ other stays passes'. stays_through r.life a.life other.life longer.stays_first (stays passes'))
-            seen is.longest)
+        seen is.longest)
         (λ _. longer.stays_second);
   }
 

@@ -23,7 +23,7 @@ no_repeat operations sources takers complete holds taken enq first second r =
     let j = place_of operations second r.dequeues_again.0 in
     let taker_i = taken.takes i.0 p.0 (takes_from_enqueue operations sources i.0 p.0 first enq r.value complete holds i.1 r.dequeues.1 p.1 r.enqueues.1) in
     let taker_j = taken.takes j.0 p.0 (takes_from_enqueue operations sources j.0 p.0 second enq r.value complete holds j.1 r.dequeues_again.1 p.1
-        r.enqueues.1) in
+    r.enqueues.1) in
     let same : i.0 ≡ j.0 = let both : ◌≡◌ {A = Option ℕ} (Some i.0) (Some j.0) = sym taker_i ∙ taker_j in cc in
     let one : first ≡ second = one_at operations j.0 first second (subst (λ k. IsAt operations k first) same i.1) j.1 in
     let ret = ap (λ o. o.ret) one in
@@ -60,7 +60,7 @@ pub found_at_place : (operations : List Operation) (enq : Operation) (v : ℕ) (
     → IsMaybeAt operations place dequeue → dequeue ≡ find (is_dequeue_of v) operations
 found_at_place operations enq v place dequeue clear did is at =
     same_found operations enq v dequeue (find (is_dequeue_of v) operations) clear did (named place dequeue is at)
-        (found_dequeue operations v (find (is_dequeue_of v) operations) refl)
+    (found_dequeue operations v (find (is_dequeue_of v) operations) refl)
   where
     named : (p : Option ℕ) (d : Option Operation) → IsDequeuePlace operations v p → IsMaybeAt operations p d
         → MatchOption d (NoneDid operations (Deq v)) (λ x. Did operations x (Deq v))

@@ -66,8 +66,12 @@ taken_from operations sources i p o holds no_fresh here from = pick o.kind refl 
     pick Empty is wrong = cc
     pick (Deq v) is (call, there, calls) = elim (calls_for call.kind v calls) [
       | inl accepted ↦ record { value = v; dequeues = is; call = call; at_source = there; accepted = accepted }
-      | inr refused ↦ absurd (no_fresh o (Some call) (record { value = v; dequeues = (contains_at operations i o here, is); enqueues =
-          inl (contains_at operations p call there, refused) }))
+      | inr refused ↦ absurd (no_fresh o (Some call) (record {
+        value = v;
+        dequeues = (contains_at operations i o here, is);
+        enqueues =
+            inl (contains_at operations p call there, refused);
+      }))
     ]
 
 -- a dequeue of an accepted value has its enqueue's place as its source
@@ -77,13 +81,13 @@ pub takes_from_enqueue : (operations : List Operation) (sources : List (Option �
 takes_from_enqueue operations sources i p o enq v complete holds here is there accepted =
     let below : i < length sources = let inside = slice_get_within operations i o here in omega (arith, holds.one_each) in
     slice_get-get_or sources i None below ∙ ap (λ s. Some s) (named (get_or sources i None)
-        (subst (λ kind. IsSourceOf operations kind (get_or sources i None)) is (holds.each i o here)))
+    (subst (λ kind. IsSourceOf operations kind (get_or sources i None)) is (holds.each i o here)))
   where
     named : (source : Option ℕ) → IsCallPlace operations v source → source ≡ Some p
     named None none = absurd (none enq (contains_at operations p enq there) (ap enqueued_value accepted))
     named (Some q) (call, at, calls) =
         let same = same_value_call operations call enq v complete (contains_at operations q call at) (contains_at operations p enq there)
-            (calls_for call.kind v calls) (inl accepted) in
+        (calls_for call.kind v calls) (inl accepted) in
         ap (λ r. Some r) (one_place operations q p enq complete (subst (IsAt operations q) same at) there)
 
 -- ---- the walk
@@ -112,7 +116,7 @@ seen_before operations sources order n i p o by here from below sooner =
 pub repeat_chosen : (operations : List Operation) (sources takers : List (Option ℕ)) (order : List (ℕ × ℕ)) (n p first : ℕ) → AreComplete operations
     → HoldsSources operations sources → NoFreshViolation operations
     → IsByReturn operations sources order → n < length order → TakesFrom sources (get_or order n (0, 0)).1 p → get_or takers p None ≡ Some first
-        → HasTaken (IsSeen order n) sources takers
+    → HasTaken (IsSeen order n) sources takers
     → NamesChosenRepeat operations (Repeat p first (get_or order n (0, 0)).1)
 repeat_chosen operations sources takers order n p first complete holds no_fresh by below from held known =
     (second.call, one.0, two.0, (second.at_source, one.1, two.1), (no_fresh, chosen))
@@ -143,7 +147,7 @@ repeat_chosen operations sources takers order n p first complete holds no_fresh 
     apart : one.0.ret ≢ two.0.ret
     apart same =
         let o = same_return operations one.0 two.0 complete (contains_at operations first one.0 one.1)
-            (contains_at operations (get_or order n (0, 0)).1 two.0 two.1) same in
+        (contains_at operations (get_or order n (0, 0)).1 two.0 two.1) same in
         let place = one_place operations first (get_or order n (0, 0)).1 two.0 complete (subst (IsAt operations first) o one.1) two.1 in
         by.has_once seen.0.0 n (0, 0) seen.0.1 below (seen.0.2 ∙ place)
 

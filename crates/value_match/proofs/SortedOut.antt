@@ -37,11 +37,11 @@ taken_more operations i o here =
 lives_more : (operations : List Operation) (i : ℕ) (o : Operation) (life : Option Life) (lives : List Life) → IsAt operations i o
     → life_from operations o o.kind ≡ life
     → lives ≡ filter_map (λ o. life_from operations o o.kind) (take i operations)
-        → lives ++ cons_option life [] ≡ filter_map (λ o. life_from operations o o.kind) (take (i + 1) operations)
+    → lives ++ cons_option life [] ≡ filter_map (λ o. life_from operations o o.kind) (take (i + 1) operations)
 lives_more operations i o life lives here is known =
     ap (λ ls. ls ++ cons_option life []) known ∙ ap (λ l. filter_map (λ o. life_from operations o o.kind) (take i operations) ++ cons_option l []) (sym is)
     ∙ sym (ap (filter_map (λ o. life_from operations o o.kind)) (taken_more operations i o here)
-        ∙ filter_map-append (λ o. life_from operations o o.kind) (take i operations) (o ∷ []))
+    ∙ filter_map-append (λ o. life_from operations o o.kind) (take i operations) (o ∷ []))
 
 filter-taken : (operations : List Operation) (test : Operation → Bool) (i : ℕ) (o : Operation) (b : Bool) → IsAt operations i o → test o ≡ b
     → filter test (take (i + 1) operations) ≡ filter test (take i operations) ++ cond b (o ∷ []) []
@@ -50,21 +50,21 @@ filter-taken operations test i o b here is = ap (filter test) (taken_more operat
 
 places_more : (operations : List Operation) (test : Operation → Bool) (i : ℕ) (o : Operation) (places : List ℕ) → IsAt operations i o → test o ≡ true
     → map (slice_get operations) places ≡ map Some (filter test (take i operations))
-        → map (slice_get operations) (places ++ i ∷ []) ≡ map Some (filter test (take (i + 1) operations))
+    → map (slice_get operations) (places ++ i ∷ []) ≡ map Some (filter test (take (i + 1) operations))
 places_more operations test i o places here is known =
     map-append (slice_get operations) places (i ∷ []) ∙ ap (λ ps. ps ++ slice_get operations i ∷ []) known
-        ∙ ap (λ p. map Some (filter test (take i operations)) ++ p ∷ []) here
+    ∙ ap (λ p. map Some (filter test (take i operations)) ++ p ∷ []) here
     ∙ sym (ap (map Some) (filter-taken operations test i o true here is) ∙ map-append Some (filter test (take i operations)) (o ∷ []))
 
 places_same : (operations : List Operation) (test : Operation → Bool) (i : ℕ) (o : Operation) (places : List ℕ) → IsAt operations i o → test o ≡ false
     → map (slice_get operations) places ≡ map Some (filter test (take i operations))
-        → map (slice_get operations) places ≡ map Some (filter test (take (i + 1) operations))
+    → map (slice_get operations) places ≡ map Some (filter test (take (i + 1) operations))
 places_same operations test i o places here is known = known ∙ sym
     (ap (map Some) (filter-taken operations test i o false here is ∙ append-nil (filter test (take i operations))))
 
 lives_same : (operations : List Operation) (i : ℕ) (o : Operation) (lives : List Life) → IsAt operations i o → life_from operations o o.kind ≡ None
     → lives ≡ filter_map (λ o. life_from operations o o.kind) (take i operations)
-        → lives ≡ filter_map (λ o. life_from operations o o.kind) (take (i + 1) operations)
+    → lives ≡ filter_map (λ o. life_from operations o o.kind) (take (i + 1) operations)
 lives_same operations i o lives here is known = sym (append-nil lives) ∙ lives_more operations i o None lives here is known
 
 module _ (operations : List Operation) (i : ℕ) (o : Operation) (values : List MatchedValue) (empties refused : List ℕ) (here : IsAt operations i o)
@@ -74,9 +74,11 @@ module _ (operations : List Operation) (i : ℕ) (o : Operation) (values : List 
       → IsClear operations → IsDequeuePlace operations v place → IsSortedOut operations (i + 1) (values ++ m ∷ []) empties refused
   sorted_enqueue v m place is enqueue dequeue named clear from = record {
     lives = map-append (λ m. m.life) values (m ∷ []) ∙ lives_more operations i o (Some m.life) (map (λ m. m.life) values) here life known.lives;
-    places = All-push (HasPlaces operations) values m known.places
-        (subst (λ p. IsAt operations p (enqueue_of m.life)) (sym named.0) enqueue, subst (λ p. IsMaybeAt operations p (dequeue_of m.life))
-            (sym named.1) dequeue);
+    places = All-push (HasPlaces operations) values m known.places (
+      subst (λ p. IsAt operations p (enqueue_of m.life)) (sym named.0) enqueue,
+      subst (λ p. IsMaybeAt operations p (dequeue_of m.life))
+          (sym named.1) dequeue,
+    );
     empty_answers = places_same operations is_empty_answer i o empties here (rw is refl) known.empty_answers;
     refused_enqueues = places_same operations is_refused i o refused here (rw is refl) known.refused_enqueues;
   }
@@ -88,7 +90,7 @@ module _ (operations : List Operation) (i : ℕ) (o : Operation) (values : List 
       life =
           let same : o ≡ enqueue_of m.life = one_at operations i o (enqueue_of m.life) here enqueue in
           let made : ◌≡◌ {A = Life} (record { enqueue = o; dequeue = find (is_dequeue_of v) operations }) m.life =
-              λ t. record { enqueue = same t; dequeue = sym found t } in
+          λ t. record { enqueue = same t; dequeue = sym found t } in
           subst (λ kind. life_from operations o kind ≡ Some m.life) (sym is) (ap (λ l. Some l) made)
 
   pub sorted_empty : o.kind ≡ Empty → IsSortedOut operations (i + 1) values (empties ++ i ∷ []) refused
@@ -136,8 +138,8 @@ pub pair_within : (operations : List Operation) (pairs : List Pair) (i : ℕ) (p
 pair_within operations pairs i pair all below is =
     let here : HasPlaces operations (value_at operations pair) =
     subst (HasPlaces operations) (get_or-map (value_at operations) pairs i pair (value_at operations pair) below ∙ ap (value_at operations) (sym is))
-        (All-get_or (HasPlaces operations) (map (value_at operations) pairs) i (value_at operations pair)
-        (rw (length-map pairs (value_at operations)) below) all) in
+    (All-get_or (HasPlaces operations) (map (value_at operations) pairs) i (value_at operations pair)
+    (rw (length-map pairs (value_at operations)) below) all) in
     (slice_get_within operations pair.enqueue _ here.0, inside pair.dequeue here.1)
   where
     inside : (place : Option ℕ) → IsMaybeAt operations place (maybe_operation_at operations place) → IfSome place (λ p. p < length operations)
@@ -152,8 +154,11 @@ pair_read operations pairs i pair d below is = sym (get_or-map (value_at operati
 
 pub lives_sorted : (operations : List Operation) (n : ℕ) (values : List MatchedValue) (empties refused : List ℕ) → length operations ≤ n
     → IsSortedOut operations n values empties refused → HoldsLives operations values
-lives_sorted operations n values empties refused all known = (known.lives
-    ∙ ap (filter_map (λ o. life_from operations o o.kind)) (take_all n operations all), known.places)
+lives_sorted operations n values empties refused all known = (
+  known.lives
+      ∙ ap (filter_map (λ o. life_from operations o o.kind)) (take_all n operations all),
+  known.places,
+)
 
 pub empties_sorted : (operations : List Operation) (n : ℕ) (values : List MatchedValue) (empties refused : List ℕ) → length operations ≤ n
     → IsSortedOut operations n values empties refused → HoldsPlaces operations is_empty_answer empties

@@ -79,7 +79,7 @@ taken_more seen after sources takers i p more from below free known = record {
       | inl earlier ↦
           let was = known.takes j q earlier other in
           let apart : q ≢ p = λ same. let clash : get_or takers p None ≡ Some j = subst (λ k. get_or takers k None ≡ Some j) same was in
-              let both : ◌≡◌ {A = Option ℕ} None (Some j) = sym free ∙ clash in cc in
+          let both : ◌≡◌ {A = Option ℕ} None (Some j) = sym free ∙ clash in cc in
           rw get_or-set_other was
       | inr same ↦
           let here : q ≡ p = one_source q (subst (λ k. TakesFrom sources k q) same other) in

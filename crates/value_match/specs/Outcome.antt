@@ -40,7 +40,7 @@ NamesChosenFresh operations violation =
 abbrev pub NamesChosenRepeat : List Operation → Violation → Type 0
 NamesChosenRepeat operations violation =
     (enq : Operation) × (first : Operation) × (second : Operation) × Names operations violation (repeat enq first second)
-        × IsChosenBreach operations (repeat enq first second)
+    × IsChosenBreach operations (repeat enq first second)
 
 -- a matching where the first two kinds of violation are absent, else the chosen violation of the first of them
 abbrev pub IsMatchedOf : List Operation → Matched → Type 0

@@ -63,7 +63,7 @@ one_fresh operations deq deq' enq enq' complete x y =
     let le = x.first deq' enq' y.violates in
     let ge = y.first deq enq x.violates in
     let one = same_return operations deq deq' complete (dequeued_value operations deq enq x.violates).1.0
-        (dequeued_value operations deq' enq' y.violates).1.0 (omega arith) in
+    (dequeued_value operations deq' enq' y.violates).1.0 (omega arith) in
     let enqs = one_enqueue operations deq enq enq' complete x.violates (subst (λ d. IsFreshViolation operations d enq') (sym one) y.violates) in
     cc
 
@@ -75,7 +75,7 @@ one_repeat operations enq enq' first first' second second' complete x y =
     let seconds = same_return operations second second' complete x.violates.dequeues_again.0 y.violates.dequeues_again.0 (omega arith) in
     let v = x.violates.value in
     let values : y.violates.value ≡ v = one_kind second' y.violates.value v y.violates.dequeues_again.1
-        (subst (λ o. o.kind ≡ Deq v) seconds x.violates.dequeues_again.1) in
+    (subst (λ o. o.kind ≡ Deq v) seconds x.violates.dequeues_again.1) in
     let enqueues' : Did operations enq' (Enq v) = subst (λ w. Did operations enq' (Enq w)) values y.violates.enqueues in
     let dequeues' : Did operations first' (Deq v) = subst (λ w. Did operations first' (Deq w)) values y.violates.dequeues in
     let enqs = same_enqueue operations enq enq' v complete x.violates.enqueues enqueues' in
@@ -87,12 +87,24 @@ one_repeat operations enq enq' first first' second second' complete x y =
         → first'.ret < second'.ret
         → (first.ret < first'.ret) ⊎ ((first.ret ≡ first'.ret) ⊎ (first'.ret < first.ret)) → first ≡ first'
     same_first v did did_first did_first' before before' (inl less) =
-        let sooner = y.soonest enq first first' (record { value = v; enqueues = did; dequeues = did_first; dequeues_again = did_first'; in_order =
-            less }) in absurd (omega arith)
+        let sooner = y.soonest enq first first' (record {
+          value = v;
+          enqueues = did;
+          dequeues = did_first;
+          dequeues_again = did_first';
+          in_order =
+              less;
+        }) in absurd (omega arith)
     same_first v did did_first did_first' before before' (inr (inl same)) = same_return operations first first' complete did_first.0 did_first'.0 same
     same_first v did did_first did_first' before before' (inr (inr more)) =
-        let sooner = x.soonest enq first' first (record { value = v; enqueues = did; dequeues = did_first'; dequeues_again = did_first; in_order =
-            more }) in absurd (omega arith)
+        let sooner = x.soonest enq first' first (record {
+          value = v;
+          enqueues = did;
+          dequeues = did_first';
+          dequeues_again = did_first;
+          in_order =
+              more;
+        }) in absurd (omega arith)
 
 -- values that stay at least as long as each other leave and enter at the same tickets
 both_stay : (x y : Life) → StaysAtLeast x y → StaysAtLeast y x → (dequeue_call x ≡ dequeue_call y) × (enqueue_return x ≡ enqueue_return y)
@@ -104,7 +116,7 @@ both_stay x y first second =
 
 one_dequeue : (operations : List Operation) (deq_b : Operation) (a b : ℕ) (d d' : Option Operation) → AreComplete operations → a ≡ b
     → MatchOption d (NoneDid operations (Deq a)) (λ d. Did operations d (Deq a) × Precedes deq_b d)
-        → MatchOption d' (NoneDid operations (Deq b)) (λ d. Did operations d (Deq b) × Precedes deq_b d)
+    → MatchOption d' (NoneDid operations (Deq b)) (λ d. Did operations d (Deq b) × Precedes deq_b d)
     → call_or_never d ≡ call_or_never d' → d ≡ d'
 one_dequeue operations deq_b a b None None complete values x y calls = refl
 one_dequeue operations deq_b a b None (Some d) complete values x y calls = absurd (x d y.0.0 (y.0.1 ∙ ap (λ v. Deq v) (sym values)))
@@ -113,7 +125,7 @@ one_dequeue operations deq_b a b (Some d) (Some d') complete values x y calls = 
 
 pub one_order : (operations : List Operation) (enq_a enq_b deq_b enq_a' enq_b' deq_b' : Operation) (deq_a deq_a' : Option Operation) → AreComplete operations
     → IsChosenOrderViolation operations enq_a enq_b deq_b deq_a → IsChosenOrderViolation operations enq_a' enq_b' deq_b' deq_a'
-        → order enq_a enq_b deq_b deq_a ≡ order enq_a' enq_b' deq_b' deq_a'
+    → order enq_a enq_b deq_b deq_a ≡ order enq_a' enq_b' deq_b' deq_a'
 one_order operations enq_a enq_b deq_b enq_a' enq_b' deq_b' deq_a deq_a' complete x y =
     let le = x.first enq_a' enq_b' deq_b' deq_a' y.violates in
     let ge = y.first enq_a enq_b deq_b deq_a x.violates in
@@ -121,18 +133,18 @@ one_order operations enq_a enq_b deq_b enq_a' enq_b' deq_b' deq_a deq_a' complet
     let b = x.violates.b in
     let values : y.violates.b ≡ b = one_kind deq_b' y.violates.b b y.violates.dequeues_b.1 (subst (λ o. o.kind ≡ Deq b) deqs x.violates.dequeues_b.1) in
     let enqs = same_enqueue operations enq_b enq_b' b complete x.violates.enqueues_b
-        (subst (λ w. Did operations enq_b' (Enq w)) values y.violates.enqueues_b) in
+    (subst (λ w. Did operations enq_b' (Enq w)) values y.violates.enqueues_b) in
     let there = subst (λ d. IsOrderViolation operations enq_a' enq_b d deq_a') (sym deqs)
-        (subst (λ e. IsOrderViolation operations enq_a' e deq_b' deq_a') (sym enqs) y.violates) in
+    (subst (λ e. IsOrderViolation operations enq_a' e deq_b' deq_a') (sym enqs) y.violates) in
     let back = subst (λ d. IsOrderViolation operations enq_a enq_b' d deq_a) deqs
-        (subst (λ e. IsOrderViolation operations enq_a e deq_b deq_a) enqs x.violates) in
+    (subst (λ e. IsOrderViolation operations enq_a e deq_b deq_a) enqs x.violates) in
     let both = both_stay (record { enqueue = enq_a; dequeue = deq_a }) (record { enqueue = enq_a'; dequeue = deq_a' }) (x.longest enq_a' deq_a' there)
-        (y.longest enq_a deq_a back) in
+    (y.longest enq_a deq_a back) in
     let firsts = same_return operations enq_a enq_a' complete x.violates.enqueues_a.0 y.violates.enqueues_a.0 both.1 in
     let kinds : Enq x.violates.a ≡ Enq y.violates.a = sym x.violates.enqueues_a.1 ∙ ap (λ o. o.kind) firsts ∙ y.violates.enqueues_a.1 in
     let alike : x.violates.a ≡ y.violates.a = value kinds in
     let later = subst (λ d. MatchOption deq_a' (NoneDid operations (Deq y.violates.a)) (λ e. Did operations e (Deq y.violates.a) × Precedes d e))
-        (sym deqs) y.violates.dequeued_later in
+    (sym deqs) y.violates.dequeued_later in
     let lasts = one_dequeue operations deq_b x.violates.a y.violates.a deq_a deq_a' complete alike x.violates.dequeued_later later both.0 in
     cc
   where
@@ -153,7 +165,7 @@ one_cover operations empty frontier (x ∷ xs) [] clear chosen chosen' = absurd 
 one_cover operations empty frontier (x ∷ xs) (y ∷ ys) clear chosen chosen' =
     let heads = one_next operations frontier x y clear chosen.0 chosen'.0 in
     let tail' = subst (λ l. MatchBool (nat_lt empty.ret (dequeue_call l)) (ys ≡ []) (IsChosenCoverFrom operations empty (dequeue_call l) ys))
-        (sym heads) chosen'.1 in
+    (sym heads) chosen'.1 in
     let tails = go (nat_lt empty.ret (dequeue_call x)) chosen.1 tail' (λ more more'. one_cover operations empty (dequeue_call x) xs ys clear more more') in
     cc
   where
@@ -170,7 +182,7 @@ one_witness operations empty empty' cover cover' clear x y =
     let ge = y.first empty x.answers_empty x.is_covered in
     let one = same_return operations empty empty' clear.complete x.answers_empty.0 y.answers_empty.0 (omega arith) in
     let covers = one_cover operations empty empty.call cover cover' clear x.cover_is_chosen
-        (subst (λ o. IsChosenCoverFrom operations o o.call cover') (sym one) y.cover_is_chosen) in
+    (subst (λ o. IsChosenCoverFrom operations o o.call cover') (sym one) y.cover_is_chosen) in
     cc
 
 -- a history has one chosen violation

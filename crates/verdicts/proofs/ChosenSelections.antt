@@ -143,7 +143,7 @@ shortest operations (repeat enq first second) complete chosen = tt
 shortest operations (order enq_a enq_b deq_b deq_a) complete chosen = tt
 shortest operations (witness empty cover) complete chosen =
     λ other is. chosen_cover_is_shortest operations empty cover other
-        (record { complete = complete; no_fresh = chosen.0; no_repeat = chosen.1 }) chosen.3.cover_is_chosen is
+    (record { complete = complete; no_fresh = chosen.0; no_repeat = chosen.1 }) chosen.3.cover_is_chosen is
 
 -- the chosen violation has a shortest cover
 pub has_shortest_cover : (operations : List Operation) (named : Violation) → AreComplete operations → IsChosenViolation operations named

@@ -46,7 +46,7 @@ IsDequeuedLater operations deq_b a deq_a = MatchOption deq_a (NoneDid operations
 
 pub is_order : (operations : List Operation) (enq_a enq_b deq_b : Operation) (deq_a : Option Operation) (a b : ℕ) → enq_a.kind ≡ Enq a → enq_b.kind ≡ Enq b
     → (Did operations enq_a (Enq a) × Did operations enq_b (Enq b) × Did operations deq_b (Deq b) × Precedes enq_a enq_b
-        × IsDequeuedLater operations deq_b a deq_a)
+    × IsDequeuedLater operations deq_b a deq_a)
     ↔ IsOrderViolation operations enq_a enq_b deq_b deq_a
 is_order operations enq_a enq_b deq_b deq_a a b is_a is_b = (
   λ h. record { a = a; b = b; enqueues_a = h.0; enqueues_b = h.1; dequeues_b = h.2; enqueued_first = h.3; dequeued_later = h.4 },
@@ -105,7 +105,7 @@ three_lines_repeat operations (enq ∷ first ∷ second ∷ []) d long short = (
     back (repeat e f s, kind, same, is) =
         let a : e ≡ enq = cc in let b : f ≡ first = cc in let c : s ≡ second = cc in
         subst (IsRepeatViolation operations enq first) c (subst (λ x. IsRepeatViolation operations enq x s) b
-            (subst (λ x. IsRepeatViolation operations x f s) a is))
+        (subst (λ x. IsRepeatViolation operations x f s) a is))
     back (order a b o c, kind, same, is) = cc
     back (witness o cover, kind, same, is) = cc
 
@@ -114,7 +114,7 @@ shown_order : (operations : List Operation) (a b o x y z : Operation) (c w : Opt
     → IsOrderViolation operations a b o c → IsOrderViolation operations x y z w
 shown_order operations a b o x y z c w same_a same_b same_o same_c is =
     subst (IsOrderViolation operations x y z) same_c (subst (λ v. IsOrderViolation operations x y v c) same_o
-        (subst (λ v. IsOrderViolation operations x v o c) same_b (subst (λ v. IsOrderViolation operations v b o c) same_a is)))
+    (subst (λ v. IsOrderViolation operations x v o c) same_b (subst (λ v. IsOrderViolation operations v b o c) same_a is)))
 
 pub three_lines_order : (operations lines : List Operation) (d : Operation) → 3 ≤ length lines → length lines < 4
     → IsOrderViolation operations (get_or lines 0 d) (get_or lines 1 d) (get_or lines 2 d) None ↔ ShowsViolation operations VOrd lines
@@ -150,8 +150,11 @@ four_lines_order operations (x ∷ y ∷ z ∷ w ∷ []) d long short = (λ is. 
 -- the first line of a witness is the empty answer, the others are those of its cover
 lines_of_witness : (operations : List Operation) (empty : Operation) (lines : List Operation)
     → (Did operations empty Empty × ShowsCover operations empty empty lines) ↔ ShowsViolation operations VWit (empty ∷ lines)
-lines_of_witness operations empty lines = (λ (did, (cover, same, covers)).
-    (witness empty cover, refl, ap (λ xs. empty ∷ xs) same, record { answers_empty = did; covers = covers }), back)
+lines_of_witness operations empty lines = (
+  λ (did, (cover, same, covers)).
+      (witness empty cover, refl, ap (λ xs. empty ∷ xs) same, record { answers_empty = did; covers = covers }),
+  back,
+)
   where
     back : ShowsViolation operations VWit (empty ∷ lines) → Did operations empty Empty × ShowsCover operations empty empty lines
     back (fresh o e, kind, same, is) = cc
@@ -164,6 +167,6 @@ lines_of_witness operations empty lines = (λ (did, (cover, same, covers)).
 
 pub lines_of_witness_at : (operations lines : List Operation) (d : Operation) → 1 ≤ length lines
     → (Did operations (get_or lines 0 d) Empty × ShowsCover operations (get_or lines 0 d) (get_or lines 0 d) (drop 1 lines)) ↔ ShowsViolation
-        operations VWit lines
+    operations VWit lines
 lines_of_witness_at operations [] d long = absurd (omega arith)
 lines_of_witness_at operations (empty ∷ lines) d long = lines_of_witness operations empty lines

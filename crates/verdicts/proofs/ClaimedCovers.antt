@@ -80,14 +80,15 @@ module _ (operations : List Operation) (empty before : Operation) where
       go : (life next : Life) (cover : List Life) (dequeue : Option Operation) → dequeue_of life ≡ dequeue
           → enqueue_of life ∷ (option_to_list dequeue ++ lines_of_cover (next ∷ cover)) ≡ e ∷ d ∷ x ∷ lines → BeginsBefore operations before life
           → MatchOption dequeue ⊥ (λ d. CoversFrom operations empty d (next ∷ cover))
-              → BeginsBefore operations before (life_of e (Some d)) × ShowsCover operations empty d (x ∷ lines)
+          → BeginsBefore operations before (life_of e (Some d)) × ShowsCover operations empty d (x ∷ lines)
       go life next cover None is same begins further = absurd further
       go life next cover (Some d') is same begins further =
           let one : d' ≡ d = cc in
           let dequeues : dequeue_of life ≡ Some d = cc in
-          let rest : lines_of_cover (next ∷ cover) ≡ x ∷ lines = cc in
-          (begins_as operations before e life (Some d) (cc) dequeues begins,
-              (next ∷ cover, rest, subst (λ o. CoversFrom operations empty o (next ∷ cover)) one further))
+          let rest : lines_of_cover (next ∷ cover) ≡ x ∷ lines = cc in (
+            begins_as operations before e life (Some d) (cc) dequeues begins,
+            (next ∷ cover, rest, subst (λ o. CoversFrom operations empty o (next ∷ cover)) one further),
+          )
 
       back : ShowsCover operations empty before (e ∷ d ∷ x ∷ lines)
           → BeginsBefore operations before (life_of e (Some d)) × ShowsCover operations empty d (x ∷ lines)
@@ -109,7 +110,7 @@ module _ (operations : List Operation) (empty before : Operation) where
 
   pub shown_by_two : (lines : List Operation) (o : Operation) → 2 ≤ length lines → length lines < 3
       → (BeginsBefore operations before (life_of (get_or lines 0 o) (Some (get_or lines 1 o))) × Precedes empty (get_or lines 1 o)) ↔ ShowsCover
-          operations empty before lines
+      operations empty before lines
   shown_by_two [] o long short = absurd (omega arith)
   shown_by_two (e ∷ []) o long short = absurd (omega arith)
   shown_by_two (e ∷ d ∷ []) o long short = two_lines e d
@@ -117,7 +118,7 @@ module _ (operations : List Operation) (empty before : Operation) where
 
   pub shown_by_more : (lines : List Operation) (o : Operation) → 3 ≤ length lines
       → (BeginsBefore operations before (life_of (get_or lines 0 o) (Some (get_or lines 1 o)))
-          × ShowsCover operations empty (get_or lines 1 o) (drop 2 lines)) ↔ ShowsCover operations empty before lines
+      × ShowsCover operations empty (get_or lines 1 o) (drop 2 lines)) ↔ ShowsCover operations empty before lines
   shown_by_more [] o long = absurd (omega arith)
   shown_by_more (e ∷ []) o long = absurd (omega arith)
   shown_by_more (e ∷ d ∷ []) o long = absurd (omega arith)

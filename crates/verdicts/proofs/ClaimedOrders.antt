@@ -15,8 +15,12 @@ pub record HasExtended (lines : List Operation) (n greatest : ℕ) : Type 0 wher
   pub is_one : (greatest ≡ 0) ⊎ ((k : ℕ) × (k < n) × ((d : Operation) → (get_or lines k d).call ≡ greatest))
 
 pub extended_none : (lines : List Operation) → HasExtended lines 0 0
-extended_none lines = record { none_precedes = λ i j d below within. absurd (omega arith); at_most = λ k d within. absurd (omega arith); is_one =
-    inl (omega arith) }
+extended_none lines = record {
+  none_precedes = λ i j d below within. absurd (omega arith);
+  at_most = λ k d within. absurd (omega arith);
+  is_one =
+      inl (omega arith);
+}
 
 extended_more : (lines : List Operation) (n greatest : ℕ) (line : Operation) → ((d : Operation) → get_or lines n d ≡ line) → greatest ≤ line.ret
     → HasExtended lines n greatest → HasExtended lines (n + 1) (max greatest line.call)

@@ -45,7 +45,7 @@ module _ (operations : List Operation) (empty : Operation) where
         → enqueue_return life < before.call
     enters_before before life inside is covers =
         below_if_not_same (enqueue_return life) before.call covers.0 (return_differs_from_call operations
-            (enqueue_of life) before clear.complete is.1.0 inside.among)
+        (enqueue_of life) before clear.complete is.1.0 inside.among)
 
     next_stays : (before : Operation) (life : Life) → IsCalledInside before → IsNextOfCover operations before.call life → before.call < dequeue_call life
     next_stays before life inside next =
@@ -69,7 +69,7 @@ module _ (operations : List Operation) (empty : Operation) where
         let d = found.0 in
         let calls : dequeue_call life ≡ d.call = ap call_or_never found.1 in
         let did_d = subst (λ o. MatchOption o (NoneDid operations (Deq chosen.0.is_life.0)) (λ d. Did operations d (Deq chosen.0.is_life.0))) found.1
-            chosen.0.is_life.2 in
+        chosen.0.is_life.2 in
         let differs = return_differs_from_call operations empty d clear.complete did.0 did_d.0 in
         let below : d.call < empty.ret = below_if_not_same d.call empty.ret (omega (arith, others.0)) (λ same. differs (sym same)) in (
           d,

@@ -26,8 +26,12 @@ no_is_decided operations violation complete chosen =
     record { chosen = chosen; evidence = (chosen.0, chosen.1, breach); exact = λ linear. breach_excludes_order operations chosen.0 complete breach linear }
 
 pub yes_is_decided : (operations : List Operation) (places : List ℕ) → AreChosenAndLegal operations places → IsDecided operations (Yes places)
-yes_is_decided operations places chosen = record { chosen = (chosen.0, chosen.1, chosen.2); evidence = (chosen.0, chosen.1, chosen.3); exact =
-    (chosen.0, chosen.3) }
+yes_is_decided operations places chosen = record {
+  chosen = (chosen.0, chosen.1, chosen.2);
+  evidence = (chosen.0, chosen.1, chosen.3);
+  exact =
+      (chosen.0, chosen.3);
+}
 
 -- the chosen pair is the chosen violation where the first two kinds are absent
 pub pair_is_chosen : (operations : List Operation) (pair : OrderPair) → IsClear operations → IsChosenPair operations pair

@@ -67,7 +67,7 @@ held_or_answers : (thread : ℕ) (events : List Event) (pending : Option Event) 
 held_or_answers thread [] pending e turns among own = absurd (not_in_none e among)
 held_or_answers thread (x ∷ later) pending e turns among own =
     pick (nat_eq x.thread thread) refl pending turns (contains_cons x later e among)
-        (λ pending' turns' there. held_or_answers thread later pending' e turns' there own)
+    (λ pending' turns' there. held_or_answers thread later pending' e turns' there own)
   where
     -- an event of another thread comes first
     passed : (pending : Option Event) → nat_eq x.thread thread ≡ false → AnswersWaiting thread pending later e → AnswersWaiting thread pending (x ∷ later) e
@@ -77,9 +77,9 @@ held_or_answers thread (x ∷ later) pending e turns among own =
     pick : (b : Bool) → nat_eq x.thread thread ≡ b → (pending : Option Event)
         → TurnsAfter pending (cond b (x ∷ projection thread later) (projection thread later)) → (x ≡ e) ⊎ Contains later e
         → ((pending' : Option Event) → TurnsAfter pending' (projection thread later) → Contains later e
-            → AnswersWaiting thread pending' later e ⊎ IsHeld (operations_of later) e.ticket)
+        → AnswersWaiting thread pending' later e ⊎ IsHeld (operations_of later) e.ticket)
         → AnswersWaiting thread pending (x ∷ later) e ⊎ IsHeld (cons_option (operation_of x (find (λ r. nat_eq r.thread x.thread) later))
-            (operations_of later)) e.ticket
+        (operations_of later)) e.ticket
     pick false test pending turns' (inl here) rest = let clash : true ≡ false = sym (eq-eqb x.thread thread (ap (λ r. r.thread) here ∙ own)) ∙ test in cc
     pick false test pending turns' (inr there) rest = elim (rest pending turns' there) [
       | inl waits ↦ inl (passed pending test waits)
@@ -125,7 +125,7 @@ pub part_is_one : (events xs ys : List Event) → IsCompleteHistory events → A
     → IsCompleteHistory ys → operations_of xs ≡ operations_of ys → xs ≡ ys
 part_is_one events xs ys complete part_x part_y complete_x complete_y same =
     same_lists (λ e. e.ticket) xs ys complete_x.tickets_rise complete_y.tickets_rise (into xs ys part_x part_y complete_x same)
-        (into ys xs part_y part_x complete_y (sym same))
+    (into ys xs part_y part_x complete_y (sym same))
   where
     of_whole : (zs : List Event) → ArePartOf events zs → (e : Event) → Contains zs e → Contains events e
     of_whole zs part e among = (passed_filter part.0 events e (subst (λ es. Contains es e) part.1 among)).0

@@ -146,14 +146,14 @@ module _ (operations listed : List Operation) (complete : AreComplete operations
         | inl refused ↦
             let there = place_of enq refused.0 in
             let same = call_has_one_place first.0 there.0 v first.1 enq first.3 there.1 (calls_it v first.1.kind (inl first.4))
-                (calls_it v enq.kind (inr refused.1)) in
+            (calls_it v enq.kind (inr refused.1)) in
             let kinds_differ : first.1 ≡ enq = some_injective (sym first.3 ∙ ap (slice_get listed) same ∙ there.1) in
             let clash : Enq v ≡ Not v = sym first.4 ∙ ap (λ o. o.kind) kinds_differ ∙ refused.1 in
             cc
         | inr late ↦
             let there = place_of enq late.0.0 in
             let same = call_has_one_place first.0 there.0 v first.1 enq first.3 there.1 (calls_it v first.1.kind (inl first.4))
-                (calls_it v enq.kind (inl late.0.1)) in
+            (calls_it v enq.kind (inl late.0.1)) in
             not_later there.0 place.0 enq deq there.1 place.1 (omega (arith, first.2)) late.1
       ]
 
@@ -182,9 +182,9 @@ module _ (operations listed : List Operation) (complete : AreComplete operations
       let few = count-le-calls (kinds_of listed) k b in
       let all = ap (count b) put_b.1 in
       let fronts = same_front (enqueued (take j (kinds_of listed))) put_b.0 (dequeued (take k (kinds_of listed))) gone.0 b (sym put_b.1 ∙ gone.1)
-          (omega arith) in
+      (omega arith) in
       let member : Member a (dequeued (take k (kinds_of listed))) =
-          rw (← fronts, put_a.1) (Member-right a (enqueued (take i (kinds_of listed))) (a ∷ put_a.0) (inl refl)) in
+      rw (← fronts, put_a.1) (Member-right a (enqueued (take i (kinds_of listed))) (a ∷ put_a.0) (inl refl)) in
       dequeue_of_member (kinds_of listed) k a member
 
   enqueues_differ : (i j : ℕ) (x y : Operation) → slice_get listed i ≡ Some x → slice_get listed j ≡ Some y → Precedes x y → i < j
@@ -220,9 +220,9 @@ module _ (operations listed : List Operation) (complete : AreComplete operations
       let first = enqueues_differ x.0 y.0 enq_a enq_b x.1 y.1 violation.enqueued_first in
       let put = enqueue_before z.0 violation.b deq_b z.1 violation.dequeues_b.1 in
       let same = call_has_one_place put.0 y.0 violation.b put.1 enq_b put.3 y.1 (calls_it violation.b put.1.kind (inl put.4))
-          (calls_it violation.b enq_b.kind (inl violation.enqueues_b.1)) in
+      (calls_it violation.b enq_b.kind (inl violation.enqueues_b.1)) in
       let stands = dequeued_before x.0 y.0 z.0 violation.a violation.b enq_a enq_b deq_b x.1 violation.enqueues_a.1 y.1 violation.enqueues_b.1 z.1
-          violation.dequeues_b.1 first (omega (arith, put.2)) in
+      violation.dequeues_b.1 first (omega (arith, put.2)) in
       let found = operation_at listed stands.0 (Deq violation.a) stands.2 in
       not_dequeued_later violation.a deq_b deq_a violation.dequeued_later stands.0 z.0 found.0 stands.1 found.1 found.2 z.1
 
@@ -237,7 +237,7 @@ module _ (operations listed : List Operation) (complete : AreComplete operations
       let put = split_at_enqueue (kinds_of listed) i j v below enq in
       let gone = gone_through j o at ∙ ap (λ q. dequeued (take j (kinds_of listed)) ++ q) none ∙ append-nil (dequeued (take j (kinds_of listed))) in
       let member : Member v (dequeued (take j (kinds_of listed))) =
-          rw (← gone, put.1) (Member-right v (enqueued (take i (kinds_of listed))) (v ∷ put.0) (inl refl)) in
+      rw (← gone, put.1) (Member-right v (enqueued (take i (kinds_of listed))) (v ∷ put.0) (inl refl)) in
       dequeue_of_member (kinds_of listed) j v member
 
   -- the dequeue that stands before the empty answer is the named one, and so comes no later

@@ -105,7 +105,7 @@ few_apart : (events : List Event) (listed : List Operation) → IsCompleteHistor
 few_apart events listed complete among apart =
     let tickets : List ℕ = map (λ e. e.ticket) events in
     let few = length-le_from_is_member nat_eq_equiv (tickets_of listed) tickets
-        (distinct_tickets (operations_of events) (events, complete, refl) listed among apart) member in
+    (distinct_tickets (operations_of events) (events, complete, refl) listed among apart) member in
     let twice = double listed in
     let each : length (map (λ e. e.ticket) events) ≡ length events = simp length-map in
     omega arith
@@ -114,11 +114,11 @@ few_apart events listed complete among apart =
     of_event t (o, in_list, inl called) =
         let seen = traced events o (among o in_list) in
         subst (Contains (map (λ e. e.ticket) events)) (sym seen.made.called ∙ called)
-            (mapped_to (λ e. e.ticket) events seen.call (contains_at events seen.called_at seen.call seen.at_call))
+        (mapped_to (λ e. e.ticket) events seen.call (contains_at events seen.called_at seen.call seen.at_call))
     of_event t (o, in_list, inr returned) =
         let seen = traced events o (among o in_list) in
         subst (Contains (map (λ e. e.ticket) events)) (sym seen.made.returned ∙ returned)
-            (mapped_to (λ e. e.ticket) events seen.answer (contains_at events seen.returned_at seen.answer seen.at_return))
+        (mapped_to (λ e. e.ticket) events seen.answer (contains_at events seen.returned_at seen.answer seen.at_return))
 
     member : (t : ℕ) → is_member nat_eq (tickets_of listed) t ≡ true → is_member nat_eq (map (λ e. e.ticket) events) t ≡ true
     member t is = (is_member-Decides unsigned_Decides (map (λ e. e.ticket) events) t).1
@@ -192,7 +192,7 @@ module _ (operations : List Operation) (empty : Operation) (clear : IsClear oper
       by_dequeue : (o : Operation) → dequeue_of life ≡ Some o → (y : Life) × Contains rest y × ((enqueue_of y ≡ o) ⊎ (dequeue_of y ≡ Some o)) → ⊥
       by_dequeue o at (y, among, inl same) =
           let enqueues = life_enqueues operations y o (are y among) same in let dequeues = life_dequeues operations life o is at in
-              differ o enqueues.0 dequeues.0 enqueues.1 dequeues.1.1
+          differ o enqueues.0 dequeues.0 enqueues.1 dequeues.1.1
       by_dequeue o at (y, among, inr same) = let calls = ap call_or_never (at ∙ sym same) in let less = later y among in omega arith
 
       no_dequeue : (o : Operation) → dequeue_of life ≡ Some o → (o ≡ enqueue_of life → ⊥) × (Contains (flat_map operations_of_life rest) o → ⊥)
@@ -211,7 +211,7 @@ module _ (operations : List Operation) (empty : Operation) (clear : IsClear oper
       first_apart life (next ∷ rest) chosen.0.is_life
       (λ y among. chosen_are_lives operations empty (next ∷ rest) after.0.call y after.1.further among)
       (λ y among. let stays = all_stay operations empty clear did covered (next ∷ rest) after.0 y after.1.inside after.1.further among in
-          omega (arith, after.1.calls))
+      omega (arith, after.1.calls))
       (cover_apart (next ∷ rest) after.0 after.1.inside after.1.further)
 
   among_lines : (cover : List Life) → ((y : Life) → Contains cover y → IsLife operations y) → (o : Operation)
@@ -244,7 +244,7 @@ module _ (events : List Event) (complete : IsCompleteHistory events) where
       let lines = among_lines operations empty clear did covered cover are in
       few_apart events (lines_of (witness empty cover)) complete
       (λ o among. elim (contains_cons empty (flat_map operations_of_life cover) o among)
-          [ inl same ↦ subst (Contains operations) same did.0 | inr later ↦ (lines o later).0 ])
+      [ inl same ↦ subst (Contains operations) same did.0 | inr later ↦ (lines o later).0 ])
       (λ among. (lines empty among).1 did.1, apart)
 
   few_chosen : (breach : Breach) → length events ≤ MAX_EVENTS → IsChosenBreach (operations_of events) breach → length (lines_of breach) ≤ MAX_OPERATIONS
@@ -258,7 +258,7 @@ module _ (events : List Event) (complete : IsCompleteHistory events) where
   few_operations : length events ≤ MAX_EVENTS → length (operations_of events) ≤ MAX_OPERATIONS
   few_operations few =
       let half = few_apart events (operations_of events) complete (λ o among. among)
-          (apart_from_rise (operations_of events) (operations_rise (operations_of events) (events, complete, refl))) in
+      (apart_from_rise (operations_of events) (operations_rise (operations_of events) (events, complete, refl))) in
       omega (arith, half, few)
 
   as_many : (places : List ℕ) (listed : List Operation) → ArePlacesOf (operations_of events) places listed → length places ≡ length listed

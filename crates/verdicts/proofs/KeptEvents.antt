@@ -152,12 +152,12 @@ module _ (keeps : ℕ → Bool) (test : Operation → Bool) where
         where
           by_test : (k : Bool) (answer : Event) → find (λ r. nat_eq r.thread e.thread) later ≡ Some answer → keeps answer.ticket ≡ k
               → operations_of (cond k (e ∷ kept_events later) (kept_events later)) ≡ cond k (o ∷ filter test (operations_of later))
-                  (filter test (operations_of later))
+              (filter test (operations_of later))
           by_test false answer found kept = rest
           by_test true answer found kept =
               let found' = find_kept (λ r. nat_eq r.thread e.thread) (λ r. keeps r.ticket) later answer found kept in
               let here : operation_of e (find (λ r. nat_eq r.thread e.thread) (kept_events later)) ≡ Some o =
-                  ap (operation_of e) found' ∙ ap (operation_of e) (sym found) ∙ same in
+              ap (operation_of e) found' ∙ ap (operation_of e) (sym found) ∙ same in
               rw (here, rest) refl
 
   -- the next event of this thread is kept as the waiting call is
@@ -197,7 +197,7 @@ module _ (keeps : ℕ → Bool) (test : Operation → Bool) where
   kept_turns thread (e ∷ later) pending turns both next =
       own (nat_eq e.thread thread) refl pending turns next
       (λ pending' turns' next'. kept_turns thread later pending' turns'
-          (kept_later (operation_of e (find (λ r. nat_eq r.thread e.thread) later)) (operations_of later) both) next')
+      (kept_later (operation_of e (find (λ r. nat_eq r.thread e.thread) later)) (operations_of later) both) next')
     where
       -- an event of another thread is passed over
       other : (k : Bool) → nat_eq e.thread thread ≡ false → projection thread (cond k (e ∷ kept_events later) (kept_events later)) ≡ projection thread
@@ -219,14 +219,14 @@ module _ (keeps : ℕ → Bool) (test : Operation → Bool) where
       -- or answers the waiting call, and is kept as that is
       ends : (call : Event) (k : Bool) → nat_eq e.thread thread ≡ true → IsTrue (answers call.what e.what) → TakesTurns (projection thread (kept_events later))
           → MatchBool k (TakesTurns (call ∷ projection thread (cond k (e ∷ kept_events later) (kept_events later))))
-              (TakesTurns (projection thread (cond k (e ∷ kept_events later) (kept_events later))))
+          (TakesTurns (projection thread (cond k (e ∷ kept_events later) (kept_events later))))
       ends call true test answered turns = rw test (answered, turns)
       ends call false test answered turns = turns
 
       own : (b : Bool) → nat_eq e.thread thread ≡ b → (pending : Option Event)
           → TurnsAfter pending (cond b (e ∷ projection thread later) (projection thread later)) → IsAsKept thread pending (e ∷ later)
           → ((pending' : Option Event) → TurnsAfter pending' (projection thread later) → IsAsKept thread pending' later
-              → KeptTurns pending' (projection thread (kept_events later)))
+          → KeptTurns pending' (projection thread (kept_events later)))
           → KeptTurns pending (projection thread (cond (keeps e.ticket) (e ∷ kept_events later) (kept_events later)))
       own false test pending turns' next' rest = subst (KeptTurns pending) (sym (other (keeps e.ticket) test))
           (rest pending turns' (not_next pending test next'))
@@ -235,7 +235,7 @@ module _ (keeps : ℕ → Bool) (test : Operation → Bool) where
       own true test (Some call) turns' next' rest =
           let as_call : keeps e.ticket ≡ keeps call.ticket = next' e (rw test refl) in
           subst (λ k. MatchBool k (TakesTurns (call ∷ projection thread (cond (keeps e.ticket) (e ∷ kept_events later) (kept_events later))))
-              (TakesTurns (projection thread (cond (keeps e.ticket) (e ∷ kept_events later) (kept_events later))))) as_call
+          (TakesTurns (projection thread (cond (keeps e.ticket) (e ∷ kept_events later) (kept_events later))))) as_call
           (ends call (keeps e.ticket) test turns'.0 (rest None turns'.1 tt))
 
 each_turns : (events : List Event) → IsCompleteHistory events → EachTurns events
@@ -271,7 +271,7 @@ AllPairs-kept {X} {Y} R f keeps (x ∷ xs) pairs = pick (f x) refl (keeps x) pai
     pick (Some y) is false pairs' rest = rest (AllPairs-tail R y (filter_map f xs) pairs')
     pick (Some y) is true pairs' rest =
         rw is (AllPairs-cons R y (filter_map f (filter keeps xs)) (All-kept (R y) f keeps xs (pairs_after_first R y (filter_map f xs) pairs'))
-            (rest (AllPairs-tail R y (filter_map f xs) pairs')))
+        (rest (AllPairs-tail R y (filter_map f xs) pairs')))
 
 -- where both events of an operation are kept, or neither, the kept events are a complete history
 pub kept_is_complete : (keeps : ℕ → Bool) (test : Operation → Bool) (events : List Event) → IsCompleteHistory events

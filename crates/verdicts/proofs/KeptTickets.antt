@@ -63,8 +63,10 @@ module _ (operations : List Operation) (complete : AreComplete operations) (test
       cc
 
   pub tickets_keep_both : KeepsBoth (holds_ticket (filter test operations)) test operations
-  tickets_keep_both o among = (held_as_tested o o.call among (inl refl) (test o) (holds_ticket (filter test operations) o.call) refl refl,
-      held_as_tested o o.ret among (inr refl) (test o) (holds_ticket (filter test operations) o.ret) refl refl)
+  tickets_keep_both o among = (
+    held_as_tested o o.call among (inl refl) (test o) (holds_ticket (filter test operations) o.call) refl refl,
+    held_as_tested o o.ret among (inr refl) (test o) (holds_ticket (filter test operations) o.ret) refl refl,
+  )
 
 -- the events at the tickets of some operations
 abbrev pub events_at_tickets_of : List Operation → List Event → List Event
@@ -74,13 +76,13 @@ pub selected_events_are_complete : (test : Operation → Bool) (events : List Ev
     → IsCompleteHistory (events_at_tickets_of (filter test (operations_of events)) events)
 selected_events_are_complete test events complete =
     kept_is_complete (holds_ticket (filter test (operations_of events))) test events complete
-        (tickets_keep_both (operations_of events) (events, complete, refl) test)
+    (tickets_keep_both (operations_of events) (events, complete, refl) test)
 
 pub operations_of_selected : (test : Operation → Bool) (events : List Event) → IsCompleteHistory events
     → operations_of (events_at_tickets_of (filter test (operations_of events)) events) ≡ filter test (operations_of events)
 operations_of_selected test events complete =
     operations_of_kept (holds_ticket (filter test (operations_of events))) test events complete
-        (tickets_keep_both (operations_of events) (events, complete, refl) test)
+    (tickets_keep_both (operations_of events) (events, complete, refl) test)
 
 -- some operations of a complete history are those of a complete history
 pub selected_are_complete : (test : Operation → Bool) (operations : List Operation) → AreComplete operations → AreComplete (filter test operations)

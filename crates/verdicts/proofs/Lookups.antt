@@ -35,7 +35,7 @@ comparisons_rise operations call rise i j d le within = let calls = calls_do_not
 pub searched_by_call : (operations : List Operation) (call : ℕ) (r : Result ℕ ℕ) → CallsRise operations → IsSearchInRange r (length operations)
     → IsBinarySearchResult (λ o. nat_cmp o.call call) operations r
     → MatchResult r (λ i. (i < length operations) × ((d : Operation) → (get_or operations i d).call ≡ call))
-        (λ _. (k : ℕ) (d : Operation) → k < length operations → (get_or operations k d).call ≢ call)
+    (λ _. (k : ℕ) (d : Operation) → k < length operations → (get_or operations k d).call ≢ call)
 searched_by_call operations call (Ok i) rise in_range equal = (in_range, λ d. ranked _ call _ (sym (equal d)))
 searched_by_call operations call (Err i) rise in_range parted =
     let parts = parted (comparisons_rise operations call rise) in
@@ -68,7 +68,7 @@ stands_at_its_call operations o d i rise within same = (
 -- a test of each operation tells whether one did this
 pub none_did_from_cases : (operations : List Operation) (kind : OpKind) (r : Bool)
     → MatchBool r (AllWithin (λ o. o.kind ≡ kind → ⊥) operations 0 (length operations))
-        ((k : ℕ) × (k < length operations) × HoldsAt (λ o. o.kind ≡ kind) operations k) → IsTrue r ↔ NoneDid operations kind
+    ((k : ℕ) × (k < length operations) × HoldsAt (λ o. o.kind ≡ kind) operations k) → IsTrue r ↔ NoneDid operations kind
 none_did_from_cases operations kind true none = (λ t o among did. none among.0 o (omega arith) among.1 (ap (λ x. x.kind) among.2 ∙ did), λ n. refl)
 none_did_from_cases operations kind false some = (
   λ f. cc,

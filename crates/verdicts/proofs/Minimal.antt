@@ -129,7 +129,7 @@ module _ (operations : List Operation) (complete : AreComplete operations) (valu
         no_order : (enq_a enq_b deq_b : Operation) (deq_a : Option Operation) → IsOrderViolation smaller enq_a enq_b deq_b deq_a → ⊥
         no_order enq_a enq_b deq_b deq_a is =
             let same = both_same enq_a enq_b is.a is.b is.enqueues_a is.enqueues_b (has_one missing was)
-                (has_one enq_a (in_small enq_a is.enqueues_a.0).0) (has_one enq_b (in_small enq_b is.enqueues_b.0).0) in
+            (has_one enq_a (in_small enq_a is.enqueues_a.0).0) (has_one enq_b (in_small enq_b is.enqueues_b.0).0) in
             let smaller_complete = selected_are_complete (selects values' calls') small (selected_are_complete (selects values calls) operations complete) in
             not_itself smaller enq_a enq_b deq_b deq_a is smaller_complete same
 
@@ -186,7 +186,7 @@ module _ (operations : List Operation) (complete : AreComplete operations) (valu
           let y = has_value_of_cover (enqueue_of z.0) is_z.0 (in_small (enqueue_of z.0) z.1.1.0).0 (enqueued_value (enqueue_of z.0) is_z.0 is_z.1.1) in
           let enqueues = same_enqueue operations (enqueue_of z.0) (enqueue_of y.0) is_z.0 complete is_z.1 y.2 in
           let one = one_life_of_enqueue operations z.0 y.0 clear is_z (chosen_are_lives operations empty cover empty.call y.0 chosen.cover_is_chosen
-              y.1) enqueues in
+          y.1) enqueues in
           let only = alone_at x.0 y.0 z.0 gap.0 one z.2 (gap.3 y.0 y.1) in
           let has_v = of_same_life z.0 x.0 v only x.2.1 in
           none_of_its_value (enqueue_of z.0) v is_missing has_v z.1.1.0
@@ -235,7 +235,7 @@ module _ (operations : List Operation) (complete : AreComplete operations) (valu
     smaller_is_linearizable : (breach : Breach) → IsChosenBreach operations breach → SelectsNamed (lines_of breach) values calls → IsLinearizable smaller
     smaller_is_linearizable breach chosen named =
         (linearizable_exactly smaller (selected_are_complete (selects values' calls') small
-            (selected_are_complete (selects values calls) operations complete))).1 (none_is_left breach chosen named)
+        (selected_are_complete (selects values calls) operations complete))).1 (none_is_left breach chosen named)
 
 module _ (operations : List Operation) (complete : AreComplete operations) (breach : Breach) (chosen : IsChosenBreach operations breach)
     (values calls : ℕ → Bool) (named : SelectsNamed (lines_of breach) values calls) where

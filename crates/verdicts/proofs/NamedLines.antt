@@ -39,11 +39,16 @@ none_of P o among = absurd (not_in_none o among)
 
 pub fresh_lines : (operations : List Operation) (deq : Operation) (enq : Option Operation) → IsFreshViolation operations deq enq
     → (v : ℕ) × ((o : Operation) → Contains (deq ∷ option_to_list enq) o → IsOpOf operations v o)
-fresh_lines operations deq None is = (is.value, each_of (IsOpOf operations is.value) deq []
-    (op_of operations deq (Deq is.value) is.value is.dequeues refl) (none_of (IsOpOf operations is.value)))
-fresh_lines operations deq (Some enq) is =
-    (is.value, each_of (IsOpOf operations is.value) deq (enq ∷ []) (op_of operations deq (Deq is.value) is.value is.dequeues refl)
-        (each_of (IsOpOf operations is.value) enq [] (by_call is.enqueues) (none_of (IsOpOf operations is.value))))
+fresh_lines operations deq None is = (
+  is.value,
+  each_of (IsOpOf operations is.value) deq []
+      (op_of operations deq (Deq is.value) is.value is.dequeues refl) (none_of (IsOpOf operations is.value)),
+)
+fresh_lines operations deq (Some enq) is = (
+  is.value,
+  each_of (IsOpOf operations is.value) deq (enq ∷ []) (op_of operations deq (Deq is.value) is.value is.dequeues refl)
+      (each_of (IsOpOf operations is.value) enq [] (by_call is.enqueues) (none_of (IsOpOf operations is.value))),
+)
   where
     by_call : Did operations enq (Not is.value) ⊎ (Did operations enq (Enq is.value) × Precedes deq enq) → IsOpOf operations is.value enq
     by_call (inl refused) = op_of operations enq (Not is.value) is.value refused refl
@@ -55,7 +60,7 @@ repeat_lines operations enq first second is =
     let P = IsOpOf operations is.value in
     each_of P enq (first ∷ second ∷ []) (op_of operations enq (Enq is.value) is.value is.enqueues refl)
     (each_of P first (second ∷ []) (op_of operations first (Deq is.value) is.value is.dequeues refl)
-        (each_of P second [] (op_of operations second (Deq is.value) is.value is.dequeues_again refl) (none_of P)))
+    (each_of P second [] (op_of operations second (Deq is.value) is.value is.dequeues_again refl) (none_of P)))
 
 -- one of the operations, of one of two values
 abbrev pub IsOpOfTwo : List Operation → ℕ → ℕ → Operation → Type 0

@@ -53,7 +53,7 @@ cover_places operations (step ∷ steps) [] names = absurd names
 cover_places operations (step ∷ steps) (life ∷ cover) names =
     places-append operations (places_of_step step) (flat_map places_of_step steps) (operations_of_life life) (flat_map operations_of_life cover)
     (places-append operations (step.enqueue ∷ []) (option_to_list step.dequeue) (enqueue_of life ∷ []) (option_to_list (dequeue_of life))
-        (ap (λ x. x ∷ []) names.0.0) (maybe_places operations step.dequeue (dequeue_of life) names.0.1))
+    (ap (λ x. x ∷ []) names.0.0) (maybe_places operations step.dequeue (dequeue_of life) names.0.1))
     (cover_places operations steps cover names.1)
 
 -- the places are those of the lines, one by one
@@ -68,11 +68,11 @@ places_of_lines operations (violation.Order enq_a enq_b deq_b deq_a) (order a b 
     let first = names.0 in let second = names.1 in let third = names.2 in
     let three : ArePlacesOf operations (enq_a ∷ enq_b ∷ deq_b ∷ []) (a ∷ b ∷ d ∷ []) = cc in
     places-append operations (enq_a ∷ enq_b ∷ deq_b ∷ []) (option_to_list deq_a) (a ∷ b ∷ d ∷ []) (option_to_list e) three
-        (maybe_places operations deq_a e names.3)
+    (maybe_places operations deq_a e names.3)
 places_of_lines operations (violation.Order enq_a enq_b deq_b deq_a) _ names = absurd names
 places_of_lines operations (violation.Witness empty cover) (witness o lives) names =
     places-append operations (empty ∷ []) (flat_map places_of_step cover) (o ∷ []) (flat_map operations_of_life lives) (ap (λ x. x ∷ []) names.0)
-        (cover_places operations cover lives names.1)
+    (cover_places operations cover lives names.1)
 places_of_lines operations (violation.Witness empty cover) _ names = absurd names
 
 -- such places are in the list
@@ -108,4 +108,4 @@ pub named_are_lines : (operations : List Operation) (named : Violation) (places 
     → ArePlacesOf operations places listed → AreLinesOf operations named listed
 named_are_lines operations named places listed same at breach names =
     one_list operations (places_of named) listed (lines_of breach) (subst (λ ps. ArePlacesOf operations ps listed) same at)
-        (places_of_lines operations named breach names)
+    (places_of_lines operations named breach names)

@@ -29,10 +29,10 @@ module _ (xs : List Operation) (values calls : ℕ → Bool) (breach : Breach) (
     | inr one ↦
         let smaller = filter (selects values calls) xs in
         let differs : smaller ≡ xs → ⊥ = λ same. let passes = (passed_filter (selects values calls) xs one.0
-            (subst (λ os. Contains os one.0) (sym same) one.1)).1 in let clash : true ≡ false = sym passes ∙ one.2 in cc in
+        (subst (λ os. Contains os one.0) (sym same) one.1)).1 in let clash : true ≡ false = sym passes ∙ one.2 in cc in
         let linear = minimal.1 smaller (values, calls, refl) differs in
         absurd (breach_excludes_order smaller breach (selected_are_complete (selects values calls) xs complete)
-            (breach_in_selected xs values calls breach violated kept) linear)
+        (breach_in_selected xs values calls breach violated kept) linear)
   ]
 
 pub selection_is_one : (operations xs ys : List Operation) (violation : Violation) → AreComplete xs → AreComplete ys
@@ -51,7 +51,7 @@ selection_is_one operations xs ys violation complete_x complete_y keeps_x keeps_
         let violated = chosen_is_breach zs breach complete (chosen breach names) in
         let kept : (l : Operation) → Contains (lines_of breach) l → selects values' calls' l ≡ true = λ l at.
         (passed_filter (selects values' calls') operations l (subst (λ os. Contains os l) is'
-            (lines' l (subst (λ b. Contains (lines_of b) l) (sym same) at)))).1 in
+        (lines' l (subst (λ b. Contains (lines_of b) l) (sym same) at)))).1 in
         let passes = all_pass zs values' calls' breach complete minimal violated kept o among in
         let whole = passed_filter (selects closed.0 closed.1) operations o (subst (λ os. Contains os o) closed.2 among) in
         subst (λ os. Contains os o) (sym is') (passes_filter (selects values' calls') operations o passes whole.0)

@@ -65,15 +65,15 @@ one_list_of_places operations (p ∷ ps) (q ∷ qs) (o ∷ listed) complete at_p
     let later_p : map (slice_get operations) ps ≡ map (λ o. Some o) listed = cc in
     let later_q : map (slice_get operations) qs ≡ map (λ o. Some o) listed = cc in
     ap₂ (λ (x : ℕ) (xs : List ℕ). x ∷ xs) (one_place_at operations p q o complete here_p here_q)
-        (one_list_of_places operations ps qs listed complete later_p later_q)
+    (one_list_of_places operations ps qs listed complete later_p later_q)
 
 one_step : (operations : List Operation) (p q : CoverStep) (life : Life) → AreComplete operations
     → IsAt operations p.enqueue (enqueue_of life) × IsMaybeAt operations p.dequeue (dequeue_of life)
-        → IsAt operations q.enqueue (enqueue_of life) × IsMaybeAt operations q.dequeue (dequeue_of life) → p ≡ q
+    → IsAt operations q.enqueue (enqueue_of life) × IsMaybeAt operations q.dequeue (dequeue_of life) → p ≡ q
 one_step operations p q life complete at_p at_q =
     let step : ℕ → Option ℕ → CoverStep = λ e d. record { enqueue = e; dequeue = d } in
     ap₂ step (one_place_at operations p.enqueue q.enqueue (enqueue_of life) complete at_p.0 at_q.0)
-        (maybe_one_place operations p.dequeue q.dequeue (dequeue_of life) complete at_p.1 at_q.1)
+    (maybe_one_place operations p.dequeue q.dequeue (dequeue_of life) complete at_p.1 at_q.1)
 
 one_named_cover : (operations : List Operation) (ps qs : List CoverStep) (lives : List Life) → AreComplete operations → NamesCover operations ps lives
     → NamesCover operations qs lives → ps ≡ qs
@@ -85,14 +85,14 @@ one_named_cover operations (p ∷ ps) [] (life ∷ lives) complete names_p names
 one_named_cover operations (p ∷ ps) (q ∷ qs) [] complete names_p names_q = absurd names_p
 one_named_cover operations (p ∷ ps) (q ∷ qs) (life ∷ lives) complete names_p names_q =
     ap₂ (λ (x : CoverStep) (xs : List CoverStep). x ∷ xs) (one_step operations p q life complete names_p.0 names_q.0)
-        (one_named_cover operations ps qs lives complete names_p.1 names_q.1)
+    (one_named_cover operations ps qs lives complete names_p.1 names_q.1)
 
 -- the operations of a violation are named by one list of places
 one_named : (operations : List Operation) (x y : Violation) (breach : Breach) → AreComplete operations → Names operations x breach
     → Names operations y breach → x ≡ y
 one_named operations (violation.Fresh d e) (violation.Fresh d' e') (fresh deq enq) complete at at' =
     ap₂ (λ (p : ℕ) (q : Option ℕ). violation.Fresh p q) (one_place_at operations d d' deq complete at.0 at'.0)
-        (maybe_one_place operations e e' enq complete at.1 at'.1)
+    (maybe_one_place operations e e' enq complete at.1 at'.1)
 one_named operations (violation.Fresh d e) y (fresh deq enq) complete at at' = absurd at'
 one_named operations (violation.Fresh d e) y _ complete at at' = absurd at
 one_named operations (violation.Repeat e d f) (violation.Repeat e' d' f') (repeat enq first second) complete at at' =
@@ -112,7 +112,7 @@ one_named operations (violation.Order a b d c) y (order enq_a enq_b deq_b deq_a)
 one_named operations (violation.Order a b d c) y _ complete at at' = absurd at
 one_named operations (violation.Witness o cover) (violation.Witness o' cover') (witness empty lives) complete at at' =
     ap₂ (λ (p : ℕ) (steps : List CoverStep). violation.Witness p steps) (one_place_at operations o o' empty complete at.0 at'.0)
-        (one_named_cover operations cover cover' lives complete at.1 at'.1)
+    (one_named_cover operations cover cover' lives complete at.1 at'.1)
 one_named operations (violation.Witness o cover) y (witness empty lives) complete at at' = absurd at'
 one_named operations (violation.Witness o cover) y _ complete at at' = absurd at
 
@@ -126,13 +126,17 @@ pub chosen_violation_is_one : (operations : List Operation) (x y : Violation) �
     → IsChosenViolation operations y → x ≡ y
 chosen_violation_is_one operations x y complete chosen_x chosen_y =
     one_violation operations x y chosen_x.0 chosen_y.0 complete (one_chosen_breach operations chosen_x.0 chosen_y.0 complete chosen_x.2 chosen_y.2)
-        chosen_x.1 chosen_y.1
+    chosen_x.1 chosen_y.1
 
 pub verdict_is_one : VerdictIsOne
 verdict_is_one operations (Yes ps) (Yes qs) complete x y =
     let none = λ (b : Breach) (violates : IsBreachOf operations b). breach_excludes_order operations b complete violates x.exact in
-    let clear : IsClear operations = record { complete = complete; no_fresh = λ deq enq. none (fresh deq enq); no_repeat =
-        λ enq first second. none (repeat enq first second) } in
+    let clear : IsClear operations = record {
+      complete = complete;
+      no_fresh = λ deq enq. none (fresh deq enq);
+      no_repeat =
+          λ enq first second. none (repeat enq first second);
+    } in
     let orders = chosen_order_is_one operations x.chosen.0 y.chosen.0 clear x.chosen.2 y.chosen.2 in
     ap (λ places. Yes places) (one_list_of_places operations ps qs y.chosen.0 complete (subst (ArePlacesOf operations ps) orders x.chosen.1) y.chosen.1)
 verdict_is_one operations (Yes ps) (No v) complete x y = absurd (y.exact x.exact)
@@ -180,7 +184,7 @@ pair_is_one operations (Some p) (Some q) complete x y =
     let v : Violation = violation.Order p.enq_a p.enq_b p.deq_b p.deq_a in
     let w : Violation = violation.Order q.enq_a q.enq_b q.deq_b q.deq_a in
     let violations = one_violation operations v w b c complete breaches (x.at_a, x.at_b, x.dequeued_b, x.dequeued_a)
-        (y.at_a, y.at_b, y.dequeued_b, y.dequeued_a) in
+    (y.at_a, y.at_b, y.dequeued_b, y.dequeued_a) in
     ap (λ pair. Some pair) (ap pair_of violations)
 
 one_least_gap : (operations : List Operation) (o : Operation) (c d : ℕ) → IsLeastFreeGap operations o c → IsLeastFreeGap operations o d → c ≡ d

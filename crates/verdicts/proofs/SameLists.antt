@@ -28,7 +28,7 @@ same_lists key (x ∷ xs) [] rises rises' into back = absurd (not_in_none x (int
 same_lists {X} key (x ∷ xs) (y ∷ ys) rises rises' into back =
     let heads = first (contains_cons y ys x (into x (zero, omega arith, refl))) (contains_cons x xs y (back y (zero, omega arith, refl))) in
     let tails = same_lists key xs ys (AllPairs-tail (λ x y. key x < key y) x xs rises) (AllPairs-tail (λ x y. key x < key y) y ys rises')
-        (further heads) (backward heads) in
+    (further heads) (backward heads) in
     cc
   where
     first : (y ≡ x) ⊎ Contains ys x → (x ≡ y) ⊎ Contains xs y → x ≡ y
@@ -50,7 +50,7 @@ same_lists {X} key (x ∷ xs) (y ∷ ys) rises rises' into back =
 sorted_is_same : {X : Type 0} (key : X → ℕ) (xs ys : List X) → KeysRise key xs → IsPermutation xs ys → IsNonDecreasingBy key ys → ys ≡ xs
 sorted_is_same {X} key xs ys rises moved sorted =
     same_lists key ys xs rises' rises (λ z among. Contains-permutation ys xs z (IsPermutation-sym xs ys moved) among)
-        (λ z among. Contains-permutation xs ys z moved among)
+    (λ z among. Contains-permutation xs ys z moved among)
   where
     rises' : KeysRise key ys
     rises' i j d less within =

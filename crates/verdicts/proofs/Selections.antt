@@ -22,7 +22,7 @@ pub line_of_life : (empty : Operation) (cover : List Life) (life : Life) → Con
 line_of_life empty cover life among =
     let lines = flat_map operations_of_life cover in
     one_deeper empty lines (enqueue_of life) (into_flat_map operations_of_life cover life (enqueue_of life) among
-        (first_line (enqueue_of life) (option_to_list (dequeue_of life))))
+    (first_line (enqueue_of life) (option_to_list (dequeue_of life))))
 
 module _ (operations : List Operation) (values empties : ℕ → Bool) where
   abbrev selected : List Operation
@@ -60,9 +60,12 @@ module _ (operations : List Operation) (values empties : ℕ → Bool) where
   dequeue_in_selected v (Some d) selects_it did = did_in_selected d (Deq v) did (selects_by_value d v (Deq v) did.1 refl ∙ selects_it)
 
   pub life_in_whole : (life : Life) → IsLife selected life → IsLife operations life
-  life_in_whole life is =
-      (is.0, did_in_whole (enqueue_of life) (Enq is.0) is.1, dequeue_in_whole is.0 (dequeue_of life)
-          (value_is_selected (enqueue_of life) is.0 (Enq is.0) is.1 refl) is.2)
+  life_in_whole life is = (
+    is.0,
+    did_in_whole (enqueue_of life) (Enq is.0) is.1,
+    dequeue_in_whole is.0 (dequeue_of life)
+        (value_is_selected (enqueue_of life) is.0 (Enq is.0) is.1 refl) is.2,
+  )
 
   pub life_in_selected : (life : Life) → IsLife operations life → selects values empties (enqueue_of life) ≡ true → IsLife selected life
   life_in_selected life is selects_it =
@@ -72,8 +75,12 @@ module _ (operations : List Operation) (values empties : ℕ → Bool) where
   cover_in_whole : (empty before : Operation) (cover : List Life) → CoversFrom selected empty before cover → CoversFrom operations empty before cover
   cover_in_whole empty before [] covers = covers
   cover_in_whole empty before (life ∷ []) covers = (life_in_whole life covers.0, covers.1, covers.2)
-  cover_in_whole empty before (life ∷ next ∷ rest) covers = (life_in_whole life covers.0, covers.1, further (dequeue_of life) covers.2
-      (λ d. cover_in_whole empty d (next ∷ rest)))
+  cover_in_whole empty before (life ∷ next ∷ rest) covers = (
+    life_in_whole life covers.0,
+    covers.1,
+    further (dequeue_of life) covers.2
+        (λ d. cover_in_whole empty d (next ∷ rest)),
+  )
     where
       further : (dequeue : Option Operation) → MatchOption dequeue ⊥ (λ d. CoversFrom selected empty d (next ∷ rest))
           → ((d : Operation) → CoversFrom selected empty d (next ∷ rest) → CoversFrom operations empty d (next ∷ rest))
@@ -141,8 +148,11 @@ module _ (operations : List Operation) (values empties : ℕ → Bool) where
           → MatchOption d (NoneDid operations (Deq is.a)) (λ d. Did operations d (Deq is.a) × Precedes deq_b d)
       later None none = none_did_in_whole is.a (Deq is.a) (value_is_selected enq_a is.a (Enq is.a) is.enqueues_a refl) refl none
       later (Some d) did = (did_in_whole d (Deq is.a) did.0, did.1)
-  breach_in_whole (witness empty cover) is = record { answers_empty = did_in_whole empty Empty is.answers_empty; covers =
-      cover_in_whole empty empty cover is.covers }
+  breach_in_whole (witness empty cover) is = record {
+    answers_empty = did_in_whole empty Empty is.answers_empty;
+    covers =
+        cover_in_whole empty empty cover is.covers;
+  }
 
   -- a violation whose operations are selected is one of the selection
   pub breach_in_selected : (breach : Breach) → IsBreachOf operations breach

@@ -22,9 +22,9 @@ use Rattle.verdicts.proofs.NamedLines.{lines_are_operations}
 -- what the steps of the selection give
 pub selected_by_lines : (events seen selected : List Event) (operations lines read : List Operation) (violation : Violation) (values calls tickets : ℕ → Bool)
     → operations ≡ operations_of events → seen ≡ events → read ≡ lines → IsChosenViolation (operations_of events) violation
-        → AreLinesOf operations violation lines → SelectsNamed read values calls
+    → AreLinesOf operations violation lines → SelectsNamed read values calls
     → ((t : ℕ) → tickets t ≡ holds_ticket (filter (selects values calls) operations) t) → selected ≡ filter (λ e. tickets e.ticket) seen
-        → AreSelectedEvents events violation selected
+    → AreSelectedEvents events violation selected
 selected_by_lines events seen selected operations lines read violation values calls tickets same_operations same_events same_lines chosen shown named
     same kept =
     let names = subst (λ os. Names os violation chosen.0) (sym same_operations) chosen.1 in
@@ -70,8 +70,13 @@ module _ (events : List Event) (violation : Violation) (selected : List Event) (
       (stays_violation (operations_of events) (events, complete, refl) are.breach are.is_chosen are.values are.calls are.named))
 
   keeps_violation : KeepsViolation (operations_of events) violation (operations_of selected)
-  keeps_violation = (are.breach, are.names, (are.values, are.calls, are_selected), lines_are_operations
-      (operations_of selected) are.breach stays_in_selected chosen_in_selected)
+  keeps_violation = (
+    are.breach,
+    are.names,
+    (are.values, are.calls, are_selected),
+    lines_are_operations
+        (operations_of selected) are.breach stays_in_selected chosen_in_selected,
+  )
 
   violation_stays_chosen : StaysChosen (operations_of events) violation (operations_of selected)
   violation_stays_chosen breach names = subst (IsChosenBreach (operations_of selected))

@@ -29,12 +29,12 @@ listed_at operations (p ∷ places) (o ∷ listed) at =
     let first : slice_get operations p ≡ Some o = cc in
     let later : map (slice_get operations) places ≡ map (λ o. Some o) listed = cc in
     ap (λ (x : Option Operation). cons_option x (filter_map (slice_get operations) places)) first
-        ∙ ap (λ (r : List Operation). o ∷ r) (listed_at operations places listed later)
+    ∙ ap (λ (r : List Operation). o ∷ r) (listed_at operations places listed later)
 
 -- the operations at the places of a yes are its claim
 pub yes_claims : (operations seen : List Operation) (verdict : Verdict) (said places : List ℕ) (listed lines : List Operation)
     → verdict ≡ found.Yes said → seen ≡ operations → places ≡ said → lines ≡ listed → ArePlacesOf seen places listed
-        → claimed.Yes lines ≡ claim_of operations verdict
+    → claimed.Yes lines ≡ claim_of operations verdict
 yes_claims operations seen verdict said places listed lines is same ordered these at =
     let there = subst (λ os. ArePlacesOf os said listed) same (subst (λ ps. ArePlacesOf seen ps listed) ordered at) in
     subst (λ v. claimed.Yes lines ≡ claim_of operations v) (sym is) (ap (λ os. claimed.Yes os) (these ∙ sym (listed_at operations said listed there)))
@@ -43,7 +43,7 @@ yes_claims operations seen verdict said places listed lines is same ordered thes
 pub no_claims : (operations seen : List Operation) (verdict : Verdict) (violation : Violation) (kind : ViolationKind) (places read : List ℕ)
     (listed lines : List Operation)
     → verdict ≡ found.No violation → seen ≡ operations → kind ≡ violation_kind violation → read ≡ places → places ≡ places_of_violation violation
-        → lines ≡ listed → ArePlacesOf seen read listed
+    → lines ≡ listed → ArePlacesOf seen read listed
     → claimed.No kind lines ≡ claim_of operations verdict
 no_claims operations seen verdict violation kind places read listed lines is same kinds reads named these at =
     let there = subst (λ os. ArePlacesOf os (places_of_violation violation) listed) same (subst (λ ps. ArePlacesOf seen ps listed) (reads ∙ named) at) in
@@ -71,6 +71,10 @@ evidence_within operations (found.No violation) is = in_range operations (places
 -- the claim of evidence is so
 pub evidence_is_true : EvidenceIsTrueClaim
 evidence_is_true operations (found.Yes places) is = subst (IsLegalOrder operations) (sym (listed_at operations places is.0 is.1)) is.2
-evidence_is_true operations (found.No violation) is =
-    (is.0, sym (same_kind operations violation is.0 is.1), sym (listed_at operations (places_of_violation violation) (lines_of is.0)
-        (places_of_lines operations violation is.0 is.1)), is.2)
+evidence_is_true operations (found.No violation) is = (
+  is.0,
+  sym (same_kind operations violation is.0 is.1),
+  sym (listed_at operations (places_of_violation violation) (lines_of is.0)
+      (places_of_lines operations violation is.0 is.1)),
+  is.2,
+)

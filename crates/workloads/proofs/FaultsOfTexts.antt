@@ -42,7 +42,7 @@ none_before : (text : List ℕ) (worker other : ℕ) (stray : HasStray text work
 none_before text worker other stray first earlier =
     let i = length stray.before in
     let same : get_or first.before i 0 ≡ stray.stray = sym (get_or_append_left first.before (first.stray ∷ first.after) 0 i earlier)
-        ∙ ap (λ (l : List ℕ). get_or l i 0) (sym first.text_is) ∙ stray_here text worker stray in
+    ∙ ap (λ (l : List ℕ). get_or l i 0) (sym first.text_is) ∙ stray_here text worker stray in
     stray_no_byte text worker stray (subst IsOfText same (All-get_or IsOfText first.before i 0 earlier (lines_are_of_text first.before other first.lines)))
 
 -- one worker has the first stray byte
@@ -50,11 +50,13 @@ one_stray : (text : List ℕ) (worker other : ℕ) → HasStray text worker → 
 one_stray text worker other stray first =
     let early = none_before text worker other stray first in
     let late = none_before text other worker first stray in
-    let size : length stray.before ≡ length first.before = elim (cases_lt (length stray.before) (length first.before))
-        [ inl less ↦ absurd (early less) | inr more ↦ elim (cases_lt (length first.before) (length stray.before))
-        [ inl less ↦ absurd (late less) | inr less ↦ omega arith ] ] in
+    let size : length stray.before ≡ length first.before = elim (cases_lt (length stray.before) (length first.before)) [
+      | inl less ↦ absurd (early less)
+      | inr more ↦ elim (cases_lt (length first.before) (length stray.before))
+          [ inl less ↦ absurd (late less) | inr less ↦ omega arith ]
+    ] in
     let before : stray.before ≡ first.before = sym (take_at stray.before (stray.stray ∷ stray.after) (length first.before) size)
-        ∙ ap (take (length first.before)) (sym stray.text_is ∙ first.text_is) ∙ take_at first.before (first.stray ∷ first.after) (length first.before) refl in
+    ∙ ap (take (length first.before)) (sym stray.text_is ∙ first.text_is) ∙ take_at first.before (first.stray ∷ first.after) (length first.before) refl in
     let read = reads_once stray.lines.rows first.lines.rows stray.lines.kinds first.lines.kinds (sym stray.lines.bytes_are ∙ before ∙ first.lines.bytes_are) in
     sym stray.lines.count ∙ ap length read.0 ∙ first.lines.count
 

@@ -83,7 +83,7 @@ unfolding first_words
 seeded seed percent workers operations rows after given count =
     let start = generator_of seed in
     let all : length (flat_map (λ (r : List Kind). r) rows) + 0 ≡ workers * operations =
-        add-zero (length (flat_map (λ (r : List Kind). r) rows)) ∙ given.total ∙ ap (λ (n : ℕ). n * operations) count in
+    add-zero (length (flat_map (λ (r : List Kind). r) rows)) ∙ given.total ∙ ap (λ (n : ℕ). n * operations) count in
     record {
       all_workers = count;
       all_operations = given.lengths;

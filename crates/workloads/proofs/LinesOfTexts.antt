@@ -119,8 +119,14 @@ parts-text_of rows = ap (slice_split ends_line) (sym (append-nil (text_of rows))
 
 -- as many lines end as there are workers
 count-text_of : (rows : List (List Kind)) → count_by ends_line (text_of rows) ≡ length rows
-count-text_of rows = omega (arith, length-slice_split ends_line (text_of rows), ap length (parts-text_of rows), length-map (rows ++ [] ∷ [])
-    (map letter), length-append rows ([] ∷ []))
+count-text_of rows = omega (
+  arith,
+  length-slice_split ends_line (text_of rows),
+  ap length (parts-text_of rows),
+  length-map (rows ++ [] ∷ [])
+      (map letter),
+  length-append rows ([] ∷ []),
+)
 
 -- the lines are short where the rows are
 short_from_lines : (rows : List (List Kind)) → list_all is_short_line (map (map letter) (rows ++ [] ∷ [])) ≡ true → AreShort rows
@@ -138,7 +144,7 @@ lines_from_short (row ∷ rows) short =
     let line : length (map letter row) ≤ MAX_THREAD_OPERATIONS = omega (arith, length-map row letter, here) in
     let rest = lines_from_short rows (All-tail (λ (r : List Kind). length r ≤ MAX_THREAD_OPERATIONS) row rows short) in
     and_from (is_short_line (map letter row)) (list_all is_short_line (map (map letter) (rows ++ [] ∷ [])))
-        (le-leb (length (map letter row)) MAX_THREAD_OPERATIONS line) rest
+    (le-leb (length (map letter row)) MAX_THREAD_OPERATIONS line) rest
 
 -- what the bytes of a text tell of its rows
 pub record TellsRows (text : List ℕ) (rows : List (List Kind)) : Type 0 where
@@ -160,14 +166,14 @@ pub lines_at_letter : (text : List ℕ) (i workers : ℕ) (kind : Kind) → i < 
     → HasLines (take (i + 1) text) workers
 lines_at_letter text i workers kind within is lines =
     subst (λ (bytes : List ℕ). HasLines bytes workers) (ap (λ (byte : ℕ). take i text ++ byte ∷ []) (sym is) ∙ sym (take_more text i 0 within))
-        (has_letter (take i text) workers kind lines)
+    (has_letter (take i text) workers kind lines)
 
 -- the bytes up to a line end at place i, and that line end
 pub lines_at_end : (text : List ℕ) (i workers : ℕ) → i < length text → get_or text i 0 ≡ LINE_FEED → HasLines (take i text) workers
     → HasLines (take (i + 1) text) (workers + 1)
 lines_at_end text i workers within is lines =
     subst (λ (bytes : List ℕ). HasLines bytes (workers + 1)) (ap (λ (byte : ℕ). take i text ++ byte ∷ []) (sym is) ∙ sym (take_more text i 0 within))
-        (has_end (take i text) workers lines)
+    (has_end (take i text) workers lines)
 
 -- another byte at place i
 pub stray_at : (text : List ℕ) (i workers : ℕ) → i < length text → HasLines (take i text) workers → ((kind : Kind) → get_or text i 0 ≢ letter kind)
@@ -228,7 +234,7 @@ pub bytes_are_of_text : (rows : List (List Kind)) → All IsOfText (text_of rows
 bytes_are_of_text [] = All-nil IsOfText
 bytes_are_of_text (row ∷ rows) =
     subst (λ (l : List ℕ). All IsOfText l) (sym (line_first row (text_of rows)))
-        (letters_are_of_text row (LINE_FEED ∷ text_of rows) (All-cons IsOfText LINE_FEED (text_of rows) (inl refl) (bytes_are_of_text rows)))
+    (letters_are_of_text row (LINE_FEED ∷ text_of rows) (All-cons IsOfText LINE_FEED (text_of rows) (inl refl) (bytes_are_of_text rows)))
 
 pub lines_are_of_text : (bytes : List ℕ) (workers : ℕ) → HasLines bytes workers → All IsOfText bytes
 lines_are_of_text bytes workers lines =

@@ -28,7 +28,7 @@ pub loop-ring-preserved : goal.loop-ring-preserved
 loop-ring-preserved c =
     let s = c.in-Ok.ensures in
     let p = seals_next _ _ _ _ _ _ _ _ c.loop-ring.invariant.2 c.in-Some.ensures.steps.0 c.in-Some-next.ensures.cases.0 c.in-Ok.events.items s.sealed
-        s.certified in
+    s.certified in
     let pushed : c.push.new.self.items ≡ c.loop-ring.lists.items ++ c.in-Ok.events ∷ [] = search rules in
     let more = ap (map (λ list. list.items)) pushed ∙ map-append (λ list. list.items) c.loop-ring.lists.items (c.in-Ok.events ∷ []) in
     (tt, tt, subst (λ lists. IsSealing c.args.tokens.items (into_iter_items c.next.new.self) (into_iter_items c.next-in-loop-ring.new.self) lists) (sym more) p)

@@ -16,13 +16,13 @@ returns c =
     let required : app_of c.subcommand_required.result ≡ wanting (app_of c.version.result) = ap app_of_fields c.subcommand_required.ensures in
     let named = required ∙ ap wanting (version ∙ ap versioned (about ∙ c.new.ensures.app)) in
     let check = c.in_ok-subcommand.ensures.shape c.plain_command.ensures.local
-        ∙ ap₂ with_subcommand named (ap (λ (a : App). a.top) c.plain_command.ensures.app) in
+    ∙ ap₂ with_subcommand named (ap (λ (a : App). a.top) c.plain_command.ensures.app) in
     let shrink = c.in_ok-subcommand-2.ensures.shape c.plain_command-2.ensures.local
-        ∙ ap₂ with_subcommand check (ap (λ (a : App). a.top) c.plain_command-2.ensures.app) in
+    ∙ ap₂ with_subcommand check (ap (λ (a : App). a.top) c.plain_command-2.ensures.app) in
     let verify = c.in_ok-subcommand-3.ensures.shape c.plain_command-3.ensures.local
-        ∙ ap₂ with_subcommand shrink (ap (λ (a : App). a.top) c.plain_command-3.ensures.app) in
+    ∙ ap₂ with_subcommand shrink (ap (λ (a : App). a.top) c.plain_command-3.ensures.app) in
     let draw = c.in_ok-subcommand-4.ensures.shape c.in_ok-draw.ensures.local ∙ ap₂ with_subcommand verify c.in_ok-draw.ensures.shape in
     let sim = c.in_ok-subcommand-5.ensures.shape c.plain_command-4.ensures.local
-        ∙ ap₂ with_subcommand draw (ap (λ (a : App). a.top) c.plain_command-4.ensures.app) in
+    ∙ ap₂ with_subcommand draw (ap (λ (a : App). a.top) c.plain_command-4.ensures.app) in
     IfOk-weaker c.subcommand-6.result _ _ (λ r h. h.shape c.in_ok-stress.ensures.local ∙ ap₂ with_subcommand sim c.in_ok-stress.ensures.shape)
-        c.subcommand-6.ensures
+    c.subcommand-6.ensures

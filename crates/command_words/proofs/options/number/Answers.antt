@@ -13,10 +13,10 @@ unreachable-requires c = some_text (found_of c.args.matches.now) c.args.id.now c
 pub unreachable-requires-in_default-parse : goal.unreachable-requires-in_default-parse
 unreachable-requires-in_default-parse c =
     parses (found_of c.args.matches.now) c.args.id.now c.get_str.result c.get_str.ensures c.in-Some.text c.in-Some.is c.requires.0 c.requires.1
-        c.requires.2 c.parse.result c.parse.ensures.value.0 _ c.in_default-parse.is
+    c.requires.2 c.parse.result c.parse.ensures.value.0 _ c.in_default-parse.is
 
 pub returns : goal.returns
 returns c =
     let parsed = rw c.in-Ok.is at c.parse.ensures.value.0 in
     parsed.1 ∙ ap (λ (o : Option Text). digits_value 10 (without_leading_plus (unwrap_or o [])))
-        (sym (that_text (found_of c.args.matches.now) c.args.id.now c.get_str.result c.get_str.ensures c.in-Some.text c.in-Some.is))
+    (sym (that_text (found_of c.args.matches.now) c.args.id.now c.get_str.result c.get_str.ensures c.in-Some.text c.in-Some.is))

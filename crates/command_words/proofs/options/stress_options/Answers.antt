@@ -10,7 +10,7 @@ unreachable-requires c = no_text (found_of c.args.matches.now) (codes "queue") c
 pub returns-clause-settings : goal.returns-clause-settings
 returns-clause-settings c =
     let queue = ap (λ (o : Option Text). unwrap_or o []) (sym (that_text (found_of c.args.matches.now)
-        (codes "queue") c.get_str.result c.get_str.ensures c.in-Some.queue c.in-Some.is)) in
+    (codes "queue") c.get_str.result c.get_str.ensures c.in-Some.queue c.in-Some.is)) in
     λ i. record {
       queue = queue i;
       threads = c.number.ensures i;

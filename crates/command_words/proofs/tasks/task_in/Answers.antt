@@ -19,7 +19,7 @@ returns-in-Ok-clause-task g c =
 pub returns-in-Err-clause-err : goal.returns-in-Err-clause-err
 returns-in-Err-clause-err g c =
     of_program (λ (a : App). HasKind (fault_of a (map g.T.AsStr.text c.args.words.now)) c.in-Err.error) is_simple_and_free _ c.in_ok-command.ensures
-        refl c.in-Err.ensures.kinds
+    refl c.in-Err.ensures.kinds
 
 pub task_of-requires : goal.task_of-requires
 task_of-requires g c =

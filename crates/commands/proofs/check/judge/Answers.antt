@@ -9,7 +9,7 @@ use Rattle.commands.proofs.check.judge.Goals as goal
 pub returns-in-Err-clause-found : goal.returns-in-Err-clause-found
 returns-in-Err-clause-found g c = λ events gathered.
     elim (fault_found events c.in-Err.fault (answer_of c.of_history_fault.result)
-        (c.in-Err.ensures.outcome events gathered) c.of_history_fault.ensures.answer) [
+    (c.in-Err.ensures.outcome events gathered) c.of_history_fault.ensures.answer) [
       | inl faulty ↦ inl (inl faulty)
       | inr memory ↦ inr memory
     ]

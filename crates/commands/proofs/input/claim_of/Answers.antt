@@ -12,4 +12,4 @@ returns-in-Err-read_verdict-clause-fault g c =
     let events = rw c.new-texts.ensures at c.in-Ok.ensures.events in
     let lines = rw c.new-texts.ensures at c.in-Ok.ensures.lines in
     verdict_fault (g.S.TextSource.ahead c.args.reader) _ c.in-Ok.events.items _ c.in-Err-read_verdict.fault events.0 events.1
-        (omega (arith, lines)) c.in-Err-read_verdict.ensures.fault
+    (omega (arith, lines)) c.in-Err-read_verdict.ensures.fault

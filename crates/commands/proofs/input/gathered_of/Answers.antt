@@ -11,4 +11,4 @@ pub returns-in-Err-at_end-clause-fault : goal.returns-in-Err-at_end-clause-fault
 returns-in-Err-at_end-clause-fault g c =
     let read = rw c.new-texts.ensures at c.in-Ok.ensures.events in
     end_fault HasHistoryText history_text (IsHistoryTextFault 0) NoRoomFor
-        (g.S.TextSource.ahead c.args.reader) _ read.0 c.in-Err-at_end.fault read.1 read.2 c.in-Err-at_end.ensures.fault
+    (g.S.TextSource.ahead c.args.reader) _ read.0 c.in-Err-at_end.fault read.1 read.2 c.in-Err-at_end.ensures.fault

@@ -11,4 +11,4 @@ pub returns-in-Err-at_end-clause-fault : goal.returns-in-Err-at_end-clause-fault
 returns-in-Err-at_end-clause-fault g c =
     let schedule = rw c.new-texts.ensures at c.in-Ok.ensures.schedule in
     end_fault HasScheduleText schedule_text (IsScheduleTextFault 0) NoRoomForSchedule
-        (g.S.TextSource.ahead c.args.reader) _ c.in-Ok.schedule c.in-Err-at_end.fault schedule.0 schedule.1 c.in-Err-at_end.ensures.fault
+    (g.S.TextSource.ahead c.args.reader) _ c.in-Ok.schedule c.in-Err-at_end.fault schedule.0 schedule.1 c.in-Err-at_end.ensures.fault

@@ -14,14 +14,14 @@ returns-in_err-write_rejections-clause-err g c =
     let first = rw c.as_slice.ensures at c.in_err-write_rejections.ensures.err in
     on_err c.from_residual.result _
     (front_first _ _ (rejection_lines c.args.rejections.now) (history_text c.args.history.now ++ verdict_text
-        (claim_of (operations_of c.args.history.now) c.args.verdict.now)) first)
+    (claim_of (operations_of c.args.history.now) c.args.verdict.now)) first)
 
 pub returns-clause-err : goal.returns-clause-err
 returns-clause-err g c =
     let first = rw c.as_slice.ensures at c.in_ok-write_rejections.ensures.ok in
     on_err_weaker c.write_shown.result
     (front_next _ _ _ (rejection_lines c.args.rejections.now) (history_text c.args.history.now ++ verdict_text
-        (claim_of (operations_of c.args.history.now) c.args.verdict.now)) first)
+    (claim_of (operations_of c.args.history.now) c.args.verdict.now)) first)
     c.write_shown.ensures.err
 
 pub returns-clause-written : goal.returns-clause-written

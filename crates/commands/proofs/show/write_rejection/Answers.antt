@@ -10,7 +10,7 @@ returns-in_err-write_piece-clause-err g c = on_err c.from_residual.result _ (fro
 pub returns-in_err-write_number-clause-err : goal.returns-in_err-write_number-clause-err
 returns-in_err-write_number-clause-err g c =
     on_err c.from_residual-in_err-write_number.result _ (front_of_number c.args.rejection _ _ _ c.in_ok-write_piece.ensures.ok
-        c.in_err-write_number.ensures.err)
+    c.in_err-write_number.ensures.err)
 
 pub returns-clause-err : goal.returns-clause-err
 returns-clause-err g c =
@@ -24,9 +24,9 @@ returns-in_err-write_number-clause-stopped g c = on_err c.from_residual-in_err-w
 pub returns-clause-written : goal.returns-clause-written
 returns-clause-written g c =
     on_ok_weaker c.write_piece-2.result (written_then g.W.TextSink.goes _ _ _
-        (written_then g.W.TextSink.goes _ _ _ c.in_ok-write_piece.ensures.written c.in_ok-write_number.ensures.written)) c.write_piece-2.ensures.written
+    (written_then g.W.TextSink.goes _ _ _ c.in_ok-write_piece.ensures.written c.in_ok-write_number.ensures.written)) c.write_piece-2.ensures.written
 
 pub returns-clause-stopped : goal.returns-clause-stopped
 returns-clause-stopped g c =
     on_err_weaker c.write_piece-2.result (refused_then g.W.TextSink.goes _ _ _
-        (written_then g.W.TextSink.goes _ _ _ c.in_ok-write_piece.ensures.written c.in_ok-write_number.ensures.written)) c.write_piece-2.ensures.stopped
+    (written_then g.W.TextSink.goes _ _ _ c.in_ok-write_piece.ensures.written c.in_ok-write_number.ensures.written)) c.write_piece-2.ensures.stopped

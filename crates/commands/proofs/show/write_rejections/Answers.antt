@@ -7,7 +7,7 @@ pub returns-in_err-write_rejection-clause-err : goal.returns-in_err-write_reject
 returns-in_err-write_rejection-clause-err g c =
     on_err c.from_residual.result _
     (front_of_next_line c.args.rejections.now c.loop-rejection.rejection-index _ _ _ _ c.loop-rejection-test.true c.loop-rejection.invariant.0
-        c.in_err-write_rejection.ensures.err)
+    c.in_err-write_rejection.ensures.err)
 
 pub loop-rejection-preserved : goal.loop-rejection-preserved
 loop-rejection-preserved g c = (

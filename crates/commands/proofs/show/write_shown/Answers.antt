@@ -10,12 +10,12 @@ use Rattle.commands.proofs.show.write_shown.Goals as goal
 pub returns-in_err-write_history-clause-err : goal.returns-in_err-write_history-clause-err
 returns-in_err-write_history-clause-err g c =
     on_err c.from_residual.result _ (front_first _ _ (history_text c.args.history.now)
-        (verdict_text (claim_of (operations_of c.args.history.now) c.args.verdict.now)) c.in_err-write_history.ensures.err)
+    (verdict_text (claim_of (operations_of c.args.history.now) c.args.verdict.now)) c.in_err-write_history.ensures.err)
 
 pub returns-clause-err : goal.returns-clause-err
 returns-clause-err g c =
     on_err_weaker c.write_verdict.result (λ h. front_next _ _ _ (history_text c.args.history.now)
-        (verdict_text (claim_of (operations_of c.args.history.now) c.args.verdict.now)) c.in_ok-write_history.ensures.ok h) c.write_verdict.ensures.err
+    (verdict_text (claim_of (operations_of c.args.history.now) c.args.verdict.now)) c.in_ok-write_history.ensures.ok h) c.write_verdict.ensures.err
 
 pub returns-clause-written : goal.returns-clause-written
 returns-clause-written g c = on_ok_weaker c.write_verdict.result

@@ -27,9 +27,15 @@ returns-in-Ok-decide-clause-found c =
     let rejected = rw c.as_slice.ensures at c.in-Ok.ensures.rejections in
     let ended = rw (c.as_slice.ensures, c.in-Done.is) at c.in-Ok.ensures.ending in
     let right : IsVerdictClaim (operations_of c.in-Ok-merged_history.history)
-        (claim_of (operations_of c.in-Ok-merged_history.history) c.in-Ok-decide.verdict) =
-        record { verdict = c.in-Ok-decide.verdict; chosen = c.in-Ok-decide.ensures.chosen; evidence = c.in-Ok-decide.ensures.evidence; exact =
-        c.in-Ok-decide.ensures.exact; claim = refl } in
+    (claim_of (operations_of c.in-Ok-merged_history.history) c.in-Ok-decide.verdict) =
+    record {
+      verdict = c.in-Ok-decide.verdict;
+      chosen = c.in-Ok-decide.ensures.chosen;
+      evidence = c.in-Ok-decide.ensures.evidence;
+      exact =
+          c.in-Ok-decide.ensures.exact;
+      claim = refl;
+    } in
     inl (played_found _ _ _ rejected c.in-Done.lists _ _ ended c.in-Ok-merged_history.ensures.merged c.in-Ok-merged_history.ensures.complete right)
 
 pub returns-in-Ok-decide-clause-places : goal.returns-in-Ok-decide-clause-places

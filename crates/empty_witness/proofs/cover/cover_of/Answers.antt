@@ -13,7 +13,7 @@ loop-frontier-init c =
 pub unwrap-value-requires : goal.unwrap-value-requires
 unwrap-value-requires c =
     let finds = subst (λ values. FindsLongest (EntersBefore c.loop-frontier.frontier) values c.longest_before.result) c.in_ok-table.ensures
-        c.longest_before.ensures in
+    c.longest_before.ensures in
     next_is_found c.args.matching.now c.values.result c.args.answer.now c.values.ensures.clear c.values.ensures.values c.requires.is_empty c.requires.covered
     c.loop-frontier.steps.items c.loop-frontier.frontier c.longest_before.result c.loop-frontier.invariant c.loop-frontier-test.true finds
 
@@ -21,7 +21,7 @@ pub loop-frontier-smaller : goal.loop-frontier-smaller
 loop-frontier-smaller c =
     let value = c.unwrap-value.result in
     let finds = subst (λ values. FindsLongest (EntersBefore c.loop-frontier.frontier) values c.longest_before.result) c.in_ok-table.ensures
-        c.longest_before.ensures in
+    c.longest_before.ensures in
     let longest = found_longest c.values.result c.loop-frontier.frontier c.longest_before.result value finds c.unwrap-value.ensures in
     let rises : c.loop-frontier.frontier < dequeue_call value.life =
     frontier_rises c.args.matching.now c.values.result c.args.answer.now c.values.ensures.clear c.values.ensures.values c.requires.is_empty c.requires.covered
@@ -32,7 +32,7 @@ pub loop-frontier-preserved : goal.loop-frontier-preserved
 loop-frontier-preserved c =
     let value = c.unwrap-value.result in
     let finds = subst (λ values. FindsLongest (EntersBefore c.loop-frontier.frontier) values c.longest_before.result) c.in_ok-table.ensures
-        c.longest_before.ensures in
+    c.longest_before.ensures in
     let longest = found_longest c.values.result c.loop-frontier.frontier c.longest_before.result value finds c.unwrap-value.ensures in
     rw (c.in_ok-push.ensures.items, c.dequeue_call-frontier.ensures)
     (one_more_step c.args.matching.now c.values.result c.args.answer.now c.values.ensures.clear c.values.ensures.values c.requires.is_empty c.requires.covered

@@ -27,12 +27,16 @@ loop-empty-preserved c = λ seen first.
           let covered = covered_if_none operations answer.result.operation c.least_free_gap.result window (search rules) in
           rw w.first-is
           (one_more_covered operations seen others i c.loop-empty.first answer.result w.sooner_of-first.result c.loop-empty-test.true is so_far
-          (record { at = subst (λ p. IsAt operations p answer.result.operation) (sym answer.ensures.place) answer.ensures.at; is_empty =
-              answer.ensures.is_empty; is_covered = covered }) w.sooner_of-first.ensures)
+          (record {
+            at = subst (λ p. IsAt operations p answer.result.operation) (sym answer.ensures.place) answer.ensures.at;
+            is_empty =
+                answer.ensures.is_empty;
+            is_covered = covered;
+          }) w.sooner_of-first.ensures)
       | else-is_none w ↦
           let gap = gap_if_some operations answer.result.operation c.least_free_gap.result window (search rules) in
           rw w.first-is (one_more_free operations seen others i c.empty-item.result gap.0 answer.result.operation c.loop-empty.first
-              c.loop-empty-test.true c.empty-item.is so_far answer.ensures.at gap.1)
+          c.loop-empty-test.true c.empty-item.is so_far answer.ensures.at gap.1)
     ]
 
 pub returns : goal.returns

@@ -14,7 +14,7 @@ pub first_covered-requires-clause-others : goal.first_covered-requires-clause-ot
 first_covered-requires-clause-others c =
     let operations = c.args.matching.now in
     subst (All (IsEmptyAnswerAt operations)) (sym c.split_at.ensures.back)
-        (All-drop (IsEmptyAnswerAt operations) (c.loop-index.index + 1) c.args.empties.now c.requires.empties)
+    (All-drop (IsEmptyAnswerAt operations) (c.loop-index.index + 1) c.args.empties.now c.requires.empties)
 
 pub returns-in-None : goal.returns-in-None
 returns-in-None c =
@@ -25,9 +25,13 @@ returns-in-None c =
     let is = subst (λ p. p ≡ get_or empties i p) (sym answer.ensures.place) c.index-empties-index.is in
     let covered = c.in-None.ensures operations c.requires.spans in
     from_the_first operations empties c.loop-index.gaps.items c.split_at.result.1.now i answer.result c.first_covered.result c.loop-index-test.true is
-        c.loop-index.invariant
-    (record { at = subst (λ p. IsAt operations p answer.result.operation) (sym answer.ensures.place) answer.ensures.at; is_empty =
-        answer.ensures.is_empty; is_covered = covered }) c.split_at.ensures.back c.first_covered.ensures
+    c.loop-index.invariant
+    (record {
+      at = subst (λ p. IsAt operations p answer.result.operation) (sym answer.ensures.place) answer.ensures.at;
+      is_empty =
+          answer.ensures.is_empty;
+      is_covered = covered;
+    }) c.split_at.ensures.back c.first_covered.ensures
 
 pub loop-index-preserved : goal.loop-index-preserved
 loop-index-preserved c =
@@ -35,5 +39,5 @@ loop-index-preserved c =
     let answer = c.answer_at-answer in
     rw c.in_ok-push-in-Some.ensures.items
     (one_more_gap operations c.args.empties.now c.loop-index.gaps.items c.loop-index.index c.index-empties-index.result c.in-Some.gap
-        answer.result.operation c.loop-index-test.true c.index-empties-index.is c.loop-index.invariant answer.ensures.at
+    answer.result.operation c.loop-index-test.true c.index-empties-index.is c.loop-index.invariant answer.ensures.at
     (c.in-Some.ensures operations c.requires.spans))

@@ -50,4 +50,4 @@ returns c =
     (all_joined c.args.stays.now c.loop-stay.spans.items c.loop-stay.last
     (subst (λ seen. IsJoinedSoFar seen c.loop-stay.spans.items c.loop-stay.last)
     (all_seen c.args.stays.now c.in-Some.rest.now c.in-Some.first.now c.in-Some.ensures.cases.0 c.loop-stay.stay-index c.loop-stay-test.false)
-        c.loop-stay.invariant.joined))
+    c.loop-stay.invariant.joined))

@@ -14,7 +14,7 @@ returns-clause-moved c =
     let start : c.len-start.result ≡ length old = grind arith in
     let more = c.len-start.result + c.args.count in
     written_over old _ _ _ _ _ c.len-start.result more _ (c.deref_mut.ensures.value ∙ c.in_ok-resize.ensures.items) (omega (arith, start)) start
-        (omega (arith, long, c.in_ok-resize.ensures.len)) ∙ ap (λ l. old ++ l) taken
+    (omega (arith, long, c.in_ok-resize.ensures.len)) ∙ ap (λ l. old ++ l) taken
 
 pub returns-clause-received : goal.returns-clause-received
 returns-clause-received c =

@@ -7,7 +7,7 @@ use Rattle.history_text.proofs.history_writer.put_events.Goals as goal
 pub returns-in_err-put_event-clause-err : goal.returns-in_err-put_event-clause-err
 returns-in_err-put_event-clause-err g c =
     on_err c.from_residual.result _ (stops_at_one event_line c.args.events.now c.loop-event.event-index _ _ _ _ _ c.loop-event.invariant.put
-        c.in_err-put_event.ensures.err)
+    c.in_err-put_event.ensures.err)
 
 pub loop-event-preserved : goal.loop-event-preserved
 loop-event-preserved g c = record {

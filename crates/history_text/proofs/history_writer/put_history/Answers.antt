@@ -15,7 +15,7 @@ pub returns-in_err-make_room-clause-err : goal.returns-in_err-make_room-clause-e
 returns-in_err-make_room-clause-err g c =
     let first : c.push.new.self ≡ line header = rw (c.push.ensures.bytes, c.requires) refl in
     on_err c.from_residual-in_err-make_room.result _ (history_stops_late c.args.events.now _ _ _ c.push.new.self _ first c.in_ok-put_events.ensures.ok
-        c.in_err-make_room.ensures.err)
+    c.in_err-make_room.ensures.err)
 
 pub returns-clause-ok : goal.returns-clause-ok
 returns-clause-ok g c =

@@ -17,7 +17,7 @@ returns-clause-err g c =
 pub returns-clause-readable : goal.returns-clause-readable
 returns-clause-readable g c =
     on_ok c.write_piece.result _ (complete_has_text c.args.history.now c.events.ensures.complete
-        (rw c.events.ensures.events at c.in_ok-put_history.ensures.fits) c.events.ensures.few)
+    (rw c.events.ensures.events at c.in_ok-put_history.ensures.fits) c.events.ensures.few)
 
 pub returns-clause-written : goal.returns-clause-written
 returns-clause-written g c = on_ok_weaker c.write_piece.result

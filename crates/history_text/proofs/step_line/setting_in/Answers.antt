@@ -7,5 +7,5 @@ use Rattle.history_text.proofs.step_line.setting_in.Goals as goal
 pub returns-in-Some-split_field-3-clause-value : goal.returns-in-Some-split_field-3-clause-value
 returns-in-Some-split_field-3-clause-value c =
     five_fields (setting_in c.args.line) (Err (Line c.args.line)) c.args.bytes.now _ _ _ _ c.in-Some.rest.now c.in-Some-split_field.rest.now
-        c.in-Some-split_field-2.ring.now c.in-Some-split_field-3._more.now c.in-Some.ensures c.in-Some-split_field.ensures
-        c.in-Some-split_field-2.ensures c.in-Some-split_field-3.ensures (λ field others. refl)
+    c.in-Some-split_field-2.ring.now c.in-Some-split_field-3._more.now c.in-Some.ensures c.in-Some-split_field.ensures
+    c.in-Some-split_field-2.ensures c.in-Some-split_field-3.ensures (λ field others. refl)

@@ -8,12 +8,12 @@ use Rattle.history_text.proofs.verdict_writer.put_cover.Goals as goal
 pub put_with_last-requires : goal.put_with_last-requires
 put_with_last-requires g c =
     step_within c.args.operations.now places_of_step (λ p. p < length c.args.operations.now) c.args.steps.now c.loop-step.step-index
-        c.step-item.result c.loop-step-test.true c.step-item.is c.requires
+    c.step-item.result c.loop-step-test.true c.step-item.is c.requires
 
 pub returns-in_err-put_with_last-clause-err : goal.returns-in_err-put_with_last-clause-err
 returns-in_err-put_with_last-clause-err g c =
     on_err c.from_residual.result _ (step_stops c.args.operations.now places_of_step c.args.steps.now c.loop-step.step-index c.step-item.result _ _ _
-        _ _ c.loop-step-test.true c.step-item.is c.loop-step.invariant.put c.in_err-put_with_last.ensures.err)
+    _ _ c.loop-step-test.true c.step-item.is c.loop-step.invariant.put c.in_err-put_with_last.ensures.err)
 
 pub loop-step-preserved : goal.loop-step-preserved
 loop-step-preserved g c = record {

@@ -7,7 +7,7 @@ use Rattle.history_text.proofs.verdict_writer.put_places.Goals as goal
 pub returns-in_err-make_room-clause-err : goal.returns-in_err-make_room-clause-err
 returns-in_err-make_room-clause-err g c =
     on_err c.from_residual.result _ (stops_at_place c.args.operations.now c.args.places.now c.loop-id.id-index _ _ _ _ _ c.loop-id.invariant.put
-        c.in_err-make_room.ensures.err)
+    c.in_err-make_room.ensures.err)
 
 pub loop-id-preserved : goal.loop-id-preserved
 loop-id-preserved g c =

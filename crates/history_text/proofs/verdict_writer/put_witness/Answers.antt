@@ -10,7 +10,7 @@ use Rattle.history_text.proofs.verdict_writer.put_witness.Goals as goal
 pub returns-in_err-put_places-clause-err : goal.returns-in_err-put_places-clause-err
 returns-in_err-put_places-clause-err g c =
     on_err c.from_residual.result _ (first_stops c.args.operations.now (c.args.empty ∷ [])
-        (flat_map places_of_step c.args.cover.now) _ _ _ c.in_err-put_places.ensures.err)
+    (flat_map places_of_step c.args.cover.now) _ _ _ c.in_err-put_places.ensures.err)
 
 pub put_cover-requires : goal.put_cover-requires
 put_cover-requires g c = All-last (λ p. p < length c.args.operations.now) (c.args.empty ∷ []) (flat_map places_of_step c.args.cover.now) c.requires
@@ -18,12 +18,12 @@ put_cover-requires g c = All-last (λ p. p < length c.args.operations.now) (c.ar
 pub returns-clause-ok : goal.returns-clause-ok
 returns-clause-ok g c =
     on_ok_weaker c.put_cover.result (both_put c.args.operations.now (c.args.empty ∷ [])
-        (flat_map places_of_step c.args.cover.now) _ _ _ _ _ _ c.in_ok-put_places.ensures.ok) c.put_cover.ensures.ok
+    (flat_map places_of_step c.args.cover.now) _ _ _ _ _ _ c.in_ok-put_places.ensures.ok) c.put_cover.ensures.ok
 
 pub returns-clause-err : goal.returns-clause-err
 returns-clause-err g c =
     on_err_weaker c.put_cover.result (next_stops c.args.operations.now (c.args.empty ∷ [])
-        (flat_map places_of_step c.args.cover.now) _ _ _ _ _ c.in_ok-put_places.ensures.ok) c.put_cover.ensures.err
+    (flat_map places_of_step c.args.cover.now) _ _ _ _ _ c.in_ok-put_places.ensures.ok) c.put_cover.ensures.err
 
 pub returns-clause-written : goal.returns-clause-written
 returns-clause-written g c = on_ok_weaker c.put_cover.result (written_then g.W.TextSink.goes _ _ _ c.in_ok-put_places.ensures.written)

@@ -10,31 +10,31 @@ use Rattle.linearizer.proofs.choice.put_in_order.Goals.{After-first_left-first_i
 pub loop-entries-init : goal.loop-entries-init
 loop-entries-init c =
     let flags : c.in_ok-taken.taken.items ≡ replicate (length c.args.values.now) false = search rules in
-        rw (flags, c.in_ok-ordered.ensures.items) (nothing_swept c.args.values.now c.in_ok-entries.entries.items c.in_ok-dequeues.dequeues.items)
+    rw (flags, c.in_ok-ordered.ensures.items) (nothing_swept c.args.values.now c.in_ok-entries.entries.items c.in_ok-dequeues.dequeues.items)
 
 pub first_left-first_in-requires-clause-flagged : goal.first_left-first_in-requires-clause-flagged
 first_left-first_in-requires-clause-flagged c =
     rw (c.deref.ensures.value, c.deref-in-loop-entries.ensures.value)
-        (flags_within entered_by c.args.values.now c.in_ok-entries.entries.items c.loop-entries.taken.items c.in_ok-entries.ensures
-        c.loop-entries.invariant.one_flag_each)
+    (flags_within entered_by c.args.values.now c.in_ok-entries.entries.items c.loop-entries.taken.items c.in_ok-entries.ensures
+    c.loop-entries.invariant.one_flag_each)
 
 pub first_left-first_in-requires-clause-some_left : goal.first_left-first_in-requires-clause-some_left
 first_left-first_in-requires-clause-some_left c =
     rw (c.deref.ensures.value, c.deref-in-loop-entries.ensures.value)
-        (some_left entered_by c.args.values.now c.in_ok-entries.entries.items c.loop-entries.taken.items c.loop-entries.ordered.items
-        c.in_ok-entries.ensures c.loop-entries.invariant.within c.loop-entries.invariant.so_far (search rules))
+    (some_left entered_by c.args.values.now c.in_ok-entries.entries.items c.loop-entries.taken.items c.loop-entries.ordered.items
+    c.in_ok-entries.ensures c.loop-entries.invariant.within c.loop-entries.invariant.so_far (search rules))
 
 pub first_left-first_out-requires-clause-flagged : goal.first_left-first_out-requires-clause-flagged
 first_left-first_out-requires-clause-flagged c =
     rw (c.deref-in-loop-entries-2.ensures.value, c.deref-in-loop-entries-3.ensures.value)
-        (flags_within dequeue_return c.args.values.now c.in_ok-dequeues.dequeues.items c.loop-entries.taken.items c.in_ok-dequeues.ensures
-        c.loop-entries.invariant.one_flag_each)
+    (flags_within dequeue_return c.args.values.now c.in_ok-dequeues.dequeues.items c.loop-entries.taken.items c.in_ok-dequeues.ensures
+    c.loop-entries.invariant.one_flag_each)
 
 pub first_left-first_out-requires-clause-some_left : goal.first_left-first_out-requires-clause-some_left
 first_left-first_out-requires-clause-some_left c =
     rw (c.deref-in-loop-entries-2.ensures.value, c.deref-in-loop-entries-3.ensures.value)
-        (some_left dequeue_return c.args.values.now c.in_ok-dequeues.dequeues.items c.loop-entries.taken.items c.loop-entries.ordered.items
-        c.in_ok-dequeues.ensures c.loop-entries.invariant.within c.loop-entries.invariant.so_far (search rules))
+    (some_left dequeue_return c.args.values.now c.in_ok-dequeues.dequeues.items c.loop-entries.taken.items c.loop-entries.ordered.items
+    c.in_ok-dequeues.ensures c.loop-entries.invariant.within c.loop-entries.invariant.so_far (search rules))
 
 -- the cursors stand at the first that is left of each list
 entered : (c : After-first_left-first_in) → IsFirstLeft c.in_ok-entries.entries.items c.loop-entries.taken.items c.first_left-first_in.result
@@ -60,10 +60,10 @@ choice-next-requires c = place_within entered_by c.args.values.now c.in_ok-entri
 next : (c : After-choice-next) → IsNext c.args.values.now c.loop-entries.taken.items c.choice-next.result
 next c =
     next_at c.args.values.now c.in_ok-entries.entries.items c.in_ok-dequeues.dequeues.items c.loop-entries.taken.items c.first_left-first_in.result
-        c.first_left-first_out.result c.index.result.now c.index-in-loop-entries.result.now c.choice-next.result
+    c.first_left-first_out.result c.index.result.now c.index-in-loop-entries.result.now c.choice-next.result
     c.in_ok-entries.ensures c.in_ok-dequeues.ensures (rw (c.deref.ensures.value, c.deref-in-loop-entries.ensures.value) at c.first_left-first_in.ensures)
     (rw (c.deref-in-loop-entries-2.ensures.value, c.deref-in-loop-entries-3.ensures.value) at c.first_left-first_out.ensures) (search rules)
-        (search rules) c.choice-next.ensures
+    (search rules) c.choice-next.ensures
 
 within : (c : After-choice-next) → c.choice-next.result < length c.args.values.now
 within c = slice_get_within c.args.values.now c.choice-next.result (next c).value (next c).is_at
@@ -77,7 +77,7 @@ loop-entries-preserved c =
     let turn = (goal.at.loop-entries-preserved c).After-choice-next in
     rw c.in_ok-push.ensures.items
     (swept_more c.args.values.now c.in_ok-entries.entries.items c.in_ok-dequeues.dequeues.items c.loop-entries.taken.items _ _ _ _
-        c.loop-entries.ordered.items c.choice-next.result (next turn) c.loop-entries.invariant
+    c.loop-entries.ordered.items c.choice-next.result (next turn) c.loop-entries.invariant
     (entered ((goal.at.loop-entries-preserved c).After-first_left-first_in)) (dequeued ((goal.at.loop-entries-preserved c).After-first_left-first_out)))
 
 pub returns-clause-holds_each_once : goal.returns-clause-holds_each_once

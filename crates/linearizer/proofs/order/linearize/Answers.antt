@@ -9,6 +9,6 @@ use Rattle.linearizer.proofs.order.linearize.Goals as goal
 pub returns : goal.returns
 returns c =
     IfOk-weaker c.merge.result (λ places. IsMerge c.args.matching.now c.deref.result.now places.items)
-        (λ places. AreChosenAndLegal c.args.matching.now places.items)
+    (λ places. AreChosenAndLegal c.args.matching.now places.items)
     (λ places merged. chosen_and_legal _ _ _ c.merge.ensures.clear c.requires.no_order_violation
-        (subst (HoldsIdles c.args.matching.now) (sym c.deref.ensures.value) c.in_ok-idles.ensures) merged) c.merge.ensures.merged
+    (subst (HoldsIdles c.args.matching.now) (sym c.deref.ensures.value) c.in_ok-idles.ensures) merged) c.merge.ensures.merged

@@ -15,8 +15,8 @@ pub loop-rank-preserved : goal.loop-rank-preserved
 loop-rank-preserved c =
     let entered : c.entered_by.result ≡ entered_by c.get.result.life = search rules in
     gaps_from_before (lives_at c.args.matching.now c.args.order.now)
-        (c.loop-rank.rank - 1) c.loop-rank.rank c.loop-rank.least c.entered_by.result c.min-least.result c.saturating_sub.result c.get.result.life
-        c.loop-rank.gaps.items c.loop-rank.invariant (omega arith)
+    (c.loop-rank.rank - 1) c.loop-rank.rank c.loop-rank.least c.entered_by.result c.min-least.result c.saturating_sub.result c.get.result.life
+    c.loop-rank.gaps.items c.loop-rank.invariant (omega arith)
     (life_read c.args.matching.now c.values-values.result c.args.order.now (c.loop-rank.rank - 1)
-        (get_or c.args.order.now (c.loop-rank.rank - 1) 0) c.get.result c.values-values.ensures.values c.requires
+    (get_or c.args.order.now (c.loop-rank.rank - 1) 0) c.get.result c.values-values.ensures.values c.requires
     (slice_get-get_or c.args.order.now (c.loop-rank.rank - 1) 0 (omega arith)) c.get.ensures) entered c.min-least.ensures c.saturating_sub.ensures

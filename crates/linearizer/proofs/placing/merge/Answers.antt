@@ -11,10 +11,10 @@ returns-clause-merged c =
     let order = c.deref-4.result.now in
     let is = subst (IsOrderOfPlaces operations) (sym c.deref-4.ensures.value) c.in_ok-order.ensures.order in
     let start = subst (λ os. IsMergedUpTo operations (lives_at operations os) c.args.idles.now
-        (length os) c.in_ok-so_far.so_far.dequeues c.in_ok-so_far.so_far.left c.in_ok-so_far.so_far.idles c.place_enqueues.new.places.items)
-        (c.deref-2.ensures.value ∙ sym c.deref-4.ensures.value) c.in_ok-so_far.ensures in
+    (length os) c.in_ok-so_far.so_far.dequeues c.in_ok-so_far.so_far.left c.in_ok-so_far.so_far.idles c.place_enqueues.new.places.items)
+    (c.deref-2.ensures.value ∙ sym c.deref-4.ensures.value) c.in_ok-so_far.ensures in
     let none = no_enqueue (lives_at operations order) (length order) None (omega (arith, lives_long operations order is)) in
     let past = c.in_ok-place_dequeues.ensures.up_to (length order) none start in
     let merged = c.in_ok-place_idles.ensures.adds operations (lives_at operations order) (length order) _ _
-        (λ p left. elim left [ inl enqueue ↦ none p enqueue | inr dequeue ↦ past p dequeue ]) (c.in_ok-place_dequeues.ensures.adds (length order) none start) in
+    (λ p left. elim left [ inl enqueue ↦ none p enqueue | inr dequeue ↦ past p dequeue ]) (c.in_ok-place_dequeues.ensures.adds (length order) none start) in
     all_merged operations order c.args.idles.now (length order) _ _ _ _ is (omega arith) past c.in_ok-place_idles.ensures.up_to merged

@@ -14,15 +14,15 @@ use Rattle.linearizer.proofs.placing.place_dequeues.Goals.{After-max-left, in-So
 pub bounds-gaps-rank : goal.bounds-gaps-rank
 bounds-gaps-rank c =
     gap_within c.args.matching.now c.args.order.now c.args.gaps.now c.loop-so_far.so_far.dequeues
-        (get_or c.args.order.now c.loop-so_far.so_far.dequeues 0) c.requires.order c.requires.gaps
-        (slice_get-get_or c.args.order.now c.loop-so_far.so_far.dequeues 0 c.loop-so_far-test.true)
+    (get_or c.args.order.now c.loop-so_far.so_far.dequeues 0) c.requires.order c.requires.gaps
+    (slice_get-get_or c.args.order.now c.loop-so_far.so_far.dequeues 0 c.loop-so_far-test.true)
 
 turn : (c : After-max-left) → IsTurn c.args.matching.now (lives_at c.args.matching.now c.args.order.now) c.loop-so_far.so_far.dequeues
     c.get-value.result (get_or c.args.gaps.now c.loop-so_far.so_far.dequeues 0)
 turn c =
     turn_is c.args.matching.now c.values-values.result c.args.order.now c.args.gaps.now c.loop-so_far.so_far.dequeues
-        (get_or c.args.order.now c.loop-so_far.so_far.dequeues 0) c.get-value.result
-        (get_or c.args.gaps.now c.loop-so_far.so_far.dequeues 0) 0 c.values-values.ensures.values c.requires.order
+    (get_or c.args.order.now c.loop-so_far.so_far.dequeues 0) c.get-value.result
+    (get_or c.args.gaps.now c.loop-so_far.so_far.dequeues 0) 0 c.values-values.ensures.values c.requires.order
     c.requires.gaps (slice_get-get_or c.args.order.now c.loop-so_far.so_far.dequeues 0 c.loop-so_far-test.true) c.get-value.ensures refl
 
 left_is : (c : After-max-left) → c.max-left.result ≡ max (leaves_from c.get-value.result.life) c.loop-so_far.so_far.left
@@ -42,9 +42,9 @@ pub returns-then-stands_after-clause-up_to : goal.returns-then-stands_after-clau
 returns-then-stands_after-clause-up_to c = λ i none before.
     let here = (goal.at.returns-then-stands_after-clause-up_to c).After-max-left in
     let stands = dequeue_stands _ _ _ _ _ c.dequeue-dequeue.result (turn here).gap_is
-        (left_so_far here i (c.loop-so_far.invariant i none before)) c.max.ensures c.dequeue-dequeue.ensures.position in
+    (left_so_far here i (c.loop-so_far.invariant i none before)) c.max.ensures c.dequeue-dequeue.ensures.position in
     below_limit (IsDequeueFrom (lives_at c.args.matching.now c.args.order.now) c.loop-so_far.so_far.dequeues) c.args.before
-        (position_of c.dequeue-dequeue.result.position)
+    (position_of c.dequeue-dequeue.result.position)
     (λ p is. subst (λ q. ¬ (StandsBefore p q)) (sym stands) (next_dequeue _ _ p (within here) is))
     (stands_after c.args.before c.dequeue-dequeue.result c.stands_after.result c.stands_after.ensures c.if-stands_after.true)
 
@@ -55,15 +55,15 @@ loop-so_far-preserved c = λ i none before.
     elim c.match-value.branch [
       | in-Some+else-stands_after+in_ok-place_idles+in_ok-push w ↦
           let stands = dequeue_stands _ _ _ _ _ w.dequeue-dequeue.result (turn here).gap_is
-              (left_so_far here i merged) w.max.ensures w.dequeue-dequeue.ensures.position in
+          (left_so_far here i merged) w.max.ensures w.dequeue-dequeue.ensures.position in
           let enqueues = below_next _ c.args.before w.dequeue-dequeue.result none
-              (stands_not_after c.args.before w.dequeue-dequeue.result w.stands_after.result w.stands_after.ensures w.if-stands_after.false) in
+          (stands_not_after c.args.before w.dequeue-dequeue.result w.stands_after.result w.stands_after.ensures w.if-stands_after.false) in
           let values = none_of_values _ i _ w.dequeue-dequeue.result (within here) stands enqueues in
           let idles = w.in_ok-place_idles.ensures.adds _ _ i _ _ values merged in
           rw (w.so_far-is, w.places-is, w.in_ok-push.ensures.items)
           (dequeue_added _ _ _ _ _ _ _ _ idles c.max-left.result w.dequeue-dequeue.result
           (turn_with_dequeue _ _ _ _ _ _ _ (turn here) (left_is here) i _ idles.held _ _ _ w.in-Some.is w.max.ensures
-              w.dequeue-dequeue.ensures.operation w.dequeue-dequeue.ensures.position)
+          w.dequeue-dequeue.ensures.operation w.dequeue-dequeue.ensures.position)
           (within here) stands enqueues w.in_ok-place_idles.ensures.up_to)
       | in_default w ↦ rw (w.so_far-is, w.places-is) (passed _ _ _ _ _ _ _ _ merged c.max-left.result
           (turn_alone _ _ _ _ _ _ _ (turn here) (left_is here) i _ merged.held w.in_default.is))

@@ -6,7 +6,7 @@ use Rattle.linearizer.proofs.placing.place_dequeues.Given as goal
 abbrev pub invariant-loop-so_far : goal.invariant-loop-so_far
 invariant-loop-so_far l = (i : ℕ) → NoneBelow (IsEnqueueFrom (lives_at l.matching l.order) i) l.before
     → IsMergedUpTo l.matching (lives_at l.matching l.order) l.idles i l.initial.so_far.dequeues l.initial.so_far.left l.initial.so_far.idles
-        l.initial.places.items
+    l.initial.places.items
     → IsMergedUpTo l.matching (lives_at l.matching l.order) l.idles i l.so_far.dequeues l.so_far.left l.so_far.idles l.places.items
 
 abbrev pub decreases-loop-so_far : goal.decreases-loop-so_far

@@ -11,7 +11,7 @@ use Rattle.linearizer.proofs.placing.place_empties.Goals.{After-place}
 -- the place and the gap of this turn
 pair : (c : After-place) → (length c.loop-id.yielded < length c.empties.result.now) × (length c.loop-id.yielded < length c.args.gaps.now)
     × ((d : ℕ) → c.in-Some.id.now ≡ get_or c.empties.result.now (length c.loop-id.yielded) d)
-        × ((d : ℕ) → c.in-Some.gap.now ≡ get_or c.args.gaps.now (length c.loop-id.yielded) d)
+    × ((d : ℕ) → c.in-Some.gap.now ≡ get_or c.args.gaps.now (length c.loop-id.yielded) d)
 pair c = zip_turn c.empties.result.now c.args.gaps.now c.loop-id.yielded c.into_iter-id-iterator.result c.loop-id.id-iterator c.next.new.self
     c.next.result (search rules) (search rules) c.loop-id.yielded_by (c.in-Some.id, c.in-Some.gap) c.in-Some.is c.next.ensures.steps
 
@@ -37,10 +37,10 @@ loop-id-preserved c =
     let free = gap_beside _ _ c.args.gaps.now _ c.in-Some.gap.now 0 _ c.requires (turn of_place).is_listed ((pair of_place).3 0) in
     rw (length_push c.loop-id.yielded (c.in-Some.id, c.in-Some.gap), c.in_ok-push.ensures.items)
     (adds_empty _ _ _ _ _ _ _ _ _ (turn of_place) c.loop-id.invariant c.operations-operations.ensures.operations free
-        (c.idle.ensures.operation ∙ sym c.place.ensures) c.idle.ensures.position)
+    (c.idle.ensures.operation ∙ sym c.place.ensures) c.idle.ensures.position)
 
 pub returns : goal.returns
 returns c =
     let long = zip_end c.empties.result.now c.args.gaps.now c.loop-id.yielded c.into_iter-id-iterator.result c.loop-id.id-iterator c.next.new.self
-        c.next.result (search rules) (search rules) c.loop-id.yielded_by c.in-None.is c.next.ensures.steps in
+    c.next.result (search rules) (search rules) c.loop-id.yielded_by c.in-None.is c.next.ensures.steps in
     adds_all _ _ _ _ _ _ _ c.empties.ensures c.requires long c.loop-id.invariant

@@ -10,8 +10,8 @@ use Rattle.linearizer.proofs.placing.place_enqueues.Goals as goal
 pub bounds-gaps-rank : goal.bounds-gaps-rank
 bounds-gaps-rank c =
     gap_within c.args.matching.now c.args.order.now c.args.gaps.now c.loop-rank.rank
-        (get_or c.args.order.now c.loop-rank.rank 0) c.requires.order c.requires.gaps
-        (slice_get-get_or c.args.order.now c.loop-rank.rank 0 c.loop-rank-test.true)
+    (get_or c.args.order.now c.loop-rank.rank 0) c.requires.order c.requires.gaps
+    (slice_get-get_or c.args.order.now c.loop-rank.rank 0 c.loop-rank-test.true)
 
 pub loop-rank-init : goal.loop-rank-init
 loop-rank-init c = rw c.requires.none (nothing_merged c.args.matching.now (lives_at c.args.matching.now c.args.order.now) c.args.idles.now)
@@ -24,25 +24,25 @@ loop-rank-preserved c =
     let names : x.operation ≡ c.get.result.enqueue = search rules in
     let turn =
     turn_is c.args.matching.now c.values-values.result c.args.order.now c.args.gaps.now i (get_or c.args.order.now i 0) c.get.result
-        (get_or c.args.gaps.now i 0) 0 c.values-values.ensures.values c.requires.order
+    (get_or c.args.gaps.now i 0) 0 c.values-values.ensures.values c.requires.order
     c.requires.gaps (slice_get-get_or c.args.order.now i 0 c.loop-rank-test.true) c.get.ensures refl in
     let within = slice_get_within lives i c.get.result.life turn.at in
     let stands : position_of x.position ≡ enqueue_position lives i =
-        c.enqueue-enqueue.ensures.position ∙ ap (λ g. record { gap = g; class = enqueues; rank = i }) turn.gap_is in
+    c.enqueue-enqueue.ensures.position ∙ ap (λ g. record { gap = g; class = enqueues; rank = i }) turn.gap_is in
     let none : NoneBelow (IsEnqueueFrom lives i) (Some x.position) =
-        (λ p is. subst (λ q. ¬ (StandsBefore p q)) (sym stands) (next_enqueue lives i p within is)) in
+    (λ p is. subst (λ q. ¬ (StandsBefore p q)) (sym stands) (next_enqueue lives i p within is)) in
     let past = c.in_ok-place_dequeues.ensures.up_to i none c.loop-rank.invariant in
     let values : NoneBelow (IsValueFrom lives i c.place_dequeues.new.so_far.dequeues) (Some x.position) =
-        (λ p is. elim is [ inl enqueue ↦ none p enqueue | inr dequeue ↦ past p dequeue ]) in
+    (λ p is. elim is [ inl enqueue ↦ none p enqueue | inr dequeue ↦ past p dequeue ]) in
     let merged = c.in_ok-place_idles.ensures.adds c.args.matching.now lives i _ _ values (c.in_ok-place_dequeues.ensures.adds i none c.loop-rank.invariant) in
     rw c.in_ok-push.ensures.items
     (enqueue_added c.args.matching.now lives c.args.idles.now i _ _ _ _ merged x
-        (enqueue_more c.args.matching.now lives i c.get.result (get_or c.args.gaps.now i 0) turn _ _ merged.values x merged.held names
-        c.enqueue-enqueue.ensures.position) within stands past
+    (enqueue_more c.args.matching.now lives i c.get.result (get_or c.args.gaps.now i 0) turn _ _ merged.values x merged.held names
+    c.enqueue-enqueue.ensures.position) within stands past
     c.in_ok-place_idles.ensures.up_to)
 
 pub returns : goal.returns
 returns c =
     let all : c.loop-rank.rank ≡ length c.args.order.now = omega (arith, c.loop-rank-test.false, c.loop-rank.auto.rank-end) in
     subst (λ n. IsMergedUpTo c.args.matching.now (lives_at c.args.matching.now c.args.order.now) c.args.idles.now n c.loop-rank.so_far.dequeues
-        c.loop-rank.so_far.left c.loop-rank.so_far.idles c.loop-rank.places.items) all c.loop-rank.invariant
+    c.loop-rank.so_far.left c.loop-rank.so_far.idles c.loop-rank.places.items) all c.loop-rank.invariant

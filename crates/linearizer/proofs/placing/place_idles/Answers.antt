@@ -12,17 +12,17 @@ pub returns-then-stands_after-clause-up_to : goal.returns-then-stands_after-clau
 returns-then-stands_after-clause-up_to c =
     below_limit (IsIdleFrom c.args.idles.now c.loop-count.count) c.args.before (position_of c.index-idles-count.result.position)
     (λ p. next_idle c.args.idles.now c.loop-count.count c.index-idles-count.result p c.requires
-        (slice_get_read _ _ _ _ refl c.loop-count-test.true c.index-idles-count.is))
+    (slice_get_read _ _ _ _ refl c.loop-count-test.true c.index-idles-count.is))
     (stands_after c.args.before c.index-idles-count.result c.stands_after.result c.stands_after.ensures c.if-stands_after.true)
 
 pub loop-count-preserved : goal.loop-count-preserved
 loop-count-preserved c = λ operations lives i j left none before.
     rw c.in_ok-push.ensures.items
     (idle_added operations lives c.args.idles.now i j left c.loop-count.count c.loop-count.places.items
-        (c.loop-count.invariant operations lives i j left none before) c.index-idles-count.result c.requires
-        (slice_get_read _ _ _ _ refl c.loop-count-test.true c.index-idles-count.is)
+    (c.loop-count.invariant operations lives i j left none before) c.index-idles-count.result c.requires
+    (slice_get_read _ _ _ _ refl c.loop-count-test.true c.index-idles-count.is)
     (below_next (IsValueFrom lives i j) c.args.before c.index-idles-count.result none
-        (stands_not_after c.args.before c.index-idles-count.result c.stands_after.result c.stands_after.ensures c.if-stands_after.false)))
+    (stands_not_after c.args.before c.index-idles-count.result c.stands_after.result c.stands_after.ensures c.if-stands_after.false)))
 
 pub returns-clause-adds : goal.returns-clause-adds
 returns-clause-adds c = c.loop-count.invariant

@@ -7,7 +7,7 @@ use Rattle.linearizer.proofs.placing.place_idles.Given as goal
 abbrev pub invariant-loop-count : goal.invariant-loop-count
 invariant-loop-count l = (operations : List Operation) (lives : List Life) (i j left : ℕ) → NoneBelow (IsValueFrom lives i j) l.before
     → IsMergedUpTo operations lives l.idles i j left l.initial.count l.initial.places.items
-        → IsMergedUpTo operations lives l.idles i j left l.count l.places.items
+    → IsMergedUpTo operations lives l.idles i j left l.count l.places.items
 
 abbrev pub decreases-loop-count : goal.decreases-loop-count
 decreases-loop-count l = length l.idles - l.count

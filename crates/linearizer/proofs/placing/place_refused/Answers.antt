@@ -27,4 +27,4 @@ pub loop-id-preserved : goal.loop-id-preserved
 loop-id-preserved c =
     let of_place = (goal.at.loop-id-preserved c).After-place in
     rw c.in_ok-push.ensures.items (adds_refused _ _ _ _ _ _ _ _ (turn of_place) c.loop-id.invariant c.operations-operations.ensures.operations
-        (c.idle.ensures.operation ∙ sym c.place.ensures) c.idle.ensures.position)
+    (c.idle.ensures.operation ∙ sym c.place.ensures) c.idle.ensures.position)

@@ -9,13 +9,13 @@ pub loop-place-preserved : goal.loop-place-preserved
 loop-place-preserved c =
     rw c.in_ok-push.ensures.items
     (one_more_timed dequeue_return c.args.values.now c.loop-place.place c.dequeue_return-time.result c.loop-place.entries.items c.get-value.result
-        c.loop-place.invariant
+    c.loop-place.invariant
     (slice_get_read c.args.values.now (length c.args.values.now) c.loop-place.place _ refl
-        (omega (arith, c.loop-place-test.true, c.len-place-end.ensures)) c.get-value.ensures) c.dequeue_return-time.ensures)
+    (omega (arith, c.loop-place-test.true, c.len-place-end.ensures)) c.get-value.ensures) c.dequeue_return-time.ensures)
 
 pub returns : goal.returns
 returns c =
     sorted_by_time dequeue_return c.args.values.now c.loop-place.place c.loop-place.entries.items c.sort_unstable_by_key.new.self.items
-        c.loop-place.invariant (omega (arith, c.loop-place-test.false, c.len-place-end.ensures))
-        (IsPermutation-trans _ _ _ c.settle.ensures c.sort_unstable_by_key.ensures.permutation)
+    c.loop-place.invariant (omega (arith, c.loop-place-test.false, c.len-place-end.ensures))
+    (IsPermutation-trans _ _ _ c.settle.ensures c.sort_unstable_by_key.ensures.permutation)
     (IsNonDecreasingBy-from_sort_by_key (λ timed. timed.time) _ c.sort_unstable_by_key.ensures.sorted (λ a r q k. search rules))

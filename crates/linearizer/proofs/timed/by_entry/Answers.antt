@@ -9,13 +9,13 @@ pub loop-place-preserved : goal.loop-place-preserved
 loop-place-preserved c =
     rw c.in_ok-push.ensures.items
     (one_more_timed entered_by c.args.values.now c.loop-place.place c.entered_by-time.result c.loop-place.entries.items c.get-value.result
-        c.loop-place.invariant
+    c.loop-place.invariant
     (slice_get_read c.args.values.now (length c.args.values.now) c.loop-place.place _ refl
-        (omega (arith, c.loop-place-test.true, c.len-place-end.ensures)) c.get-value.ensures) c.entered_by-time.ensures)
+    (omega (arith, c.loop-place-test.true, c.len-place-end.ensures)) c.get-value.ensures) c.entered_by-time.ensures)
 
 pub returns : goal.returns
 returns c =
     sorted_by_time entered_by c.args.values.now c.loop-place.place c.loop-place.entries.items c.sort_unstable_by_key.new.self.items
-        c.loop-place.invariant (omega (arith, c.loop-place-test.false, c.len-place-end.ensures))
-        (IsPermutation-trans _ _ _ c.settle.ensures c.sort_unstable_by_key.ensures.permutation)
+    c.loop-place.invariant (omega (arith, c.loop-place-test.false, c.len-place-end.ensures))
+    (IsPermutation-trans _ _ _ c.settle.ensures c.sort_unstable_by_key.ensures.permutation)
     (IsNonDecreasingBy-from_sort_by_key (λ timed. timed.time) _ c.sort_unstable_by_key.ensures.sorted (λ a r q k. search rules))

@@ -13,15 +13,15 @@ loop-place-preserved c =
     let first = c.loop-place.first in
     let longest = c.if_overtaken.result in
     let entered = subst (λ limit. FindsLongest (EntersBefore limit) values c.longest_before_from-longest.result) c.enqueue_call.ensures
-        c.longest_before_from-longest.ensures in
+    c.longest_before_from-longest.ensures in
     let finds = c.if_overtaken.ensures values entered in
     elim c.if-is_some.branch [
       | then-is_some w ↦
           let one = overtaken_one values b.life longest finds (sym c.is_some.ensures ∙ w.if-is_some.true) in
           subst (FindsFirst values _) (sym w.first-is) (first_changes values candidates _ b one.0 w.map_or.result first
-              (omega (arith, c.loop-place-test.true, c.len-place-end.ensures)) c.get-b.ensures c.loop-place.invariant one.1 one.2 (search rules))
+          (omega (arith, c.loop-place-test.true, c.len-place-end.ensures)) c.get-b.ensures c.loop-place.invariant one.1 one.2 (search rules))
       | else-is_some w ↦
           let none = overtaken_none values b.life longest finds (sym c.is_some.ensures ∙ w.if-is_some.false) in
           subst (FindsFirst values _) (sym w.first-is) (first_stays values candidates _ b first
-              (omega (arith, c.loop-place-test.true, c.len-place-end.ensures)) c.get-b.ensures c.loop-place.invariant none)
+          (omega (arith, c.loop-place-test.true, c.len-place-end.ensures)) c.get-b.ensures c.loop-place.invariant none)
     ]

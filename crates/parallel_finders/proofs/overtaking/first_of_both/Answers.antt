@@ -9,7 +9,7 @@ returns-in-None-default c values xs ys a b = high_is_first values xs ys c.args.h
 pub returns-in-Some-Some : goal.returns-in-Some-Some
 returns-in-Some-Some c values xs ys a b =
     sooner_is_first values xs ys c.in-Some-Some.low c.in-Some-Some.high _ (subst (FindsFirst values xs) c.in-Some-Some.is-0 a)
-        (subst (FindsFirst values ys) c.in-Some-Some.is-1 b) c.sooner_of.ensures
+    (subst (FindsFirst values ys) c.in-Some-Some.is-1 b) c.sooner_of.ensures
 
 pub returns-in-Some-None : goal.returns-in-Some-None
 returns-in-Some-None c values xs ys a b = low_is_first values xs ys c.in-Some-None.low (subst (FindsFirst values xs) c.in-Some-None.is-0 a)

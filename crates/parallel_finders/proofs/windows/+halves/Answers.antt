@@ -8,8 +8,9 @@ pub join-first-requires-after_bounds : goal.join-first-requires-after_bounds
 join-first-requires-after_bounds g t c κs within =
     let operations = c.args.matching.now in
     let low = subst (All (IsEmptyAnswerAt operations)) (sym c.split_at.ensures.front)
-        (All-take (IsEmptyAnswerAt operations) _ c.args.empties.now c.requires.empties) in
+    (All-take (IsEmptyAnswerAt operations) _ c.args.empties.now c.requires.empties) in
     let high = subst (All (IsEmptyAnswerAt operations)) (sym c.split_at.ensures.back)
-        (All-drop (IsEmptyAnswerAt operations) _ c.args.empties.now c.requires.empties) in
-    ((search rules, ((λ a m. m), ((search rules, low, c.requires.spans), search rules))),
-        (search rules, ((λ a m. m), ((search rules, high, c.requires.spans), search rules))))
+    (All-drop (IsEmptyAnswerAt operations) _ c.args.empties.now c.requires.empties) in (
+      (search rules, ((λ a m. m), ((search rules, low, c.requires.spans), search rules))),
+      (search rules, ((λ a m. m), ((search rules, high, c.requires.spans), search rules))),
+    )

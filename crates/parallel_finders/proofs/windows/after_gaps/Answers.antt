@@ -9,7 +9,7 @@ returns-in_ok-gaps_of_both-in-Free c operations xs ys a b =
     let gaps = c.args.gaps.items in
     let both = c.in_ok-gaps_of_both-in-Free.ensures ∙ ap (λ more. gaps ++ more) c.as_slice.ensures.value in
     subst (AreGapsAt operations (xs ++ ys)) (sym both) (gaps_together operations xs ys gaps c.in-Free.more.items a
-        (subst (AreWindowsAt operations ys) c.in-Free.is b))
+    (subst (AreWindowsAt operations ys) c.in-Free.is b))
 
 pub returns-in-Covered : goal.returns-in-Covered
 returns-in-Covered c operations xs ys a b = high_is_first operations xs ys c.args.gaps.items c.in-Covered.first a

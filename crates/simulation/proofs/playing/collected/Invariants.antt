@@ -9,4 +9,4 @@ use Rattle.simulation.proofs.playing.collected.Given as goal
 abbrev pub invariant-loop-thread : goal.invariant-loop-thread
 invariant-loop-thread l =
     (setting : Setting) (schedule : List Attempt) → IsAfter setting l.machine schedule
-        → map (λ list. list.items) l.lists.items ≡ map (collected_in setting schedule) (range_with_len 0 l.thread)
+    → map (λ list. list.items) l.lists.items ≡ map (collected_in setting schedule) (range_with_len 0 l.thread)

@@ -9,4 +9,4 @@ abbrev pub invariant-loop-i : goal.invariant-loop-i
 invariant-loop-i l =
     (length l.machine.threads ≡ length l.fn.machine.threads)
     × ((setting : Setting) → IsAfter setting l.fn.machine [] → IsAfter setting l.machine (schedule_of (take l.i l.steps))
-        × (l.rejections.items ≡ played.rejections setting (schedule_of (take l.i l.steps))))
+    × (l.rejections.items ≡ played.rejections setting (schedule_of (take l.i l.steps))))

@@ -12,8 +12,12 @@ loop-worker-init c =
       tt,
       subst (All (λ (v : WorkerView). v.pass.key ≡ c.args.tickets.now.key)) same c.requires.keys,
       c.requires.rest,
-      ([], same, subst (λ tokens. IsClosing c.args.rest [] c.args.standing tokens c.args.rest c.args.standing) (sym c.new.ensures.items)
-          (closing_none c.args.rest c.args.standing)),
+      (
+        [],
+        same,
+        subst (λ tokens. IsClosing c.args.rest [] c.args.standing tokens c.args.rest c.args.standing) (sym c.new.ensures.items)
+            (closing_none c.args.rest c.args.standing),
+      ),
     )
 
 pub loop-worker-preserved : goal.loop-worker-preserved

@@ -11,4 +11,4 @@ invariant-loop-worker l =
     × All (λ w. w.pass.key ≡ l.tickets.key) (into_iter_items l.worker-iterator)
     × (l.closing.pass.key ≡ l.tickets.key)
     × ((done : List WorkerView) × (l.fn.workers.items ≡ done ++ into_iter_items l.worker-iterator)
-        × IsClosing l.fn.rest done l.fn.standing l.closing.tokens.items l.closing.pass l.closing.fault)
+    × IsClosing l.fn.rest done l.fn.standing l.closing.tokens.items l.closing.pass l.closing.fault)

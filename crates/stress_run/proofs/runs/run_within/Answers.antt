@@ -48,7 +48,7 @@ close-total-requires-clause-whole g c =
     let k = c.in_ok-workers.ensures in
     let r = c.rows-rows.ensures in
     let closed = subst (λ (rest : PassView). AreClosed rest c.in_ok-workers.workers.items c.in_ok-tokens.tokens.items c.in_ok-tokens.pass) e.rest
-        c.in_ok-tokens.ensures.closed in
+    c.in_ok-tokens.ensures.closed in
     whole _ _ _ _ e.workers _ _ k.worked _ _ closed
     ∙ ap (λ (rows : List (List Kind)). 2 * sum_by length rows) r.rows
     ∙ sym (c.in_ok-tickets.ensures.budget ∙ ap (λ (n : ℕ). 2 * n) c.operations.ensures.count)
@@ -59,10 +59,10 @@ returns-clause-recorded g c =
     let k = c.in_ok-workers.ensures in
     let r = c.rows-rows.ensures in
     let closed = subst (λ (rest : PassView). AreClosed rest c.in_ok-workers.workers.items c.in_ok-tokens.tokens.items c.in_ok-tokens.pass) e.rest
-        c.in_ok-tokens.ensures.closed in
+    c.in_ok-tokens.ensures.closed in
     let done = is_run _ _ _ _ e.workers _ _ k.worked _ _ closed _ _ c.close-total.ensures c.in_ok-lists.ensures.sealed in
     subst (λ (rows : List (List Kind)). IsRun ((goal.TestQueue-dyn g c.args.queue.now).may c.args.queue.now.1) rows c.in_ok-lists.lists
-        c.close-total.result) r.rows done
+    c.close-total.result) r.rows done
 
 pub invariant_of-result : goal.invariant_of-result
 invariant_of-result g c =
@@ -88,6 +88,6 @@ returns-in_err-tokens-clause-fault g c =
     let closed = c.in_err-tokens.ensures in
     let rows = c.rows-rows.ensures.rows in
     let fault = subst (λ (rs : List (List Kind)). IsFaultOfRun ((goal.TestQueue-dyn g c.args.queue.now).may c.args.queue.now.1) rs c.args.sizes
-        c.in_err-tokens.field-0.0) rows
+    c.in_err-tokens.field-0.0) rows
     (stands_in_run _ _ _ _ e.workers _ _ k.worked _ _ c.requires c.standing_fault-standing.ensures.memory closed.stands closed.stalls) in
     search rules

@@ -17,4 +17,4 @@ returns c =
       | else-count-gt1-via-else-count-gt1 w ↦ λ many zero. let few = w.if-count-gt1.false in absurd (omega (arith, few, many))
     ] in
     number_stands c.args.bytes.now c.loop-count.count c.loop-count.value c.loop-count.invariant.digits
-        (omega (arith, c.if-count-eq0.false)) lead c.loop-count.invariant.in_range
+    (omega (arith, c.if-count-eq0.false)) lead c.loop-count.invariant.in_range

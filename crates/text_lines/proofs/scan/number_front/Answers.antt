@@ -6,7 +6,7 @@ use Rattle.text_lines.proofs.scan.number_front.Goals as goal
 pub loop-count-preserved : goal.loop-count-preserved
 loop-count-preserved c =
     one_more_digit c.args.bytes.now c.loop-count.count c.loop-count.value c.from.result c.loop-count-test.true c.loop-count.invariant
-        c.if-not-is_ascii_digit.ensures.cases c.from.ensures
+    c.if-not-is_ascii_digit.ensures.cases c.from.ensures
 
 pub returns : goal.returns
 returns c =
@@ -15,4 +15,4 @@ returns c =
       | else-count-gt1-via-else-count-gt1 w ↦ λ many zero. let few = w.if-count-gt1.false in absurd (omega (arith, few, many))
     ] in
     number_stands c.args.bytes.now c.loop-count.count c.loop-count.value c.loop-count.invariant (omega (arith, c.if-count-eq0.false)) lead
-        (omega (arith, c.loop-count.auto.value-fits))
+    (omega (arith, c.loop-count.auto.value-fits))

@@ -14,7 +14,7 @@ pub loop-place-preserved-then-is_some : goal.loop-place-preserved-then-is_some
 loop-place-preserved-then-is_some c =
     let here = slice_get-get_or c.args.operations.now c.loop-place.place (record { call = 0; ret = 0; thread = 0; kind = Enq 0 }) c.loop-place-test.true in
     others_named _ _ _ _ _ here c.loop-place.invariant _ (sym c.enqueued_value.ensures ∙ c.in-Some.is)
-        (named_if_found c.args.operations.now c.args.names.now _ _ (sym c.is_some.ensures ∙ c.if-is_some.true) c.named_place.ensures)
+    (named_if_found c.args.operations.now c.args.names.now _ _ (sym c.is_some.ensures ∙ c.if-is_some.true) c.named_place.ensures)
 
 pub loop-place-preserved : goal.loop-place-preserved
 loop-place-preserved c =
@@ -25,4 +25,4 @@ pub returns : goal.returns
 returns c =
     let sorted = c.sort_unstable_by_key.ensures in
     others_sorted _ _ _ _ _ c.loop-place-test.false c.loop-place.invariant sorted.permutation
-        (IsNonDecreasingBy-from_sort_by_key (λ e. e.value) _ sorted.sorted (λ e r q k. search rules))
+    (IsNonDecreasingBy-from_sort_by_key (λ e. e.value) _ sorted.sorted (λ e r q k. search rules))

@@ -28,7 +28,7 @@ returns-in-Some-place_at c =
     let held = rw c.as_slice.ensures.value at (sym c.place_at-in-loop-entry.ensures ∙ c.in-Some-place_at.is) in
     rw (c.new.ensures, c.new-in-Some-place_at.ensures, c.new-in-Some-place_at-2.ensures)
     (repeat_chosen _ _ c.loop-entry.takers.items _ _ _ _ c.requires.complete c.requires.sources c.requires.no_fresh by c.loop-entry-test.true from
-        held c.loop-entry.invariant)
+    held c.loop-entry.invariant)
 
 pub index_mut-requires : goal.index_mut-requires
 index_mut-requires c =

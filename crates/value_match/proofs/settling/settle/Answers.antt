@@ -6,5 +6,5 @@ use Rattle.value_match.proofs.settling.settle.Goals as goal
 pub returns : goal.returns
 returns g c =
     moved_in_place c.args.elements.now.items c.as_mut_slice.result.now c.settle_slice.new.elements c.args.elements.now.len
-        c.as_mut_slice.ensures.value (omega (arith, c.args.elements.now.ok.0))
+    c.as_mut_slice.ensures.value (omega (arith, c.args.elements.now.ok.0))
     (length_permutation _ _ c.settle_slice.ensures) c.settle_slice.ensures

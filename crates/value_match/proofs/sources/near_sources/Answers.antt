@@ -12,7 +12,7 @@ some-requires c = omega (arith, call_within c.args.operations.now c.in-Deq.value
 pub loop-operation-preserved : goal.loop-operation-preserved
 loop-operation-preserved c =
     let here = slice_get-get_or c.args.operations.now c.loop-operation.operation-index
-        (record { call = 0; ret = 0; thread = 0; kind = Enq 0 }) c.loop-operation-test.true in
+    (record { call = 0; ret = 0; thread = 0; kind = Enq 0 }) c.loop-operation-test.true in
     let source = subst (λ kind. IsSourceOf c.args.operations.now kind (Some c.in-Some.place)) (sym c.in-Deq.is) c.in-Some.ensures in
     let near = subst (λ kind. IsNearSource c.args.operations.now kind (Some c.in-Some.place)) (sym c.in-Deq.is) c.in-Some.ensures in
     rw (c.in_ok-push-3.ensures.items, c.some.ensures)

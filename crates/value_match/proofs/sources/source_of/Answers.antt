@@ -5,7 +5,7 @@ use Rattle.value_match.proofs.sources.source_of.Goals as goal
 pub some-requires : goal.some-requires
 some-requires c =
     let within = subst (λ place. place < length c.args.operations.now) (sym c.in-Some.ensures.0)
-        (call_within c.args.operations.now c.in-Deq.value _ c.in-Some.ensures.1) in
+    (call_within c.args.operations.now c.in-Deq.value _ c.in-Some.ensures.1) in
     omega (arith, within, c.requires.few)
 
 pub some-requires-in-Some-place_among : goal.some-requires-in-Some-place_among

@@ -12,7 +12,7 @@ loop-front-preserved c =
     let i = c.loop-front.front-index in
     let inside : i < length fronts = omega arith in
     one_more_front c.args.values.now c.args.fronts.now i c.longer_place-longest.result (get_or fronts i nowhere) fronts c.loop-front.so_far inside
-        (get_or_default fronts i nowhere (get_or fronts i nowhere) inside) c.loop-front.invariant
+    (get_or_default fronts i nowhere (get_or fronts i nowhere) inside) c.loop-front.invariant
     c.longer_place-longest.ensures.within c.longer_place-longest.ensures.longer
 
 pub returns : goal.returns

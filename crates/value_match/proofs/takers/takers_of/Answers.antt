@@ -7,39 +7,39 @@ use Rattle.value_match.proofs.takers.takers_of.Goals as goal
 pub loop-place-preserved-in_default : goal.loop-place-preserved-in_default
 loop-place-preserved-in_default c =
     taken_skip _ _ _ _ _ (below_more c.loop-place.place) (source_read _ _ _ c.loop-place-test.true
-        (sym (get_or_read c.args.sources.now _ _ c.loop-place-test.true c.index-sources-place.is None) ∙ sym c.get.ensures ∙ c.in_default.is))
-        c.loop-place.invariant
+    (sym (get_or_read c.args.sources.now _ _ c.loop-place-test.true c.index-sources-place.is None) ∙ sym c.get.ensures ∙ c.in_default.is))
+    c.loop-place.invariant
 
 pub index-requires : goal.index-requires
 index-requires c =
     let from = source_read _ _ _ c.loop-place-test.true (sym (get_or_read c.args.sources.now _ _ c.loop-place-test.true c.index-sources-place.is None)
-        ∙ sym c.get.ensures ∙ c.in-Some.is) in
+    ∙ sym c.get.ensures ∙ c.in-Some.is) in
     omega (arith, c.requires.within c.loop-place.place c.in-Some.source from, c.loop-place.invariant.one_each)
 
 pub returns-then-is_some : goal.returns-then-is_some
 returns-then-is_some c =
     let from = source_read _ _ _ c.loop-place-test.true (sym (get_or_read c.args.sources.now _ _ c.loop-place-test.true c.index-sources-place.is None)
-        ∙ sym c.get.ensures ∙ c.in-Some.is) in
+    ∙ sym c.get.ensures ∙ c.in-Some.is) in
     let below : c.in-Some.source < length c.loop-place.takers.items =
-        omega (arith, c.requires.within c.loop-place.place c.in-Some.source from, c.loop-place.invariant.one_each) in
+    omega (arith, c.requires.within c.loop-place.place c.in-Some.source from, c.loop-place.invariant.one_each) in
     let held = slot_held c.loop-place.takers.items c.in-Some.source c.index.result.now below c.index.ensures
-        (ap is_some (sym c.get-in-loop-place.ensures) ∙ sym c.is_some.ensures ∙ c.if-is_some.true) in
+    (ap is_some (sym c.get-in-loop-place.ensures) ∙ sym c.is_some.ensures ∙ c.if-is_some.true) in
     taken_twice _ _ c.loop-place.place held.0 c.in-Some.source c.loop-place.invariant from held.1
 
 pub index_mut-requires : goal.index_mut-requires
 index_mut-requires c =
     let from = source_read _ _ _ c.loop-place-test.true (sym (get_or_read c.args.sources.now _ _ c.loop-place-test.true c.index-sources-place.is None)
-        ∙ sym c.get.ensures ∙ c.in-Some.is) in
+    ∙ sym c.get.ensures ∙ c.in-Some.is) in
     omega (arith, c.requires.within c.loop-place.place c.in-Some.source from, c.loop-place.invariant.one_each)
 
 pub loop-place-preserved : goal.loop-place-preserved
 loop-place-preserved c =
     let from = source_read _ _ _ c.loop-place-test.true (sym (get_or_read c.args.sources.now _ _ c.loop-place-test.true c.index-sources-place.is None)
-        ∙ sym c.get.ensures ∙ c.in-Some.is) in
+    ∙ sym c.get.ensures ∙ c.in-Some.is) in
     let below : c.in-Some.source < length c.loop-place.takers.items =
-        omega (arith, c.requires.within c.loop-place.place c.in-Some.source from, c.loop-place.invariant.one_each) in
+    omega (arith, c.requires.within c.loop-place.place c.in-Some.source from, c.loop-place.invariant.one_each) in
     let free = slot_free c.loop-place.takers.items c.in-Some.source c.index.result.now below c.index.ensures
-        (ap is_some (sym c.get-in-loop-place.ensures) ∙ sym c.is_some.ensures ∙ c.if-is_some.false) in
+    (ap is_some (sym c.get-in-loop-place.ensures) ∙ sym c.is_some.ensures ∙ c.if-is_some.false) in
     rw c.some.ensures (taken_more _ _ _ _ _ c.in-Some.source (below_more c.loop-place.place) from below free c.loop-place.invariant)
 
 pub returns : goal.returns

@@ -13,12 +13,12 @@ pub matching_of-requires-clause-clear : goal.matching_of-requires-clause-clear
 matching_of-requires-clause-clear c =
     let holds = subst (HoldsSources c.args.operations.now) (sym c.as_slice-2.ensures.value) c.in_ok-sources.ensures in
     let taken = MatchOption-at_some (IsTakenTwice c.as_slice-2.result.now)
-        (λ takers. HoldsTakers c.as_slice-2.result.now takers.items) c.in-Some-2.dequeues c.in-Some-2.is c.in_ok-dequeues.ensures in
+    (λ takers. HoldsTakers c.as_slice-2.result.now takers.items) c.in-Some-2.dequeues c.in-Some-2.is c.in_ok-dequeues.ensures in
     clear_from_takers _ _ _ c.requires.complete c.in_default.ensures holds taken
 
 pub matching_of-requires-clause-dequeues : goal.matching_of-requires-clause-dequeues
 matching_of-requires-clause-dequeues c =
     let holds = subst (HoldsSources c.args.operations.now) (sym c.as_slice-2.ensures.value) c.in_ok-sources.ensures in
     let taken = MatchOption-at_some (IsTakenTwice c.as_slice-2.result.now)
-        (λ takers. HoldsTakers c.as_slice-2.result.now takers.items) c.in-Some-2.dequeues c.in-Some-2.is c.in_ok-dequeues.ensures in
+    (λ takers. HoldsTakers c.as_slice-2.result.now takers.items) c.in-Some-2.dequeues c.in-Some-2.is c.in_ok-dequeues.ensures in
     rw c.as_slice-in-Some-2.ensures.value (dequeues_by_enqueues _ _ _ c.requires.complete c.in_default.ensures holds taken)

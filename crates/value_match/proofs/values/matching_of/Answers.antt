@@ -21,10 +21,16 @@ loop-place-preserved c =
       | in-Enq+in_ok-push-in-Enq w ↦
           let made = w.pair_of.ensures in
           let from = subst (IsDequeuePlace c.args.operations.now _) (sym
-              (get_or_read c.args.dequeues.now _ _ (omega (arith, c.loop-place-test.true, c.requires.dequeues.one_each)) w.index-dequeues-place.is
-              None)) (c.requires.dequeues.each _ _ _ here w.in-Enq.is) in
-          rw (w.values-is, w.empties-is, w.refused-is, w.in_ok-push-in-Enq.ensures.items, map-append
-              (value_at c.args.operations.now) c.loop-place.values.items (w.pair_of.result ∷ []))
+          (get_or_read c.args.dequeues.now _ _ (omega (arith, c.loop-place-test.true, c.requires.dequeues.one_each)) w.index-dequeues-place.is
+          None)) (c.requires.dequeues.each _ _ _ here w.in-Enq.is) in
+          rw (
+            w.values-is,
+            w.empties-is,
+            w.refused-is,
+            w.in_ok-push-in-Enq.ensures.items,
+            map-append
+                (value_at c.args.operations.now) c.loop-place.values.items (w.pair_of.result ∷ []),
+          )
           (sorted_enqueue _ _ _ _ _ _ here known _ (value_at c.args.operations.now w.pair_of.result) _ w.in-Enq.is
           (pair_enqueue c.args.operations.now _ _ w.pair_of.result made.0 here) (pair_dequeue c.args.operations.now _ _ w.pair_of.result made.1 from) made
           c.requires.clear from)
@@ -32,6 +38,6 @@ loop-place-preserved c =
           rw (w.values-is, w.empties-is, w.refused-is, w.in_ok-push-in-Empty.ensures.items, w.new.ensures) (sorted_empty _ _ _ _ _ _ here known w.in-Empty.is)
       | in-Not+in_ok-push-in-Not w ↦
           rw (w.values-is, w.empties-is, w.refused-is, w.in_ok-push-in-Not.ensures.items, w.new-in-Not.ensures)
-              (sorted_refused _ _ _ _ _ _ here known _ w.in-Not.is)
+          (sorted_refused _ _ _ _ _ _ here known _ w.in-Not.is)
       | in-Deq w ↦ rw (w.values-is, w.empties-is, w.refused-is) (sorted_dequeue _ _ _ _ _ _ here known _ w.in-Deq.is)
     ]

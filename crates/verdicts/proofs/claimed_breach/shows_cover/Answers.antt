@@ -33,5 +33,8 @@ returns-else-is_life_from c =
     (λ t. cc, λ shows. c.is_life_from-in-len2.ensures.1 (two.1 (c.loop-rest.invariant.1 shows)).0)
 
 pub returns-in_default-rest : goal.returns-in_default-rest
-returns-in_default-rest c = (λ f. cc, λ shows. absurd (none_shown c.args.operations.now c.args.empty c.loop-rest.before c.loop-rest.rest.now
-    c.in_default-rest.len_below (c.loop-rest.invariant.1 shows)))
+returns-in_default-rest c = (
+  λ f. cc,
+  λ shows. absurd (none_shown c.args.operations.now c.args.empty c.loop-rest.before c.loop-rest.rest.now
+      c.in_default-rest.len_below (c.loop-rest.invariant.1 shows)),
+)

@@ -7,10 +7,12 @@ loop-line-init c = extended_none _
 pub loop-line-preserved : goal.loop-line-preserved
 loop-line-preserved c =
     let more = extended_at c.args.lines.now c.loop-line.line-index c.loop-line.greatest_call _ c.loop-line-test.true c.if-line-greatest_call.false
-        c.loop-line.invariant in
+    c.loop-line.invariant in
     rw c.max-greatest_call.ensures more
 
 pub returns-then-line-greatest_call : goal.returns-then-line-greatest_call
-returns-then-line-greatest_call c =
-    (λ f. cc, λ extends. absurd (not_extended_at c.args.lines.now c.loop-line.line-index c.loop-line.greatest_call _ c.loop-line-test.true
-        c.if-line-greatest_call.true c.loop-line.invariant extends))
+returns-then-line-greatest_call c = (
+  λ f. cc,
+  λ extends. absurd (not_extended_at c.args.lines.now c.loop-line.line-index c.loop-line.greatest_call _ c.loop-line-test.true
+      c.if-line-greatest_call.true c.loop-line.invariant extends),
+)

@@ -17,5 +17,5 @@ returns-in_ok-lines-in-No c =
           c.in_ok-places-in-No.places.items c.as_slice-in-No.result.now
           c.in_ok-lines-in-No.lines.items c.from_vec-in-No.result
           c.in-No.is c.operations-operations.ensures.operations c.kind_of.ensures c.as_slice-in-No.ensures.value c.in_ok-places-in-No.ensures
-              c.from_vec-in-No.ensures c.in_ok-lines-in-No.ensures;
+          c.from_vec-in-No.ensures c.in_ok-lines-in-No.ensures;
     }

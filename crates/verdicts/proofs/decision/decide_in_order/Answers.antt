@@ -8,4 +8,4 @@ returns-in-Covered c =
     let operations = c.args.matching.now in
     no_is_decided operations _ c.requires.clear.complete
     (witness_is_chosen operations c.in-Covered.empty c.in-Covered.cover c.requires.clear c.requires.in_order
-        (subst (IsWitnessAnswer operations) c.in-Covered.is c.requires.answer))
+    (subst (IsWitnessAnswer operations) c.in-Covered.is c.requires.answer))

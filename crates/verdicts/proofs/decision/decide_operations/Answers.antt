@@ -15,7 +15,7 @@ pub returns-in-Fresh-clause-places : goal.returns-in-Fresh-clause-places
 returns-in-Fresh-clause-places c =
     let operations = c.args.operations.now in
     evidence_within operations (No c.in-Fresh.violation) (refused_is_decided operations c.in_ok-matching.field-0 c.in-Fresh.violation
-        c.requires.complete c.in_ok-matching.ensures (inl c.in-Fresh.is)).evidence
+    c.requires.complete c.in_ok-matching.ensures (inl c.in-Fresh.is)).evidence
 
 pub returns-in-Repeat-clause-exact : goal.returns-in-Repeat-clause-exact
 returns-in-Repeat-clause-exact c = (refused_is_decided c.args.operations.now c.in_ok-matching.field-0 c.in-Repeat.violation c.requires.complete
@@ -25,7 +25,7 @@ pub returns-in-Repeat-clause-places : goal.returns-in-Repeat-clause-places
 returns-in-Repeat-clause-places c =
     let operations = c.args.operations.now in
     evidence_within operations (No c.in-Repeat.violation) (refused_is_decided operations c.in_ok-matching.field-0 c.in-Repeat.violation
-        c.requires.complete c.in_ok-matching.ensures (inr c.in-Repeat.is)).evidence
+    c.requires.complete c.in_ok-matching.ensures (inr c.in-Repeat.is)).evidence
 
 pub returns-in-Clear-clause-places : goal.returns-in-Clear-clause-places
 returns-in-Clear-clause-places c =

@@ -16,4 +16,4 @@ returns c =
     IfOk-weaker c.collect.result (IsFromIterResult nat_cmp values) _ (btree_set_contains_from_list nat_cmp_total exact_unsigned values)
     (fact_from_collect (IsFromIterResult nat_cmp) c.collect.result c.collect.ensures.ran
     (YieldsList-from_filter_map _ (λ o. value_of o.kind) (YieldsList-from_slice c.args.lines.now cc) c.filter_map.ensures.closure
-        (λ x r q k. search (rules, tests))))
+    (λ x r q k. search (rules, tests))))

@@ -16,8 +16,15 @@ loop-byte-preserved c =
       | in-None+in_ok-push-in-None w ↦
           let end = end_of_line text _ i c.requires.1 c.loop-byte-test.true w.in-None.ensures in
           let line = reads_end text i rows kinds c.loop-byte-test.true end read in
-          rw (w.rows-is, w.kinds-is, w.in_ok-push-in-None.ensures.items, w.new-in-None.ensures, w.replace.ensures.value, w.replace.ensures.after,
-              w.new.ensures.items) line
+          rw (
+            w.rows-is,
+            w.kinds-is,
+            w.in_ok-push-in-None.ensures.items,
+            w.new-in-None.ensures,
+            w.replace.ensures.value,
+            w.replace.ensures.after,
+            w.new.ensures.items,
+          ) line
     ]
 
 pub returns : goal.returns

@@ -9,4 +9,4 @@ returns-then-is_some c = λ events gathered few. gathered_after_fault events c.a
 pub returns-in_default : goal.returns-in_default
 returns-in_default c = λ events gathered few.
     gathered_without_fault _ _ (c.if-is_some.ensures ∙ ap is_some (sym c.in_default.ensures.fault))
-        (c.in_default.ensures.judged events (none_met events c.args.self.now c.if-is_some.ensures gathered) few)
+    (c.in_default.ensures.judged events (none_met events c.args.self.now c.if-is_some.ensures gathered) few)

@@ -7,7 +7,7 @@ use Rattle.history_merge.proofs.called.CalledValues.note_rising.Goals as goal
 pub returns : goal.returns
 returns c = λ events e calls known same.
     let has = λ (q : ℕ). c.in_ok-values.ensures q ∙ subst (λ operations. is_called_in c.args.operations.now q ≡ is_called_in operations q) same refl
-        ∙ sym (called_in_operations events q) in (
+    ∙ sym (called_in_operations events q) in (
       repeats_by_set _ _ _ c.in_ok-is_new.ensures.added (has c.args.value),
       knows_set events e c.args.self.now.least _ _ _ c.args.value calls known.one_each has c.in_ok-is_new.ensures.updates.0 refl refl,
     )

@@ -14,4 +14,4 @@ returns c = λ events call is_return pending known.
     let place = (let at : ◌≡◌ {A = ℕ} (get_or c.args.self.now.places c.from.result 0) done.place = rw c.from.ensures done.is in at) in
     let pending_is = rw place at c.index-pending.ensures in
     formed_after_answer events c.args.event call c.args.self.now _ c.requires is_return pending known
-        (rw (place, c.answered.ensures, pending_is, done.was) (sym done.now)) refl
+    (rw (place, c.answered.ensures, pending_is, done.was) (sym done.now)) refl

@@ -9,13 +9,13 @@ pub returns-in-Err-clause-fault : goal.returns-in-Err-clause-fault
 returns-in-Err-clause-fault g c =
     let stop = c.in-Err.ensures.taken in
     at_failure (λ end front. item_at_front g.T.Item.kind (c.args.self.now.lines + 1) c.args.count end front ≡ Err Read) _ _ stop.0 stop.1 stop.2
-        stop.3 refl (failure_is_fault g.T.Item.kind.is_counted)
+    stop.3 refl (failure_is_fault g.T.Item.kind.is_counted)
 
 pub returns-then-is_counted-clause-fault : goal.returns-then-is_counted-clause-fault
 returns-then-is_counted-clause-fault g c =
     let stop = rw c.in-Ok-Nothing.field-0-is at c.in-Ok-Nothing.ensures.taken in
     at_nothing (λ end front. item_at_front g.T.Item.kind (c.args.self.now.lines + 1) c.args.count end front ≡ Err Cut) _ _ stop.0 stop.1
-        (nothing_is_cut g.T.Item.kind.is_counted (sym c.is_counted.ensures ∙ c.if-is_counted.true))
+    (nothing_is_cut g.T.Item.kind.is_counted (sym c.is_counted.ensures ∙ c.if-is_counted.true))
 
 pub returns-in-Ok-Nothing-clause-ok : goal.returns-in-Ok-Nothing-clause-ok
 returns-in-Ok-Nothing-clause-ok g c =
@@ -32,7 +32,7 @@ returns-in-Ok-TooLong-clause-fault g c =
     let long = rw c.in-Ok-TooLong.field-0-is at c.in-Ok-TooLong.ensures.taken in
     let n : c.self.inside.lines ≡ c.args.self.now.lines + 1 = ap (λ (i : Input). i.lines) c.self.view_is ∙ c.in-Ok-TooLong.ensures.lines in
     at_long (λ end front. item_at_front g.T.Item.kind (c.args.self.now.lines + 1) c.args.count end front ≡ Err (Line c.self.inside.lines)) _ _ long.0
-        long.1 long.2 long.3 long.4 long.5 (λ end. rw n refl)
+    long.1 long.2 long.3 long.4 long.5 (λ end. rw n refl)
 
 pub returns-clause-ok : goal.returns-clause-ok
 returns-clause-ok g c =
@@ -44,4 +44,4 @@ returns-clause-fault g c =
     let taken = rw c.in-Ok-Whole.field-0-is at c.in-Ok-Whole.ensures.taken in
     let n : c.self.inside.lines ≡ c.args.self.now.lines + 1 = ap (λ (i : Input). i.lines) c.self.view_is ∙ c.in-Ok-Whole.ensures.lines in
     rw (← n) (items_faulty g.T.Item.kind c.self.inside.lines c.args.count _ _ c.in-Ok-Whole.line c.item_in.result taken.0 taken.1
-        (rw c.as_slice.ensures at c.item_in.ensures.value))
+    (rw c.as_slice.ensures at c.item_in.ensures.value))

@@ -12,4 +12,4 @@ returns-clause-fault g c =
     let taken = c.in_ok-line.ensures.ok in
     let n : c.self.inside.lines ≡ c.args.self.now.lines + 1 = ap (λ (i : Input). i.lines) c.self.view_is ∙ c.in_ok-line.ensures.lines in
     rw (← n) (setting_faulty c.self.inside.lines _ _ c.in_ok-line.line c.setting_in.result taken.0 taken.1
-        (rw c.as_slice.ensures at c.setting_in.ensures.value))
+    (rw c.as_slice.ensures at c.setting_in.ensures.value))

@@ -25,4 +25,4 @@ returns-in-Ok-TooLong-clause-fault g c =
     let long = rw c.in-Ok-TooLong.field-0-is at c.in-Ok-TooLong.ensures.taken in
     let n : c.self.inside.lines ≡ c.args.self.now.lines + 1 = ap (λ (i : Input). i.lines) c.self.view_is ∙ c.in-Ok-TooLong.ensures.lines in
     at_long (λ end front. NoLineFault (c.args.self.now.lines + 1) end (Line c.self.inside.lines) front) _ _ long.0 long.1 long.2 long.3 long.4 long.5
-        (λ end. ap Line n)
+    (λ end. ap Line n)

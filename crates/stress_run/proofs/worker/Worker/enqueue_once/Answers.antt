@@ -43,7 +43,7 @@ returns-clause-works g c =
     )
     first
     (draws_from _ _ _ _ _ _ c.stamp-returned.ensures.drawn (ap (λ v. v.pass) V2 ∙ ap (λ v. v.pass) E1) refl (sym (ap (λ v. v.pass) E2))))
-        c.record-2.ensures.sent
+    c.record-2.ensures.sent
 
 pub returns-clause-stalls : goal.returns-clause-stalls
 returns-clause-stalls g c =
@@ -73,4 +73,4 @@ returns-clause-stalls g c =
     c.requires.running
     first
     (draws_from _ _ _ _ _ _ c.stamp-returned.ensures.drawn (ap (λ v. v.pass) V2 ∙ ap (λ v. v.pass) E1) refl (sym (ap (λ v. v.pass) E2))))
-        c.record-2.ensures.stopped
+    c.record-2.ensures.stopped

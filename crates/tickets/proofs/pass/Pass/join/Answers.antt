@@ -32,9 +32,12 @@ overflow_add-result c =
 pub invariant_of-result : goal.invariant_of-result
 invariant_of-result c =
     let left = ap (λ (h : Holding). h.left) (joined c) in
-    let all = whole c in
-    (omega arith, omega arith, ap (λ m. m.1) (c.load.ensures.2.1 ∙ c.join_seat.ensures.2
-        ∙ ap (λ m. (put_together m.0 c.into_parts-other_seat.result.0.me.0, m.1)) c.into_parts-seat.ensures.seat))
+    let all = whole c in (
+      omega arith,
+      omega arith,
+      ap (λ m. m.1) (c.load.ensures.2.1 ∙ c.join_seat.ensures.2
+          ∙ ap (λ m. (put_together m.0 c.into_parts-other_seat.result.0.me.0, m.1)) c.into_parts-seat.ensures.seat),
+    )
 
 pub returns-clause-drawn : goal.returns-clause-drawn
 returns-clause-drawn c = subst (λ (l : List ℕ). IsPermutation (c.args.self.drawn ++ c.args.other.drawn) l)

@@ -12,4 +12,4 @@ returns c =
     let asked = c.requires.whole in
     let whole : whole_of seat.me.0 ≡ c.self.inside.table.shared.key = omega arith in
     sym (ap (λ m. m.0.drawn) c.into_parts-seat.ensures.seat) ∙ closes c.self.inside.table.shared.key _ seat.me.0 _ _ c.word-next.result whole
-        c.close_with-closed.ensures.values.2 c.word-next.ensures
+    c.close_with-closed.ensures.values.2 c.word-next.ensures

@@ -11,5 +11,5 @@ new-requires-2 c =
     let operations = c.self.inside.operations.now in
     let pairs = c.self.inside.pairs.now in
     let others : map (value_at operations) c.split_at.result.1.now ≡ drop c.args.place (map (value_at operations) pairs) =
-        ap (map (value_at operations)) c.split_at.ensures.back ∙ sym (drop-map (value_at operations) c.args.place pairs) in
+    ap (map (value_at operations)) c.split_at.ensures.back ∙ sym (drop-map (value_at operations) c.args.place pairs) in
     subst (All (HasPlaces operations)) (sym others) (All-drop (HasPlaces operations) c.args.place (map (value_at operations) pairs) c.self.invariant)

@@ -13,7 +13,7 @@ index-requires c = omega (arith, c.in_ok-last.ensures, c.partition_point-before.
 pub get-requires : goal.get-requires
 get-requires c =
     let inside : c.in_ok-last.last < length c.self.inside.fronts.items =
-        omega (arith, c.in_ok-last.ensures, c.partition_point-before.ensures.bound, c.as_slice.ensures.len, c.self.inside.fronts.ok.0) in
+    omega (arith, c.in_ok-last.ensures, c.partition_point-before.ensures.bound, c.as_slice.ensures.len, c.self.inside.fronts.ok.0) in
     longest_within c.self.inside.values c.self.inside.fronts.items c.in_ok-last.last c.index.result.now c.self.invariant inside c.index.ensures
 
 pub returns-in_err-last : goal.returns-in_err-last
@@ -36,6 +36,6 @@ returns c =
     let point = IsPartitionPoint-from_clause (λ (f : Front). ltb f.enqueue_return limit) fronts _ c.partition_point-before.ensures.partitioned
     (IsPartitionedBy-ltb (λ (f : Front). f.enqueue_return) fronts limit (fronts_rise values fronts table)) (λ a r f k. search rules) in
     let one = longest_found values fronts limit _ table point c.partition_point-before.ensures.bound c.in_ok-last.last c.index.result.now c.get.result
-        (omega (arith, c.in_ok-last.ensures))
+    (omega (arith, c.in_ok-last.ensures))
     (rw c.as_slice.ensures.value c.index.ensures) in
     subst (λ vs. IsLongestOf (EntersBefore limit) vs c.get.result) c.self.view_is (subst (IsLongestOf (EntersBefore limit) values) (sym c.get.ensures) one)

@@ -32,14 +32,14 @@ point c =
     let next : c.in-Some.last + 1 ≡ c.loop-before.before = omega (arith, c.in-Some.ensures) in
     point_between fronts c.args.limit c.in-Some.last (fronts_rise c.self.inside.values fronts (table c)) (inside c)
     (λ f. let same = ap (λ (x : Front). x.enqueue_return) (get_or_default fronts c.in-Some.last nowhere f (inside c)) in
-        omega (arith, c.if-fronts-last.true, same))
+    omega (arith, c.if-fronts-last.true, same))
     (λ f below. subst (λ k. c.args.limit ≤ (get_or fronts k f).enqueue_return) (sym next) (stopped c f (omega (arith, below, next))))
 
 pub get-requires : goal.get-requires
 get-requires c =
     let fronts = c.as_slice-fronts.result.now in
     longest_within c.self.inside.values fronts c.in-Some.last (get_or fronts c.in-Some.last nowhere) (table c) (inside c)
-        (get_or_default fronts c.in-Some.last nowhere _ (inside c))
+    (get_or_default fronts c.in-Some.last nowhere _ (inside c))
 
 pub returns-in-Some : goal.returns-in-Some
 returns-in-Some c =
@@ -47,7 +47,7 @@ returns-in-Some c =
     let fronts = c.as_slice-fronts.result.now in
     let values = c.self.inside.values in
     let one = longest_found values fronts c.args.limit (c.in-Some.last + 1) (table at) (point at)
-        (let within = inside at in omega (arith, within)) c.in-Some.last (get_or fronts c.in-Some.last nowhere) c.get.result refl
+    (let within = inside at in omega (arith, within)) c.in-Some.last (get_or fronts c.in-Some.last nowhere) c.get.result refl
     (get_or_default fronts c.in-Some.last nowhere _ (inside at)) in
     subst (λ vs. IsLongestOf (EntersBefore c.args.limit) vs c.get.result) c.self.view_is
-        (subst (IsLongestOf (EntersBefore c.args.limit) values) (sym c.get.ensures) one)
+    (subst (IsLongestOf (EntersBefore c.args.limit) values) (sym c.get.ensures) one)

@@ -21,4 +21,4 @@ pub returns : goal.returns
 returns c =
     let count : length c.loop.rows.items ≡ c.args.workers = omega arith in
     subst (λ (rows : List (List Kind)). IsSeeded c.args.seed c.args.workers c.args.operations c.args.percent rows) (sym c.within_limits.ensures)
-        (seeded _ _ _ _ _ _ c.loop.invariant.given count)
+    (seeded _ _ _ _ _ _ c.loop.invariant.given count)
