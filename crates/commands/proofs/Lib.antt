@@ -1,3 +1,10 @@
+-- The way of the argument, from an input to what is printed:
+-- InputFaults, OneInput: an input says one thing, or has one first fault.
+-- Findings, Played, Searched, Runs: from what was read, played, searched or wrong in the words to the answer.
+-- OneAnswer: want of memory aside an input has one answer.
+-- Asked, Fronts, Printing, Rejections: what is printed, whole or in front, and what the writer was asked.
+-- Validity, ShrunkTexts: what is written, read again, is a claim that is true.
+-- Honest: an honest schedule that is done is answered by a yes.
 pub mod Fronts
 pub mod Asked
 pub mod Rejections

@@ -1,3 +1,6 @@
+-- The way of the argument: Loops, Chains: what one more element adds to a line, and one more piece to a text.
+-- Lanes: lanes are of the threads that have events, and stand apart. Bars: the bars in them are the operations.
+-- Effects: the effects of a yes rise within the bars, and the numbers are those of the claim.
 pub mod Loops
 pub mod Chains
 pub mod Bars

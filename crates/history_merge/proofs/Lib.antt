@@ -1,3 +1,13 @@
+-- The way of the argument, from one thread's events to complete histories and their operations:
+-- Turns: calls and returns of one thread, event by event.
+-- Tracking, KnownValues, Gathered: what a walk over events keeps (pending calls, called values, operations), and one more event.
+-- NextEvents: the same walk from the last event to the first.
+-- Completeness, Distinct: what the operations of a complete history have in common, and what tells them apart.
+-- FirstFaults, ExactFaults: a list of events is a complete history exactly where it has no fault.
+-- Formed, MetFaults: what the builder holds after each event, and at the end: the operations, or the first fault.
+-- OneFault: a list of events has one first fault.
+-- Runs, Places: what a run of the sequential queue enqueued and dequeued, and where.
+-- DistinctValues: values that no two calls share.
 pub mod Gathered
 pub mod KnownValues
 pub mod MetFaults

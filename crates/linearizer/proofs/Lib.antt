@@ -1,3 +1,12 @@
+-- The way of the argument, from a history without violations to its legal order:
+-- Times, DifferentTimes: the tickets of lives, which all differ.
+-- Choices, Opposites, ValueOrder: the next value is chosen by the least entry or the first return; so there is one order of values.
+-- Sweeping, Choosing, OrderedPlaces: two sorted lists and flags make that choice again and again.
+-- LeastEntries, Gaps, FreeGaps, Windows: each enqueue and dequeue has a gap in its window, and gaps rise along the order.
+-- Rising, Positions, EachPosition: each operation has one position, and no two have the same.
+-- Runs, LegalOrder, OneOrder: by their positions the operations are a run that the queue accepts, the one chosen order.
+-- PlacedValues, Additions, Merging, Keys, Sorting, ChosenPlaces: the lists of placed operations, merged, are that order.
+-- NoneTwice, Partition: each operation stands in one of these lists, once.
 pub mod Choices
 pub mod Times
 pub mod Opposites

@@ -1,2 +1,4 @@
+-- The way of the argument: Chosen: a value overtakes another exactly where they are an order violation, and the first that
+-- overtakes, with the one that stays longest, is the chosen one. Scans: the first of two lists of candidates, and of one more.
 pub mod Scans
 pub mod Chosen

@@ -1,3 +1,13 @@
+-- The way of the argument, from steps to what is collected:
+-- Members, Blocks: lists by what they contain, and lists made of one block for each thread.
+-- Steps, Starting, Threads: what each step does to what a machine holds.
+-- Runs, Granted: induction over the accepted steps of a schedule.
+-- Counts, Totals, Events, Closing, Finished: what any schedule leaves: counts, events in order, closed threads, a machine that is done.
+-- Turns, Fitting: the recorded lists merge to a complete history.
+-- Collecting: a done schedule's collected lists fit together and hold each thread's events once.
+-- Precedence, Ticketed, Operating: operations precede one another as their steps stand, so as they are ticketed.
+-- Effects, Honest, Legal: the effects of an honest schedule that is done are a legal order.
+-- Replaying, Replayed: recorded lists are collected by some schedule.
 pub mod Runs
 pub mod Counts
 pub mod Threads

@@ -1,3 +1,9 @@
+-- The way of the argument, from bytes to lines and back:
+-- Consuming, Fronts: bytes that are taken in turn, and the front of bytes of which the beginning is known.
+-- Digits, Numbers, Fields: numbers and words, read as they are spelled; the fields of a line.
+-- Scanning: what stands at the front, found in one pass.
+-- Appending, Asking, Holding: bytes that are written in turn, what a sink was asked, and what it keeps back.
+-- WrittenLines: what is written of fields, numbers and lines is read back.
 pub mod Digits
 pub mod Fields
 pub mod Consuming

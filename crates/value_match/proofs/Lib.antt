@@ -1,3 +1,10 @@
+-- The way of the argument, from operations to matched values:
+-- Lists: what a list contains, and what is made of lists.
+-- CallPlaces, FreshDequeues: each dequeue's source, or the chosen dequeue of a value that was not there.
+-- ReturnOrder, TakenPlaces, RepeatedDequeues: two dequeues of one source, the chosen pair of them first.
+-- MatchedDequeues, Lives: the one dequeue of each accepted value; the lives that there are, each once.
+-- SortedOut: all operations sorted out into values, empty answers and refused enqueues.
+-- Longest, Fronts: of the values whose enqueues returned before a ticket the one that stays longest.
 pub mod Lists
 pub mod Lives
 pub mod Longest

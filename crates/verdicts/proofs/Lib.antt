@@ -1,3 +1,12 @@
+-- The way of the argument, from what is found to what is claimed, verified and shrunk:
+-- Excludes: beside a violation no order is legal. Linearizable, Exactly: without one there is a legal order.
+-- Chosen, Decided, OneVerdict: the chosen violation or order decides, and is the only one.
+-- Lookups, ClaimedBreaches, ClaimedCovers, ClaimedOrders: when the lines of a claim are evidence.
+-- NamedLines, NamedPlaces, TrueClaims, FewLines: what a verdict claims, and that this is true.
+-- SameLists, Selections, ChosenSelections, CoverGaps: what stays of the violations in a selection of the operations.
+-- Minimal, OneSelection: nothing can be left out of the selection by the violation's lines.
+-- EventsHeld, KeptTickets, KeptEvents, ShrunkEvents: the selected operations with their events are a complete history.
+-- Rows: small histories, computed.
 pub mod Excludes
 pub mod Rows
 pub mod Linearizable
