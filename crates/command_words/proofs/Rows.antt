@@ -145,6 +145,7 @@ defaults_kept : (id : Text) (rules : List Rule) (rows : List Row) → has_row id
 defaults_kept id [] rows h = h
 defaults_kept id (a ∷ rules) rows h = defaults_kept id rules (with_default rows a) (with_default_kept id rows a h)
 
+-- a row with values
 abbrev pub IsNonempty : List Text → Type 0
 IsNonempty [] = ⊥
 IsNonempty (v ∷ vs) = ⊤

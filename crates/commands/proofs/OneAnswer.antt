@@ -202,18 +202,23 @@ of_history OfEvents one = of_input IsHistoryOf IsFaultOfHistoryInput OfEvents
     (histories.one_first_fault 0))
     one
 
+-- `check` has one answer
 pub check_has_one : HasOneAnswer check
 check_has_one = of_history Judges one_judgement
 
+-- `shrink` has one answer
 pub shrink_has_one : HasOneAnswer shrink
 shrink_has_one = of_history Shrinks one_shrinking
 
+-- `verify` has one answer
 pub verify_has_one : HasOneAnswer verify
 verify_has_one = of_input IsClaimOf IsFaultOfClaimInput Verifies one_claim only_memory_of_claim one_known_fault_of_claim one_verification
 
+-- `draw` has one answer
 pub draw_has_one : HasOneAnswer draw
 draw_has_one = of_input IsClaimOf IsFaultOfClaimInput Draws one_claim only_memory_of_claim one_known_fault_of_claim one_picture
 
+-- `sim` has one answer
 pub sim_has_one : HasOneAnswer sim
 sim_has_one = of_input IsScheduleOf IsFaultOfScheduleInput Simulates
     (one_value HasScheduleText schedule_text (IsScheduleTextFault 0) NoRoomForSchedule schedules.texts_agree (schedules.text_has_no_fault 0)

@@ -101,6 +101,7 @@ is_claim_fault input text.Count known is = is
 is_claim_fault input text.Cut known is = is
 is_claim_fault input text.Trailing known is = is
 
+-- an input has one claim
 pub one_claim : (input : Ahead) (x y : ClaimOnEvents) → IsClaimOf input x → IsClaimOf input y → x ≡ y
 one_claim input x y is_x is_y =
     let parts = histories.texts_agree x.events y.events (verdict_text x.claimed) (verdict_text y.claimed) is_x.history is_y.history
@@ -144,10 +145,12 @@ one_fault_of_claim input f g (inr a) (inr b) =
     let moved = subst (λ rest. IsVerdictTextFault (length a.events + 2) input.ending rest f) parts.1 a.after in
     verdict_texts.one_first_fault (length b.events + 2) input.ending b.rest f g (subst (λ n. IsVerdictTextFault n input.ending b.rest f) lines moved) b.after
 
+-- an input with a claim has no fault but want of memory
 pub only_memory_of_claim : (input : Ahead) (x : ClaimOnEvents) (fault : TextFault) → IsClaimOf input x → fault ≢ text.Memory
     → IsFaultOfClaimInput input fault → ⊥
 only_memory_of_claim input x fault is known faulty = no_fault_of_claim input x fault is (is_claim_fault input fault known faulty)
 
+-- an input without a claim has one fault, but for want of memory
 pub one_known_fault_of_claim : (input : Ahead) (f g : TextFault) → f ≢ text.Memory → g ≢ text.Memory → IsFaultOfClaimInput input f
     → IsFaultOfClaimInput input g → f ≡ g
 one_known_fault_of_claim input f g known_f known_g is_f is_g =

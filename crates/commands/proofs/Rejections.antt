@@ -22,6 +22,7 @@ pieces number name =
     ap (λ (t : List ℕ). beginning ++ t)
     (append_assoc (number ++ codes " ") name (codes "\n") ∙ append_assoc number (codes " ") (name ++ codes "\n"))
 
+-- the line of a refused step is its pieces
 pub in_pieces : (r : Rejection) → rejection_line r ≡ beginning ++ (decimal r.step ++ ending r)
 in_pieces r = pieces (decimal r.step) (reason_name r.reason)
 

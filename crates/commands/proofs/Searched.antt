@@ -7,9 +7,11 @@ use Rattle.std.specs.Cmp.Lexicographic.{pointwise, same_text}
 use Rattle.std.proofs.lemmas.Cmp.{nat_list_eq_equiv}
 use Rattle.commands.specs.Stressing.{IsFirstNamed}
 
+-- a text that is found equal to a name is that name
 pub same_name : (text bytes name : List ℕ) → text ≡ bytes → true ≡ pointwise nat_eq text name → bytes ≡ name
 same_name text bytes name e t = sym e ∙ same_text text name t
 
+-- a text that is found different is another name
 pub other_name : (text bytes name : List ℕ) → text ≡ bytes → false ≡ pointwise nat_eq text name → bytes ≢ name
 other_name text bytes name e f same =
     let equal = nat_list_eq_equiv.refl name in

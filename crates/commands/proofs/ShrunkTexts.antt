@@ -91,6 +91,7 @@ shown_is_written input small claimed (inl read) = by_answer read.answered
         one_claim es other e = cc
 shown_is_written input small claimed (inr faulty) = absurd (shown_is_no_text_fault small claimed faulty.fault faulty.is)
 
+-- what `shrink` writes is valid
 pub shrunk_is_valid : ShrunkIsValid
 shrunk_is_valid bytes small claimed answer shrinks verifies =
     written_is_valid small claimed answer (shown_is_written (input_of bytes) small claimed shrinks) verifies
@@ -147,6 +148,7 @@ written_is_judged events claimed answer is (inl read) = by_answer read.answered
         inl (found.is ∙ ap (λ c. judged c) (one_verdict_claim events found.claimed claimed is.complete right is.right))
 written_is_judged events claimed answer is (inr faulty) = inr (faulty.is ∙ only_memory events faulty.fault is.history faulty.first)
 
+-- the shrunk history has the verdict that is written behind it
 pub shrunk_is_checked : ShrunkIsChecked
 shrunk_is_checked bytes small claimed answer shrinks checks =
     written_is_judged small claimed answer (shown_is_written (input_of bytes) small claimed shrinks) checks

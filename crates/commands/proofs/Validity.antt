@@ -136,6 +136,7 @@ judged_is_written input claimed (inl read) = by_answer read.answered
         one_claim other e = cc
 judged_is_written input claimed (inr faulty) = absurd (judged_is_no_text_fault claimed faulty.fault faulty.is)
 
+-- the verdict that `check` writes is valid
 pub checked_is_valid : CheckedIsValid
 checked_is_valid bytes claimed answer checked verifies =
     let is = judged_is_written (input_of bytes) claimed checked in

@@ -33,6 +33,7 @@ under_way_tells thread ticket o passes = (grind (arith, nat_tests), grind (arith
 under_way_if : (thread ticket : ℕ) (o : Operation) → o.thread ≡ thread → o.call ≤ ticket → ticket ≤ o.ret → is_under_way thread ticket o ≡ true
 under_way_if thread ticket o own called returns = grind (arith, nat_tests)
 
+-- what stands in a lane is the bar of an operation of its thread
 pub no_other_bars : NoOtherBars
 no_other_bars operations thread ticket o is =
     let first = found_first (is_under_way thread ticket) operations o is in
@@ -84,6 +85,7 @@ module _ (events : List Event) (complete : IsCompleteHistory events) where
         ]
       ]
 
+-- each operation has its bar
 pub bars_are_of_operations : BarsAreOfOperations
 bars_are_of_operations events o ticket complete among called returns =
     let some = found (is_under_way o.thread ticket) (operations_of events) o among (under_way_if o.thread ticket o refl called returns) in

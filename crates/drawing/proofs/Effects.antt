@@ -40,6 +40,7 @@ longer g [] (suc m) (suc n) le = omega arith
 longer g (o ∷ rest) (suc m) zero le = absurd (omega arith)
 longer g (o ∷ rest) (suc m) (suc n) le = longer (max g o.call) rest m n (omega arith)
 
+-- effects rise in the order of a yes
 pub effects_rise : EffectsRise
 effects_rise order i j le = longer 0 order (i + 1) (j + 1) (omega arith)
 
@@ -59,6 +60,7 @@ all_below g n (x ∷ rest) (suc k) below each =
     let first = each zero x (omega arith) refl in
     all_below (max g x.call) n rest k (omega arith) (λ j o less at. each (suc j) o (omega arith) at)
 
+-- effects of a legal order lie within the bars
 pub effects_are_in_bars : EffectsAreInBars
 effects_are_in_bars events order i o complete legal at = (called, below)
   where
@@ -116,6 +118,7 @@ place_of_one lines p x among passes =
     let within = slice_get_within lines (position_or_len p lines) some.0 at in
     (position_or_len p lines, ap (λ (b : Bool). cond b (Some (position_or_len p lines)) None) (lt-ltb _ _ within))
 
+-- a number is that of the line
 pub numbers_are_of_lines : NumbersAreOfLines
 numbers_are_of_lines events lines o i complete all_among among at =
     let h = place_if lines (λ line. nat_eq line.call o.call) i at in
@@ -123,5 +126,6 @@ numbers_are_of_lines events lines o i complete all_among among at =
     let same = same_call (operations_of events) h.0 o (events, complete, refl) line_among among (eqb-true h.0.call o.call h.2) in
     h.1 ∙ ap (λ x. Some x) same
 
+-- each line has a number
 pub lines_have_numbers : LinesHaveNumbers
 lines_have_numbers lines o among = place_of_one lines (λ line. nat_eq line.call o.call) o among (eq-eqb o.call o.call refl)

@@ -36,6 +36,7 @@ one_fewer (x ∷ xs) s t among less = join (contains_cons x xs s among) (λ ther
     join (inl here) later = let more = fewer xs s t less in let first = one_more x s t here less in omega (arith, count_more x xs s, count_more x xs t)
     join (inr there) later = let more = later there in let first = not_more x s t less in omega (arith, count_more x xs s, count_more x xs t)
 
+-- lanes of different threads stand apart
 pub lanes_are_apart : LanesAreApart
 lanes_are_apart events columns thread higher among less =
     let more = one_fewer (threads_of events) thread higher among less in

@@ -49,12 +49,15 @@ unfolding threads_below
 threads_more events n =
     ap (filter (has_events events)) (range_more n) ∙ filter-append (has_events events) (range_with_len 0 n) (n ∷ [])
 
+-- a thread with events is one more
 pub threads_yes : (events : List Event) (n : ℕ) → has_events events n ≡ true → threads_below events (n + 1) ≡ threads_below events n ++ n ∷ []
 threads_yes events n h = threads_more events n ∙ ap (λ (b : Bool). threads_below events n ++ cond b (n ∷ []) []) h
 
+-- a thread without events is none more
 pub threads_no : (events : List Event) (n : ℕ) → has_events events n ≡ false → threads_below events (n + 1) ≡ threads_below events n
 threads_no events n h = threads_more events n ∙ ap (λ (b : Bool). threads_below events n ++ cond b (n ∷ []) []) h ∙ append-nil _
 
+-- there is no thread below 0
 pub threads_none : (events : List Event) → threads_below events 0 ≡ []
 unfolding threads_below
 threads_none events = refl

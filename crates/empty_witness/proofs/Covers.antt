@@ -150,6 +150,7 @@ cover_from (suc left) operations empty before clear did covered among above belo
               )
         ]
 
+-- a covered empty answer has a chosen cover, which is a violation
 pub chosen_cover : (operations : List Operation) (empty : Operation) → IsClear operations → Did operations empty Empty → IsCovered operations empty
     → (cover : List Life) × IsChosenCover operations empty cover × IsWitnessViolation operations empty cover
 chosen_cover operations empty clear did covered =
@@ -182,6 +183,7 @@ covered_by operations empty before (life ∷ next ∷ rest) c covers above below
           | inr later ↦ more d further later
         ]
 
+-- a witness violation covers its empty answer
 pub violation_covers : (operations : List Operation) (empty : Operation) (cover : List Life) → IsClear operations
     → IsWitnessViolation operations empty cover → IsCovered operations empty
 violation_covers operations empty cover clear violation c window =
@@ -226,6 +228,7 @@ no_shorter operations empty before frontier (x ∷ xs) (y ∷ next ∷ ys) in_ra
         let rest = more d chosen' further (omega arith) in
         omega arith
 
+-- no cover is shorter than the chosen one
 pub chosen_cover_is_shortest : (operations : List Operation) (empty : Operation) (cover other : List Life) → IsClear operations
     → IsChosenCover operations empty cover → IsWitnessViolation operations empty other → length cover ≤ length other
 chosen_cover_is_shortest operations empty cover other clear chosen violation =
@@ -259,6 +262,7 @@ chosen_covers operations empty before frontier (life ∷ rest) in_range same cho
         before_call : enqueue_return life < frontier → Precedes (enqueue_of life) before
         before_call less = omega (arith, same)
 
+-- a chosen cover is a witness violation
 pub chosen_cover_violates : (operations : List Operation) (empty : Operation) (cover : List Life) → IsClear operations → Did operations empty Empty
     → IsChosenCover operations empty cover → IsWitnessViolation operations empty cover
 chosen_cover_violates operations empty cover clear did chosen =

@@ -15,9 +15,11 @@ use Rattle.value_match.proofs.Lives.{value_is_life, value_of_life}
 use Rattle.empty_witness.specs.declared.spans.Span.{Span}
 use Rattle.empty_witness.specs.Spans.{holds_some, LiesIn, AreJoined, stay_of, AreSpansOf}
 
+-- the stays of the values that stay
 abbrev pub stays_of : List MatchedValue → List Span
 stays_of values = filter holds_some (map (λ value. stay_of value.life) values)
 
+-- each stay holds a gap
 pub stays_hold_some : (values : List MatchedValue) (stays sorted : List Span) → stays ≡ stays_of values → IsPermutation stays sorted
     → All (λ stay. stay.start < stay.end) sorted
 stays_hold_some values stays sorted are moved =

@@ -39,6 +39,7 @@ unknown_is_behind (s ∷ ss) (suc n) (e ∷ es) zero here are before at unknown 
 unknown_is_behind (s ∷ ss) (suc n) (e ∷ es) (suc place) here are before at unknown =
     unknown_is_behind ss n es place here (ap (drop 1) are) (omega (arith, before)) at unknown
 
+-- structs that are events have no unknown kind
 pub none_unknown : (structs : List RecordedEvent) (events : List Event) → AreEvents structs events → (place : ℕ) → IsFirstUnknown structs place → ⊥
 none_unknown structs events are place first =
     let all = subst (λ l. AreEvents l events) (sym (take-length structs)) are in

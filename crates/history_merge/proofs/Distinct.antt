@@ -19,10 +19,12 @@ use Rattle.event_records.specs.declared.limits.TheConstants.{MAX_TICKET}
 use Rattle.history_merge.proofs.Completeness.{IsMadeOf, made_of, called_once}
 use Rattle.history_merge.proofs.Places.{calls_of_kind, same_place}
 
+-- what stands in a list is its first element or stands behind it
 pub contains_cons : {X : Type 0} (x : X) (xs : List X) (y : X) → Contains (x ∷ xs) y → (x ≡ y) ⊎ Contains xs y
 contains_cons x xs y (zero, below, same) = inl same
 contains_cons x xs y (suc k, below, same) = inr (k, omega arith, same)
 
+-- nothing stands in no list
 pub not_in_none : {X : Type 0} (x : X) → ¬ (Contains [] x)
 not_in_none x among = let below = among.1 in omega arith
 
@@ -30,6 +32,7 @@ not_in_none x among = let below = among.1 in omega arith
 pub place_of : {X : Type 0} (xs : List X) (x : X) → Contains xs x → (i : ℕ) × (slice_get xs i ≡ Some x)
 place_of xs x among = (among.0, slice_get_read xs (length xs) among.0 x refl among.1 (sym among.2))
 
+-- what stands at a place stands in the list
 pub contains_at : {X : Type 0} (xs : List X) (i : ℕ) (x : X) → slice_get xs i ≡ Some x → Contains xs x
 contains_at xs i x at = (i, slice_get_within xs i x at, get_or_from_slice_get xs i x x at)
 
@@ -40,6 +43,7 @@ pairs_at R xs i j x y pairs below at_i at_j =
     let here = pairs i j x below (slice_get_within xs j y at_j) in
     subst (λ a. R a y) (get_or_from_slice_get xs i x x at_i) (subst (λ b. R (get_or xs i x) b) (get_or_from_slice_get xs j y x at_j) here)
 
+-- one element stands at a place
 pub one_at : {X : Type 0} (xs : List X) (i : ℕ) (x y : X) → slice_get xs i ≡ Some x → slice_get xs i ≡ Some y → x ≡ y
 one_at xs i x y at_x at_y = sym (get_or_from_slice_get xs i x x at_x) ∙ get_or_from_slice_get xs i y x at_y
 
@@ -50,6 +54,7 @@ pub record IsFirstOf {X : Type 0} (p : X → Bool) (xs : List X) (r : X) : Type 
   pub passes : p r ≡ true
   pub first : (k : ℕ) (x : X) → k < place → slice_get xs k ≡ Some x → p x ≡ false
 
+-- what is found is the first that passes
 pub found_first : {X : Type 0} (p : X → Bool) (xs : List X) (r : X) → find p xs ≡ Some r → IsFirstOf p xs r
 found_first p [] r e = cc
 found_first {X} p (x ∷ xs) r e = pick (p x) refl (found_first p xs r) e
@@ -122,6 +127,7 @@ first_traced e later o same = build made.0 (found_first (λ r. nat_eq r.thread e
         between zero x above below at = absurd (omega arith)
         between (suc k) x above below at = first.first k x (omega arith) at
 
+-- an operation comes of a call and a return
 pub traced : (events : List Event) (o : Operation) → Contains (operations_of events) o → IsTraced events o
 traced [] o among = absurd (not_in_none o among)
 traced (e ∷ later) o among = join (traced later o) (operation_of e (find (λ r. nat_eq r.thread e.thread) later)) refl among
@@ -231,6 +237,7 @@ same_call operations x y complete in_x in_y same =
 trace_of : (operations : List Operation) (o : Operation) (complete : AreComplete operations) → Contains operations o → IsTraced complete.0 o
 trace_of operations o complete among = traced complete.0 o (subst (λ os. Contains os o) complete.2 among)
 
+-- no return has the ticket of a call
 pub return_differs_from_call : (operations : List Operation) (x y : Operation) → AreComplete operations → Contains operations x
     → Contains operations y → x.ret ≢ y.call
 return_differs_from_call operations x y complete in_x in_y =
@@ -243,6 +250,7 @@ same_return operations x y complete in_x in_y same =
     same_call operations x y complete in_x in_y
     (same_return_same_call complete.0 complete.1.tickets_rise x y (trace_of operations x complete in_x) (trace_of operations y complete in_y) same)
 
+-- returns have tickets in their range
 pub return_in_range : (operations : List Operation) (o : Operation) → AreComplete operations → Contains operations o → o.ret ≤ MAX_TICKET
 return_in_range operations o complete among =
     let t = trace_of operations o complete among in
@@ -251,6 +259,7 @@ return_in_range operations o complete among =
     (get_or_from_slice_get complete.0 t.returned_at t.answer t.answer t.at_return) bound in
     omega (arith, t.made.returned)
 
+-- an operation is called before it returns
 pub call_before_return : (operations : List Operation) (o : Operation) → AreComplete operations → Contains operations o → o.call < o.ret
 call_before_return operations o complete among =
     let t = trace_of operations o complete among in

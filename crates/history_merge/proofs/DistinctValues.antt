@@ -28,6 +28,7 @@ nat_eq_flips x y = elim (eqb_tells x y) [
   | inr h ↦ h.0 ∙ sym (ne_eqb y x (λ same. h.1 (sym same)))
 ]
 
+-- each number stands once
 abbrev pub AreDistinct : List ℕ → Type 0
 AreDistinct xs = AllPairs (λ v w. v ≢ w) xs
 
@@ -129,6 +130,7 @@ pub record HasMet (events : List Event) (n : ℕ) (met : ℕ → Bool) : Type 0 
   pub called : (v : ℕ) → met v ≡ was_called (take n events) v
   pub no_repeat : NoRepeatBefore events n
 
+-- an event repeats a value where it calls one that was called
 pub repeats_if : (events : List Event) (called : Option ℕ) (e : Event) → called_value e.what ≡ called
     → repeats_value events e ≡ option_map_or (was_called events) called false
 repeats_if events called e is = ap (λ o. option_map_or (was_called events) o false) is
@@ -143,6 +145,7 @@ or_cond true false = refl
 or_cond false true = refl
 or_cond false false = refl
 
+-- an event that calls no value
 pub met_none : (events : List Event) (i : ℕ) (e : Event) (met : ℕ → Bool) → slice_get events i ≡ Some e → called_value e.what ≡ None
     → HasMet events i met → HasMet events (i + 1) met
 met_none events i e met here none m = record {
@@ -150,6 +153,7 @@ met_none events i e met here none m = record {
   no_repeat = each_more (λ k x. repeats_value (take k events) x ≡ false) events i e here (repeats_if (take i events) None e none) m.no_repeat;
 }
 
+-- an event that calls a value for the first time
 pub met_new : (events : List Event) (i : ℕ) (e : Event) (v : ℕ) (met after : ℕ → Bool) → slice_get events i ≡ Some e → called_value e.what ≡ Some v
     → met v ≡ false
     → ((q : ℕ) → after q ≡ cond (nat_eq v q) true (met q)) → HasMet events i met → HasMet events (i + 1) after
@@ -176,6 +180,7 @@ pub record RisesTo (name : ℕ → ℕ) (events : List Event) (n : ℕ) (least :
   pub below : (v : ℕ) → was_called (take n events) v ≡ true → v < get_or least (name v) 0
   pub no_repeat : NoRepeatBefore events n
 
+-- before the first event each name may have any value
 pub rises_at_first : (name : ℕ → ℕ) (events : List Event) (least : List ℕ) → length least ≡ 64 → RisesTo name events 0 least
 rises_at_first name events least long = record {
   one_each = long;
@@ -183,6 +188,7 @@ rises_at_first name events least long = record {
   no_repeat = λ i e below at. absurd (omega arith);
 }
 
+-- an event that calls no value leaves the names
 pub rises_none : (name : ℕ → ℕ) (events : List Event) (i : ℕ) (e : Event) (least : List ℕ) → slice_get events i ≡ Some e → called_value e.what ≡ None
     → RisesTo name events i least → RisesTo name events (i + 1) least
 rises_none name events i e least here none r = record {
@@ -191,6 +197,7 @@ rises_none name events i e least here none r = record {
   no_repeat = each_more (λ k x. repeats_value (take k events) x ≡ false) events i e here (repeats_if (take i events) None e none) r.no_repeat;
 }
 
+-- a value that rises within its name
 pub rises_more : (name : ℕ → ℕ) (events : List Event) (i : ℕ) (e : Event) (v : ℕ) (least : List ℕ) → slice_get events i ≡ Some e → called_value e.what ≡ Some v
     → name v < 64 → get_or least (name v) 0 ≤ v → RisesTo name events i least → RisesTo name events (i + 1) (set least (name v) (v + 1))
 rises_more name events i e v least here calls fits above r = record {

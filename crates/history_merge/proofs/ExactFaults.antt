@@ -87,6 +87,7 @@ sound_before events (suc n) within none =
     let one_more : take (suc n) events ≡ take n events ++ get_or events n d ∷ [] = take-suc events n d below in
     subst IsSound (sym one_more) (sound_push (take n events) (get_or events n d) (sound_before events n (omega arith) none) may)
 
+-- events without a fault and with nothing pending are a complete history
 pub complete_without_fault : (events : List Event) → NoFaultBefore events (length events) → NothingPending events → IsCompleteHistory events
 complete_without_fault events none nothing =
     let sound : IsSound events = subst IsSound (take_all (length events) events (omega arith)) (sound_before events (length events) (omega arith) none) in
@@ -133,10 +134,12 @@ may_follow_in before later e complete = record {
         subst (λ l. l.ticket < e.ticket) last (subst (λ r. (get_or ((x ∷ xs) ++ e ∷ later) (length xs) x).ticket < r.ticket) own less) in
         subst (λ o. MatchOption o ⊤ (λ l. l.ticket < e.ticket)) (sym (last_is None x xs x)) below
 
+-- a complete history has no fault
 pub no_fault_in_complete : (events : List Event) → IsCompleteHistory events → NoFaultBefore events (length events)
 no_fault_in_complete events complete i e below here =
     no_fault (take i events) i e (may_follow_in (take i events) (drop (suc i) events) e (subst IsCompleteHistory (cut_at events i e here) complete))
 
+-- in a complete history nothing is pending
 pub nothing_pending_in_complete : (events : List Event) → IsCompleteHistory events → NothingPending events
 nothing_pending_in_complete events complete thread = nothing_after_turns (projection thread events) (complete.threads_take_turns thread)
 

@@ -80,6 +80,7 @@ not_above : (last : Option Event) (e : Event) → MatchOption last ⊤ (λ l. l.
 not_above None e h = refl
 not_above (Some last) e h = lt-leb e.ticket last.ticket h
 
+-- an event without a fault may follow
 pub may_follow : (before : List Event) (i : ℕ) (e : Event) → fault_at before i e ≡ None → MayFollow before e
 may_follow before i e none =
     let pending = pending_call e.thread before in
@@ -95,6 +96,7 @@ may_follow before i e none =
       is_new = rules.sixth;
     }
 
+-- an event that may follow has no fault
 pub no_fault : (before : List Event) (i : ℕ) (e : Event) → MayFollow before e → fault_at before i e ≡ None
 no_fault before i e m =
     let pending = pending_call e.thread before in

@@ -80,6 +80,7 @@ pub record IsCompletedBy (events : List Event) (e : Event) (old : Forming) : Typ
   pub was : (d : Operation) → get_or old.operations.items place d ≡ operation_so_far call None
   pub now : operations_so_far (events ++ e ∷ []) ≡ set old.operations.items place (operation_so_far call (Some e))
 
+-- a return completes the operation of its thread
 pub completed_by : (events : List Event) (e call : Event) (old : Forming) → e.thread ≤ MAX_THREAD → is_call e.what ≡ false
     → pending_call e.thread events ≡ Some call → HasFormed events old → IsCompletedBy events e old
 completed_by events e call old below returns pending known =
@@ -95,6 +96,7 @@ completed_by events e call old below returns pending known =
       now = rw known.operations done.operations;
     }
 
+-- what is held after a return
 pub formed_after_answer : (events : List Event) (e call : Event) (old new : Forming) → e.thread ≤ MAX_THREAD → is_call e.what ≡ false
     → pending_call e.thread events ≡ Some call → HasFormed events old
     → new.operations.items ≡ operations_so_far (events ++ e ∷ []) → new.places ≡ old.places → HasFormed (events ++ e ∷ []) new
@@ -117,6 +119,7 @@ pub none_pending : (pending : Option Event) (e : Event) → FitsTurn pending e �
 none_pending None e fits call = refl
 none_pending (Some p) e fits call = absurd (false≢true (sym (answer_is_return p.what e.what fits) ∙ call))
 
+-- a return has a call that is pending
 pub some_pending : (pending : Option Event) (e : Event) → FitsTurn pending e → is_call e.what ≡ false → (call : Event) × (pending ≡ Some call)
 some_pending None e fits returns = absurd (false≢true (sym returns ∙ fits))
 some_pending (Some p) e fits returns = (p, refl)

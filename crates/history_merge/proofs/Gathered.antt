@@ -143,6 +143,7 @@ pub record IsAnswered (events : List Event) (r : Event) (place : ℕ) (call : Ev
   pub operations : operations_so_far (events ++ r ∷ []) ≡ set (operations_so_far events) place (operation_so_far call (Some r))
   pub was : slice_get (operations_so_far events) place ≡ Some (operation_so_far call None)
 
+-- a return answers the call that waits for it
 pub formed_answer : (events : List Event) (r : Event) (place : ℕ) (call : Event) → waiting r.thread events ≡ Some (place, call)
     → is_call r.what ≡ false → IsAnswered events r place call
 formed_answer [] r place call waits returns = cc

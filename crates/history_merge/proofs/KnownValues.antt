@@ -53,6 +53,7 @@ new_above events values v rising above known =
     subst (λ o. MatchOption o ((w : ℕ) → was_called events w ≡ true → w < get_or values.least (name_in w) 0)
     (λ s. (w : ℕ) → contains nat_cmp s w ≡ was_called events w)) rising known.known v called in omega arith)
 
+-- a value that rises within its name is known
 pub knows_rising : (events : List Event) (e : Event) (old new : CalledValues) (v : ℕ) → called_value e.what ≡ Some v → old.others ≡ None
     → get_or old.least (name_in v) 0 ≤ v → KnowsCalled events old
     → new.others ≡ None → new.least ≡ set old.least (name_in v) (v + 1) → KnowsCalled (events ++ e ∷ []) new
@@ -109,6 +110,7 @@ pub repeats_by_set : (added has was : Bool) → added ≡ not has → has ≡ wa
 repeats_by_set added true was is same = rw is same
 repeats_by_set added false was is same = rw is same
 
+-- an event repeats a value where it calls one that was called
 pub repeats_if : (events : List Event) (e : Event) (called : Option ℕ) → called_value e.what ≡ called
     → repeats_value events e ≡ option_map_or (was_called events) called false
 repeats_if events e called is = ap (λ o. option_map_or (was_called events) o false) is

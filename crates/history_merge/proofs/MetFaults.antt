@@ -63,6 +63,7 @@ pub met_fault-push : (events : List Event) (e : Event) (fault : HistoryFault) �
 met_fault-push events e fault found none =
     inr (length events, (no_fault-append events (e ∷ []) (length events) (omega arith) none, (e, slice_get-append_seam events e, rw take-append_seam found)))
 
+-- a fault that was met is the first, at the end too
 pub met_fault_is_first : (events : List Event) (fault : HistoryFault) → HasMetFault events fault → IsFirstFault events fault
 met_fault_is_first events fault (inl memory) = subst (IsFirstFault events) (sym memory) tt
 met_fault_is_first events fault (inr (i, (none, (e, here, found)))) = first_fault_at events i e fault none here found
@@ -85,6 +86,7 @@ none_met events builder none gathered = join builder.fault none gathered
     join None h known = known
     join (Some fault) h known = cc
 
+-- events without a fault so far were gathered
 pub gathered_without_fault : (events : List Event) (builder : HistoryBuilder) → false ≡ is_some builder.fault → IsForming events builder
     → HasGathered events builder
 gathered_without_fault events builder none known = join builder.fault none

@@ -20,23 +20,29 @@ use Rattle.history_merge.specs.Faults.{NothingPending, IsLeastPending, pending_c
 abbrev pub pending_in : List Event → Option Event
 pending_in events = option_and_then (λ e. then_some (is_call e.what) e) (last_or None events)
 
+-- the last of a list with one element more
 pub last_or-push : {X : Type 0} (o : Option X) (xs : List X) (x : X) → last_or o (xs ++ x ∷ []) ≡ Some x
 last_or-push o [] x = refl
 last_or-push o (y ∷ xs) x = last_or-push (Some y) xs x
 
+-- what is pending after one event more
 pub pending_in-push : (events : List Event) (e : Event) → pending_in (events ++ e ∷ []) ≡ then_some (is_call e.what) e
 pending_in-push events e = rw (last_or-push None events e, pending_in) refl
 
+-- one event more of a thread is one more of its own
 pub projection-push_own : (events : List Event) (e : Event) → projection e.thread (events ++ e ∷ []) ≡ projection e.thread events ++ e ∷ []
 projection-push_own events e = let own = eq-eqb e.thread e.thread refl in filter-append (λ x. nat_eq x.thread e.thread) events (e ∷ []) ∙ rw own refl
 
+-- an event of another thread changes none of its own
 pub projection-push_other : (events : List Event) (e : Event) (thread : ℕ) → nat_eq e.thread thread ≡ false
     → projection thread (events ++ e ∷ []) ≡ projection thread events
 projection-push_other events e thread other = filter-append (λ x. nat_eq x.thread thread) events (e ∷ []) ∙ rw other (append-nil (projection thread events))
 
+-- what is pending in a thread after one event of it
 pub pending_call-push_own : (events : List Event) (e : Event) → pending_call e.thread (events ++ e ∷ []) ≡ then_some (is_call e.what) e
 pending_call-push_own events e = ap pending_in (projection-push_own events e) ∙ pending_in-push (projection e.thread events) e
 
+-- an event of another thread leaves what is pending
 pub pending_call-push_other : (events : List Event) (e : Event) (thread : ℕ) → nat_eq e.thread thread ≡ false
     → pending_call thread (events ++ e ∷ []) ≡ pending_call thread events
 pending_call-push_other events e thread other = ap pending_in (projection-push_other events e thread other)
@@ -85,6 +91,7 @@ projection-above (e ∷ events) thread above within =
 pub pending_call-above : (events : List Event) (thread : ℕ) → MAX_THREAD < thread → All (λ e. e.thread ≤ MAX_THREAD) events → pending_call thread events ≡ None
 pending_call-above events thread above within = ap pending_in (projection-above events thread above within)
 
+-- the least of the pending calls, or that there is none
 pub least_pending : (events : List Event) (progress : Progress) (n : ℕ) (least : Option ℕ) → HasTracked events progress → length progress.pending ≤ n
     → n ≤ length progress.pending → IsLeastOf progress.pending n least
     → MatchOption least (NothingPending events) (IsLeastPending events)

@@ -9,6 +9,7 @@ use Rattle.event_records.specs.Turns.{TakesTurns, is_call, answers}
 use Rattle.history_merge.specs.Forming.{FitsTurn}
 use Rattle.history_merge.proofs.Tracking.{pending_in, pending_in-push}
 
+-- what is answered is a call
 pub answered_is_call : (call answer : What) → answers call answer ≡ true → is_call call ≡ true
 answered_is_call (CallEnq v) answer h = refl
 answered_is_call CallDeq answer h = refl
@@ -17,6 +18,7 @@ answered_is_call RetNot answer h = cc
 answered_is_call (RetDeq v) answer h = cc
 answered_is_call RetEmpty answer h = cc
 
+-- what answers is a return
 pub answer_is_return : (call answer : What) → answers call answer ≡ true → is_call answer ≡ false
 answer_is_return call RetEnq h = refl
 answer_is_return call RetNot h = refl
@@ -36,6 +38,7 @@ pending_in-pair : (call answer : Event) (rest : List Event) → is_call answer.w
 pending_in-pair call answer [] is = ap (λ b. then_some b answer) is
 pending_in-pair call answer (e ∷ rest) is = refl
 
+-- after whole turns nothing is pending
 pub nothing_after_turns : (events : List Event) → TakesTurns events → pending_in events ≡ None
 nothing_after_turns [] turns = refl
 nothing_after_turns (call ∷ []) turns = elim turns [ ]
@@ -60,6 +63,7 @@ TakesTurns-append (call ∷ answer ∷ rest) later turns more = (turns.0, TakesT
 abbrev pub TurnsSoFar : List Event → Type 0
 TurnsSoFar events = MatchOption (pending_in events) (TakesTurns events) (λ call. (done : List Event) × (events ≡ done ++ call ∷ []) × TakesTurns done)
 
+-- one event more in turn
 pub turns_push : (events : List Event) (e : Event) → TurnsSoFar events → FitsTurn (pending_in events) e → TurnsSoFar (events ++ e ∷ [])
 turns_push events e turns fits = join (pending_in events) turns fits
   where

@@ -24,6 +24,7 @@ rest_of_part bytes at filled text rest begins within is =
     ∙ ap (λ (r : List ℕ). drop (length text) r) is ∙ drop-append_seam text rest
     )
 
+-- text at the front of the buffer is taken
 pub takes_from_buffer : (bytes : List ℕ) (at filled : ℕ) (text rest : List ℕ) (ahead : Option Ahead) → at ≤ filled → filled ≤ length bytes
     → part bytes at filled ≡ text ++ rest → Takes (with_front (part bytes at filled) ahead) (with_front (part bytes (filled - length rest) filled) ahead) text
 takes_from_buffer bytes at filled text rest None begins within is = tt

@@ -62,6 +62,7 @@ pub nothing_is_cut : {A : Type 0} (is_counted : Bool) → is_counted ≡ true
 nothing_is_cut true is = refl
 nothing_is_cut false is = absurd (cc)
 
+-- items that aren't counted end where the input does
 pub items_end : (is_counted : Bool) (old new : Option Ahead) (k : ℕ) → is_counted ≡ false → Takes old new [] → IsOver EndOfInput new
     → TakesEnd is_counted old new k
 items_end true old new k is taken over = absurd (cc)
@@ -82,6 +83,7 @@ pub items_taken : {A : Type 0} (kind : Kind A) (k : ℕ) (old new : Option Ahead
 items_taken kind k old new bytes (Ok item) taken spelled = item_is_taken kind k old new bytes item taken spelled
 items_taken kind k old new bytes (Err fault) taken spelled = tt
 
+-- a line with a fault is that of the next item
 pub items_faulty : {A : Type 0} (kind : Kind A) (n k : ℕ) (old new : Option Ahead) (bytes : List ℕ) (r : Result (Option A) TextFault)
     → Takes old new (line bytes) → IsPartOfLine bytes → r ≡ item_in kind n k bytes → IfErr r (HasItemFault kind n k old)
 items_faulty kind n k old new bytes (Ok item) taken part e = tt

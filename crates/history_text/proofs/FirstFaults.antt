@@ -75,6 +75,7 @@ all_and_last : {A : Type 0} (P : A → Type 0) (items : List A) (x : A) → AllB
 all_and_last P [] x all last = (last, tt)
 all_and_last P (y ∷ ys) x all last = (all.0, all_and_last P ys x all.1 last)
 
+-- one item more, where there is room for it
 pub HaveLines-push : {A : Type 0} (kind : Kind A) (items : List A) (x : A) → HaveLines kind items → kind.HasLine x → length items < kind.most
     → HaveLines kind (items ++ x ∷ [])
 HaveLines-push kind items x right last few = record {
@@ -86,10 +87,12 @@ lines-push : {A : Type 0} (kind : Kind A) (items : List A) (x : A) → lines_of 
 lines-push kind items x = sym (flat_map-append (line_of kind) items (x ∷ [])
     ∙ ap (λ (r : List ℕ). flat_map (line_of kind) items ++ r) (append-nil (line_of kind x)))
 
+-- the lines of the items so far and of one more are taken
 pub takes_item : {A : Type 0} (kind : Kind A) (items : List A) (x : A) (old mid new : Option Ahead) → Takes old mid (lines_of kind items)
     → Takes mid new (line_of kind x) → Takes old new (lines_of kind (items ++ x ∷ []))
 takes_item kind items x old mid new h k = subst (Takes old new) (lines-push kind items x) (Takes-append old mid new _ _ h k)
 
+-- one item more than there may be
 pub no_room : {A : Type 0} (kind : Kind A) (items : List A) (x : A) (old mid new : Option Ahead) → HaveLines kind items
     → Takes old mid (lines_of kind items) → length items < kind.most → kind.HasLine x → Takes mid new (line_of kind x) → IfSome old (λ a. NoRoom kind a.bytes)
 no_room kind items x None mid new right taken few range now = tt

@@ -71,6 +71,7 @@ event_is_line e range = line_by e.ticket e.thread (what_fields e.what) range.tic
 
 -- ---- the front of the input
 
+-- the line of an event is read as that event
 pub event_front : (n k : ℕ) (ending : Ending) (e : Event) (rest : List ℕ) → HasEventLine e → k < MAX_EVENTS
     → item_at_front event_kind n k ending (front_of (event_line e ++ rest)) ≡ Ok (Some e, rest)
 event_front n k ending e rest range few = item_front event_kind n k ending e rest (event_is_line e range) (event_read n e range) few

@@ -80,6 +80,7 @@ line_by call ret thread fields c r t kind =
 operation_is_line : (o : Operation) → HasOperationLine o → IsLineOf (operation_fields o)
 operation_is_line o range = line_by o.call o.ret o.thread (kind_fields o.kind) range.call range.ret range.thread (kind_has_fields o.kind range.value)
 
+-- the line of an operation is read as that operation
 pub operation_front : (n k : ℕ) (ending : Ending) (o : Operation) (rest : List ℕ) → HasOperationLine o → k < MAX_OPERATIONS
     → item_at_front operation_kind n k ending (front_of (line_of operation_kind o ++ rest)) ≡ Ok (Some o, rest)
 operation_front n k ending o rest range few = item_front operation_kind n k ending o rest (operation_is_line o range) (operation_read n o range) few

@@ -82,6 +82,7 @@ step_is_line (Drain t k) range =
     (length-decimal-le 20 k (omega arith) (omega (arith, range.1)) (omega (arith, range.1))) refl range.0
 step_is_line (Close t) few = of_two (codes "close") t refl (omega arith) refl few
 
+-- the line of a step is read as that step
 pub step_front : (n k : ℕ) (ending : Ending) (step : Step) (rest : List ℕ) → HasStepLine step → k < MAX_STEPS
     → item_at_front step_kind n k ending (front_of (line_of step_kind step ++ rest)) ≡ Ok (Some step, rest)
 step_front n k ending step rest range few = item_front step_kind n k ending step rest (step_is_line step range) (step_read n step range) few
@@ -111,6 +112,7 @@ setting_is_line threads ring within =
       length-decimal-le 20 ring (omega arith) (omega (arith, room)) (omega (arith, room)),
     )) refl
 
+-- the line of a setting is read as that setting
 pub setting_front : (n threads ring : ℕ) (ending : Ending) (rest : List ℕ) → IsSetting threads ring
     → setting_at_front n ending (front_of (line (spaced (setting_fields threads ring)) ++ rest)) ≡ Ok ((threads, ring), rest)
 setting_front n threads ring ending rest within =

@@ -25,11 +25,13 @@ setting_is_taken n old new bytes setting taken e =
     let spelled = setting_ok n (fields_of bytes) setting e in
     (subst (λ (b : List ℕ). Takes old new (line b)) (sym (join_with_byte-slice_split 32 bytes) ∙ ap spaced spelled.text) taken, spelled.within)
 
+-- a setting that is read is taken
 pub setting_taken : (n : ℕ) (old new : Option Ahead) (bytes : List ℕ) (r : Result (ℕ × ℕ) TextFault) → Takes old new (line bytes)
     → r ≡ setting_in n (fields_of bytes) → IfOk r (λ s. Takes old new (line (spaced (setting_fields s.0 s.1))) × IsSetting s.0 s.1)
 setting_taken n old new bytes (Ok setting) taken e = setting_is_taken n old new bytes setting taken (sym e)
 setting_taken n old new bytes (Err fault) taken e = tt
 
+-- a line that is no setting has its fault
 pub setting_faulty : (n : ℕ) (old new : Option Ahead) (bytes : List ℕ) (r : Result (ℕ × ℕ) TextFault) → Takes old new (line bytes)
     → IsPartOfLine bytes → r ≡ setting_in n (fields_of bytes) → IfErr r (HasSettingFault n old)
 setting_faulty n old new bytes (Ok setting) taken part e = tt

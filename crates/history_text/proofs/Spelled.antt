@@ -84,6 +84,7 @@ event_with_value_ok n t th word value e h =
       | inr other ↦ absurd (cc (other.1))
     ]
 
+-- the fields of an event are spelled as it is written
 pub event_ok : (n : ℕ) (fields : List (List ℕ)) (e : Event) → event_in n fields ≡ Ok e → IsSpelled event_kind fields e
 event_ok n [] e h = absurd (cc)
 event_ok n (a ∷ []) e h = absurd (cc)

@@ -59,6 +59,7 @@ numbered_ok n c r t word value o known e =
     (number_ok n MAX_TICKET r ret.0 (omega arith) ret.1) (number_ok n MAX_THREAD t thread.0 (omega arith) thread.1)
     (kind_is.0 ∙ ap (λ (f : List ℕ). word ∷ f ∷ []) (sym value_is.0), kind_is.1) (cc (v.2))
 
+-- the fields of an operation are spelled as it is written
 pub operation_ok : (n : ℕ) (fields : List (List ℕ)) (o : Operation) → operation_in n fields ≡ Ok o → IsSpelled operation_kind fields o
 operation_ok n [] o e = absurd (cc)
 operation_ok n (a ∷ []) o e = absurd (cc)

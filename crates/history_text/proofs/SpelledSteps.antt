@@ -133,6 +133,7 @@ four_ok n word thread third value step e =
       | inr h ↦ absurd (cc (h.1))
     ]
 
+-- the fields of a step are spelled as it is written
 pub step_ok : (n : ℕ) (fields : List (List ℕ)) (step : Step) → step_in n fields ≡ Ok step → IsSpelled step_kind fields step
 step_ok n [] step e = absurd (cc)
 step_ok n (a ∷ []) step e = absurd (cc)
@@ -164,6 +165,7 @@ numbered_ok n word threads other ring setting first third e =
       within = record { some_threads = count_is.1; few_threads = count_is.2; some_room = room_is.1; little_room = room_is.2 };
     })
 
+-- the fields of a setting are spelled as it is written
 pub setting_ok : (n : ℕ) (fields : List (List ℕ)) (setting : ℕ × ℕ) → setting_in n fields ≡ Ok setting → IsSpelledSetting fields setting
 setting_ok n [] setting e = absurd (cc)
 setting_ok n (a ∷ []) setting e = absurd (cc)

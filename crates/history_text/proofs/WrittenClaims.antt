@@ -69,6 +69,7 @@ places_have_text events places text few = record {
   few = let fewer = few_places (operations_of events) places in omega (arith, fewer, few);
 }
 
+-- the claim of a verdict on a history with a text has a text
 pub claim_has_text : (events : List Event) (verdict : Verdict) → HasHistoryText events → length (places_of verdict) ≤ MAX_OPERATIONS
     → HasVerdictText (claim_of (operations_of events) verdict)
 claim_has_text events (found.Yes places) text few = places_have_text events places text few

@@ -19,9 +19,11 @@ use Rattle.linearizer.specs.Order.{IsPositionFor, idle_answers, idle_position}
 use Rattle.linearizer.specs.Placement.{Adds, IsPlaced, position_of}
 use Rattle.linearizer.proofs.Positions.{beside}
 
+-- nothing is added at first
 pub adds_none : (operations : List Operation) (old : List Placed) → Adds operations [] old old
 adds_none operations old = record { added = []; after = sym (append-nil old); each_placed = λ lives. tt }
 
+-- one operation more is added at its position
 pub adds_more : (operations listed : List Operation) (k : ℕ) (o : Operation) (old new : List Placed) (placed : Placed)
     → Adds operations (take k listed) old new → slice_get listed k ≡ Some o
     → ((lives : List Life) → IsPlaced operations lives o placed) → Adds operations (take (k + 1) listed) old (new ++ placed ∷ [])
@@ -41,6 +43,7 @@ pub record IsNamed (operations listed : List Operation) (k p : ℕ) : Type 0 whe
   pub is_listed : slice_get listed k ≡ Some o
   pub at : IsAt operations p o
 
+-- a place names its operation
 pub named : (operations listed : List Operation) (places : List ℕ) (k p : ℕ) → ArePlacesOf operations places listed → slice_get places k ≡ Some p
     → IsNamed operations listed k p
 named operations listed [] k p are at = cc
@@ -100,6 +103,7 @@ adds_empty operations read k p gap d old new placed is adds reads free names sta
     here : position_of placed.position ≡ idle_position is.o gap
     here = stands ∙ ap (λ c. record { gap = gap; class = idle_answers; rank = c }) (call_read operations read p is.o d is.at reads)
 
+-- one refused enqueue more
 pub adds_refused : (operations read : List Operation) (k p : ℕ) (d : Operation) (old new : List Placed) (placed : Placed)
     → IsNamed operations (filter is_refused operations) k p
     → Adds operations (take k (filter is_refused operations)) old new → read ≡ operations → placed.operation ≡ p
@@ -123,6 +127,7 @@ gap_beside operations listed gaps k gap d o free at is =
     let found = beside (λ o c. IsLeastFreeGap operations o c) listed gaps k o free at in
     subst (IsLeastFreeGap operations o) (sym (get_or_from_slice_get gaps k found.0 d found.1) ∙ sym is) found.2
 
+-- all empty answers are added
 pub adds_all : (operations listed : List Operation) (places gaps : List ℕ) (n : ℕ) (old new : List Placed) → ArePlacesOf operations places listed
     → AllZip (λ o c. IsLeastFreeGap operations o c) listed gaps → n ≡ min (length places) (length gaps)
     → Adds operations (take n listed) old new → Adds operations listed old new

@@ -24,6 +24,7 @@ pub record IsOrderedSoFar (values done left : List MatchedValue) : Type 0 where
   pub holds_each_once : IsPermutation values (done ++ left)
   pub each_is_choice : (rest : List Life) → IsPermutation (lives_in left) rest → EachIsChoice rest → EachIsChoice (lives_in done ++ rest)
 
+-- no value is in order at first
 pub none_ordered : (values : List MatchedValue) → IsOrderedSoFar values [] values
 none_ordered values = record {
   holds_each_once = IsPermutation-refl values;
@@ -47,6 +48,7 @@ ordered_more values done left left' x so_far moved chosen = record {
         (IsPermutation-map (λ m. m.life) left (x ∷ left') moved)
         (IsPermutation-cons x.life (lives_in left') rest other)
 
+-- all values are in order
 pub all_ordered : (values done : List MatchedValue) → IsOrderedSoFar values done [] → IsPermutation values done × EachIsChoice (lives_in done)
 all_ordered values done so_far = (
   subst (IsPermutation values) (append-nil done) so_far.holds_each_once,
@@ -61,6 +63,7 @@ pub record IsSwept (values : List MatchedValue) (entries dequeues : List Timed) 
   pub within : All (λ place. place < length values) ordered
   pub so_far : IsOrderedSoFar values (elements_at values ordered) (left_of values taken)
 
+-- nothing is swept at first
 pub nothing_swept : (values : List MatchedValue) (entries dequeues : List Timed) → IsSwept values entries dequeues (replicate (length values) false) 0 0 []
 nothing_swept values entries dequeues = record {
   one_flag_each = length-replicate (length values) false;
@@ -88,6 +91,7 @@ some_left number values entries taken ordered are within so_far fewer = from_res
         let entry = are.has_each place.0 (slice_get_within values place.0 y place.1) in
         (entry.0, entry.1, ap (slice_get taken) entry.2 ∙ place.2)
 
+-- each entry has its flag
 pub flags_within : (number : Life → ℕ) (values : List MatchedValue) (entries : List Timed) (taken : List Bool) → AreByTime number values entries
     → length taken ≡ length values → All (λ timed. timed.place < length taken) entries
 flags_within number values entries taken are same =
@@ -99,6 +103,7 @@ flags_within number values entries taken are same =
     within timed None at is = absurd is
     within timed (Some m) at is = slice_get_within values timed.place m at
 
+-- one value more is swept
 pub swept_more : (values : List MatchedValue) (entries dequeues : List Timed) (taken : List Bool) (i j first_in first_out : ℕ) (ordered : List ℕ)
     (place : ℕ) → IsNext values taken place → IsSwept values entries dequeues taken i j ordered → IsFirstLeft entries taken first_in
     → IsFirstLeft dequeues taken first_out
@@ -116,6 +121,7 @@ swept_more values entries dequeues taken i j first_in first_out ordered place ne
       (one_taken values taken place next.value next.is_at next.is_left) next.is_choice);
 }
 
+-- all values are swept
 pub all_swept : (values : List MatchedValue) (entries dequeues : List Timed) (taken : List Bool) (i j : ℕ) (ordered : List ℕ)
     → IsSwept values entries dequeues taken i j ordered → length values ≤ length ordered
     → IsPermutation values (elements_at values ordered) × EachIsChoice (lives_in (elements_at values ordered))

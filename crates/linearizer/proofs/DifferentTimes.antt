@@ -18,6 +18,7 @@ use Rattle.value_match.proofs.Lives.{life_of_contained, one_life_of_enqueue, one
 use Rattle.linearizer.proofs.Times.{times_of_life}
 use Rattle.linearizer.proofs.Keys.{kept_rises, one_place}
 
+-- the times of two lives that an order of values must tell apart
 pub record HaveDistinctTimes (x y : Life) : Type 0 where
   pub entered : ¬ (entered_by x ≡ entered_by y)
   pub returned : (dequeue_return x ≡ dequeue_return y) → dequeue_return x ≡ NEVER
@@ -35,6 +36,7 @@ pub record ReturnsAt (operations : List Operation) (life : Life) (ticket : ℕ) 
   pub is_of : IsOf life o
   pub returns : o.ret ≡ ticket
 
+-- an operation of a life is called at this ticket
 pub record CalledAt (operations : List Operation) (life : Life) (ticket : ℕ) : Type 0 where
   pub o : Operation
   pub among : Contains operations o
@@ -59,6 +61,7 @@ dequeue_called operations life is = go (dequeue_of life) refl is.2
     go None same none = inr refl
     go (Some d) same did = inl (record { o = d; among = did.0; is_of = inr same; called = refl })
 
+-- a value has entered at a return of its own
 pub entered_at_return : (operations : List Operation) (life : Life) → IsClear operations → IsLife operations life → ReturnsAt operations life (entered_by life)
 entered_at_return operations life clear is =
     let times = times_of_life operations life clear is in
@@ -72,6 +75,7 @@ entered_at_return operations life clear is =
       ]
     ]
 
+-- a value leaves at a call of its own, or never
 pub leaves_at_call : (operations : List Operation) (life : Life) → IsClear operations → IsLife operations life
     → CalledAt operations life (leaves_from life) ⊎ (leaves_from life ≡ NEVER)
 leaves_at_call operations life clear is =
@@ -109,12 +113,14 @@ one_life_of_return operations x y s t clear is_x is_y at_x at_y same =
     let one = same_return operations at_x.o at_y.o clear.complete at_x.among at_y.among (at_x.returns ∙ same ∙ sym at_y.returns) in
     one_life_of_operation operations x y at_y.o clear is_x is_y (subst (λ o. IsOf x o) one at_x.is_of) at_y.is_of
 
+-- one value has entered at a time
 pub one_life_of_entering : (operations : List Operation) (x y : Life) → IsClear operations → IsLife operations x → IsLife operations y
     → entered_by x ≡ entered_by y → x ≡ y
 one_life_of_entering operations x y clear is_x is_y same =
     one_life_of_return operations x y (entered_by x) (entered_by y) clear is_x is_y (entered_at_return operations x clear is_x)
     (entered_at_return operations y clear is_y) same
 
+-- one value's dequeue returns at a time, but never
 pub one_life_of_dequeue_return : (operations : List Operation) (x y : Life) → IsClear operations → IsLife operations x → IsLife operations y
     → dequeue_return x ≡ dequeue_return y → (x ≡ y) ⊎ (dequeue_return x ≡ NEVER)
 one_life_of_dequeue_return operations x y clear is_x is_y same =
@@ -126,12 +132,14 @@ one_life_of_dequeue_return operations x y clear is_x is_y same =
       ]
     ]
 
+-- no value has entered at the call of an enqueue
 pub enters_at_no_call : (operations : List Operation) (x y : Life) → IsClear operations → IsLife operations x → IsLife operations y
     → entered_by x ≢ enqueue_call y
 enters_at_no_call operations x y clear is_x is_y same =
     let at = entered_at_return operations x clear is_x in
     return_differs_from_call operations at.o (enqueue_of y) clear.complete at.among is_y.1.0 (at.returns ∙ same)
 
+-- no dequeue returns where a value leaves, but never
 pub returns_at_no_leave : (operations : List Operation) (x y : Life) → IsClear operations → IsLife operations x → IsLife operations y
     → dequeue_return x ≡ leaves_from y → leaves_from y ≡ NEVER
 returns_at_no_leave operations x y clear is_x is_y same =
@@ -173,6 +181,7 @@ pub one_place_of_life : (operations : List Operation) (lives : List Life) (i j :
 one_place_of_life operations lives i j x y clear order at_x at_y same =
     one_place enqueue_call (lives_of operations) lives i j x y (lives_rise operations clear.complete) order.holds_each_once at_x at_y (ap enqueue_call same)
 
+-- the times of all lives differ
 pub lives_have_distinct_times : (operations : List Operation) → IsClear operations
     → AllPairs (λ x y. HaveDistinctTimes x y × HaveDistinctTimes y x) (lives_of operations)
 lives_have_distinct_times operations clear i j d below within =

@@ -81,6 +81,7 @@ enqueue_of_dequeued operations o v clear did = elim (one_did (Enq v) (λ k. is_e
   ]
 ]
 
+-- an accepted enqueue begins a life
 pub life_of_enqueue : (operations : List Operation) (e : Operation) (v : ℕ) → Did operations e (Enq v)
     → (life : Life) × IsLife operations life × (enqueue_of life ≡ e)
 life_of_enqueue operations e v did = (
@@ -89,6 +90,7 @@ life_of_enqueue operations e v did = (
   refl,
 )
 
+-- a dequeue ends a life
 pub life_of_dequeue : (operations : List Operation) (o : Operation) (v : ℕ) → IsClear operations → Did operations o (Deq v)
     → (life : Life) × IsLife operations life × (dequeue_of life ≡ Some o)
 life_of_dequeue operations o v clear did =
@@ -119,6 +121,7 @@ has_position operations lives gaps clear order free o among Empty is =
     (idle_position o gap.0, (gap.0, gap.2, refl))
 has_position operations lives gaps clear order free o among (Not v) is = (idle_position o o.call, refl)
 
+-- each operation has a position
 pub each_has_position : (operations : List Operation) (lives : List Life) (gaps : List ℕ) (o : Operation) → IsClear operations
     → NoOrderViolation operations → IsValueOrder operations lives → AreLeastFreeGaps operations gaps → Contains operations o
     → (position : Position) × IsPositionOf operations lives o position × IsInWindow o position.gap
@@ -144,6 +147,7 @@ one_position_for operations lives clear order o Empty p q at_p at_q =
     at_p.2 ∙ ap (idle_position o) gaps ∙ sym at_q.2
 one_position_for operations lives clear order o (Not v) p q at_p at_q = at_p ∙ sym at_q
 
+-- an operation has one position
 pub one_position : (operations : List Operation) (lives : List Life) (o : Operation) (p q : Position) → IsClear operations
     → IsValueOrder operations lives → IsPositionOf operations lives o p → IsPositionOf operations lives o q → p ≡ q
 one_position operations lives o p q clear order at_p at_q = one_position_for operations lives clear order o o.kind p q at_p at_q
@@ -169,6 +173,7 @@ stands_as operations lives o (Deq v) p at = leaves at.0 at.1 at.2 at.3 at.4
 stands_as operations lives o Empty p at = idles (idle_at_gap o at.0 p at.2)
 stands_as operations lives o (Not v) p at = idles (idle_at_gap o o.call p at)
 
+-- what stands in two equal options is equal
 pub some_injective : {x y : Operation} → ◌≡◌ {A = Option Operation} (Some x) (Some y) → x ≡ y
 some_injective e = cc
 
@@ -197,12 +202,14 @@ one_operation_at operations lives x y p clear in_x in_y (idles idle) (leaves j b
 one_operation_at operations lives x y p clear in_x in_y (idles idle_x) (idles idle_y) =
     same_call operations x y clear.complete in_x in_y (sym idle_x.rank ∙ idle_y.rank)
 
+-- one operation has a position
 pub one_operation : (operations : List Operation) (lives : List Life) (x y : Operation) (p : Position) → IsClear operations → Contains operations x
     → Contains operations y
     → IsPositionOf operations lives x p → IsPositionOf operations lives y p → x ≡ y
 one_operation operations lives x y p clear in_x in_y at_x at_y =
     one_operation_at operations lives x y p clear in_x in_y (stands_as operations lives x x.kind p at_x) (stands_as operations lives y y.kind p at_y)
 
+-- different operations have different positions
 pub positions_are_distinct : (operations : List Operation) (lives : List Life) (x y : Operation) (p q : Position) → IsClear operations
     → IsValueOrder operations lives → Contains operations x → Contains operations y → IsPositionOf operations lives x p
     → IsPositionOf operations lives y q → (x ≡ y → p ≡ q) × (p ≡ q → x ≡ y)

@@ -27,6 +27,7 @@ has_key key k x = cond (nat_eq (key x) k) 1 0
 counts_one : {X : Type 0} (key : X → ℕ) (k : ℕ) (x : X) → key x ≡ k → has_key key k x ≡ 1
 counts_one key k x same = rw (eq-eqb (key x) k same)
 
+-- what holds of all pairs of a list holds of all of its rest
 pub AllPairs-tail : {X : Type 0} (R : X → X → Type 0) (x : X) (xs : List X) → AllPairs R (x ∷ xs) → AllPairs R xs
 AllPairs-tail R x xs pairs i j d below within = pairs (suc i) (suc j) d (omega arith) (omega arith)
 

@@ -16,6 +16,7 @@ fold_min a b (x ∷ xs) =
     let swapped : min (min a b) x ≡ min (min a x) b = omega arith in
     ap (λ n. fold min n xs) swapped ∙ fold_min (min a x) b xs
 
+-- the least entry of one value more
 pub least_of_more : (life : Life) (lives : List Life) → least_entered_by (life ∷ lives) ≡ min (least_entered_by lives) (entered_by life)
 least_of_more life lives = fold_min NEVER (entered_by life) (map entered_by lives)
 
@@ -62,5 +63,6 @@ no_gaps lives n long = record {
   at_each = λ k above below. absurd (omega arith);
 }
 
+-- the gaps of all enqueues are found
 pub all_gaps : (lives : List Life) (i least : ℕ) (gaps : List ℕ) → AreGapsFrom lives i least gaps → i ≡ 0 → AreEnqueueGaps lives gaps
 all_gaps lives i least gaps are first = record { one_each = are.one_each; at_each = λ k below. are.at_each k (omega arith) below }

@@ -35,6 +35,7 @@ position_of_enqueue operations lives i life k v p clear order at is stands =
     let place = one_place_of_life operations lives found.0 i found.1 life clear order found.2 at one in
     found.4 ∙ ap (enqueue_position lives) place
 
+-- a dequeue stands where its value is dequeued
 pub position_of_dequeue : (operations : List Operation) (lives : List Life) (i : ℕ) (life : Life) (d : Operation) (k : OpKind) (v : ℕ) (p : Position)
     → IsClear operations → IsValueOrder operations lives → slice_get lives i ≡ Some life
     → dequeue_of life ≡ Some d → k ≡ Deq v → IsPositionFor operations lives d k p → p ≡ dequeue_position lives i
@@ -64,6 +65,7 @@ in_window_for operations lives clear none order o among (Not v) p stands =
     let gaps : p.gap ≡ o.call = ap (λ p. p.gap) stands in
     (omega arith, omega arith)
 
+-- each position lies in its operation's window
 pub position_in_window : (operations : List Operation) (lives : List Life) (o : Operation) (p : Position) → IsClear operations
     → NoOrderViolation operations → IsValueOrder operations lives → Contains operations o
     → IsPositionOf operations lives o p → IsInWindow o p.gap
@@ -125,10 +127,12 @@ module _ (operations order : List Operation) (clear : IsClear operations) (none 
     is_accepted = accepted;
   }
 
+-- the queue accepts the chosen order
 pub chosen_order_is_accepted : (operations order : List Operation) → IsClear operations → NoOrderViolation operations → IsChosenOrder operations order
     → IsAccepted [] (map (λ o. o.kind) order)
 chosen_order_is_accepted operations order clear none chosen = accepted operations order clear none chosen
 
+-- the chosen order is legal
 pub chosen_order_is_legal : (operations order : List Operation) → IsClear operations → NoOrderViolation operations → IsChosenOrder operations order
     → IsLegalOrder operations order
 chosen_order_is_legal operations order clear none chosen = legal operations order clear none chosen

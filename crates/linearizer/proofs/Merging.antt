@@ -38,6 +38,7 @@ next_enqueue lives i p within from before =
       | inr same ↦ not_itself (enqueue_position lives i) (subst (λ k. StandsBefore (enqueue_position lives k) (enqueue_position lives i)) same there)
     ]
 
+-- no dequeue that is left stands before the next
 pub next_dequeue : (lives : List Life) (j : ℕ) (p : Position) → j < length lives → IsDequeueFrom lives j p → ¬ (StandsBefore p (dequeue_position lives j))
 next_dequeue lives j p within from before =
     let n = from.0 in
@@ -173,6 +174,7 @@ module _ (operations : List Operation) (lives : List Life) (idles : List Placed)
       none p (inl is) = values p is
       none p (inr is) = next_idle idles k x p never at (is.0, is.1, omega (arith, is.2), is.3, is.4)
 
+-- nothing is merged at first
 pub nothing_merged : (operations : List Operation) (lives : List Life) (idles : List Placed) → IsMergedUpTo operations lives idles 0 0 0 0 []
 nothing_merged operations lives idles = record {
   values = [];
@@ -200,6 +202,7 @@ stands_not_after (Some r) x told tells not q same before =
     let is : told ≡ true = tells.1 (subst (λ s. StandsBefore (position_of s) (position_of x.position)) (sym r_is) before) in
     cc
 
+-- an operation that is told to stand after another does
 pub stands_after : (limit : Option Stored) (x : Placed) (told : Bool)
     → MatchOption limit (told ≡ false) (λ q. IsTrue told ↔ StandsBefore (position_of q) (position_of x.position)) → told ≡ true
     → IsSomeAnd limit (λ q. StandsBefore (position_of q) (position_of x.position))
@@ -216,9 +219,11 @@ below_limit Is (Some q) x none after = λ p is before. none p is (before_through
 pub no_idle : (idles : List Placed) (k : ℕ) (limit : Option Stored) → length idles ≤ k → NoneBelow (IsIdleFrom idles k) limit
 no_idle idles k limit all p is = absurd (omega (arith, all, is.2, slice_get_within idles is.0 is.1 is.3))
 
+-- no dequeue is left
 pub no_dequeue : (lives : List Life) (j : ℕ) (limit : Option Stored) → length lives ≤ j → NoneBelow (IsDequeueFrom lives j) limit
 no_dequeue lives j limit all p is = absurd (omega (arith, all, is.1, is.2))
 
+-- no enqueue is left
 pub no_enqueue : (lives : List Life) (i : ℕ) (limit : Option Stored) → length lives ≤ i → NoneBelow (IsEnqueueFrom lives i) limit
 no_enqueue lives i limit all p is = absurd (omega (arith, all, is.1, is.2))
 

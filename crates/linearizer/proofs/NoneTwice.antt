@@ -8,6 +8,7 @@ use Rattle.history_merge.proofs.Distinct.{contains_cons, not_in_none, place_of}
 use Rattle.linearizer.proofs.Opposites.{one_deeper}
 use Rattle.value_match.proofs.Lists.{passed_filter}
 
+-- no element stands twice
 abbrev pub NoneTwice : {X : Type 0} → List X → Type 0
 NoneTwice [] = ⊤
 NoneTwice (x ∷ xs) = ¬ (Contains xs x) × NoneTwice xs
@@ -77,6 +78,7 @@ same_elements_permute {X} (x ∷ xs) ys none_x none_y into back =
         ])))
         (IsPermutation-sym ys (x ∷ out.rest) out.moved)
 
+-- in two lists that share none, none stands twice
 pub none_twice-append : {X : Type 0} (xs ys : List X) → NoneTwice xs → NoneTwice ys → ((x : X) → Contains xs x → ¬ (Contains ys x)) → NoneTwice (xs ++ ys)
 none_twice-append [] ys none_x none_y apart = none_y
 none_twice-append (x ∷ xs) ys none_x none_y apart = (
@@ -84,6 +86,7 @@ none_twice-append (x ∷ xs) ys none_x none_y apart = (
   none_twice-append xs ys none_x.1 none_y (λ z among. apart z (one_deeper x xs z among)),
 )
 
+-- in what a filter passes none stands twice
 pub none_twice-filter : {X : Type 0} (p : X → Bool) (xs : List X) → NoneTwice xs → NoneTwice (filter p xs)
 none_twice-filter p [] none = tt
 none_twice-filter {X} p (x ∷ xs) none = pick (none_twice-filter p xs none.1) (p x)
@@ -100,6 +103,7 @@ from_flat_map f (x ∷ xs) y among = elim (Contains-append_cases (f x) (flat_map
   | inr there ↦ let more = from_flat_map f xs y there in (more.0, one_deeper x xs more.0 more.1, more.2)
 ]
 
+-- what is made of an element is made of all
 pub into_flat_map : {X Y : Type 0} (f : X → List Y) (xs : List X) (x : X) (y : Y) → Contains xs x → Contains (f x) y → Contains (flat_map f xs) y
 into_flat_map f [] x y among at = absurd (not_in_none x among)
 into_flat_map f (z ∷ xs) x y among at = elim (contains_cons z xs x among) [

@@ -42,6 +42,7 @@ compared p q =
       ]
     ]
 
+-- positions are in one order
 pub before_through : (p q r : Position) → StandsBefore p q → StandsBefore q r → StandsBefore p r
 before_through p q r first second = grind arith
 
@@ -159,9 +160,11 @@ pairs_rise (p ∷ ps) rising = pairs (pairs_rise ps rising.1)
     pairs more zero (suc j) d below within = before_at p ps j d rising.0 (omega arith)
     pairs more (suc i) (suc j) d below within = more i j d (omega arith) (omega arith)
 
+-- operations rise by their calls
 pub operations_rise : (operations : List Operation) → AreComplete operations → AllPairs (λ x y. x.call < y.call) operations
 operations_rise operations complete = rw complete.2 (calls_rise complete.0 complete.1.tickets_rise)
 
+-- there is a chosen order
 pub chosen_order_exists : (operations : List Operation) (gaps : List ℕ) → IsClear operations → NoOrderViolation operations
     → AreLeastFreeGaps operations gaps → (order : List Operation) × IsChosenOrder operations order
 chosen_order_exists operations gaps clear none free =
@@ -221,6 +224,7 @@ same_elements operations xs ys complete moved_x moved_y = record {
       (ap (λ o. o.call) same);
 }
 
+-- there is one
 pub chosen_order_is_one : (operations xs ys : List Operation) → IsClear operations → IsChosenOrder operations xs → IsChosenOrder operations ys → xs ≡ ys
 chosen_order_is_one operations xs ys clear first second =
     let lives = values_have_one_order operations first.lives second.lives clear first.values_in_order second.values_in_order in

@@ -87,6 +87,7 @@ entered_before a b y least early = omega arith
 above : (b y : Life) → dequeue_return b ≤ dequeue_return y → dequeue_return y < leaves_from b → leaves_from b < dequeue_return b → ⊥
 above b y least early left = omega arith
 
+-- what returns before another leaves has returned
 pub not_never : (a b : Life) → dequeue_return b < leaves_from a → dequeue_return b ≡ NEVER → leaves_from a ≤ NEVER → ⊥
 not_never a b less never bound = omega arith
 
@@ -96,6 +97,7 @@ above_entered a y least early after = omega arith
 above_left : (a b y : Life) → dequeue_return b ≤ dequeue_return y → dequeue_return y < leaves_from a → leaves_from a ≤ dequeue_return b → ⊥
 above_left a b y least early more = omega arith
 
+-- the choice may stand before all that remain
 pub choice_may_stand_before : (remaining : List Life) (choice other : Life) → ((x : Life) → Contains remaining x → HasLifeTimes x)
     → ((x y : Life) → Contains remaining x → Contains remaining y → ¬ (IsOpposite x y))
     → ((x : Life) → Contains remaining x → dequeue_return x ≤ NEVER) → IsChoice remaining choice → Contains remaining other → MayStandBefore choice other
@@ -118,6 +120,7 @@ choice_may_stand_before remaining choice other times unopposed bounded is among 
       )
     ]
 
+-- no two values stand opposite
 pub no_two_opposite : (operations : List Operation) (x y : Life) → IsClear operations → NoOrderViolation operations → IsLife operations x
     → IsLife operations y → ¬ (IsOpposite x y)
 no_two_opposite operations x y clear none is_x is_y =
@@ -130,11 +133,13 @@ is_life operations lives order x among =
     life_of_contained operations x (Contains-permutation lives (lives_of operations) x
     (IsPermutation-sym (lives_of operations) lives order.holds_each_once) among)
 
+-- each value stands in the order
 pub stands_in_order : (operations : List Operation) (lives : List Life) → IsClear operations → IsValueOrder operations lives → (x : Life)
     → IsLife operations x → Contains lives x
 stands_in_order operations lives clear order x is = Contains-permutation (lives_of operations) lives x order.holds_each_once
     (life_is_contained operations x clear is)
 
+-- what stands in a list stands in a longer one
 pub one_deeper : {X : Type 0} (z : X) (xs : List X) (x : X) → Contains xs x → Contains (z ∷ xs) x
 one_deeper z xs x among = (suc among.0, omega (arith, among.1), among.2)
 
@@ -157,6 +162,7 @@ each_may_stand operations (life ∷ rest) clear none are each =
     pairs more zero (suc j) d below within = first (get_or rest j d) (one_deeper life rest (get_or rest j d) (Contains-get_or rest j d (omega arith)))
     pairs more (suc i) (suc j) d below within = more i j d (omega arith) (omega arith)
 
+-- each value may stand before those after it
 pub each_may_stand_before : (operations : List Operation) (lives : List Life) → IsClear operations → NoOrderViolation operations
     → IsValueOrder operations lives → AllPairs MayStandBefore lives
 each_may_stand_before operations lives clear none order = each_may_stand operations lives clear none (is_life operations lives order) order.each_is_choice

@@ -12,10 +12,12 @@ use Rattle.value_match.specs.declared.life.MatchedValue.{MatchedValue}
 use Rattle.value_match.specs.Lives.{HoldsLives, lives_of, HasPlaces}
 use Rattle.linearizer.specs.Placement.{IsOrderOfPlaces, elements_at, lives_at, lives_in}
 
+-- the elements at one place more
 pub elements_push : {X : Type 0} (xs : List X) (places : List ℕ) (p : ℕ) (x : X) → slice_get xs p ≡ Some x
     → elements_at xs (places ++ p ∷ []) ≡ elements_at xs places ++ x ∷ []
 elements_push xs places p x at = filter_map-append (slice_get xs) places (p ∷ []) ∙ ap (λ o. elements_at xs places ++ cons_option o []) at
 
+-- what becomes of the elements at places
 pub elements_mapped : {X Y : Type 0} (f : X → Y) (xs : List X) (places : List ℕ) → elements_at (map f xs) places ≡ map f (elements_at xs places)
 elements_mapped f xs [] = refl
 elements_mapped {X} {Y} f xs (p ∷ places) = ap (λ o. cons_option o (elements_at (map f xs) places)) (slice_get-map f xs p)
@@ -33,6 +35,7 @@ first_of [] p places below = absurd (omega arith)
 first_of (y ∷ ys) p places below =
     let at = slice_get-get_or (y ∷ ys) p y below in (get_or (y ∷ ys) p y, at, ap (λ o. cons_option o (elements_at (y ∷ ys) places)) at)
 
+-- as many elements as places
 pub elements_long : {X : Type 0} (xs : List X) (places : List ℕ) → All (λ p. p < length xs) places → length (elements_at xs places) ≡ length places
 elements_long xs [] within = refl
 elements_long xs (p ∷ places) within =
@@ -40,6 +43,7 @@ elements_long xs (p ∷ places) within =
     let more = elements_long xs places (All-tail (λ p. p < length xs) p places within) in
     ap length here.2 ∙ ap suc more
 
+-- the element at one of the places
 pub element_at : {X : Type 0} (xs : List X) (places : List ℕ) (i p : ℕ) → All (λ p. p < length xs) places → slice_get places i ≡ Some p
     → slice_get (elements_at xs places) i ≡ slice_get xs p
 element_at xs [] i p within at = cc
@@ -56,6 +60,7 @@ pub lives_are : (operations : List Operation) (values : List MatchedValue) (plac
     → lives_in (elements_at values places) ≡ lives_at operations places
 lives_are operations values places holds = sym (elements_mapped (λ m. m.life) values places) ∙ ap (λ lives. elements_at lives places) holds.0
 
+-- as many lives as places
 pub lives_long : (operations : List Operation) (places : List ℕ) → IsOrderOfPlaces operations places → length (lives_at operations places) ≡ length places
 lives_long operations places order = elements_long (lives_of operations) places order.within
 
@@ -66,6 +71,7 @@ pub record IsValueAt (operations : List Operation) (values : List MatchedValue) 
   pub has_rank : slice_get (lives_at operations places) rank ≡ Some value.life
   pub has_places : HasPlaces operations value
 
+-- the value at one of the places
 pub value_at : (operations : List Operation) (values : List MatchedValue) (places : List ℕ) (rank place : ℕ) → HoldsLives operations values
     → IsOrderOfPlaces operations places → slice_get places rank ≡ Some place → IsValueAt operations values places rank place
 value_at operations values places rank place holds order at = with_value (get_or values place nowhere) (slice_get-get_or values place nowhere inside)

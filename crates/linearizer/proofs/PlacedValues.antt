@@ -114,6 +114,7 @@ pub value_within : (operations : List Operation) (values : List MatchedValue) (p
 value_within operations values places i place holds order at = let here = value_at operations values places i place holds order at in
     slice_get_within values place here.value here.is_at
 
+-- each place has its gap
 pub gap_within : (operations : List Operation) (places gaps : List ℕ) (i place : ℕ) → IsOrderOfPlaces operations places
     → AreEnqueueGaps (lives_at operations places) gaps → slice_get places i ≡ Some place → i < length gaps
 gap_within operations places gaps i place order are_gaps at =
@@ -137,6 +138,7 @@ turn_is operations values places gaps i place m gap d holds order are_gaps at re
     same : m ≡ here.value
     same = reads ∙ get_or_from_slice_get values place here.value m here.is_at
 
+-- nothing is placed at first
 pub nothing_placed : (operations : List Operation) (lives : List Life) → HoldsUpTo operations lives 0 0 0 []
 nothing_placed operations lives = record { left_is = refl; listed = []; each_once = IsPermutation-refl []; each_placed = tt }
 

@@ -26,12 +26,15 @@ use Rattle.value_match.proofs.Lives.{dequeued_if_called}
 abbrev pub HoldsValue : List Life → ℕ → ℕ → Type 0
 HoldsValue lives i v = (life : Life) × (slice_get lives i ≡ Some life) × ((enqueue_of life).kind ≡ Enq v)
 
+-- the value at this place of the order is dequeued
 abbrev pub IsDequeued : List Life → ℕ → Type 0
 IsDequeued lives i = (life : Life) × (d : Operation) × (slice_get lives i ≡ Some life) × (dequeue_of life ≡ Some d)
 
+-- what a position says of an operation of this kind
 abbrev pub IsItemOf : List Life → OpKind → Position → Type 0
 IsItemOf lives = IsItem (length lives) (enqueue_gap lives) (dequeue_gap lives) (HoldsValue lives) (IsDequeued lives)
 
+-- the gaps rise along the order
 pub are_gaps : (lives : List Life) → AreGaps (length lives) (enqueue_gap lives) (dequeue_gap lives)
 are_gaps lives = record {
   enter_rises = λ i j le within. (gaps_rise lives i j le within).0;
@@ -39,12 +42,14 @@ are_gaps lives = record {
   enters_first = λ i within. (gaps_rise lives i i (omega arith) within).2;
 }
 
+-- one value stands at a place of the order
 pub one_value : (lives : List Life) (i v w : ℕ) → HoldsValue lives i v → HoldsValue lives i w → v ≡ w
 one_value lives i v w x y =
     let one = one_at lives i x.0 y.0 x.1 y.1 in
     let kinds : Enq v ≡ Enq w = sym x.2 ∙ ap (λ l. (enqueue_of l).kind) one ∙ y.2 in
     cc
 
+-- each place of the order has its life
 pub life_at : (lives : List Life) (i : ℕ) → i < length lives → (life : Life) × (slice_get lives i ≡ Some life)
 life_at [] i within = absurd (omega arith)
 life_at (x ∷ lives) zero within = (x, refl)
@@ -139,6 +144,7 @@ item_of operations lives clear order o among Empty is position stands =
     )
 item_of operations lives clear order o among (Not v) is position stands = ap (λ p. p.class) stands
 
+-- the positions of the operations say what they did
 pub items_of : (operations : List Operation) (lives : List Life) → IsClear operations → IsValueOrder operations lives
     → (order : List Operation) (positions : List Position)
     → ((o : Operation) → Contains order o → Contains operations o) → AllZip (λ o position. IsPositionOf operations lives o position) order positions
@@ -159,6 +165,7 @@ beside R (z ∷ xs) [] i x zip at = absurd zip
 beside R (z ∷ xs) (y ∷ ys) zero x zip at = let same : z ≡ x = cc in (y, refl, subst (λ a. R a y) same zip.0)
 beside R (z ∷ xs) (y ∷ ys) (suc i) x zip at = beside R xs ys i x zip.1 at
 
+-- a position at a place is among them
 pub among_at : (ps : List Position) (i : ℕ) (p : Position) → slice_get ps i ≡ Some p → Among p ps
 among_at [] i p at = cc
 among_at (x ∷ ps) zero p at = let same : x ≡ p = cc in inl same
@@ -168,6 +175,7 @@ before_each : (p : Position) (ps : List Position) → ((i : ℕ) (r : Position) 
 before_each p [] each = search rules
 before_each p (x ∷ ps) each = (each zero x refl, before_each p ps (λ i r at. each (suc i) r at))
 
+-- positions whose pairs rise do so one after the other
 pub rises : (ps : List Position) → AllPairs StandsBefore ps → Rises ps
 rises [] pairs = search rules
 rises (x ∷ ps) pairs = (

@@ -9,22 +9,27 @@ abbrev pub BeforeAll : Position → List Position → Type 0
 BeforeAll p [] = ⊤
 BeforeAll p (x ∷ xs) = StandsBefore p x × BeforeAll p xs
 
+-- each position stands before those after it
 abbrev pub Rises : List Position → Type 0
 Rises [] = ⊤
 Rises (x ∷ xs) = BeforeAll x xs × Rises xs
 
+-- the position is one of these
 abbrev pub Among : Position → List Position → Type 0
 Among p [] = ⊥
 Among p (x ∷ xs) = (x ≡ p) ⊎ Among p xs
 
+-- what stands before all stands before each
 pub before_one : (p r : Position) (xs : List Position) → BeforeAll p xs → Among r xs → StandsBefore p r
 before_one p r [] before among = elim among [ ]
 before_one p r (x ∷ xs) before (inl same) = subst (λ y. StandsBefore p y) same before.0
 before_one p r (x ∷ xs) before (inr there) = before_one p r xs before.1 there
 
+-- two positions don't stand before each other
 pub not_both : (p r : Position) → StandsBefore p r → StandsBefore r p → ⊥
 not_both p r before after = grind arith
 
+-- a position doesn't stand before itself
 pub not_itself : (p : Position) → StandsBefore p p → ⊥
 not_itself p before = grind arith
 
@@ -32,6 +37,7 @@ not_itself p before = grind arith
 abbrev pub enqueue_at : (ℕ → ℕ) → ℕ → Position
 enqueue_at enter i = record { gap = enter i; class = enqueues; rank = i }
 
+-- the position of the dequeue of a value
 abbrev pub dequeue_at : (ℕ → ℕ) → (ℕ → ℕ) → ℕ → Position
 dequeue_at enter leave i = record { gap = leave i; class = (if nat_lt (enter i) (leave i) then earlier_dequeues else other_dequeues); rank = i }
 
@@ -40,12 +46,15 @@ pub class_of : (enter leave : ℕ → ℕ) (i : ℕ) → ((enter i < leave i) ×
     ⊎ ((leave i ≤ enter i) × ((dequeue_at enter leave i).class ≡ 3))
 class_of enter leave i = grind (arith, nat_tests)
 
+-- a position at a lower gap stands before
 pub by_gap : (p r : Position) → p.gap < r.gap → StandsBefore p r
 by_gap p r less = inl less
 
+-- at one gap the lower class stands before
 pub by_class : (p r : Position) → p.gap ≤ r.gap → p.class < r.class → StandsBefore p r
 by_class p r le less = grind arith
 
+-- in one class the lower rank stands before
 pub by_rank : (p r : Position) → p.gap ≤ r.gap → p.class ≤ r.class → p.rank < r.rank → StandsBefore p r
 by_rank p r le also less = grind arith
 

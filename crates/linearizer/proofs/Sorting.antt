@@ -36,6 +36,7 @@ less_where_before p q before =
     ap (λ o. is_lt (ordering_then (nat_cmp p.gap q.gap) (ordering_then o (nat_cmp p.rank q.rank)))) (class_order p.class q.class)
     ∙ before_is_less (position_of p) (position_of q) before
 
+-- what is sorted by position never falls
 pub sorted_never_falls : (placed : List Placed) → IsSortedByKey (λ p. p.position) positions.cmp-value.it placed
     → AllPairs (λ p q. ¬ (StandsBefore (position_of q.position) (position_of p.position))) placed
 sorted_never_falls placed sorted i j d below within before =

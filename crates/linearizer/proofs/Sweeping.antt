@@ -25,6 +25,7 @@ left_of (x ∷ xs) [] = []
 left_of (x ∷ xs) (true ∷ taken) = left_of xs taken
 left_of (x ∷ xs) (false ∷ taken) = x ∷ left_of xs taken
 
+-- all are left at first
 pub all_left : {X : Type 0} (xs : List X) → left_of xs (replicate (length xs) false) ≡ xs
 all_left [] = refl
 all_left (x ∷ xs) = ap (λ rest. x ∷ rest) (all_left xs)
@@ -75,9 +76,11 @@ pub record AreTimedSoFar (number : Life → ℕ) (values : List MatchedValue) (i
   pub one_each : length entries ≡ i
   pub at_each : (place : ℕ) (timed : Timed) → slice_get entries place ≡ Some timed → (timed.place ≡ place) × IsTimeOf number values timed
 
+-- no value has its time at first
 pub none_timed : (number : Life → ℕ) (values : List MatchedValue) → AreTimedSoFar number values 0 []
 none_timed number values = record { one_each = refl; at_each = λ place timed at. cc }
 
+-- one value more with its time
 pub one_more_timed : (number : Life → ℕ) (values : List MatchedValue) (i time : ℕ) (entries : List Timed) (m : MatchedValue)
     → AreTimedSoFar number values i entries → slice_get values i ≡ Some m → time ≡ number m.life
     → AreTimedSoFar number values (i + 1) (entries ++ record { time = time; place = i } ∷ [])
@@ -106,6 +109,7 @@ one_more_timed number values i time entries m so_far at is = record { one_each =
               (ap (λ e. e.place) same ∙ sym here, subst (IsTimeOf number values) (sym same) is_last)
         ]
 
+-- all values with their times, sorted
 pub sorted_by_time : (number : Life → ℕ) (values : List MatchedValue) (n : ℕ) (entries sorted : List Timed) → AreTimedSoFar number values n entries
     → length values ≤ n → IsPermutation entries sorted → IsNonDecreasingBy (λ timed. timed.time) sorted → AreByTime number values sorted
 sorted_by_time number values n entries sorted are all moved rises = record {
@@ -242,6 +246,7 @@ pub record IsNext (values : List MatchedValue) (taken : List Bool) (place : ℕ)
   pub is_left : slice_get taken place ≡ Some false
   pub is_choice : IsChoice (lives_in (left_of values taken)) value.life
 
+-- what is taken of the two lists is the choice
 pub chosen : (values : List MatchedValue) (taken : List Bool) (first_in first_out : Timed) (place : ℕ) → IsLeastLeft entered_by values taken first_in
     → IsLeastLeft dequeue_return values taken first_out → TakesOneOf values first_in first_out place → IsNext values taken place
 chosen values taken first_in first_out place a b takes = elim (takes a.value a.is_at) [
@@ -286,6 +291,7 @@ least_read number values entries taken i read are first is =
     subst (IsLeastLeft number values taken) (sym (is ∙ get_or_from_slice_get entries i first.entry read first.is_at))
     (least_left number values entries taken are i first)
 
+-- the values at the two cursors give the choice
 pub next_at : (values : List MatchedValue) (entries dequeues : List Timed) (taken : List Bool) (i j : ℕ) (first_in first_out : Timed) (place : ℕ)
     → AreByTime entered_by values entries → AreByTime dequeue_return values dequeues → IsFirstLeft entries taken i → IsFirstLeft dequeues taken j
     → first_in ≡ get_or entries i first_in → first_out ≡ get_or dequeues j first_out → TakesOneOf values first_in first_out place → IsNext values taken place

@@ -25,6 +25,7 @@ pub record HasLifeTimes (life : Life) : Type 0 where
   pub enters_after_call : enqueue_call life ≤ entered_by life
   pub leaves_before_return : (leaves_from life < dequeue_return life) ⊎ (dequeue_return life ≡ NEVER)
 
+-- a value leaves before the last ticket is over, or never
 pub leaves_in_time : (life : Life) → HasLifeTimes life → dequeue_return life ≤ NEVER → leaves_from life ≤ NEVER
 leaves_in_time life times bounded =
     let past : enqueue_call life < NEVER = omega (arith, times.enqueue_takes_time, times.enqueue_is_past) in
@@ -69,8 +70,10 @@ module _ (operations : List Operation) (clear : IsClear operations) where
   returns_in_time : (life : Life) → IsLife operations life → dequeue_return life ≤ NEVER
   returns_in_time life is = let times = dequeue_times is.0 (enqueue_of life) (dequeue_of life) is.1 is.2 in times.in_range
 
+-- the times of a life are in their order
 pub times_of_life : (operations : List Operation) (life : Life) → IsClear operations → IsLife operations life → HasLifeTimes life
 times_of_life operations life clear is = life_times operations clear life is
 
+-- a dequeue returns before the last ticket is over, or never
 pub returned_by_never : (operations : List Operation) (life : Life) → IsClear operations → IsLife operations life → dequeue_return life ≤ NEVER
 returned_by_never operations life clear is = returns_in_time operations clear life is

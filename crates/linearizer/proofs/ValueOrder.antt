@@ -79,6 +79,7 @@ least_in_other_order number xs ys life moved is = (
       (λ other. number life ≤ number other) xs ys moved is.1,
 )
 
+-- a choice doesn't depend on the order of what remains
 pub choice_in_other_order : (xs ys : List Life) (life : Life) → IsPermutation xs ys → IsChoice xs life → IsChoice ys life
 choice_in_other_order xs ys life moved is = record {
   first_entered = is.first_entered;
@@ -109,6 +110,7 @@ in_order (suc n) (x ∷ xs) long =
     (IsPermutation-cons choice.0 (remove (x ∷ xs) among.0) rest.0 rest.1) in
     (choice.0 ∷ rest.0, all_moved, (choice_in_other_order (x ∷ xs) (choice.0 ∷ rest.0) choice.0 all_moved choice.1, rest.2))
 
+-- the values have an order
 pub values_have_order : (operations : List Operation) → IsClear operations → (lives : List Life) × IsValueOrder operations lives
 values_have_order operations clear =
     let found = in_order (length (lives_of operations)) (lives_of operations) refl in
@@ -161,6 +163,7 @@ one_choice operations xs ys c d clear are same is_c is_d =
     clash : (r s m n : ℕ) → r ≡ s → m ≡ n → r < m → n ≤ s → ⊥
     clash r s m n returns leaves less more = omega arith
 
+-- lists with the same elements, without one that both have
 pub rest_alike : {X : Type 0} (x y : X) (xs ys : List X) → x ≡ y → AreSame (x ∷ xs) (y ∷ ys) → AreSame xs ys
 rest_alike {X} x y xs ys one same = record {
   into = λ z among. pass z x y xs ys one same.first_once (same.into z (deeper x xs z among)) among;
@@ -192,6 +195,7 @@ one_order operations (x ∷ xs) (y ∷ ys) clear are same each each' =
     let rest = one_order operations xs ys clear (λ z among. are z (one_deeper x xs z among)) (rest_alike x y xs ys one same) each.1 each'.1 in
     cc
 
+-- the values have one order
 pub values_have_one_order : (operations : List Operation) (xs ys : List Life) → IsClear operations → IsValueOrder operations xs
     → IsValueOrder operations ys → xs ≡ ys
 values_have_one_order operations xs ys clear order order' =

@@ -49,6 +49,7 @@ greatest_below a b [] (suc k) less each = less
 greatest_below a b (x ∷ lives) (suc k) less each = let here = each zero x (omega arith) refl in
     greatest_below (max a (leaves_from x)) b lives k (omega arith) (λ j y below at. each (suc j) y (omega arith) at)
 
+-- where all leave before a time, the greatest is before it
 pub below_greatest : (lives : List Life) (i b : ℕ) → 0 < b → ((j : ℕ) (y : Life) → j ≤ i → slice_get lives j ≡ Some y → leaves_from y < b)
     → greatest_leaves_from (take (i + 1) lives) < b
 below_greatest lives i b above each = greatest_below 0 b lives (i + 1) above (λ j y below at. each j y (omega arith) at)
@@ -62,6 +63,7 @@ greatest_at_least a (x ∷ lives) (suc k) zero y below at =
     let above = greatest_above_start (max a (leaves_from x)) (map leaves_from (take k lives)) in omega arith
 greatest_at_least a (x ∷ lives) (suc k) (suc j) y below at = greatest_at_least (max a (leaves_from x)) lives k j y (omega arith) at
 
+-- a value of the first ones leaves no later than the greatest
 pub greatest_of_first : (lives : List Life) (i j : ℕ) (y : Life) → j ≤ i → slice_get lives j ≡ Some y
     → leaves_from y ≤ greatest_leaves_from (take (i + 1) lives)
 greatest_of_first lives i j y le at = greatest_at_least 0 lives (i + 1) j y (omega arith) at
@@ -85,6 +87,7 @@ called_before_entered operations lives i j x y clear none order le at_x at_y =
           above (enqueue_call x) (entered_by y) (λ less. omega arith) differs
     ]
 
+-- the gap of an enqueue lies in its window
 pub enqueue_gap_in_window : (operations : List Operation) (lives : List Life) (i : ℕ) (life : Life) → IsClear operations → NoOrderViolation operations
     → IsValueOrder operations lives → slice_get lives i ≡ Some life → IsInWindow (enqueue_of life) (enqueue_gap lives i)
 enqueue_gap_in_window operations lives i life clear none order at =
@@ -116,6 +119,7 @@ left_before_returned operations lives i j x y clear none order le at_x at_y retu
           elim (times_of_life operations y clear is_y).leaves_before_return [ inl left ↦ omega arith | inr never ↦ absurd (omega arith) ]
     ]
 
+-- the gap of a dequeue lies before its return
 pub dequeue_gap_before_return : (operations : List Operation) (lives : List Life) (i : ℕ) (life : Life) → IsClear operations
     → NoOrderViolation operations → IsValueOrder operations lives
     → slice_get lives i ≡ Some life → dequeue_return life < NEVER → dequeue_gap lives i < dequeue_return life
@@ -128,6 +132,7 @@ dequeue_gap_before_return operations lives i life clear none order at returned =
     let entered : entered_by life ≤ dequeue_return life = omega arith in
     omega arith
 
+-- the gap of a dequeue lies in its window
 pub dequeue_gap_in_window : (operations : List Operation) (lives : List Life) (i : ℕ) (life : Life) (d : Operation) → IsClear operations
     → NoOrderViolation operations → IsValueOrder operations lives → slice_get lives i ≡ Some life → dequeue_of life ≡ Some d
     → IsInWindow d (dequeue_gap lives i)

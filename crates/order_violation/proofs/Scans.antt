@@ -65,6 +65,7 @@ low_is_first values low high a is none = record {
   first = All-append (ComesNoLater values a) low high is.first (overtake_nobody values high a none);
 }
 
+-- where none of the first part overtakes, the first of the second part is the first
 pub high_is_first : (values low high : List MatchedValue) (found : Option MatchedValue) → All (λ b. NonePasses (Overtakes b.life) values) low
     → FindsFirst values high found → FindsFirst values (low ++ high) found
 high_is_first values low high None none not = All-append (λ b. NonePasses (Overtakes b.life) values) low high none not
@@ -123,6 +124,7 @@ none_overtaken values b none =
     All-weaker (λ value. ¬ (EntersBefore (enqueue_call b) value.life)) (λ value. ¬ (Overtakes b value.life))
     (λ value not overtakes. not overtakes.0) values none
 
+-- the longest of those before is overtaken by what is dequeued before it
 pub longest_is_overtaken : (values : List MatchedValue) (b : Life) (a : MatchedValue) → IsLongestOf (EntersBefore (enqueue_call b)) values a
     → dequeue_return b < dequeue_call a.life → IsLongestOf (Overtakes b) values a
 longest_is_overtaken values b a is later = record {
@@ -133,6 +135,7 @@ longest_is_overtaken values b a is later = record {
       (λ other stays overtakes. stays overtakes.0) values is.longest;
 }
 
+-- where the longest of those before isn't overtaken, none is
 pub longest_is_not_overtaken : (values : List MatchedValue) (b : Life) (a : MatchedValue) → IsLongestOf (EntersBefore (enqueue_call b)) values a
     → dequeue_call a.life ≤ dequeue_return b → NonePasses (Overtakes b) values
 longest_is_not_overtaken values b a is sooner =
@@ -147,6 +150,7 @@ pub overtaken_one : (values : List MatchedValue) (b : Life) (longest : Option Ma
 overtaken_one values b None none some = cc
 overtaken_one values b (Some a) is some = (a, is.among, is.passes)
 
+-- where none is found, none is overtaken
 pub overtaken_none : (values : List MatchedValue) (b : Life) (longest : Option MatchedValue) → FindsLongest (Overtakes b) values longest
     → is_some longest ≡ false → NonePasses (Overtakes b) values
 overtaken_none values b None none not = none

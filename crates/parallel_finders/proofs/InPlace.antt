@@ -18,6 +18,7 @@ in_place items slice sorted len same all long =
     let none : drop (length sorted) items ≡ [] = drop_all (length sorted) items (omega (arith, long, ap length same)) in
     rw (none, append-nil sorted) (take_all len sorted (omega (arith, long, all, ap length same)))
 
+-- a list whose elements were moved twice holds what it held
 pub moved_twice : {X : Type 0} (before items slice sorted : List X) (len : ℕ) → IsPermutation before items → slice ≡ items → length items ≡ len
     → length sorted ≡ length slice → IsPermutation slice sorted
     → IsPermutation before (take len (sorted ++ drop (length sorted) items))

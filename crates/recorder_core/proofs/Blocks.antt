@@ -20,11 +20,13 @@ abbrev pub blocks : {X : Type 0} → (ℕ → List X) → ℕ → List X
 blocks f zero = []
 blocks f (suc n) = blocks f n ++ f n
 
+-- blocks that are the same make one list
 pub blocks_same : {X : Type 0} (f g : ℕ → List X) (n : ℕ) → ((t : ℕ) → t < n → f t ≡ g t) → blocks f n ≡ blocks g n
 blocks_same f g zero same = refl
 blocks_same {X} f g (suc n) same = ap (λ (l : List X). l ++ f n) (blocks_same f g n (λ t below. same t (omega arith)))
     ∙ ap (λ (l : List X). blocks g n ++ l) (same n (omega arith))
 
+-- equal lists hold the same
 pub same_permutation : {X : Type 0} (xs ys : List X) → xs ≡ ys → IsPermutation xs ys
 same_permutation xs ys same = subst (IsPermutation xs) same (IsPermutation-refl xs)
 
@@ -75,6 +77,7 @@ blocks_lead {X} f g u (suc n) more within here others = elim (cases_eq u n) [
 
 -- ---- ranges
 
+-- a range that is longer by one
 pub range_more : (n : ℕ) → range_with_len 0 (suc n) ≡ range_with_len 0 n ++ n ∷ []
 range_more n =
     sym (map-id (range_with_len 0 (suc n)))
@@ -115,6 +118,7 @@ first_apart key x xs y once among same =
 once_later : {X : Type 0} (key : X → ℕ) (x : X) (xs : List X) → Once key (x ∷ xs) → Once key xs
 once_later key x xs once v = omega (arith, once v, sum_by-cons (λ z. cond (eqb (key z) v) 1 0) x xs)
 
+-- two elements with one key, which stands once, are one
 pub once_same : {X : Type 0} (key : X → ℕ) (xs : List X) (x y : X) → Once key xs → Contains xs x → Contains xs y → key x ≡ key y → x ≡ y
 once_same key [] x y once in_x in_y same = absurd (none_in_nil x in_x)
 once_same key (z ∷ xs) x y once in_x in_y same = elim (contains_cons z xs x in_x) [
@@ -128,14 +132,17 @@ once_same key (z ∷ xs) x y once in_x in_y same = elim (contains_cons z xs x in
   ]
 ]
 
+-- keys that stand once differ
 pub once_apart : {X : Type 0} (key : X → ℕ) (xs : List X) → Once key xs → AllPairs (λ x y. key x ≢ key y) xs
 once_apart key [] once = λ i j d below within. absurd (omega arith)
 once_apart key (x ∷ xs) once = pairs_cons (λ a b. key a ≢ key b) x xs (λ y among. first_apart key x xs y once among)
     (once_apart key xs (once_later key x xs once))
 
+-- how often keys stand doesn't depend on the order
 pub once_permutation : {X : Type 0} (key : X → ℕ) (xs ys : List X) → IsPermutation xs ys → Once key xs → Once key ys
 once_permutation key xs ys moved once v = omega (arith, once v, sum_by-IsPermutation (λ x. cond (eqb (key x) v) 1 0) xs ys moved)
 
+-- elements whose keys stand once stand once
 pub once_map : {X : Type 0} (key : X → ℕ) (xs : List X) → Once (λ n. n) (map key xs) → Once key xs
 once_map key xs once v = omega (arith, once v, count_map key v xs)
   where
@@ -155,6 +162,7 @@ none_of_lower v a (suc n) below =
     let here : ◌≡◌ {A = ℕ} (cond (eqb a v) 1 0) 0 = rw (ne_eqb a v (λ e. omega arith)) refl in
     omega (arith, sum_by-cons (λ x. cond (eqb x v) 1 0) a (range_with_len (a + 1) n), here, none_of_lower v (a + 1) n (omega arith))
 
+-- each number of a range stands once
 pub once_range : (a n : ℕ) → Once (λ x. x) (range_with_len a n)
 once_range a zero v = omega arith
 once_range a (suc n) v = elim (cases_eq a v) [

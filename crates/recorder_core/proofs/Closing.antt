@@ -50,9 +50,11 @@ closed_goes_on setting t before attempt k none = elim (cases_eq (thread_of attem
   | inr other ↦ other_closed t attempt.step before other k
 ]
 
+-- a closed thread holds and awaits nothing
 pub closed_idle : (setting : Setting) (t : ℕ) (schedule : List Attempt) → ClosedIdle t (accepted setting schedule)
 closed_idle setting t schedule = after_each setting (ClosedIdle t) (λ closed. (omega arith, omega arith)) (closed_goes_on setting t) schedule
 
+-- of a done schedule all events of a thread are collected
 pub all_collected : (setting : Setting) (schedule : List Attempt) → IsDone setting schedule → (t : ℕ) → t < setting.threads
     → collected_in setting schedule t ≡ events_in setting schedule t
 all_collected setting schedule done t within =
@@ -68,6 +70,7 @@ stays : (t : ℕ) (r : Option StepRefused) (step : Step) (before : List Step) �
 stays t None step before h = or_right (is_close t step) (is_closed t before) h
 stays t (Some refused) step before h = h
 
+-- a closed thread stays closed
 pub stays_closed : (setting : Setting) (t : ℕ) (later before : List Attempt) → is_closed t (accepted setting before) ≡ true
     → is_closed t (accepted setting (later ++ before)) ≡ true
 stays_closed setting t [] before h = h
@@ -92,10 +95,12 @@ pub accepted_is : (setting : Setting) (before : List Attempt) (attempt : Attempt
     → accepted setting (attempt ∷ before) ≡ attempt.step ∷ accepted setting before
 accepted_is setting before attempt none = rw none refl
 
+-- a step that is refused changes nothing
 pub refused_is : (setting : Setting) (before : List Attempt) (attempt : Attempt) (r : StepRefused)
     → refusal setting (accepted setting before) attempt ≡ Some r → accepted setting (attempt ∷ before) ≡ accepted setting before
 refused_is setting before attempt r is = rw is refl
 
+-- after its close a thread takes no step of its own
 pub closes : (setting : Setting) (before later : List Attempt) (close attempt : Attempt) → close.step ≡ Close (thread_of attempt.step)
     → refusal setting (accepted setting before) close ≡ None → NeedsOpenThread attempt.step
     → refusal setting (accepted setting (later ++ close ∷ before)) attempt ≡ Some Closed

@@ -23,6 +23,7 @@ use Rattle.recorder_core.proofs.Totals.{tickets_limited}
 
 -- ---- the tickets of all threads
 
+-- the tickets of a thread's events
 abbrev pub tickets_of : Setting → List Step → ℕ → List ℕ
 tickets_of setting steps t = map ticket_of (events setting t steps)
 
@@ -63,6 +64,7 @@ tickets_step setting (Say u answer) starved before k none = k.1
 tickets_step setting (Drain u n) starved before k none = k.1
 tickets_step setting (Close u) starved before k none = k.1
 
+-- the tickets of all events are those that were drawn
 pub tickets_are : (setting : Setting) (schedule : List Attempt) → TicketsAre setting (accepted setting schedule)
 tickets_are setting schedule = after_each setting (TicketsAre setting)
     (λ t. recorded setting t [], same_permutation _ _ (no_blocks setting.threads))

@@ -20,12 +20,14 @@ pub record AreCounts (ring asked answered returned pushed drained_ happened : �
   pub drained_below : drained_ ≤ pushed
   pub fits : pushed ≤ drained_ + ring
 
+-- the counts of a thread after these steps
 abbrev pub Counted : Setting → ℕ → List Step → Type 0
 Counted setting t steps = AreCounts setting.ring (asks t steps) (answers t steps) (returns t steps) (pushes t steps) (drained t steps)
     (length (events setting t steps))
 
 -- ---- how the counts go on
 
+-- the counts before the first step
 pub counts_none : (ring : ℕ) → AreCounts ring 0 0 0 0 0 0
 counts_none ring = record {
   events_are = refl;
@@ -99,6 +101,7 @@ module _ (ring a n r p d e : ℕ) (k : AreCounts ring a n r p d e) where
     fits = omega arith;
   }
 
+-- a list with one element more
 pub length-with_last : {X : Type 0} (items : List X) (x : X) → length (items ++ x ∷ []) ≡ suc (length items)
 length-with_last items x = omega (arith, length-append items (x ∷ []))
 
@@ -162,6 +165,7 @@ own_counts setting (Ret u) starved before k none =
 own_counts setting (Drain u m) starved before k none = rw (same_number u) (counts_drained _ _ _ _ _ _ _ k m)
 own_counts setting (Close u) starved before k none = k
 
+-- the counts after one step more
 pub counts_go_on : (setting : Setting) (t : ℕ) (before : List Step) (attempt : Attempt) → Counted setting t before
     → refusal setting before attempt ≡ None → Counted setting t (attempt.step ∷ before)
 counts_go_on setting t before attempt k none = elim (cases_eq (thread_of attempt.step) t) [

@@ -86,6 +86,7 @@ answer_fits Dequeue Not right = cc
 answer_fits Dequeue (Got w) right = refl
 answer_fits Dequeue Empty right = refl
 
+-- the queue's own answer is never wrong
 pub queue_is_right : (asked : Question) (items : List ℕ) → is_wrong (queue_answer asked items) (Some asked) ≡ false
 queue_is_right (Enqueue v) items = refl
 queue_is_right Dequeue [] = refl
@@ -197,6 +198,7 @@ module _ (t a n r next : ℕ) (asked : Option Question) (told : Option Answer) (
 
 -- ---- after any schedule
 
+-- the events of a thread after these steps
 abbrev pub Recorded : Setting → ℕ → List Step → Type 0
 Recorded setting t steps = AreEventsOf t (asks t steps) (answers t steps) (returns t steps) (tickets steps) (question t steps)
     (answered setting t steps) (events setting t steps)
@@ -256,9 +258,11 @@ own_events setting (Ret u) starved before c k none =
 own_events setting (Drain u n) starved before c k none = k
 own_events setting (Close u) starved before c k none = k
 
+-- both together
 abbrev pub CountedAndRecorded : Setting → ℕ → List Step → Type 0
 CountedAndRecorded setting t steps = Counted setting t steps × Recorded setting t steps
 
+-- both after one step more
 pub recorded_goes_on : (setting : Setting) (t : ℕ) (before : List Step) (attempt : Attempt) → CountedAndRecorded setting t before
     → refusal setting before attempt ≡ None → CountedAndRecorded setting t (attempt.step ∷ before)
 recorded_goes_on setting t before attempt k none = (

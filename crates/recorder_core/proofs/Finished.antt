@@ -25,6 +25,7 @@ all_from : {X : Type 0} (p : X → Bool) (xs : List X) → ((k : ℕ) (x : X) �
 all_from p [] h = refl
 all_from p (y ∷ xs) h = and_from (p y) (list_all p xs) (h 0 y refl) (all_from p xs (λ k x is. h (suc k) x is))
 
+-- a machine whose threads are done is that of a done schedule
 pub done_from : (setting : Setting) (old : MachineView) (schedule : List Attempt) → IsAfter setting old schedule
     → list_all is_thread_done old.threads ≡ true → IsDone setting schedule
 done_from setting old schedule left h = λ t within.
@@ -35,6 +36,7 @@ done_from setting old schedule left h = λ t within.
     let r : length (thread_after setting t steps).ring ≡ in_ring t steps = seen_ring setting t steps k in
     (p.0, omega (arith, e, r, k.drained_below))
 
+-- of a done schedule the machine's threads are done
 pub done_to : (setting : Setting) (old : MachineView) (schedule : List Attempt) → IsAfter setting old schedule → IsDone setting schedule
     → list_all is_thread_done old.threads ≡ true
 done_to setting old schedule left done =

@@ -52,6 +52,7 @@ pub record AreFit (lists : List (List Event)) : Type 0 where
   pub tickets : let all = flat_map (λ list. list) lists in IsPermutation (map (λ event. event.ticket) all) (range_with_len 0 (length all))
   pub not_too_long : length (flat_map (λ list. list) lists) ≤ 2 * MAX_OPERATIONS
 
+-- an event's ticket
 abbrev pub ticket_of : Event → ℕ
 ticket_of e = e.ticket
 
@@ -153,8 +154,10 @@ module _ (lists : List (List Event)) (merged : List Event) (fit : AreFit lists) 
     values_are_distinct = pairs_filter_map Below (λ v w. v ≢ w) (λ e. called_value e.what) merged distinct rises;
   }
 
+-- what is merged of lists that fit is few
 pub merged_is_few : (lists : List (List Event)) (merged : List Event) → AreFit lists → IsMerged lists merged → length merged ≤ MAX_EVENTS
 merged_is_few lists merged fit is = omega (arith, fit.not_too_long, length_permutation _ _ is.holds_each_once)
 
+-- recorded lists fit together
 pub recorded_is_fit : (lists : List (List Event)) → AreRecorded lists → AreFit lists
 recorded_is_fit lists r = record { not_too_many = r.not_too_many; each = r.each; tickets = r.tickets; not_too_long = r.not_too_long }

@@ -19,6 +19,7 @@ use Rattle.recorder_core.proofs.Totals.{Added, added}
 
 -- ---- what may be done is not refused
 
+-- an ask that may come is accepted
 pub ask_granted : (setting : Setting) (u : ℕ) (before : List Step) (kind : Kind) → MayAsk setting u before
     → refusal setting before (record { step = ask_of kind u; starved = false }) ≡ None
 ask_granted setting u before kind m = by_kind kind
@@ -47,6 +48,7 @@ ask_granted setting u before kind m = by_kind kind
       limits,
     ) refl
 
+-- a push that may come is accepted
 pub push_granted : (setting : Setting) (u : ℕ) (before : List Step) → MayPush setting u before
     → refusal setting before (record { step = Push u; starved = false }) ≡ None
 push_granted setting u before m = rw (
@@ -57,6 +59,7 @@ push_granted setting u before m = rw (
   lt-leb setting.ring (pushes u before - drained u before) m.has_room,
 ) refl
 
+-- an answer that may come is accepted
 pub say_granted : (setting : Setting) (u : ℕ) (before : List Step) (answer : Answer) → MayAnswer setting u before
     → is_wrong answer (question u before) ≡ false → refusal setting before (record { step = Say u answer; starved = false }) ≡ None
 say_granted setting u before answer m right = rw (
@@ -68,6 +71,7 @@ say_granted setting u before answer m right = rw (
   right,
 ) refl
 
+-- a return that may come is accepted
 pub return_granted : (setting : Setting) (u : ℕ) (before : List Step) → MayReturn setting u before
     → refusal setting before (record { step = Ret u; starved = false }) ≡ None
 return_granted setting u before m = rw (
@@ -80,10 +84,12 @@ return_granted setting u before m = rw (
       (returns u before) m.has_answer,
 ) refl
 
+-- a drain is accepted
 pub drain_granted : (setting : Setting) (u n : ℕ) (before : List Step) → u < setting.threads
     → refusal setting before (record { step = Drain u n; starved = false }) ≡ None
 drain_granted setting u n before known = rw (lt-leb setting.threads u known) refl
 
+-- a close that may come is accepted
 pub close_granted : (setting : Setting) (u : ℕ) (before : List Step) → MayClose setting u before
     → refusal setting before (record { step = Close u; starved = false }) ≡ None
 close_granted setting u before m = rw (
@@ -96,6 +102,7 @@ close_granted setting u before m = rw (
 
 -- ---- lists of steps that are all accepted
 
+-- a step with memory for it
 abbrev pub granted_attempt : Step → Attempt
 granted_attempt step = record { step = step; starved = false }
 
@@ -103,15 +110,18 @@ granted_attempt step = record { step = step; starved = false }
 abbrev pub AllGranted : Setting → List Step → Type 0
 AllGranted setting steps = accepted setting (map granted_attempt steps) ≡ steps
 
+-- one step more is accepted
 pub one_granted : (setting : Setting) (step : Step) (before : List Step) → AllGranted setting before
     → refusal setting before (granted_attempt step) ≡ None → AllGranted setting (step ∷ before)
 one_granted setting step before all none =
     let none' : refusal setting (accepted setting (map granted_attempt before)) (granted_attempt step) ≡ None = rw all none in
     accepted_is setting (map granted_attempt before) (granted_attempt step) none' ∙ ap (λ (l : List Step). step ∷ l) all
 
+-- what accepted steps leave
 pub granted_recorded : (setting : Setting) (t : ℕ) (steps : List Step) → AllGranted setting steps → CountedAndRecorded setting t steps
 granted_recorded setting t steps all = subst (CountedAndRecorded setting t) all (recorded setting t (map granted_attempt steps))
 
+-- what accepted steps leave in all
 pub granted_added : (setting : Setting) (steps : List Step) → AllGranted setting steps → Added setting steps
 granted_added setting steps all = subst (Added setting) all (added setting (map granted_attempt steps))
 
@@ -127,9 +137,11 @@ pub record IsOnTurn (setting : Setting) (n t held : ℕ) (list : List Event) (st
   pub list_is : list ≡ events setting t steps ++ rest
   pub later : All (λ e. n ≤ e.ticket) rest
 
+-- a push and a drain of one event
 abbrev pub collect_one : ℕ → List Step → List Step
 collect_one u before = Drain u 1 ∷ Push u ∷ before
 
+-- one event of the thread on turn is collected
 pub collected_own : (setting : Setting) (n u : ℕ) (list : List Event) (before : List Step) → IsOnTurn setting n u 1 list before
     → IsOnTurn setting n u 0 list (collect_one u before)
 collected_own setting n u list before h = record {
@@ -142,6 +154,7 @@ collected_own setting n u list before h = record {
   later = h.later;
 }
 
+-- so nothing of another thread changes
 pub collected_other : (setting : Setting) (n t u : ℕ) (list : List Event) (before : List Step) → (u ≡ t → ⊥) → IsOnTurn setting n t 0 list before
     → IsOnTurn setting n t 0 list (collect_one u before)
 collected_other setting n t u list before other k = record {
@@ -154,6 +167,7 @@ collected_other setting n t u list before other k = record {
   later = k.later;
 }
 
+-- these two steps are accepted
 pub collected_granted : (setting : Setting) (n u : ℕ) (list : List Event) (before : List Step) → u < setting.threads → 1 ≤ setting.ring
     → IsOnTurn setting n u 1 list before → AllGranted setting before → AllGranted setting (collect_one u before)
 collected_granted setting n u list before known room h all =
@@ -168,6 +182,7 @@ collected_granted setting n u list before known room h all =
 
 -- ---- an ask, and an answer with its return
 
+-- an ask of another thread changes nothing
 pub ask_other : (setting : Setting) (n t u : ℕ) (list : List Event) (before : List Step) (kind : Kind) → (u ≡ t → ⊥)
     → IsOnTurn setting n t 0 list before → IsOnTurn setting n t 0 list (ask_of kind u ∷ before)
 ask_other setting n t u list before Enq other k = record {
@@ -191,6 +206,7 @@ ask_other setting n t u list before Deq other k = record {
   later = k.later;
 }
 
+-- an answer of another thread changes nothing
 pub answer_other : (setting : Setting) (n t u : ℕ) (list : List Event) (before : List Step) (answer : Answer) → (u ≡ t → ⊥)
     → IsOnTurn setting n t 0 list before → IsOnTurn setting n t 0 list (Ret u ∷ Say u answer ∷ before)
 answer_other setting n t u list before answer other k = record {

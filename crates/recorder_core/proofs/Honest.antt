@@ -181,6 +181,7 @@ taken_now setting u before k m =
 
 -- ---- after any honest schedule
 
+-- the effect was taken at this step
 abbrev pub IsTakenAt : Setting → List Step → TakenEffect → Type 0
 IsTakenAt setting steps x = (x.thread < setting.threads) × IsTaken (tickets steps) (answers x.thread steps) (returns x.thread steps)
     (answered setting x.thread steps) (events setting x.thread steps) x.number x.time x.kind
@@ -236,6 +237,7 @@ pub record AreTaken (setting : Setting) (steps : List Step) : Type 0 where
   pub in_order : AllPairs (λ x y. x.time ≤ y.time) (taken setting steps)
   pub kinds_are : map (λ x. x.kind) (taken setting steps) ≡ effect_kinds setting steps
 
+-- the steps before an honest one are honest
 pub later_honest : (step : Step) (before : List Step) → without_says (step ∷ before) ≡ true → without_says before ≡ true
 later_honest (Say u answer) before honest = cc
 later_honest (AskEnq u) before honest = honest
@@ -294,6 +296,7 @@ effects_on setting (Drain u n) starved before all honest none k =
 effects_on setting (Close u) starved before all honest none k =
     record { each = same_effects setting (Close u) starved before all honest none k; in_order = k.in_order; kinds_are = k.kinds_are }
 
+-- the effects of an honest schedule were taken
 pub honestly_taken : (setting : Setting) (schedule : List Attempt) → without_says (accepted setting schedule) ≡ true
     → AreTaken setting (accepted setting schedule)
 honestly_taken setting schedule = (after_each setting (HonestlyTaken setting) (

@@ -11,12 +11,15 @@ use Rattle.history_merge.proofs.Distinct.{contains_cons}
 
 -- ---- membership
 
+-- the first element stands in the list
 pub contains_head : {X : Type 0} (x : X) (xs : List X) → Contains (x ∷ xs) x
 contains_head x xs = (zero, omega arith, refl)
 
+-- what stands in the rest stands in the list
 pub contains_tail : {X : Type 0} (x : X) (xs : List X) (y : X) → Contains xs y → Contains (x ∷ xs) y
 contains_tail x xs y (k, below, same) = (suc k, omega arith, same)
 
+-- nothing stands in no list
 pub none_in_nil : {X : Type 0} (x : X) → Contains [] x → ⊥
 none_in_nil x among = let below = among.1 in omega arith
 
@@ -34,6 +37,7 @@ kept_cases : {X : Type 0} (b : Bool) (y x : X) (kept : List X) → Contains (con
 kept_cases true y x kept among = elim (contains_cons y kept x among) [ inl same ↦ inl (same, refl) | inr later ↦ inr later ]
 kept_cases false y x kept among = inr among
 
+-- what passes stands in what a filter passes
 pub contains_filter : {X : Type 0} (p : X → Bool) (xs : List X) (x : X) → Contains xs x → p x ≡ true → Contains (filter p xs) x
 contains_filter p [] x among passes = absurd (none_in_nil x among)
 contains_filter p (y ∷ xs) x among passes = elim (contains_cons y xs x among) [
@@ -41,6 +45,7 @@ contains_filter p (y ∷ xs) x among passes = elim (contains_cons y xs x among) 
   | inr later ↦ past_kept (p y) y x (filter p xs) (contains_filter p xs x later passes)
 ]
 
+-- what a filter passes stands in the list and passes
 pub filter_contains : {X : Type 0} (p : X → Bool) (xs : List X) (x : X) → Contains (filter p xs) x → Contains xs x × (p x ≡ true)
 filter_contains p [] x among = absurd (none_in_nil x among)
 filter_contains {X} p (y ∷ xs) x among = elim (kept_cases (p y) y x (filter p xs) among) [
@@ -66,14 +71,17 @@ joined_contains (l ∷ lists) x among = elim (Contains-append_cases l (flat_map 
 
 -- ---- pairs
 
+-- one element more in front
 pub pairs_cons : {X : Type 0} (R : X → X → Type 0) (x : X) (xs : List X) → ((y : X) → Contains xs y → R x y) → AllPairs R xs → AllPairs R (x ∷ xs)
 pairs_cons R x xs first more i zero d below within = absurd (omega arith)
 pairs_cons R x xs first more zero (suc j) d below within = first (get_or xs j d) (Contains-get_or xs j d (omega arith))
 pairs_cons R x xs first more (suc i) (suc j) d below within = more i j d (omega arith) (omega arith)
 
+-- what holds of all pairs of a list holds of all of its rest
 pub pairs_tail : {X : Type 0} (R : X → X → Type 0) (x : X) (xs : List X) → AllPairs R (x ∷ xs) → AllPairs R xs
 pairs_tail R x xs pairs i j d below within = pairs (suc i) (suc j) d (omega arith) (omega arith)
 
+-- what holds of all pairs holds of the first and each other
 pub pairs_first : {X : Type 0} (R : X → X → Type 0) (x : X) (xs : List X) (y : X) → AllPairs R (x ∷ xs) → Contains xs y → R x y
 pairs_first {X} R x xs y pairs (k, within, same) = let P : X → Type 0 = λ z. R x z in subst P same (pairs zero (suc k) y (omega arith) (omega arith))
 
@@ -82,6 +90,7 @@ pairs_kept : {X : Type 0} (R : X → X → Type 0) (b : Bool) (x : X) (kept : Li
 pairs_kept R true x kept first more = pairs_cons R x kept first more
 pairs_kept R false x kept first more = more
 
+-- what holds of all pairs holds of those that pass
 pub pairs_filter : {X : Type 0} (R : X → X → Type 0) (p : X → Bool) (xs : List X) → AllPairs R xs → AllPairs R (filter p xs)
 pairs_filter R p [] pairs = λ i j d below within. absurd (omega arith)
 pairs_filter R p (x ∷ xs) pairs = pairs_kept R (p x) x (filter p xs) (λ y among. pairs_first R x xs y pairs (filter_contains p xs y among).0)
@@ -89,6 +98,7 @@ pairs_filter R p (x ∷ xs) pairs = pairs_kept R (p x) x (filter p xs) (λ y amo
 
 -- ---- lists whose tickets rise
 
+-- the ticket of an event is below another's
 abbrev pub Below : Event → Event → Type 0
 Below e f = e.ticket < f.ticket
 
@@ -126,6 +136,7 @@ rising_unique (x ∷ xs) (y ∷ ys) up up' there back =
 
 -- ---- what a function keeps of a list
 
+-- what becomes of an element stands among what becomes of all
 pub contains_map : {X Y : Type 0} (f : X → Y) (xs : List X) (x : X) → Contains xs x → Contains (map f xs) (f x)
 contains_map f [] x among = absurd (none_in_nil x among)
 contains_map {X} {Y} f (y ∷ xs) x among = elim (contains_cons y xs x among) [
@@ -133,6 +144,7 @@ contains_map {X} {Y} f (y ∷ xs) x among = elim (contains_cons y xs x among) [
   | inr later ↦ contains_tail (f y) (map f xs) (f x) (contains_map f xs x later)
 ]
 
+-- a number of a range is below its end
 pub contains_range : (a n v : ℕ) → Contains (range_with_len a n) v → v < a + n
 contains_range a zero v among = absurd (none_in_nil v among)
 contains_range a (suc n) v among = elim (contains_cons a (range_with_len (a + 1) n) v among) [
@@ -140,10 +152,12 @@ contains_range a (suc n) v among = elim (contains_cons a (range_with_len (a + 1)
   | inr later ↦ omega (arith, contains_range (a + 1) n v later)
 ]
 
+-- a list in which nothing stands is empty
 pub nil_from_none : {X : Type 0} (xs : List X) → ((x : X) → Contains xs x → ⊥) → xs ≡ []
 nil_from_none [] none = refl
 nil_from_none (x ∷ xs) none = absurd (none x (contains_head x xs))
 
+-- what is kept comes of an element
 pub filter_map_contains : {X Y : Type 0} (h : X → Option Y) (xs : List X) (y : Y) → Contains (filter_map h xs) y → (x : X) × Contains xs x × (h x ≡ Some y)
 filter_map_contains h [] y among = absurd (none_in_nil y among)
 filter_map_contains {X} {Y} h (x ∷ xs) y among = by_head (h x) refl (filter_map_contains h xs y) among
@@ -171,6 +185,7 @@ pairs_filter_map {X} {Y} R S h (x ∷ xs) turn pairs =
         let m = filter_map_contains h xs y among in
         turn x m.0 w y (contains_head x xs) (contains_tail x xs m.0 m.1) (pairs_first R x xs m.0 pairs m.1) is m.2) more
 
+-- what becomes of elements comes of one
 pub map_contains : {X Y : Type 0} (f : X → Y) (xs : List X) (y : Y) → Contains (map f xs) y → (x : X) × Contains xs x × (f x ≡ y)
 map_contains f [] y among = absurd (none_in_nil y among)
 map_contains f (x ∷ xs) y among = elim (contains_cons (f x) (map f xs) y among) [
@@ -178,6 +193,7 @@ map_contains f (x ∷ xs) y among = elim (contains_cons (f x) (map f xs) y among
   | inr later ↦ let m = map_contains f xs y later in (m.0, contains_tail x xs m.0 m.1, m.2)
 ]
 
+-- a number between a range's ends stands in it
 pub in_range : (a n v : ℕ) → a ≤ v → v < a + n → Contains (range_with_len a n) v
 in_range a zero v above below = absurd (omega arith)
 in_range a (suc n) v above below = elim (cases_eq a v) [
@@ -185,6 +201,7 @@ in_range a (suc n) v above below = elim (cases_eq a v) [
   | inr other ↦ contains_tail a (range_with_len (a + 1) n) v (in_range (a + 1) n v (omega arith) (omega arith))
 ]
 
+-- what holds of all pairs of two lists holds of all of the second
 pub pairs_suffix : {X : Type 0} (R : X → X → Type 0) (xs ys : List X) → AllPairs R (xs ++ ys) → AllPairs R ys
 pairs_suffix R [] ys pairs = pairs
 pairs_suffix R (x ∷ xs) ys pairs = pairs_suffix R xs ys (pairs_tail R x (xs ++ ys) pairs)

@@ -85,6 +85,7 @@ later_numbers call answer rest a (suc h) =
     let e : suc a + 1 ≡ suc (a + 1) = omega arith in
     rw (e, later_number call answer rest a) (ap (cons_option (operation_in rest a)) (later_numbers call answer rest (a + 1) h))
 
+-- the operations of one thread are its calls with their answers
 pub operations_in_turn : (t : ℕ) (events : List Event) (h : ℕ) → TakesTurns events → All (λ e. e.thread ≡ t) events → length events ≡ 2 * h
     → operations_of events ≡ filter_map (operation_in events) (range_with_len 0 h)
 operations_in_turn t [] zero turns own long = refl

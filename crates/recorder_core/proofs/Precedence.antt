@@ -15,6 +15,7 @@ use Rattle.recorder_core.specs.Schedule.{Attempt, refusal, accepted, events, eve
 use Rattle.recorder_core.specs.Laws.{Gives, StandsBefore, collected_in}
 use Rattle.recorder_core.proofs.Closing.{accepted_is}
 
+-- where the step of an event stands
 pub record Place (setting : Setting) (schedule : List Attempt) (event : Event) : Type 0 where
   pub later : List Attempt
   pub attempt : Attempt
@@ -112,6 +113,7 @@ kept_tickets None step steps = one (is_ticket_step step)
     one true = omega arith
     one false = omega arith
 
+-- tickets never fall
 pub tickets_rise : (setting : Setting) (later before : List Attempt) → tickets (accepted setting before) ≤ tickets (accepted setting (later ++ before))
 tickets_rise setting [] before = omega arith
 tickets_rise setting (attempt ∷ later) before =
@@ -144,6 +146,7 @@ two_places [] (y ∷ ys) a b p q h = inr (inr (ys, ap (drop 1) h))
 two_places (x ∷ xs) [] a b p q h = inr (inl (xs, sym (ap (drop 1) h)))
 two_places (x ∷ xs) (y ∷ ys) a b p q h = two_places xs ys a b p q (ap (drop 1) h)
 
+-- the event with the lower ticket stands before
 pub lower_stands_before : (setting : Setting) (schedule : List Attempt) (first second : Event) → Place setting schedule first
     → Place setting schedule second → first.ticket < second.ticket → StandsBefore setting schedule first second
 lower_stands_before setting schedule first second x y less =
@@ -169,10 +172,12 @@ lower_stands_before setting schedule first second x y less =
           absurd (omega (arith, more, less))
     ]
 
+-- the event that stands before has the lower ticket
 pub stands_before_is_lower : (setting : Setting) (schedule : List Attempt) (first second : Event) → StandsBefore setting schedule first second
     → first.ticket < second.ticket
 stands_before_is_lower setting schedule first second s = later_is_higher setting s.between s.before s.one s.other first second s.gives_first s.gives_second
 
+-- what is collected of a thread is an event of it
 pub collected_is_event : (setting : Setting) (schedule : List Attempt) (t : ℕ) (event : Event) → Contains (collected_in setting schedule t) event
     → Contains (events setting t (accepted setting schedule)) event
 collected_is_event setting schedule t event h =

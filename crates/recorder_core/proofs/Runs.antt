@@ -10,6 +10,7 @@ use Rattle.recorder_core.specs.declared.step.StepRefused.{StepRefused}
 use Rattle.recorder_core.specs.Setting.{Setting}
 use Rattle.recorder_core.specs.Schedule.{Attempt, refusal, accepted, asks, all_asks, answers, returns, pushes, in_ring, question, is_closed, is_wrong}
 
+-- a number is found equal to itself
 pub same_number : (n : ℕ) → eqb n n ≡ true
 same_number n = eq-eqb n n refl
 
@@ -30,6 +31,7 @@ module _ (setting : Setting) (P : List Step → Type 0) (start : P [])
   after_each [] = start
   after_each (attempt ∷ before) = one_more (accepted setting before) attempt (refusal setting (accepted setting before) attempt) refl (after_each before)
 
+-- when a thread may ask
 pub record MayAsk (setting : Setting) (u : ℕ) (before : List Step) : Type 0 where
   pub known : u < setting.threads
   pub open_still : is_closed u before ≡ false
@@ -54,30 +56,35 @@ may_ask setting before u starved none =
       machine_may = leb-false _ _ f.1;
     }
 
+-- when a thread may push
 pub record MayPush (setting : Setting) (u : ℕ) (before : List Step) : Type 0 where
   pub known : u < setting.threads
   pub open_still : is_closed u before ≡ false
   pub one_held : pushes u before < asks u before + returns u before
   pub has_room : in_ring u before < setting.ring
 
+-- a push that isn't refused may come
 pub may_push : (setting : Setting) (before : List Step) (u : ℕ) (starved : Bool)
     → refusal setting before (record { step = Push u; starved = starved }) ≡ None → MayPush setting u before
 may_push setting before u starved none =
     let a = passed _ _ _ none in let b = passed _ _ _ a.1 in let c = passed _ _ _ b.1 in let d = passed _ _ _ c.1 in
     record { known = leb-false _ _ a.0; open_still = b.0; one_held = leb-false _ _ c.0; has_room = leb-false _ _ d.0 }
 
+-- when an answer to a thread may come
 pub record MayAnswer (setting : Setting) (u : ℕ) (before : List Step) : Type 0 where
   pub known : u < setting.threads
   pub open_still : is_closed u before ≡ false
   pub one_pending : returns u before < asks u before
   pub no_answer : answers u before ≤ returns u before
 
+-- an effect that isn't refused may come
 pub may_effect : (setting : Setting) (before : List Step) (u : ℕ) (starved : Bool)
     → refusal setting before (record { step = Effect u; starved = starved }) ≡ None → MayAnswer setting u before
 may_effect setting before u starved none =
     let a = passed _ _ _ none in let b = passed _ _ _ a.1 in let c = passed _ _ _ b.1 in let d = passed _ _ _ c.1 in
     record { known = leb-false _ _ a.0; open_still = b.0; one_pending = leb-false _ _ c.0; no_answer = ltb-false _ _ d.0 }
 
+-- an answer that isn't refused may come
 pub may_say : (setting : Setting) (before : List Step) (u : ℕ) (answer : Answer) (starved : Bool)
     → refusal setting before (record { step = Say u answer; starved = starved }) ≡ None
     → MayAnswer setting u before × (is_wrong answer (question u before) ≡ false)
@@ -85,6 +92,7 @@ may_say setting before u answer starved none =
     let a = passed _ _ _ none in let b = passed _ _ _ a.1 in let c = passed _ _ _ b.1 in let d = passed _ _ _ c.1 in let e = passed _ _ _ d.1 in
     (record { known = leb-false _ _ a.0; open_still = b.0; one_pending = leb-false _ _ c.0; no_answer = ltb-false _ _ d.0 }, e.0)
 
+-- when a thread may return
 pub record MayReturn (setting : Setting) (u : ℕ) (before : List Step) : Type 0 where
   pub known : u < setting.threads
   pub open_still : is_closed u before ≡ false
@@ -92,22 +100,26 @@ pub record MayReturn (setting : Setting) (u : ℕ) (before : List Step) : Type 0
   pub one_pending : returns u before < asks u before
   pub has_answer : returns u before < answers u before
 
+-- a return that isn't refused may come
 pub may_return : (setting : Setting) (before : List Step) (u : ℕ) (starved : Bool)
     → refusal setting before (record { step = Ret u; starved = starved }) ≡ None → MayReturn setting u before
 may_return setting before u starved none =
     let a = passed _ _ _ none in let b = passed _ _ _ a.1 in let c = passed _ _ _ b.1 in let d = passed _ _ _ c.1 in let e = passed _ _ _ d.1 in
     record { known = leb-false _ _ a.0; open_still = b.0; none_held = ltb-false _ _ c.0; one_pending = leb-false _ _ d.0; has_answer = leb-false _ _ e.0 }
 
+-- a drain that isn't refused is of a thread
 pub may_drain : (setting : Setting) (before : List Step) (u k : ℕ) (starved : Bool)
     → refusal setting before (record { step = Drain u k; starved = starved }) ≡ None → u < setting.threads
 may_drain setting before u k starved none = leb-false _ _ (passed _ _ _ none).0
 
+-- when a thread may close
 pub record MayClose (setting : Setting) (u : ℕ) (before : List Step) : Type 0 where
   pub known : u < setting.threads
   pub open_still : is_closed u before ≡ false
   pub none_held : asks u before + returns u before ≤ pushes u before
   pub none_pending : asks u before ≤ returns u before
 
+-- a close that isn't refused may come
 pub may_close : (setting : Setting) (before : List Step) (u : ℕ) (starved : Bool)
     → refusal setting before (record { step = Close u; starved = starved }) ≡ None → MayClose setting u before
 may_close setting before u starved none =

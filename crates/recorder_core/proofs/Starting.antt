@@ -11,11 +11,13 @@ use Rattle.recorder_core.specs.After.{IsLeftBy}
 abbrev pub untouched : ThreadView
 untouched = record { closed = false; asked = 0; pending = None; held = None; ring = []; collected = [] }
 
+-- a machine of untouched threads is that of no step
 pub starts : (setting : Setting) (threads : List ThreadView) → length threads ≡ setting.threads
     → ((k : ℕ) → k < setting.threads → slice_get threads k ≡ Some untouched)
     → IsLeftBy setting (record { capacity = setting.ring; threads = threads; asked = 0; next_ticket = 0; queue = [] }) []
 starts setting threads many each = record { threads = many; capacity = refl; each = each; asked = refl; next_ticket = refl; queue_is = refl }
 
+-- what stands in front stays there
 pub slice_get_front : {X : Type 0} (xs : List X) (x : X) (k : ℕ) → k < length xs → slice_get (xs ++ x ∷ []) k ≡ slice_get xs k
 slice_get_front [] x k h = absurd (omega arith)
 slice_get_front (y ∷ xs) x zero h = refl

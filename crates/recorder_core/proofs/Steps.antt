@@ -32,10 +32,12 @@ use Rattle.recorder_core.proofs.Threads.{with_answer, other_thread, own_ask, own
 use Rattle.recorder_core.proofs.Threads.{answer_of_pending, seen_held, seen_none_held, seen_ring, seen_pending, seen_given}
 use Rattle.recorder_core.proofs.Closing.{accepted_is, refused_is}
 
+-- what was set at a place stands there
 pub slice_get-set_same : {X : Type 0} (xs : List X) (i : ℕ) (x : X) → i < length xs → slice_get (set xs i x) i ≡ Some x
 slice_get-set_same xs i x h =
     slice_get-get_or (set xs i x) i x (omega (arith, length-set xs i x, h)) ∙ ap Some (get_or-set_same xs i x x h)
 
+-- what stands at another place stays
 pub slice_get-set_other : {X : Type 0} (xs : List X) (i j : ℕ) (x : X) → (i ≡ j → ⊥) → slice_get (set xs i x) j ≡ slice_get xs j
 slice_get-set_other xs i j x ne = elim (cases_lt j (length xs)) [
   | inl within ↦
@@ -86,9 +88,11 @@ put_thread setting old before step new asked next items left within is a n q =
       queue_is = q;
     }
 
+-- the counts of all threads
 abbrev pub AllCounted : Setting → List Step → Type 0
 AllCounted setting before = (t : ℕ) → Counted setting t before
 
+-- what an accepted step does
 pub step_accepted : (old new : MachineView) (step : Step) (done : Done) → length new.threads ≡ length old.threads
     → ((setting : Setting) (before : List Step) → AllCounted setting before → IsLeftBy setting old before
     → (refusal setting before (record { step = step; starved = false }) ≡ None) × (done ≡ done_of setting step before)
@@ -104,6 +108,7 @@ step_accepted old new step done same h = record {
   threads = same;
 }
 
+-- a refused step changes nothing
 pub step_refused : (old new : MachineView) (step : Step) (r : StepRefused) → new ≡ old
     → ((setting : Setting) (before : List Step) → AllCounted setting before → IsLeftBy setting old before
     → refusal setting before (record { step = step; starved = is_memory r }) ≡ Some r) → TakesStep old step (Err r) new

@@ -32,6 +32,7 @@ use Rattle.recorder_core.proofs.Counts.{Counted, has_answer}
 abbrev pub with_answer : Option Answer → Question → Pending
 with_answer a q = record { question = q; answer = a }
 
+-- two threads that agree in all are one
 pub same_view : (a b : ThreadView) → a.closed ≡ b.closed → a.asked ≡ b.asked → a.pending ≡ b.pending → a.held ≡ b.held → a.ring ≡ b.ring
     → a.collected ≡ b.collected → a ≡ b
 same_view a b p q r s t u =
@@ -59,15 +60,18 @@ take_next (x ∷ xs) (suc n) = ap (λ l. x ∷ l) (take_next xs n) ∙ joined x 
     joined y ys None = refl
     joined y ys (Some z) = refl
 
+-- the rest of a list with one element more
 pub drop-with_last : {X : Type 0} (n : ℕ) (xs : List X) (o : Option X) → n ≤ length xs → drop n (with_last xs o) ≡ with_last (drop n xs) o
 drop-with_last n xs None h = refl
 drop-with_last n xs (Some x) h = drop-append-le n xs (x ∷ []) h
 
+-- a place has an element where it is in range
 pub is_some-slice_get : {X : Type 0} (xs : List X) (n : ℕ) → is_some (slice_get xs n) ≡ ltb n (length xs)
 is_some-slice_get [] n = sym (le-ltb n 0 (omega arith))
 is_some-slice_get (x ∷ xs) zero = sym (lt-ltb 0 (suc (length xs)) (omega arith))
 is_some-slice_get (x ∷ xs) (suc n) = rw compare.suc-suc (is_some-slice_get xs n)
 
+-- a place has none where it isn't
 pub is_none-slice_get : {X : Type 0} (xs : List X) (n : ℕ) → is_none (slice_get xs n) ≡ leb (length xs) n
 is_none-slice_get [] n = sym (le-leb 0 n (omega arith))
 is_none-slice_get (x ∷ xs) zero = sym (lt-leb (suc (length xs)) 0 (omega arith))

@@ -17,6 +17,7 @@ abbrev pub total : (ℕ → ℕ) → ℕ → ℕ
 total f zero = 0
 total f (suc n) = total f n + f n
 
+-- a sum of less is less
 pub total_below : (f g : ℕ → ℕ) (n : ℕ) → ((t : ℕ) → f t ≤ g t) → total f n ≤ total g n
 total_below f g zero h = omega arith
 total_below f g (suc n) h = omega (arith, total_below f g n h, h n)
@@ -51,6 +52,7 @@ pub record AddUp (threads asked ticketed : ℕ) (asked_by returned_by : ℕ → 
   pub tickets_are : ticketed ≡ asked + total returned_by threads
   pub limited : asked ≤ MAX_OPERATIONS
 
+-- what holds of all threads together
 abbrev pub Added : Setting → List Step → Type 0
 Added setting steps = AddUp setting.threads (all_asks steps) (tickets steps) (λ t. asks t steps) (λ t. returns t steps)
 
@@ -81,6 +83,7 @@ none_yet : (n : ℕ) → 0 ≡ total (λ t. 0) n
 none_yet zero = refl
 none_yet (suc n) = omega (arith, none_yet n)
 
+-- after any schedule
 pub added : (setting : Setting) (schedule : List Attempt) → Added setting (accepted setting schedule)
 added setting schedule = after_each setting (Added setting)
     (record { asks_are = none_yet setting.threads; tickets_are = omega (arith, none_yet setting.threads); limited = omega arith })
@@ -105,6 +108,7 @@ is_small machine (setting, schedule, after) = (
 
 -- ---- sums of two kinds, thread by thread
 
+-- a sum of doubles is double
 pub total_doubled : (f g : ℕ → ℕ) (n : ℕ) → ((t : ℕ) → t < n → 2 * f t ≤ g t) → 2 * total f n ≤ total g n
 total_doubled f g zero h = omega arith
 total_doubled f g (suc n) h = omega (arith, total_doubled f g n (λ t below. h t (omega arith)), h n (omega arith))

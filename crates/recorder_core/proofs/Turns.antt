@@ -22,11 +22,13 @@ pub turns_from_call : (events : List Event) (call : Event) (later : List Event) 
     → TakesTurns (call ∷ later)
 turns_from_call events call later turns both = turns_split events (call ∷ later) turns (rw append_assoc at both)
 
+-- whole turns are an even number of events
 pub turns_even : (events : List Event) → TakesTurns events → (h : ℕ) × (length events ≡ 2 * h)
 turns_even [] turns = (zero, refl)
 turns_even (e ∷ []) turns = absurd turns
 turns_even (e ∷ f ∷ events) turns = let more = turns_even events turns.1 in (suc more.0, omega (arith, more.1))
 
+-- a call is answered by the next event
 pub pending_is_answered : (call e : Event) (later : List Event) → TakesTurns (call ∷ e ∷ later) → answers call.what e.what ≡ true
 pending_is_answered call e later turns = turns.0
 

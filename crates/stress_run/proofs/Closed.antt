@@ -16,6 +16,7 @@ use Rattle.stress_run.specs.declared.faults.RunFault.{RunFault}
 use Rattle.stress_run.specs.declared.faults.RunFault.TheVariants.{Memory, Stalled}
 use Rattle.stress_run.proofs.Order.{not_after}
 
+-- no worker is closed at first
 pub closed_none : (rest : PassView) → AreClosed rest [] [] rest
 closed_none rest = record {
   running = All-nil (λ (w : WorkerView). w.stopped ≡ false);
@@ -25,6 +26,7 @@ closed_none rest = record {
   drawn = subst (λ l. IsPermutation l rest.drawn) (sym (append-nil rest.drawn)) (IsPermutation-refl rest.drawn);
 }
 
+-- one worker more is closed
 pub closed_more : (rest : PassView) (workers : List WorkerView) (tokens : List TokenView) (pass : PassView) (w : WorkerView)
     (tokens' : List TokenView) (pass' : PassView)
     → AreClosed rest workers tokens pass → w.stopped ≡ false → tokens' ≡ tokens ++ token_of w ∷ [] → pass'.key ≡ pass.key → pass'.left ≡ pass.left + w.pass.left
@@ -49,10 +51,12 @@ closed_more rest workers tokens pass w tokens' pass' p runs token key left drawn
     all = ap (λ l. rest.drawn ++ l) (flat_map-append drawn_of workers (w ∷ []) ∙ ap (λ l. flat_map drawn_of workers ++ l) (append-nil w.pass.drawn))
         ∙ sym (append_assoc rest.drawn (flat_map drawn_of workers) w.pass.drawn)
 
+-- a result that is known where there is none
 pub at_none : {F : Type 0} (o : Option F) (Q : Type 0) → (o ≡ None → Q) → IfNone o Q
 at_none None Q f = f refl
 at_none (Some x) Q f = tt
 
+-- what is known where there is none
 pub none_of : {F : Type 0} (o : Option F) (P : Type 0) → o ≡ None → IfNone o P → P
 none_of None P e p = p
 none_of (Some x) P e p = cc
@@ -66,6 +70,7 @@ pub record IsClosing (rest : PassView) (done : List WorkerView) (standing : Opti
   pub stalls : IfSome fault (λ f. All (IsNotAfterStall f) done)
   pub stands : IfSome fault (Stands standing done)
 
+-- no worker is being closed at first
 pub closing_none : (rest : PassView) (standing : Option RunFault) → IsClosing rest [] standing [] rest standing
 closing_none rest None = record { closed = (refl, closed_none rest); first = tt; stalls = tt; stands = tt }
 closing_none rest (Some f) = record { closed = tt; first = inr (refl, omega arith); stalls = All-nil (IsNotAfterStall f); stands = inl refl }

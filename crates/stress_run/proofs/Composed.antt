@@ -24,11 +24,13 @@ range-append a (suc n) m =
     let f : a + 1 + n ≡ a + suc n = omega arith in
     ap (range_with_len a) e ∙ ap (λ l. a ∷ l) (range-append (a + 1) n m) ∙ ap (λ b. (a ∷ range_with_len (a + 1) n) ++ range_with_len b m) f
 
+-- what holds of all of two lists holds of all of the first
 pub All-left : (P : ℕ → Type 0) (xs ys : List ℕ) → All P (xs ++ ys) → All P xs
 All-left P xs ys all k d h =
     let long = length-append xs ys in
     subst P (get_or_append_left xs ys d k h) (all k d (omega (arith, h, long)))
 
+-- what holds of all of two lists holds of all of the second
 pub All-right : (P : ℕ → Type 0) (xs ys : List ℕ) → All P (xs ++ ys) → All P ys
 All-right P [] ys all = all
 All-right P (x ∷ xs) ys all = All-right P xs ys (All-tail P x (xs ++ ys) all)

@@ -88,6 +88,7 @@ ends_threads : (workers : List WorkerView) → map (λ e. e.thread) (map end_of 
 ends_threads [] = refl
 ends_threads (w ∷ ws) = ap (λ l. w.thread ∷ l) (ends_threads ws)
 
+-- rings that weren't drained have given nothing
 pub ends_fresh : (workers : List WorkerView) → All (λ e. e.received ≡ []) (map end_of workers)
 ends_fresh [] k d h = absurd (omega (arith, h))
 ends_fresh (w ∷ ws) zero d h = refl

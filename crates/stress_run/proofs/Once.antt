@@ -82,6 +82,7 @@ draws_from p p' u u' t t' d a b e =
     let S : PassView → Type 0 = λ x. DrawsOne p' t' x in
     subst S e (subst Q b (subst P a d))
 
+-- an operation whose return can't be pushed stalls its worker
 pub stalls_after : (k : Kind) (w u : WorkerView) (q : Question) (ret : ℕ) (p : PassView)
     → (q.thread ≡ w.thread) × (q.number ≡ w.asked) × (q.kind ≡ k)
     → (u.thread ≡ w.thread) × (u.ring ≡ w.ring) × (u.sent ≡ w.sent ++ call_event q ∷ []) × (u.stopped ≡ true) × (u.asked ≡ w.asked + 1)
@@ -104,5 +105,6 @@ stalls_after k w u q ret p asked s filled ran d e =
       idle = λ h. absurd (false≢true (sym ran ∙ h));
     }
 
+-- a ring that is full stays so
 pub filled_still : (c c' n n' : ℕ) → c' ≡ c → n' ≡ n → c ≤ n → c' ≤ n'
 filled_still c c' n n' e f h = omega (arith, e, f, h)

@@ -5,6 +5,7 @@ use Rattle.std.proofs.lemmas.List.Elements.{All-push}
 use Rattle.stress_run.specs.Faults.{IsNotAfter}
 use Rattle.stress_run.specs.declared.faults.RunFault.{RunFault}
 
+-- faults are in one order
 pub not_after : (f g h : RunFault) → IsNotAfter f g → IsNotAfter g h → IsNotAfter f h
 not_after f g h (inl a) (inl b) = inl (omega (arith, a, b))
 not_after f g h (inl a) (inr b) = inl (omega (arith, a, b.0))

@@ -9,6 +9,7 @@ use Rattle.tickets.specs.Views.{numbers_below}
 abbrev pub IsAt : {X : Type 0} → List X → ℕ → X → Type 0
 IsAt {X} xs i x = (d : X) → get_or xs i d ≡ x
 
+-- what holds place by place holds at a place
 pub zip_at : {X Y : Type 0} (R : X → Y → Type 0) (xs : List X) (ys : List Y) (i : ℕ) → AllZip R xs ys → i < length xs
     → (x : X) × (y : Y) × IsAt xs i x × IsAt ys i y × R x y
 zip_at R [] ys i z h = absurd (omega (arith, h))
@@ -16,9 +17,11 @@ zip_at R (x ∷ xs) [] i z h = absurd z
 zip_at R (x ∷ xs) (y ∷ ys) zero z h = (x, y, (λ d. refl), (λ d. refl), z.0)
 zip_at R (x ∷ xs) (y ∷ ys) (suc i) z h = zip_at R xs ys i z.1 (omega (arith, h))
 
+-- what a function gives of the element at a place
 pub map_at : {X Y : Type 0} (f : X → Y) (xs : List X) (i : ℕ) (x : X) (m : Y) → i < length xs → IsAt xs i x → get_or (map f xs) i m ≡ f x
 map_at f xs i x m h at = get_or-map f xs i x m h ∙ ap f (at x)
 
+-- what holds at each place holds place by place
 pub zip_of : {X Y : Type 0} (R : X → Y → Type 0) (xs : List X) (ys : List Y) → length ys ≡ length xs
     → ((i : ℕ) (x : X) (y : Y) → i < length xs → IsAt xs i x → IsAt ys i y → R x y) → AllZip R xs ys
 zip_of R [] [] e k = tt
@@ -30,6 +33,7 @@ zip_of R (x ∷ xs) (y ∷ ys) e k = (
       (λ i a b h p q. k (suc i) a b (omega (arith, h)) p q),
 )
 
+-- one element more in both lists
 pub zip_push : {X Y : Type 0} (R : X → Y → Type 0) (xs : List X) (ys : List Y) (x : X) (y : Y) → AllZip R xs ys → R x y → AllZip R (xs ++ x ∷ []) (ys ++ y ∷ [])
 zip_push R [] [] x y z r = (r, tt)
 zip_push R [] (b ∷ ys) x y z r = absurd z

@@ -56,6 +56,7 @@ same_event d e p = cc
 two_more : (n : ℕ) → 2 * suc n ≡ suc (suc (2 * n))
 two_more n = omega arith
 
+-- each operation has two events
 pub two_each : (os : List Operation) → length (flat_map events_of os) ≡ 2 * length os
 two_each [] = refl
 two_each (o ∷ os) = let rest = two_each os in omega (arith, rest)
@@ -117,6 +118,7 @@ module _ (may : Question → Answer → Type 0) (t : ℕ) (key : TableId) where
         not_too_long = omega (arith, size, long, short);
       }
 
+-- the lists of a run are recorded lists
 pub are_recorded : (may : Question → Answer → Type 0) (rows : List (List Kind)) (lists : List (List Event)) (total : ℕ) → IsPlan rows
     → IsRun may rows lists total → AreRecorded lists
 are_recorded may rows lists total plan run =

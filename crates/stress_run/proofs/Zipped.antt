@@ -10,6 +10,7 @@ module _ {X Y : Type 0} (R : X → Y → Type 0) where
   zip_each (x ∷ xs) [] e k = absurd (omega (arith, e))
   zip_each (x ∷ xs) (y ∷ ys) e k = (k 0 (omega arith) x y, zip_each xs ys (omega (arith, e)) (λ i h a b. k (suc i) (omega (arith, h)) a b))
 
+-- what follows from two things that hold of a value
 pub IfOk-both : {T E : Type 0} (r : Result T E) (P Q S : T → Type 0) → IfOk r P → IfOk r Q → ((x : T) → P x → Q x → S x) → IfOk r S
 IfOk-both (Ok x) P Q S p q f = f x p q
 IfOk-both (Err e) P Q S p q f = tt

@@ -28,21 +28,25 @@ on_ok (Err e) P p = tt
 stops : (piece : List ℕ) (done : ℕ) (a c : Option (List ℕ)) → Appends a c (take done piece) → AppendsFront a c piece
 stops piece done a c h = record { front = take done piece; rest = drop done piece; whole = sym (take-append-drop done piece); written = h }
 
+-- a write that took nothing leaves a front of the piece
 pub stops_at_zero : (piece rest : List ℕ) (done n : ℕ) (a b c : Option (List ℕ)) → n ≡ 0 → Appends a b (take done piece) → Appends b c (take n rest)
     → AppendsFront a c piece
 stops_at_zero piece rest done n a b c none before now =
     let nothing : Appends b c [] = subst (λ (m : ℕ). Appends b c (take m rest)) none now in
     stops piece done a c (subst (Appends a c) (append-nil (take done piece)) (Appends-trans a b c _ _ before nothing))
 
+-- a write that failed leaves a front of the piece
 pub stops_at_failure : (piece : List ℕ) (done : ℕ) (a b c : Option (List ℕ)) → Appends a b (take done piece) → Keeps b c → AppendsFront a c piece
 stops_at_failure piece done a b c before same = stops piece done a c (Appends-kept a b c _ before same)
 
+-- a write that took some bytes leaves a longer front of the piece
 pub goes_on : (piece : List ℕ) (done n : ℕ) (a b c : Option (List ℕ)) → Appends a b (take done piece)
     → Appends b c (take n (take (length piece - done) (drop done piece))) → Appends a c (take (done + n) piece)
 goes_on piece done n a b c before now =
     let rest : take (length piece - done) (drop done piece) ≡ drop done piece = take_all _ _ (omega (arith, length-drop done piece)) in
     subst (Appends a c) (ap (λ (r : List ℕ). take done piece ++ take n r) rest ∙ sym (take-add done n piece)) (Appends-trans a b c _ _ before now)
 
+-- a write that took some bytes refuses nothing
 pub no_refusal : (before after first : Bool) (n : ℕ) (piece : List ℕ) → after ≡ (before || ((n == 0) && not (length piece == 0))) → (n ≡ 0 → ⊥)
     → before ≡ first → after ≡ first
 no_refusal before after first n piece e some same =

@@ -2,6 +2,7 @@
 use Rattle.std.proofs.Common.{◌≡◌, ℕ, List, ◌++◌, Option, Some, None, append_assoc, append-nil, sym, ◌∙◌, ap, IfSome, subst}
 use Rattle.text_lines.specs.Input.{Ahead, Ending, Takes, IsOver}
 
+-- bytes that are taken in two steps are taken
 pub Takes-append : (a b c : Option Ahead) (xs ys : List ℕ) → Takes a b xs → Takes b c ys → Takes a c (xs ++ ys)
 Takes-append None b c xs ys h k = tt
 Takes-append (Some u) None c xs ys h k = absurd h

@@ -20,6 +20,7 @@ pub is_one_field : (bytes : List ℕ) → ((k : ℕ) → k < length bytes → ge
 is_one_field bytes none =
     slice_split_none is_space bytes (All-from_get_or (λ b. is_space b ≡ false) bytes 0 (λ k h. not_space (get_or bytes k 0) (none k h)))
 
+-- the first field ends at the first space
 pub cut_at_space : (bytes : List ℕ) (i : ℕ) → i < length bytes → ((k : ℕ) → k < i → get_or bytes k 0 ≡ 32 → ⊥) → get_or bytes i 0 ≡ 32
     → fields_of bytes ≡ take i bytes ∷ fields_of (take (length bytes - (i + 1)) (drop (i + 1) bytes))
 cut_at_space bytes i within none here =

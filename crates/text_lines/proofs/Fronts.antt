@@ -38,6 +38,7 @@ front_whole bytes rest part =
 pub whole : (bytes more : List ℕ) → IsPartOfLine bytes → front_of (line bytes ++ more) ≡ Whole bytes more
 whole bytes more part = ap front_of (append_assoc bytes (10 ∷ []) more) ∙ front_whole bytes more part
 
+-- some bytes of a line, and no more, are less than a line
 pub front_unfinished : (bytes : List ℕ) → IsPartOfLine bytes → 0 < length bytes → front_of bytes ≡ Unfinished
 front_unfinished bytes part some =
     let place : position_or_len is_line_feed (bytes ++ []) ≡ length bytes + 0 = place_after bytes [] part.one in
@@ -47,6 +48,7 @@ front_unfinished bytes part some =
     let more : nat_lt 0 (length bytes) ≡ true = grind (arith, nat_tests, some) in
     front_by bytes (length bytes) here ∙ rw (past, few, more) refl
 
+-- one byte more than a line may have is too long
 pub front_too_long : (given : List ℕ) (b : ℕ) (more : List ℕ) → IsPartOfLine given → length given ≡ longest_line → is_line_feed b ≡ false
     → front_of ((given ++ b ∷ []) ++ more) ≡ TooLong
 front_too_long given b more part full other =

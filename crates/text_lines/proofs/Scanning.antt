@@ -23,6 +23,7 @@ pub record IsDigitsSoFar (bytes : List ℕ) (count value : ℕ) : Type 0 where
 is_digit : (b : ℕ) → IsInRange 48 57 b → is_ascii_digit b ≡ true
 is_digit b range = grind (arith, nat_tests, range.0, range.1)
 
+-- one digit more
 pub one_more_digit : (bytes : List ℕ) (count value last : ℕ) → count < length bytes → IsDigitsSoFar bytes count value
     → IsInRange 48 57 (get_or bytes count 0) → last ≡ get_or bytes count 0 - 48 → IsDigitsSoFar bytes (count + 1) (value * 10 + last)
 one_more_digit bytes count value last more so_far range last_is = record {
@@ -59,6 +60,7 @@ number_is bytes count within digits some lead =
     let any : nat_lt 0 (length (take count bytes)) ≡ true = grind (arith, nat_tests, long, some) in
     rw (any, digits) (one_or_no_zero bytes count within some lead)
 
+-- digits without a leading zero are the number that stands there
 pub number_stands : (bytes : List ℕ) (count value : ℕ) → IsDigitsSoFar bytes count value → 0 < count → (1 < count → get_or bytes 0 0 ≡ 48 → ⊥)
     → value < 2 ^ 64 → bytes ≡ decimal value ++ take (length bytes - count) (drop count bytes)
 number_stands bytes count value so_far some lead small =

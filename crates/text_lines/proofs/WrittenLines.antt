@@ -25,6 +25,7 @@ is_inner b = nat_lt 32 b
 abbrev is_space : ℕ → Bool
 is_space b = b == 32
 
+-- bytes without a space and a line feed
 abbrev pub IsField : List ℕ → Type 0
 IsField bytes = list_all is_inner bytes ≡ true
 
@@ -39,6 +40,7 @@ fields_of_spaced f [] one all = slice_split_none is_space f (no_space f one)
 fields_of_spaced f (g ∷ gs) one all =
     slice_split_at is_space f 32 (spaced (g ∷ gs)) (no_space f one) refl ∙ ap (λ (r : List (List ℕ)). f ∷ r) (fields_of_spaced g gs all.0 all.1)
 
+-- a field has no line feed
 pub field_is_clean : (bytes : List ℕ) → IsField bytes → has_no_line_feed bytes ≡ true
 field_is_clean [] one = refl
 field_is_clean (b ∷ bytes) one =
@@ -53,6 +55,7 @@ fields_are_clean f (g ∷ gs) one all =
 
 -- ---- numbers
 
+-- the digits of a number are digits
 pub all_digits : (v : ℕ) → v < 2 ^ 64 → list_all is_ascii_digit (decimal v) ≡ true
 all_digits v small = digits_decimal (numerals_by_value _ tells) v small
 
@@ -63,6 +66,7 @@ digits_are_field (d ∷ ds) all =
     let inner : is_inner d ≡ true = grind (arith, nat_tests, p.0) in
     rw (inner, digits_are_field ds p.1) refl
 
+-- the digits of a number are a field
 pub number_is_field : (v : ℕ) → v < 2 ^ 64 → IsField (decimal v)
 number_is_field v small = digits_are_field (decimal v) (all_digits v small)
 
@@ -81,6 +85,7 @@ is_number_decimal (suc v) small =
 value_decimal : (v : ℕ) → v < 2 ^ 64 → digits_value 10 (decimal v) ≡ v
 value_decimal v small = digits_value-decimal (numerals_by_value _ tells) v small
 
+-- the digits of a number are read as it
 pub number_read : (n greatest v : ℕ) → v ≤ greatest → greatest < 2 ^ 64 → number_in n greatest (decimal v) ≡ Ok v
 number_read n greatest v within small =
     let few : v < 2 ^ 64 = omega (arith, within, small) in
@@ -93,6 +98,7 @@ between_read n least greatest v more within small =
     let enough : nat_le least v ≡ true = grind (arith, nat_tests, more) in
     rw (number_read n greatest v within small, enough) refl
 
+-- the number of the last line is read as it
 pub end_read : (n k : ℕ) → k < 2 ^ 64 → end_in n k (decimal k) ≡ Ok tt
 end_read n k small =
     let same : (k == k) ≡ true = grind (arith, nat_tests) in
@@ -107,6 +113,7 @@ pub record HasFields (fields : List (List ℕ)) : Type 0 where
   pub all : AllByRecursion IsField others
   pub short : length (spaced (word ∷ others)) ≤ 29
 
+-- a word and a value are the fields of their line
 pub with_value : (word : List ℕ) (v : ℕ) → IsField word → length word ≤ 8 → v ≤ greatest_value → HasFields (word ∷ decimal v ∷ [])
 with_value word v one few r = record {
   word = word;
@@ -134,6 +141,7 @@ line_of_fields f fs one all short other = record {
   other = other;
 }
 
+-- a line that begins with a digit isn't the last one
 pub digits_begin_other : (ds rest : List ℕ) → 0 < length ds → list_all is_ascii_digit ds ≡ true → begins_as_end (ds ++ rest) ≡ false
 digits_begin_other [] rest some all = absurd (omega (arith, some))
 digits_begin_other (d ∷ ds) rest some all =

@@ -44,6 +44,7 @@ each_below next [] all = All-nil (λ (h : Holding). All (λ t. t < next) h.drawn
 each_below next (v ∷ vs) all = All-cons (λ (h : Holding). All (λ t. t < next) h.drawn) v vs
     (all_left (λ t. t < next) v.drawn (flat_map drawn_of vs) all) (each_below next vs (all_right (λ t. t < next) v.drawn (flat_map drawn_of vs) all))
 
+-- passes that keep the account have drawn each number below the word once
 pub drawn_once : (budget next : ℕ) (passes : List Holding) → IsAccount budget next passes → DrawnOnce next passes
 drawn_once budget next passes a = record {
   apart = λ i j t g h l e f here there.

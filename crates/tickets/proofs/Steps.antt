@@ -20,9 +20,11 @@ use Rattle.tickets.specs.Views.{numbers_below}
 use Rattle.tickets.proofs.Rising.{times, times-append, times-permutation, times-range, range-push, range-below, rises, increasing, RisesFrom-push}
 use Rattle.tickets.proofs.Rising.{all_below, IsPermutation-merged, RisesFrom-merged}
 
+-- the numbers that a pass has drawn
 abbrev pub drawn_of : Holding → List ℕ
 drawn_of h = h.drawn
 
+-- how many numbers a pass may still draw
 abbrev pub count_of : Holding → ℕ
 count_of h = length h.drawn
 
@@ -122,6 +124,7 @@ rising_at views i v at all = let p = place_in views i v at in
 none_rise : IsStrictlyIncreasing []
 none_rise k l = absurd (omega arith)
 
+-- what holds of all of two lists holds of all of the first
 pub all_left : (P : ℕ → Type 0) (xs ys : List ℕ) → All P (xs ++ ys) → All P xs
 all_left P [] ys h = All-nil P
 all_left P (x ∷ xs) ys h = All-cons P x xs (All-head P x (xs ++ ys) h) (all_left P xs ys (All-tail P x (xs ++ ys) h))
@@ -130,6 +133,7 @@ nothing : (xs : List ℕ) → length xs ≡ 0 → xs ≡ []
 nothing [] e = refl
 nothing (x ∷ xs) e = absurd (omega arith)
 
+-- the numbers below n are below n
 pub below_all : (n : ℕ) → All (λ t. t < n) (numbers_below n)
 below_all n = subst (λ (m : ℕ). All (λ t. t < m) (numbers_below n)) (omega arith) (range-below 0 n)
 
@@ -309,6 +313,7 @@ module _ (budget : ℕ) where
       word_at [] n e = absurd (some-ne-none n (sym e))
       word_at (x ∷ xs) n e = some-injective x n e
 
+-- the whole of two passes put together is the sum of their wholes
 pub whole_of-put_together : (v w : Holding) → whole_of (put_together v w) ≡ whole_of v + whole_of w
 whole_of-put_together v w =
     let long = length_permutation (v.drawn ++ w.drawn) (merged v.drawn w.drawn) (IsPermutation-merged v.drawn w.drawn) in

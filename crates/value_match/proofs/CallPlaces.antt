@@ -28,17 +28,20 @@ abbrev pub MetCall : List Operation → ℕ → ℕ → Option ℕ → Type 0
 MetCall operations n v None = (k : ℕ) (o : Operation) → k < n → IsAt operations k o → ¬ (enqueued_value o.kind ≡ Some v)
 MetCall operations n v (Some place) = (o : Operation) × IsAt operations place o × (enqueued_value o.kind ≡ Some v)
 
+-- an operation that calls no value
 pub met_no_call : (operations : List Operation) (i : ℕ) (o : Operation) (v : ℕ) (found : Option ℕ) → IsAt operations i o → enqueued_value o.kind ≡ None
     → MetCall operations i v found → MetCall operations (i + 1) v found
 met_no_call operations i o v None here none met =
     each_more (λ k x. ¬ (enqueued_value x.kind ≡ Some v)) operations i o here (λ same. let wrong = sym none ∙ same in cc) (λ k x below at. met k x below at)
 met_no_call operations i o v (Some place) here none met = met
 
+-- an operation that calls another value
 pub met_other : (operations : List Operation) (i : ℕ) (o : Operation) (v : ℕ) (found : Option ℕ) → IsAt operations i o → ¬ (enqueued_value o.kind ≡ Some v)
     → MetCall operations i v found → MetCall operations (i + 1) v found
 met_other operations i o v None here other m = each_more (λ k x. ¬ (enqueued_value x.kind ≡ Some v)) operations i o here other m
 met_other operations i o v (Some place) here other m = m
 
+-- the call that was met is that of the whole list
 pub met_all : (operations : List Operation) (n v : ℕ) (found : Option ℕ) → length operations ≤ n → MetCall operations n v found → IsCallPlace operations v found
 met_all operations n v None all met =
     λ o among calls. let at = place_of operations o among in met at.0 o (let within = slice_get_within operations at.0 o at.1 in omega arith) at.1 calls
@@ -49,9 +52,11 @@ pub record MetOthers (operations : List Operation) (names : Names) (n : ℕ) (ca
   pub are_calls : All (IsCall operations) calls
   pub has_all : (v : ℕ) → ¬ (IsNamed operations names v) → NoneOf calls v → MetCall operations n v None
 
+-- no call is among the others at first
 pub others_none : (operations : List Operation) (names : Names) → MetOthers operations names 0 []
 others_none operations names = record { are_calls = All-nil (IsCall operations); has_all = λ v unnamed none k o below at. absurd (omega (arith, below)) }
 
+-- a place that is found by a name has that name
 pub named_if_found : (operations : List Operation) (names : Names) (v : ℕ) (found : Option ℕ) → is_some found ≡ true
     → MatchOption found (¬ (IsNamed operations names v)) (λ place. (place ≡ named.place_of names v) × IsNamed operations names v) → IsNamed operations names v
 named_if_found operations names v None some found = absurd (false≢true some)
@@ -83,6 +88,7 @@ module _ (operations : List Operation) (names : Names) (i : ℕ) (o : Operation)
         met_other operations i o v None here (λ same. parts.1 (let e = sym called ∙ same in cc)) (met.has_all v unnamed parts.0);
   }
 
+-- all calls without a name, by their values
 pub others_sorted : (operations : List Operation) (names : Names) (n : ℕ) (calls sorted : List Call) → length operations ≤ n
     → MetOthers operations names n calls → IsPermutation calls sorted
     → IsNonDecreasingBy (λ call. call.value) sorted → HoldsOthers operations names sorted
@@ -98,6 +104,7 @@ pub record HasSources (operations : List Operation) (n : ℕ) (sources : List (O
   pub one_each : length sources ≡ n
   pub each : (i : ℕ) (o : Operation) → i < n → IsAt operations i o → IsSourceOf operations o.kind (get_or sources i None)
 
+-- the source of one operation more
 pub sources_push : (operations : List Operation) (n : ℕ) (o : Operation) (sources : List (Option ℕ)) (source : Option ℕ) → IsAt operations n o
     → IsSourceOf operations o.kind source
     → HasSources operations n sources → HasSources operations (n + 1) (sources ++ source ∷ [])
@@ -114,6 +121,7 @@ sources_push operations n o sources source here is known = record {
     before i x below at = subst (IsSourceOf operations x.kind) (sym (get_or_append_left sources (source ∷ []) None i (omega (arith, known.one_each))))
         (known.each i x below at)
 
+-- the sources of all operations
 pub sources_all : (operations : List Operation) (n : ℕ) (sources : List (Option ℕ)) → length operations ≤ n → n ≤ length operations
     → HasSources operations n sources → HoldsSources operations sources
 sources_all operations n sources all within known = record {
@@ -148,6 +156,7 @@ pub record HasNear (operations : List Operation) (n : ℕ) (sources : List (Opti
   pub one_each : length sources ≡ n
   pub each : (i : ℕ) (o : Operation) → i < n → IsAt operations i o → IsNearSource operations o.kind (get_or sources i None)
 
+-- the source near by of one operation more
 pub near_push : (operations : List Operation) (n : ℕ) (o : Operation) (sources : List (Option ℕ)) (source : Option ℕ) → IsAt operations n o
     → IsNearSource operations o.kind source
     → HasNear operations n sources → HasNear operations (n + 1) (sources ++ source ∷ [])
@@ -164,6 +173,7 @@ near_push operations n o sources source here is known = record {
     before i x below at = subst (IsNearSource operations x.kind) (sym
         (get_or_append_left sources (source ∷ []) None i (omega (arith, known.one_each)))) (known.each i x below at)
 
+-- the sources near by of all operations
 pub near_all : (operations : List Operation) (n : ℕ) (sources : List (Option ℕ)) → length operations ≤ n → n ≤ length operations
     → HasNear operations n sources → HoldsNear operations sources
 near_all operations n sources all within known = record {
@@ -177,6 +187,7 @@ pub record HasFound (operations : List Operation) (n : ℕ) (sources : List (Opt
   pub found : (i : ℕ) (o : Operation) → i < n → IsAt operations i o → IsSourceOf operations o.kind (get_or sources i None)
   pub near : (i : ℕ) (o : Operation) → n ≤ i → IsAt operations i o → IsNearSource operations o.kind (get_or sources i None)
 
+-- none of the far sources is found at first
 pub none_found : (operations : List Operation) (sources : List (Option ℕ)) → HoldsNear operations sources → HasFound operations 0 sources
 none_found operations sources near = record {
   one_each = near.one_each;
@@ -193,6 +204,7 @@ near_source operations (Enq v) source near some = near
 near_source operations (Not v) source near some = near
 near_source operations Empty source near some = near
 
+-- a source that was near by is found
 pub found_near : (operations : List Operation) (n : ℕ) (o : Operation) (sources : List (Option ℕ)) → IsAt operations n o
     → ¬ (get_or sources n None ≡ None) → HasFound operations n sources → HasFound operations (n + 1) sources
 found_near operations n o sources here some known = record {
@@ -202,6 +214,7 @@ found_near operations n o sources here some known = record {
   near = λ i x after at. known.near i x (omega (arith, after)) at;
 }
 
+-- one source more is found
 pub found_more : (operations : List Operation) (n : ℕ) (o : Operation) (sources : List (Option ℕ)) (source : Option ℕ) → IsAt operations n o
     → IsSourceOf operations o.kind source → HasFound operations n sources
     → HasFound operations (n + 1) (set sources n source)
@@ -217,6 +230,7 @@ found_more operations n o sources source here is known = record {
     within : n < length sources
     within = let inside = slice_get_within operations n o here in omega (arith, known.one_each)
 
+-- the sources of all operations are found
 pub found_all : (operations : List Operation) (n : ℕ) (sources : List (Option ℕ)) → length operations ≤ n → HasFound operations n sources
     → HoldsSources operations sources
 found_all operations n sources all known = record {

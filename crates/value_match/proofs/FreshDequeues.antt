@@ -24,6 +24,7 @@ calls_for (Not w) v h = let same : w ≡ v = cc in inr (ap Not same)
 calls_for (Deq w) v h = cc
 calls_for Empty v h = cc
 
+-- a dequeue without a call of its value is of a value that was not there
 pub fresh_without_call : (operations : List Operation) (i : ℕ) (o : Operation) (v : ℕ) → IsAt operations i o → o.kind ≡ Deq v → IsCallPlace operations v None
     → IsTrue true ↔ IsFreshFrom operations None o
 fresh_without_call operations i o v here is none = (
@@ -40,6 +41,7 @@ fresh_without_call operations i o v here is none = (
   λ _. refl,
 )
 
+-- a dequeue is of a value that was not there where the call was refused or comes after its return
 pub fresh_by_call : (operations : List Operation) (i p : ℕ) (o call : Operation) (v : ℕ) → IsAt operations i o → o.kind ≡ Deq v
     → IsAt operations p call → enqueued_value call.kind ≡ Some v
     → IsTrue (is_refused call || nat_lt o.ret call.call) ↔ IsFreshFrom operations (Some p) o
@@ -80,12 +82,14 @@ pub source_of_dequeue : (operations : List Operation) (sources : List (Option �
 source_of_dequeue operations sources i o v source holds here is from =
     subst (IsCallPlace operations v) from (subst (λ kind. IsSourceOf operations kind (get_or sources i None)) is (holds.each i o here))
 
+-- a source is the place of an operation
 pub source_in_range : (operations : List Operation) (sources : List (Option ℕ)) (i : ℕ) (o : Operation) (v p : ℕ) → HoldsSources operations sources
     → IsAt operations i o → o.kind ≡ Deq v
     → get_or sources i None ≡ Some p → p < length operations
 source_in_range operations sources i o v p holds here is from = let call = source_of_dequeue operations sources i o v (Some p) holds here is from in
     slice_get_within operations p call.0 call.1
 
+-- the same, at a place without a source
 pub fresh_at_none : (operations : List Operation) (sources : List (Option ℕ)) (i : ℕ) (o x : Operation) (v : ℕ) → HoldsSources operations sources
     → IsAt operations i o → o.kind ≡ Deq v → get_or sources i None ≡ None
     → IsAt operations i x → IsTrue true ↔ IsFreshFrom operations (get_or sources i None) x
@@ -95,6 +99,7 @@ fresh_at_none operations sources i o x v holds here is from there =
     (subst (λ source. IsTrue true ↔ IsFreshFrom operations source o) (sym from)
     (fresh_without_call operations i o v here is (source_of_dequeue operations sources i o v None holds here is from)))
 
+-- the same, at a place with a source
 pub fresh_at_some : (operations : List Operation) (sources : List (Option ℕ)) (i : ℕ) (o x : Operation) (v p : ℕ) (soon : Bool)
     → HoldsSources operations sources → IsAt operations i o → o.kind ≡ Deq v → get_or sources i None ≡ Some p
     → ((call : Operation) → IsAt operations p call → soon ≡ (is_refused call || nat_lt o.ret call.call)) → IsAt operations i x
@@ -134,6 +139,7 @@ named_by_source operations o (Some e) source complete from violates = named sour
         (calls_for call.kind violates.value calls) for_it in
         subst (IsAt operations p) same there
 
+-- what violates is one of the operations
 pub violates_among : (operations : List Operation) (o : Operation) (enq : Option Operation) → IsFreshViolation operations o enq → Contains operations o
 violates_among operations o None violates = violates.dequeues.0
 violates_among operations o (Some e) violates = violates.dequeues.0
@@ -198,12 +204,14 @@ first_more operations sources i o (Some place) sooner here violates none some fo
           )
     ]
 
+-- where none is found, no dequeue is of a value that was not there
 pub none_fresh : (operations : List Operation) (sources : List (Option ℕ)) (n : ℕ) → length operations ≤ n → IsFirstFresh operations sources n None
     → NoFreshViolation operations
 none_fresh operations sources n all none deq enq violates =
     let at = place_of operations deq (violates_among operations deq enq violates) in
     none at.0 deq (let within = slice_get_within operations at.0 deq at.1 in omega arith) at.1 enq violates
 
+-- the first that is found is the chosen one
 pub first_fresh : (operations : List Operation) (sources : List (Option ℕ)) (n place : ℕ) (source : Option ℕ) → length operations ≤ n
     → source ≡ get_or sources place None → IsFirstFresh operations sources n (Some place)
     → NamesChosenFresh operations (Fresh place source)
@@ -232,6 +240,7 @@ not_fresh operations source o b is tells violates = false≢true (sym is ∙ tel
 
 -- ---- at an operation that the walk reads
 
+-- an operation that is passed over leaves the first
 pub first_skip_at : (operations : List Operation) (sources : List (Option ℕ)) (i : ℕ) (d : Operation) (first : Option ℕ) (b : Bool)
     → AreComplete operations → HoldsSources operations sources → i < length operations
     → b ≡ false → ((o : Operation) → IsAt operations i o → IsTrue b ↔ IsFreshFrom operations (get_or sources i None) o)
@@ -241,6 +250,7 @@ first_skip_at operations sources i d first b complete holds below is tells found
     first_skip operations sources i (get_or operations i d) first complete holds here
     (not_fresh operations (get_or sources i None) (get_or operations i d) b is (tells (get_or operations i d) here)) found
 
+-- an operation that comes sooner is the first
 pub first_more_at : (operations : List Operation) (sources : List (Option ℕ)) (i : ℕ) (d : Operation) (first : Option ℕ) (sooner : ℕ) (b : Bool)
     → i < length operations
     → b ≡ true → ((o : Operation) → IsAt operations i o → IsTrue b ↔ IsFreshFrom operations (get_or sources i None) o)

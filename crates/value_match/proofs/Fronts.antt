@@ -23,6 +23,7 @@ use Rattle.value_match.proofs.Longest.{longest_changes}
 abbrev nobody : MatchedValue
 nobody = record { life = record { enqueue = record { call = 0; ret = 0; thread = 0; kind = Empty }; dequeue = None }; enqueue = 0; dequeue = None }
 
+-- a front in place of none
 abbrev pub nowhere : Front
 nowhere = record { enqueue_return = 0; place = 0 }
 
@@ -76,6 +77,7 @@ pub record HasSoFar (values : List MatchedValue) (entries : List Front) (n : ℕ
   pub within : IfSome so_far (λ p. p < length values)
   pub longest : (d : MatchedValue) → FindsLongest Any (take n (values_at values entries d)) (value_at values d so_far)
 
+-- no front has a longest value at first
 pub none_so_far : (values : List MatchedValue) (entries : List Front) → HasSoFar values entries 0 entries None
 none_so_far values entries = record {
   one_each = refl;
@@ -142,6 +144,7 @@ pub all_fronts : (values : List MatchedValue) (entries fronts : List Front) (n :
     → HasSoFar values entries n fronts so_far → HasFronts values entries fronts
 all_fronts values entries fronts n so_far all known = record { one_each = known.one_each; each = λ i less f. known.each i (omega (arith, known.one_each)) f }
 
+-- the fronts rise by their enqueues' returns
 pub fronts_rise : (values : List MatchedValue) (fronts : List Front) → IsTableOf values fronts → IsNonDecreasingBy (λ f. f.enqueue_return) fronts
 fronts_rise values fronts table i j f le inside =
     let upper : j < length table.0 = omega (arith, table.2.one_each) in
@@ -151,6 +154,7 @@ fronts_rise values fronts table i j f le inside =
     let rises = table.1.rises i j nowhere le upper in
     omega arith
 
+-- the longest of a front is one of the values
 pub longest_within : (values : List MatchedValue) (fronts : List Front) (i : ℕ) (front : Front) → IsTableOf values fronts → i < length fronts
     → front ≡ get_or fronts i front → front.place < length values
 longest_within values fronts i front table inside is = subst (λ (f : Front). f.place < length values) (sym is)

@@ -27,6 +27,7 @@ kept {X} {Y} h (x ∷ xs) y among = pick (kept h xs y) (h x) refl among
       | inr there ↦ let more = rest there in (more.0, one_deeper x xs more.0 more.1, more.2)
     ]
 
+-- what is kept of an element stands among what is kept
 pub keeps : {X Y : Type 0} (h : X → Option Y) (xs : List X) (x : X) (y : Y) → Contains xs x → h x ≡ Some y → Contains (filter_map h xs) y
 keeps h [] x y among same = absurd (not_in_none x among)
 keeps {X} {Y} h (z ∷ xs) x y among same = pick (λ there. keeps h xs x y there same) (h z) refl (contains_cons z xs x among)
@@ -48,6 +49,7 @@ mapped_from f (x ∷ xs) y among = elim (contains_cons (f x) (map f xs) y among)
   | inr there ↦ let more = mapped_from f xs y there in (more.0, one_deeper x xs more.0 more.1, more.2)
 ]
 
+-- what becomes of an element stands among what becomes of all
 pub mapped_to : {X Y : Type 0} (f : X → Y) (xs : List X) (x : X) → Contains xs x → Contains (map f xs) (f x)
 mapped_to f [] x among = absurd (not_in_none x among)
 mapped_to f (z ∷ xs) x among = elim (contains_cons z xs x among) [
@@ -66,6 +68,7 @@ passes_filter {X} p (z ∷ xs) x is among = pick (passes_filter p xs x is) (p z)
     pick rest false fails (inl here) = let clash : false ≡ true = sym fails ∙ ap p here ∙ is in cc
     pick rest false fails (inr later) = rest later
 
+-- what a filter passes stands in the list and passes
 pub passed_filter : {X : Type 0} (p : X → Bool) (xs : List X) (x : X) → Contains (filter p xs) x → Contains xs x × (p x ≡ true)
 passed_filter p [] x among = absurd (not_in_none x among)
 passed_filter {X} p (z ∷ xs) x among = pick (passed_filter p xs x) (p z) refl among

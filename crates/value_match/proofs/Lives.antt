@@ -43,6 +43,7 @@ found_dequeue operations v None none = λ o among is. let fails = none_found (is
 found_dequeue operations v (Some d) same = let first = found_first (is_dequeue_of v) operations d same in
     (contains_at operations first.place d first.at, dequeues v d.kind first.passes)
 
+-- a life that is listed is a life
 pub life_of_contained : (operations : List Operation) (life : Life) → Contains (lives_of operations) life → IsLife operations life
 life_of_contained operations life among =
     let o = kept (λ o. life_from operations o o.kind) operations life among in
@@ -76,6 +77,7 @@ same_found operations enq v None (Some d) clear did x y = absurd (x d y.0 y.1)
 same_found operations enq v (Some d) None clear did x y = absurd (y d x.0 x.1)
 same_found operations enq v (Some d) (Some e) clear did x y = ap (λ o. Some o) (same_dequeue operations enq d e v clear did x y)
 
+-- a life is listed
 pub life_is_contained : (operations : List Operation) (life : Life) → IsClear operations → IsLife operations life → Contains (lives_of operations) life
 life_is_contained operations life clear is =
     let v = is.0 in
@@ -97,6 +99,7 @@ one_life_of_enqueue operations x y clear is_x is_y same =
     let dequeues = same_found operations (enqueue_of x) is_x.0 (dequeue_of x) (dequeue_of y) clear is_x.1 is_x.2 y_dequeue in
     λ i. record { enqueue = same i; dequeue = dequeues i }
 
+-- a dequeue ends one life
 pub one_life_of_dequeue : (operations : List Operation) (x y : Life) (d : Operation) → IsClear operations → IsLife operations x → IsLife operations y
     → dequeue_of x ≡ Some d → dequeue_of y ≡ Some d → x ≡ y
 one_life_of_dequeue operations x y d clear is_x is_y same_x same_y =
@@ -123,6 +126,7 @@ pub value_is_life : (operations : List Operation) (values : List MatchedValue) (
 value_is_life operations values value holds among =
     life_of_contained operations value.life (subst (λ lives. Contains lives value.life) holds.0 (mapped_to (λ m. m.life) values value among))
 
+-- a life has its matched value
 pub value_of_life : (operations : List Operation) (values : List MatchedValue) (life : Life) → IsClear operations → HoldsLives operations values
     → IsLife operations life → (value : MatchedValue) × Contains values value × (value.life ≡ life)
 value_of_life operations values life clear holds is =

@@ -9,6 +9,7 @@ use Rattle.value_match.specs.Choice.{StaysAtLeast}
 use Rattle.value_match.specs.Longest.{IsLongerOf, IsLongestOf, NonePasses, FindsLongest}
 use Rattle.value_match.proofs.Lists.{one_more}
 
+-- what stays longer than a longer one stays longer
 pub stays_through : (x y z : Life) → StaysAtLeast x y → StaysAtLeast y z → StaysAtLeast x z
 stays_through x y z first second = (
   omega (arith, first.0, second.0),
@@ -16,6 +17,7 @@ stays_through x y z first second = (
       let a = first.1 there in let b = second.1 here in omega arith,
 )
 
+-- a value stays as long as itself
 pub stays_as_itself : (x : Life) → StaysAtLeast x x
 stays_as_itself x = (omega arith, λ same. omega arith)
 

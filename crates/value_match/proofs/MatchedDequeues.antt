@@ -15,6 +15,7 @@ use Rattle.value_match.proofs.RepeatedDequeues.{taken_from, takes_from_enqueue}
 
 -- ---- the dequeues by their enqueues
 
+-- where each source has one taker, no value is dequeued twice
 pub no_repeat : (operations : List Operation) (sources takers : List (Option ℕ)) → AreComplete operations → HoldsSources operations sources
     → HoldsTakers sources takers → NoRepeatViolation operations
 no_repeat operations sources takers complete holds taken enq first second r =
@@ -29,6 +30,7 @@ no_repeat operations sources takers complete holds taken enq first second r =
     let ret = ap (λ o. o.ret) one in
     absurd (omega (arith, r.in_order))
 
+-- the taker of each enqueue is the dequeue of its value
 pub dequeues_by_enqueues : (operations : List Operation) (sources takers : List (Option ℕ)) → AreComplete operations → NoFreshViolation operations
     → HoldsSources operations sources → HoldsTakers sources takers
     → HoldsDequeues operations takers
@@ -71,6 +73,7 @@ found_at_place operations enq v place dequeue clear did is at =
         let same = one_at operations p at_p.0 d at_p.1 there in
         (contains_at operations p d there, subst (λ o. o.kind ≡ Deq v) same at_p.2)
 
+-- then no value is dequeued that was not there, and none twice
 pub clear_from_takers : (operations : List Operation) (sources takers : List (Option ℕ)) → AreComplete operations → NoFreshViolation operations
     → HoldsSources operations sources → HoldsTakers sources takers → IsClear operations
 clear_from_takers operations sources takers complete no_fresh holds taken = record {
@@ -79,6 +82,7 @@ clear_from_takers operations sources takers complete no_fresh holds taken = reco
   no_repeat = no_repeat operations sources takers complete holds taken;
 }
 
+-- sources are places of operations
 pub sources_in_range : (operations : List Operation) (sources : List (Option ℕ)) → NoFreshViolation operations → HoldsSources operations sources
     → (i p : ℕ) → TakesFrom sources i p → p < length sources
 sources_in_range operations sources no_fresh holds i p from =

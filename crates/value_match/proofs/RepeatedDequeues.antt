@@ -23,6 +23,7 @@ use Rattle.value_match.proofs.TakenPlaces.{HasTaken, SeesOneMore}
 abbrev pub IsSeen : List (ℕ × ℕ) → ℕ → ℕ → Type 0
 IsSeen order n place = (m : ℕ) × (m < n) × ((get_or order m (0, 0)).1 ≡ place)
 
+-- one operation more is seen
 pub sees_more : (order : List (ℕ × ℕ)) (n : ℕ) → SeesOneMore (IsSeen order n) (IsSeen order (n + 1)) (get_or order n (0, 0)).1
 sees_more order n = record {
   before = λ j seen. (seen.0, omega (arith, seen.1), seen.2);
@@ -53,6 +54,7 @@ pub record IsTakenFrom (operations : List Operation) (o : Operation) (p : ℕ) :
   pub at_source : IsAt operations p call
   pub accepted : call.kind ≡ Enq value
 
+-- a dequeue takes from its value's enqueue
 pub taken_from : (operations : List Operation) (sources : List (Option ℕ)) (i p : ℕ) (o : Operation) → HoldsSources operations sources
     → NoFreshViolation operations → IsAt operations i o → TakesFrom sources i p → IsTakenFrom operations o p
 taken_from operations sources i p o holds no_fresh here from = pick o.kind refl (subst (IsSourceOf operations o.kind) source (holds.each i o here))
@@ -213,6 +215,7 @@ entry_in_range operations sources order n holds by below =
     let inside = slice_get_within operations (get_or order n (0, 0)).1 e.0 e.1 in
     omega (arith, holds.one_each)
 
+-- what is taken from is one of the operations
 pub source_inside : (operations : List Operation) (sources takers : List (Option ℕ)) (order : List (ℕ × ℕ)) (n p : ℕ)
     → HoldsSources operations sources → NoFreshViolation operations → IsByReturn operations sources order → n < length order
     → TakesFrom sources (get_or order n (0, 0)).1 p → HasTaken (IsSeen order n) sources takers → p < length takers

@@ -21,6 +21,7 @@ pub record ListsReturns (operations : List Operation) (sources : List (Option �
   pub has_each : (i : ℕ) (o : Operation) → i < n → IsAt operations i o → (p : ℕ) → TakesFrom sources i p → Contains order (o.ret, i)
   pub apart : AllPairs (λ x y. x.1 ≢ y.1) order
 
+-- nothing is listed at first
 pub nothing_listed : (operations : List Operation) (sources : List (Option ℕ)) → ListsReturns operations sources 0 []
 nothing_listed operations sources = record {
   names = All-nil (λ e. (o : Operation) × IsAt operations e.1 o × (e.0 ≡ o.ret));
@@ -29,6 +30,7 @@ nothing_listed operations sources = record {
   apart = λ i j d less below. absurd (omega (arith, below));
 }
 
+-- an operation with a source is listed
 pub returns_push : (operations : List Operation) (sources : List (Option ℕ)) (n : ℕ) (o : Operation) (order : List (ℕ × ℕ)) → IsAt operations n o
     → ListsReturns operations sources n order
     → ListsReturns operations sources (n + 1) (order ++ (o.ret, n) ∷ [])
@@ -43,6 +45,7 @@ returns_push operations sources n o order here known = record {
       (λ k d below same. let less = All-get_or (λ e. e.1 < n) order k d below known.within in omega (arith, less, same));
 }
 
+-- an operation without a source is passed over
 pub returns_skip : (operations : List Operation) (sources : List (Option ℕ)) (n : ℕ) (o : Operation) (order : List (ℕ × ℕ)) → IsAt operations n o
     → slice_get sources n ≡ Some None → ListsReturns operations sources n order
     → ListsReturns operations sources (n + 1) order

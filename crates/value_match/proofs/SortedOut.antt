@@ -124,14 +124,16 @@ read_back operations place o at = get_or_from_slice_get operations place o _ at
 
 -- the value of a pair of places
 pub pair_enqueue : (operations : List Operation) (i : ℕ) (o : Operation) (pair : Pair) → pair.enqueue ≡ i → IsAt operations i o
-    → IsAt operations i (value_at operations pair).life.enqueue
+    → IsAt operations i (enqueue_of (value_at operations pair).life)
 pair_enqueue operations i o pair is here = subst (IsAt operations i) (sym (ap (operation_at operations) is ∙ read_back operations i o here)) here
 
+-- the dequeue of a pair is that at its place
 pub pair_dequeue : (operations : List Operation) (v : ℕ) (place : Option ℕ) (pair : Pair) → pair.dequeue ≡ place → IsDequeuePlace operations v place
-    → IsMaybeAt operations place (value_at operations pair).life.dequeue
+    → IsMaybeAt operations place (dequeue_of (value_at operations pair).life)
 pair_dequeue operations v None pair is from = rw is tt
 pair_dequeue operations v (Some p) pair is from = rw is (subst (IsAt operations p) (sym (read_back operations p from.0 from.1)) from.1)
 
+-- the places of a pair are places of operations
 pub pair_within : (operations : List Operation) (pairs : List Pair) (i : ℕ) (pair : Pair)
     → All (HasPlaces operations) (map (value_at operations) pairs) → i < length pairs → pair ≡ get_or pairs i pair
     → (pair.enqueue < length operations) × IfSome pair.dequeue (λ p. p < length operations)
@@ -146,12 +148,14 @@ pair_within operations pairs i pair all below is =
     inside None none = tt
     inside (Some p) at = slice_get_within operations p _ at
 
+-- what is read of a pair is its value
 pub pair_read : (operations : List Operation) (pairs : List Pair) (i : ℕ) (pair : Pair) (d : MatchedValue) → i < length pairs
     → pair ≡ get_or pairs i pair → value_at operations pair ≡ get_or (map (value_at operations) pairs) i d
 pair_read operations pairs i pair d below is = sym (get_or-map (value_at operations) pairs i pair d below ∙ ap (value_at operations) (sym is))
 
 -- ---- all operations
 
+-- all values are sorted out
 pub lives_sorted : (operations : List Operation) (n : ℕ) (values : List MatchedValue) (empties refused : List ℕ) → length operations ≤ n
     → IsSortedOut operations n values empties refused → HoldsLives operations values
 lives_sorted operations n values empties refused all known = (
@@ -160,10 +164,12 @@ lives_sorted operations n values empties refused all known = (
   known.places,
 )
 
+-- all empty answers are sorted out
 pub empties_sorted : (operations : List Operation) (n : ℕ) (values : List MatchedValue) (empties refused : List ℕ) → length operations ≤ n
     → IsSortedOut operations n values empties refused → HoldsPlaces operations is_empty_answer empties
 empties_sorted operations n values empties refused all known = known.empty_answers ∙ ap (λ os. map Some (filter is_empty_answer os)) (take_all n operations all)
 
+-- all refused enqueues are sorted out
 pub refused_sorted : (operations : List Operation) (n : ℕ) (values : List MatchedValue) (empties refused : List ℕ) → length operations ≤ n
     → IsSortedOut operations n values empties refused → HoldsPlaces operations is_refused refused
 refused_sorted operations n values empties refused all known = known.refused_enqueues ∙ ap (λ os. map Some (filter is_refused os)) (take_all n operations all)

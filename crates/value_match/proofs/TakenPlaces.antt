@@ -24,6 +24,7 @@ nothing_at zero i = refl
 nothing_at (suc n) zero = refl
 nothing_at (suc n) (suc i) = nothing_at n i
 
+-- nothing is taken at first
 pub nothing_taken : (seen : ℕ → Type 0) (sources takers : List (Option ℕ)) → ((i : ℕ) → seen i → ⊥) → takers ≡ replicate (length sources) None
     → length takers ≡ length sources → HasTaken seen sources takers
 nothing_taken seen sources takers none is one_each = record {
@@ -32,6 +33,7 @@ nothing_taken seen sources takers none is one_each = record {
   takes = λ i p there from. absurd (none i there);
 }
 
+-- where there isn't some there is none
 pub nothing_there : (place : Option ℕ) → is_some place ≡ false → place ≡ None
 nothing_there None none = refl
 nothing_there (Some p) none = absurd (false≢true (sym none))
@@ -94,10 +96,12 @@ below_more n = record {
   only = λ j below. elim (cases_eq j n) [ inl same ↦ inr same | inr other ↦ inl (omega arith) ];
 }
 
+-- a source that is taken again is taken twice
 pub taken_twice : (sources takers : List (Option ℕ)) (i j p : ℕ) → HasTaken (λ k. k < i) sources takers → TakesFrom sources i p
     → get_or takers p None ≡ Some j → IsTakenTwice sources
 taken_twice sources takers i j p known from held = let was = known.taken p j held in (j, i, p, was.0, was.1, from)
 
+-- what each source's taker is, over all operations
 pub taken_all : (n : ℕ) (sources takers : List (Option ℕ)) → length sources ≤ n → HasTaken (λ i. i < n) sources takers → HoldsTakers sources takers
 taken_all n sources takers all known = record {
   one_each = known.one_each;
@@ -111,11 +115,13 @@ pub slot_held : (takers : List (Option ℕ)) (p : ℕ) (read : Option ℕ) → p
 slot_held takers p None below is held = absurd (false≢true held)
 slot_held takers p (Some j) below is held = (j, sym (get_or_read takers p (Some j) below is None))
 
+-- a place without a taker has none yet
 pub slot_free : (takers : List (Option ℕ)) (p : ℕ) (read : Option ℕ) → p < length takers → read ≡ get_or takers p read → is_some read ≡ false
     → get_or takers p None ≡ None
 slot_free takers p None below is free = sym is
 slot_free takers p (Some j) below is free = absurd (false≢true (sym free))
 
+-- what is read at a place is its source
 pub source_read : (sources : List (Option ℕ)) (i : ℕ) (source : Option ℕ) → i < length sources → get_or sources i None ≡ source
     → slice_get sources i ≡ Some source
 source_read sources i source below is = slice_get-get_or sources i None below ∙ ap (λ s. Some s) is

@@ -18,6 +18,7 @@ use Rattle.empty_witness.proofs.Covers.{chosen_cover_violates}
 are_clear : (operations : List Operation) → AreComplete operations → NoFreshViolation operations → NoRepeatViolation operations → IsClear operations
 are_clear operations complete no_fresh no_repeat = record { complete = complete; no_fresh = no_fresh; no_repeat = no_repeat }
 
+-- the chosen violation is one
 pub chosen_is_breach : (operations : List Operation) (breach : Breach) → AreComplete operations → IsChosenBreach operations breach
     → IsBreachOf operations breach
 chosen_is_breach operations (fresh deq enq) complete chosen = chosen.violates
@@ -123,6 +124,7 @@ one_dequeue operations deq_b a b None (Some d) complete values x y calls = absur
 one_dequeue operations deq_b a b (Some d) None complete values x y calls = absurd (y d x.0.0 (x.0.1 ∙ ap (λ v. Deq v) values))
 one_dequeue operations deq_b a b (Some d) (Some d') complete values x y calls = ap (λ o. Some o) (same_call operations d d' complete x.0.0 y.0.0 calls)
 
+-- one order violation is chosen
 pub one_order : (operations : List Operation) (enq_a enq_b deq_b enq_a' enq_b' deq_b' : Operation) (deq_a deq_a' : Option Operation) → AreComplete operations
     → IsChosenOrderViolation operations enq_a enq_b deq_b deq_a → IsChosenOrderViolation operations enq_a' enq_b' deq_b' deq_a'
     → order enq_a enq_b deq_b deq_a ≡ order enq_a' enq_b' deq_b' deq_a'
@@ -158,6 +160,7 @@ one_next operations frontier x y clear next_x next_y =
     let enqs = same_return operations (enqueue_of x) (enqueue_of y) clear.complete next_x.is_life.1.0 next_y.is_life.1.0 both.1 in
     one_life_of_enqueue operations x y clear next_x.is_life next_y.is_life enqs
 
+-- one cover is chosen
 pub one_cover : (operations : List Operation) (empty : Operation) (frontier : ℕ) (xs ys : List Life) → IsClear operations
     → IsChosenCoverFrom operations empty frontier xs → IsChosenCoverFrom operations empty frontier ys → xs ≡ ys
 one_cover operations empty frontier [] ys clear chosen chosen' = absurd chosen
@@ -175,6 +178,7 @@ one_cover operations empty frontier (x ∷ xs) (y ∷ ys) clear chosen chosen' =
     go true ends ends' more = ends ∙ sym ends'
     go false further further' more = more further further'
 
+-- one witness violation is chosen
 pub one_witness : (operations : List Operation) (empty empty' : Operation) (cover cover' : List Life) → IsClear operations
     → IsChosenWitness operations empty cover → IsChosenWitness operations empty' cover' → witness empty cover ≡ witness empty' cover'
 one_witness operations empty empty' cover cover' clear x y =

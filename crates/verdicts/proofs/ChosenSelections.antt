@@ -45,6 +45,7 @@ one_cover operations (step ∷ steps) (x ∷ xs) (y ∷ ys) names_x names_y =
     let rest = one_cover operations steps xs ys names_x.1 names_y.1 in
     cc
 
+-- places name one violation
 pub names_one : (operations : List Operation) (named : Violation) (x y : Breach) → Names operations named x → Names operations named y → x ≡ y
 names_one operations (violation.Fresh deq enq) (fresh d e) (fresh d' e') names_x names_y =
     let deqs = one_at operations deq d d' names_x.0 names_y.0 in let enqs = one_maybe_at operations enq e e' names_x.1 names_y.1 in cc

@@ -9,6 +9,7 @@ use Rattle.value_match.specs.Violations.{fresh, repeat, order, witness, IsNeverE
 use Rattle.verdicts.specs.declared.verifying.ViolationKind.TheVariants.{VFresh, VRepeat, VOrd, VWit}
 use Rattle.verdicts.specs.Claims.{ShowsViolation, ShowsCover}
 
+-- two equivalences, one after the other
 pub through : {P Q R : Type 0} → P ↔ Q → Q ↔ R → P ↔ R
 through first second = (λ p. second.0 (first.0 p), λ r. first.1 (second.1 r))
 
@@ -20,6 +21,7 @@ same_deq e = cc
 same_enq : {v w : ℕ} → Enq v ≡ Enq w → v ≡ w
 same_enq e = cc
 
+-- when a dequeue is of a value that nobody enqueued
 pub is_never_enqueued : (operations : List Operation) (deq : Operation) (v : ℕ) → deq.kind ≡ Deq v
     → (Did operations deq (Deq v) × NoneDid operations (Enq v) × NoneDid operations (Not v)) ↔ IsNeverEnqueued operations deq
 is_never_enqueued operations deq v is = (
@@ -33,6 +35,7 @@ is_never_enqueued operations deq v is = (
 abbrev pub HasDequeue : List Operation → ℕ → Option Operation → Type 0
 HasDequeue operations v dequeue = MatchOption dequeue (NoneDid operations (Deq v)) (λ d. Did operations d (Deq v))
 
+-- when two operations are a life
 pub is_life : (operations : List Operation) (enqueue : Operation) (dequeue : Option Operation) (v : ℕ) → enqueue.kind ≡ Enq v
     → (Did operations enqueue (Enq v) × HasDequeue operations v dequeue) ↔ IsLife operations (record { enqueue = enqueue; dequeue = dequeue })
 is_life operations enqueue dequeue v is = (
@@ -44,6 +47,7 @@ is_life operations enqueue dequeue v is = (
 abbrev pub IsDequeuedLater : List Operation → Operation → ℕ → Option Operation → Type 0
 IsDequeuedLater operations deq_b a deq_a = MatchOption deq_a (NoneDid operations (Deq a)) (λ d. Did operations d (Deq a) × Precedes deq_b d)
 
+-- when operations are an order violation
 pub is_order : (operations : List Operation) (enq_a enq_b deq_b : Operation) (deq_a : Option Operation) (a b : ℕ) → enq_a.kind ≡ Enq a → enq_b.kind ≡ Enq b
     → (Did operations enq_a (Enq a) × Did operations enq_b (Enq b) × Did operations deq_b (Deq b) × Precedes enq_a enq_b
     × IsDequeuedLater operations deq_b a deq_a)
@@ -63,6 +67,7 @@ is_order operations enq_a enq_b deq_b deq_a a b is_a is_b = (
 
 -- ---- lines of a length are those of one violation
 
+-- one line shows a value that was never enqueued
 pub one_line_fresh : (operations lines : List Operation) (d : Operation) → 1 ≤ length lines → length lines < 2
     → IsNeverEnqueued operations (get_or lines 0 d) ↔ ShowsViolation operations VFresh lines
 one_line_fresh operations [] d long short = absurd (omega arith)
@@ -76,6 +81,7 @@ one_line_fresh operations (deq ∷ []) d long short = (λ never. (fresh deq None
     back (order a b o c, kind, same, is) = cc
     back (witness o cover, kind, same, is) = cc
 
+-- two lines show a value that was enqueued too late
 pub two_lines_fresh : (operations lines : List Operation) (d : Operation) → 2 ≤ length lines → length lines < 3
     → IsEnqueuedTooLate operations (get_or lines 0 d) (get_or lines 1 d) ↔ ShowsViolation operations VFresh lines
 two_lines_fresh operations [] d long short = absurd (omega arith)
@@ -92,6 +98,7 @@ two_lines_fresh operations (deq ∷ enq ∷ []) d long short = (λ late. (fresh 
     back (order a b o c, kind, same, is) = cc
     back (witness o cover, kind, same, is) = cc
 
+-- three lines show a value that was dequeued twice
 pub three_lines_repeat : (operations lines : List Operation) (d : Operation) → 3 ≤ length lines → length lines < 4
     → IsRepeatViolation operations (get_or lines 0 d) (get_or lines 1 d) (get_or lines 2 d) ↔ ShowsViolation operations VRepeat lines
 three_lines_repeat operations [] d long short = absurd (omega arith)
@@ -116,6 +123,7 @@ shown_order operations a b o x y z c w same_a same_b same_o same_c is =
     subst (IsOrderViolation operations x y z) same_c (subst (λ v. IsOrderViolation operations x y v c) same_o
     (subst (λ v. IsOrderViolation operations x v o c) same_b (subst (λ v. IsOrderViolation operations v b o c) same_a is)))
 
+-- three lines show a value that overtook one that was never dequeued
 pub three_lines_order : (operations lines : List Operation) (d : Operation) → 3 ≤ length lines → length lines < 4
     → IsOrderViolation operations (get_or lines 0 d) (get_or lines 1 d) (get_or lines 2 d) None ↔ ShowsViolation operations VOrd lines
 three_lines_order operations [] d long short = absurd (omega arith)
@@ -131,6 +139,7 @@ three_lines_order operations (x ∷ y ∷ z ∷ []) d long short = (λ is. (orde
     back (order a b o (Some c), kind, same, is) = cc
     back (witness o cover, kind, same, is) = cc
 
+-- four lines show a value that overtook one that was dequeued later
 pub four_lines_order : (operations lines : List Operation) (d : Operation) → 4 ≤ length lines → length lines < 5
     → IsOrderViolation operations (get_or lines 0 d) (get_or lines 1 d) (get_or lines 2 d) (Some (get_or lines 3 d)) ↔ ShowsViolation operations VOrd lines
 four_lines_order operations [] d long short = absurd (omega arith)
@@ -165,6 +174,7 @@ lines_of_witness operations empty lines = (
         let rest : flat_map operations_of_life cover ≡ lines = cc in
         (subst (λ x. Did operations x Empty) one is.answers_empty, (cover, rest, subst (λ x. CoversFrom operations x x cover) one is.covers))
 
+-- the lines of an empty answer and of its cover
 pub lines_of_witness_at : (operations lines : List Operation) (d : Operation) → 1 ≤ length lines
     → (Did operations (get_or lines 0 d) Empty × ShowsCover operations (get_or lines 0 d) (get_or lines 0 d) (drop 1 lines)) ↔ ShowsViolation
     operations VWit lines

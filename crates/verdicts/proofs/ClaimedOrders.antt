@@ -14,6 +14,7 @@ pub record HasExtended (lines : List Operation) (n greatest : ℕ) : Type 0 wher
   pub at_most : (k : ℕ) (d : Operation) → k < n → (get_or lines k d).call ≤ greatest
   pub is_one : (greatest ≡ 0) ⊎ ((k : ℕ) × (k < n) × ((d : Operation) → (get_or lines k d).call ≡ greatest))
 
+-- no line extends nothing
 pub extended_none : (lines : List Operation) → HasExtended lines 0 0
 extended_none lines = record {
   none_precedes = λ i j d below within. absurd (omega arith);
@@ -62,10 +63,12 @@ not_extended lines n greatest line within here before h extends = elim h.is_one 
       extends found.0 n line found.1 within precedes
 ]
 
+-- one line more that keeps to precedence
 pub extended_at : (lines : List Operation) (n greatest : ℕ) (d : Operation) → n < length lines → greatest ≤ (get_or lines n d).ret
     → HasExtended lines n greatest → HasExtended lines (n + 1) (max greatest (get_or lines n d).call)
 extended_at lines n greatest d within past h = extended_more lines n greatest (get_or lines n d) (λ other. get_or_default lines n other d within) past h
 
+-- one line that doesn't
 pub not_extended_at : (lines : List Operation) (n greatest : ℕ) (d : Operation) → n < length lines → (get_or lines n d).ret < greatest
     → HasExtended lines n greatest → ¬ (AllPairs (λ earlier later. ¬ (Precedes later earlier)) lines)
 not_extended_at lines n greatest d within before h = not_extended lines n greatest (get_or lines n d) within

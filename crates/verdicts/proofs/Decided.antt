@@ -19,12 +19,14 @@ use Rattle.verdicts.specs.Verdicts.{IsDecided}
 use Rattle.verdicts.proofs.Excludes.{breach_excludes_order}
 use Rattle.verdicts.proofs.Chosen.{chosen_is_breach}
 
+-- a chosen violation decides
 pub no_is_decided : (operations : List Operation) (violation : Violation) → AreComplete operations → IsChosenViolation operations violation
     → IsDecided operations (No violation)
 no_is_decided operations violation complete chosen =
     let breach = chosen_is_breach operations chosen.0 complete chosen.2 in
     record { chosen = chosen; evidence = (chosen.0, chosen.1, breach); exact = λ linear. breach_excludes_order operations chosen.0 complete breach linear }
 
+-- a chosen order decides
 pub yes_is_decided : (operations : List Operation) (places : List ℕ) → AreChosenAndLegal operations places → IsDecided operations (Yes places)
 yes_is_decided operations places chosen = record {
   chosen = (chosen.0, chosen.1, chosen.2);
@@ -58,6 +60,7 @@ pub refused_is_decided : (operations : List Operation) (answer : Matched) (viola
 refused_is_decided operations answer violation complete is refused =
     no_is_decided operations violation complete (refused_is_chosen operations answer violation is refused)
 
+-- where no pair is found there is no order violation
 pub order_is_absent : (operations : List Operation) (answer : Option OrderPair) → IsOrderAnswer operations answer
     → ((pair : OrderPair) → answer ≡ Some pair → ⊥) → NoOrderViolation operations
 order_is_absent operations None none not = none

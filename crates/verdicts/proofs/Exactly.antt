@@ -4,6 +4,7 @@ use Rattle.value_match.specs.Violations.{fresh, repeat, order, witness}
 use Rattle.verdicts.proofs.Linearizable.{linearizable_without_violations}
 use Rattle.verdicts.proofs.Excludes.{breach_excludes_order}
 
+-- a complete history is linearizable exactly where it has no violation
 pub linearizable_exactly : LinearizableExactly
 linearizable_exactly operations complete = (
   λ linear breach violation. breach_excludes_order operations breach complete violation linear,

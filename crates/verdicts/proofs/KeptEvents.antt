@@ -96,6 +96,7 @@ pub among_later : (made : Option Operation) (later : List Operation) (o : Operat
 among_later None later o among = among
 among_later (Some x) later o among = one_deeper x later o among
 
+-- the first that is made is among them
 pub among_first : (made : Option Operation) (later : List Operation) (o : Operation) → made ≡ Some o → Contains (cons_option made later) o
 among_first None later o same = cc
 among_first (Some x) later o same = let here : x ≡ o = cc in (zero, omega arith, here)

@@ -72,12 +72,14 @@ module _ (operations : List Operation) (complete : AreComplete operations) (test
 abbrev pub events_at_tickets_of : List Operation → List Event → List Event
 events_at_tickets_of selected events = filter (λ e. holds_ticket selected e.ticket) events
 
+-- the events of selected operations are a complete history
 pub selected_events_are_complete : (test : Operation → Bool) (events : List Event) → IsCompleteHistory events
     → IsCompleteHistory (events_at_tickets_of (filter test (operations_of events)) events)
 selected_events_are_complete test events complete =
     kept_is_complete (holds_ticket (filter test (operations_of events))) test events complete
     (tickets_keep_both (operations_of events) (events, complete, refl) test)
 
+-- the operations of these events are the selected ones
 pub operations_of_selected : (test : Operation → Bool) (events : List Event) → IsCompleteHistory events
     → operations_of (events_at_tickets_of (filter test (operations_of events)) events) ≡ filter test (operations_of events)
 operations_of_selected test events complete =

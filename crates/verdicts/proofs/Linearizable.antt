@@ -26,11 +26,13 @@ gaps_of operations (o ∷ answers) clear none each =
       | inr covered ↦ let cover = chosen_cover operations o clear did covered in absurd (none o cover.0 cover.2)
     ]
 
+-- without a witness violation each empty answer has a free gap
 pub free_gaps_exist : (operations : List Operation) → IsClear operations → NoWitnessViolation operations → (gaps : List ℕ) × AreLeastFreeGaps operations gaps
 free_gaps_exist operations clear none =
     gaps_of operations (filter is_empty_answer operations) clear none
     (λ o among. is_empty_did operations o among)
 
+-- without a violation there is a legal order
 pub linearizable_without_violations : (operations : List Operation) → IsClear operations → NoOrderViolation operations → NoWitnessViolation operations
     → IsLinearizable operations
 linearizable_without_violations operations clear no_order no_witness =

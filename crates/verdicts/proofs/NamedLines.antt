@@ -26,6 +26,7 @@ HasValue o v = value_of o.kind ≡ Some v
 abbrev pub IsOpOf : List Operation → ℕ → Operation → Type 0
 IsOpOf operations v o = Contains operations o × HasValue o v
 
+-- an operation is of its value
 pub op_of : (operations : List Operation) (o : Operation) (kind : OpKind) (v : ℕ) → Did operations o kind → value_of kind ≡ Some v → IsOpOf operations v o
 op_of operations o kind v did is = (did.0, ap value_of did.1 ∙ is)
 
@@ -37,6 +38,7 @@ each_of P x xs here later o among = elim (contains_cons x xs o among) [ inl same
 none_of : (P : Operation → Type 0) (o : Operation) → Contains [] o → P o
 none_of P o among = absurd (not_in_none o among)
 
+-- the lines of a fresh-value violation are of its value
 pub fresh_lines : (operations : List Operation) (deq : Operation) (enq : Option Operation) → IsFreshViolation operations deq enq
     → (v : ℕ) × ((o : Operation) → Contains (deq ∷ option_to_list enq) o → IsOpOf operations v o)
 fresh_lines operations deq None is = (
@@ -54,6 +56,7 @@ fresh_lines operations deq (Some enq) is = (
     by_call (inl refused) = op_of operations enq (Not is.value) is.value refused refl
     by_call (inr late) = op_of operations enq (Enq is.value) is.value late.0 refl
 
+-- the lines of a repeated-value violation are of its value
 pub repeat_lines : (operations : List Operation) (enq first second : Operation) (is : IsRepeatViolation operations enq first second) → (o : Operation)
     → Contains (enq ∷ first ∷ second ∷ []) o → IsOpOf operations is.value o
 repeat_lines operations enq first second is =
@@ -66,6 +69,7 @@ repeat_lines operations enq first second is =
 abbrev pub IsOpOfTwo : List Operation → ℕ → ℕ → Operation → Type 0
 IsOpOfTwo operations a b o = IsOpOf operations a o ⊎ IsOpOf operations b o
 
+-- the lines of an order violation are of its two values
 pub order_lines : (operations : List Operation) (enq_a enq_b deq_b : Operation) (deq_a : Option Operation)
     (is : IsOrderViolation operations enq_a enq_b deq_b deq_a)
     → (o : Operation) → Contains (enq_a ∷ enq_b ∷ deq_b ∷ option_to_list deq_a) o → IsOpOfTwo operations is.a is.b o
@@ -88,6 +92,7 @@ pub record IsOpOfLife (operations : List Operation) (cover : List Life) (o : Ope
   pub is_life : IsLife operations life
   pub is_of : IsOpOf operations is_life.0 o
 
+-- the lines of a cover are of its values
 pub cover_lines : (operations : List Operation) (cover : List Life) → ((life : Life) → Contains cover life → IsLife operations life)
     → (o : Operation) → Contains (flat_map operations_of_life cover) o → IsOpOfLife operations cover o
 cover_lines operations cover lives o at =
@@ -122,6 +127,7 @@ lines_are_operations operations (witness empty cover) is chosen o at =
 pub selects_as_value : (values calls : ℕ → Bool) (o : Operation) (v : ℕ) → HasValue o v → selects values calls o ≡ values v
 selects_as_value values calls o v is = ap (λ w. option_map_or values w (calls o.call)) is
 
+-- an operation without a value is selected by its call
 pub selects_as_call : (values calls : ℕ → Bool) (o : Operation) → value_of o.kind ≡ None → selects values calls o ≡ calls o.call
 selects_as_call values calls o is = ap (λ w. option_map_or values w (calls o.call)) is
 

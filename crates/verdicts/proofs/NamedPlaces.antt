@@ -85,6 +85,7 @@ in_range operations (p ∷ places) (o ∷ listed) named =
     let later : map (slice_get operations) places ≡ map (λ o. Some o) listed = cc in
     All-cons (λ place. place < length operations) p places (slice_get_within operations p o here) (in_range operations places listed later)
 
+-- the places of a violation are places of operations
 pub lines_in_range : (operations : List Operation) (named : Violation) → ((breach : Breach) × Names operations named breach)
     → All (λ place. place < length operations) (places_of named)
 lines_in_range operations named some = in_range operations (places_of named) (lines_of some.0) (places_of_lines operations named some.0 some.1)
@@ -104,6 +105,7 @@ one_list operations (p ∷ places) (x ∷ xs) (y ∷ ys) named_x named_y =
     let rest = one_list operations places xs ys later_x later_y in
     cc
 
+-- the operations at these places are its lines
 pub named_are_lines : (operations : List Operation) (named : Violation) (places : List ℕ) (listed : List Operation) → places ≡ places_of named
     → ArePlacesOf operations places listed → AreLinesOf operations named listed
 named_are_lines operations named places listed same at breach names =

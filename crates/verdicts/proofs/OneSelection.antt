@@ -35,6 +35,7 @@ module _ (xs : List Operation) (values calls : ℕ → Bool) (breach : Breach) (
         (breach_in_selected xs values calls breach violated kept) linear)
   ]
 
+-- two such selections are one
 pub selection_is_one : (operations xs ys : List Operation) (violation : Violation) → AreComplete xs → AreComplete ys
     → KeepsViolation operations violation xs → KeepsViolation operations violation ys
     → StaysChosen operations violation xs → StaysChosen operations violation ys → IsMinimal xs → IsMinimal ys → xs ≡ ys

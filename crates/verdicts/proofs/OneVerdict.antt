@@ -128,6 +128,7 @@ chosen_violation_is_one operations x y complete chosen_x chosen_y =
     one_violation operations x y chosen_x.0 chosen_y.0 complete (one_chosen_breach operations chosen_x.0 chosen_y.0 complete chosen_x.2 chosen_y.2)
     chosen_x.1 chosen_y.1
 
+-- a history has one verdict
 pub verdict_is_one : VerdictIsOne
 verdict_is_one operations (Yes ps) (Yes qs) complete x y =
     let none = λ (b : Breach) (violates : IsBreachOf operations b). breach_excludes_order operations b complete violates x.exact in
@@ -151,6 +152,7 @@ not_clear operations v clear is = clear.no_fresh is.0 is.1 is.3.violates
 not_repeated : (operations : List Operation) (v : Violation) → IsClear operations → IsMatchedOf operations (matched.Repeat v) → ⊥
 not_repeated operations v clear is = clear.no_repeat is.0 is.1 is.2 is.4.1.violates
 
+-- a history has one answer of the matching
 pub matched_is_one : MatchedIsOne
 matched_is_one operations (matched.Clear m) (matched.Clear n) complete x y = ap (λ matching. matched.Clear matching) (x.0 ∙ sym y.0)
 matched_is_one operations (matched.Clear m) (matched.Fresh v) complete x y = absurd (not_clear operations v x.1 y)
@@ -173,6 +175,7 @@ abbrev pair_of : Violation → OrderPair
 pair_of (violation.Order a b d c) = record { enq_a = a; enq_b = b; deq_b = d; deq_a = c }
 pair_of _ = record { enq_a = 0; enq_b = 0; deq_b = 0; deq_a = None }
 
+-- one pair is found
 pub pair_is_one : PairIsOne
 pair_is_one operations None None complete x y = refl
 pair_is_one operations None (Some q) complete x y = absurd (x y.enq_a y.enq_b y.deq_b y.deq_a y.is_chosen.violates)
@@ -194,6 +197,7 @@ one_least_gap operations o c d x y = let le = x.least d y.in_window y.is_free in
 free_or_covered : (operations : List Operation) (o : Operation) (c : ℕ) → IsLeastFreeGap operations o c → IsCovered operations o → ⊥
 free_or_covered operations o c free covered = let stays = covered c free.in_window in free.is_free stays.0 stays.1 stays.2
 
+-- one gap is found
 pub gap_is_one : GapIsOne
 gap_is_one operations place (gap.Free c) (gap.Free d) clear x y =
     let same = one_at operations place x.0 y.0 x.1 y.1 in
@@ -228,6 +232,7 @@ none_covered operations gaps o each did covered =
     let free = beside (λ o c. IsLeastFreeGap operations o c) (filter is_empty_answer operations) gaps place.0 o each place.1 in
     free_or_covered operations o free.0 free.2 covered
 
+-- one answer of the search for covered windows is found
 pub witness_is_one : WitnessIsOne
 witness_is_one operations (found.Gaps cs) (found.Gaps ds) clear x y =
     ap (λ gaps. found.Gaps gaps) (one_list_of_gaps operations (filter is_empty_answer operations) cs ds x y)

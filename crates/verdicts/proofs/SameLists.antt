@@ -8,6 +8,7 @@ use Rattle.std.proofs.lemmas.Option.{slice_get-get_or}
 use Rattle.history_merge.proofs.Distinct.{contains_cons, not_in_none, place_of, pairs_at}
 use Rattle.linearizer.proofs.Keys.{AllPairs-tail, one_place}
 
+-- the keys rise from each element to each later one
 abbrev pub KeysRise : {X : Type 0} → (X → ℕ) → List X → Type 0
 KeysRise key xs = AllPairs (λ x y. key x < key y) xs
 
@@ -20,6 +21,7 @@ below_later key x xs y rises among = let place = place_of xs y among in
 among_later : {X : Type 0} (key : X → ℕ) (y z : X) (ys : List X) → key y < key z → Contains (y ∷ ys) z → Contains ys z
 among_later key y z ys above among = elim (contains_cons y ys z among) [ inl same ↦ let keys = ap key same in absurd (omega arith) | inr later ↦ later ]
 
+-- two lists whose keys rise, with the same elements, are one
 pub same_lists : {X : Type 0} (key : X → ℕ) (xs ys : List X) → KeysRise key xs → KeysRise key ys → ((z : X) → Contains xs z → Contains ys z)
     → ((z : X) → Contains ys z → Contains xs z) → xs ≡ ys
 same_lists key [] [] rises rises' into back = refl

@@ -93,6 +93,7 @@ pub record IsShrunk (events : List Event) (violation : Violation) (small : List 
   pub minimal : IsMinimal (operations_of small)
   pub part : ArePartOf events small
 
+-- the events of the selected operations are the shrunk history
 pub is_shrunk : (events : List Event) (violation : Violation) (selected small : List Event) → IsCompleteHistory events
     → AreSelectedEvents events violation selected → small ≡ selected → IsShrunk events violation small
 is_shrunk events violation selected small complete are same =

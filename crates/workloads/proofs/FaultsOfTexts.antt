@@ -60,6 +60,7 @@ one_stray text worker other stray first =
     let read = reads_once stray.lines.rows first.lines.rows stray.lines.kinds first.lines.kinds (sym stray.lines.bytes_are ∙ before ∙ first.lines.bytes_are) in
     sym stray.lines.count ∙ ap length read.0 ∙ first.lines.count
 
+-- a text has one fault
 pub one_fault : (text : List ℕ) (fault other : PlanFault) → IsFaultOf text fault → IsFaultOf text other → fault ≡ other
 one_fault text Cut Cut a b = refl
 one_fault text Cut (Letter worker) a b = absurd (b.0 a)

@@ -13,6 +13,7 @@ use Rattle.workloads.specs.declared.TheConstants.{MAX_WORKERS}
 use Rattle.workloads.specs.Plans.{IsPlan}
 use Rattle.workloads.specs.Seeds.{kind_of_word, kinds_of_words, generator_of, GivesKinds, IsSeeded}
 
+-- no draw gives no kind
 pub gives_none : (percent : ℕ) (generator : Lcg) → GivesKinds percent generator [] generator
 gives_none percent generator = record { begins = λ more. ap (λ (n : ℕ). kinds_of_words percent n generator) (zero-add more) }
 
@@ -53,6 +54,7 @@ pub record GivesRows (percent operations : ℕ) (before : Lcg) (rows : List (Lis
   pub total : length (flat_map (λ row. row) rows) ≡ length rows * operations
   pub kinds : GivesKinds percent before (flat_map (λ row. row) rows) after
 
+-- no draw gives no row
 pub gives_no_rows : (percent operations : ℕ) (generator : Lcg) → GivesRows percent operations generator [] generator
 gives_no_rows percent operations generator = record {
   lengths = All-nil (λ (row : List Kind). length row ≡ operations);

@@ -68,6 +68,7 @@ reads_once rows more kinds others same =
     let back = sym (rows_back (rows ++ kinds ∷ [])) ∙ ap (map (map kind_of_letter)) parts ∙ rows_back (more ++ others ∷ []) in
     same_from_push rows more kinds others back
 
+-- no bytes are no line
 pub lines_none : HasLines [] 0
 lines_none = record { rows = []; kinds = []; bytes_are = refl; count = refl }
 
@@ -88,6 +89,7 @@ lines_more bytes rows kinds is =
     ∙ sym (text_of-push rows kinds)
     ∙ sym (append-nil (text_of (rows ++ kinds ∷ [])))
 
+-- a letter stays in its line
 pub has_letter : (bytes : List ℕ) (workers : ℕ) (kind : Kind) → HasLines bytes workers → HasLines (bytes ++ letter kind ∷ []) workers
 has_letter bytes workers kind has = record {
   rows = has.rows;
@@ -96,6 +98,7 @@ has_letter bytes workers kind has = record {
   count = has.count;
 }
 
+-- a line feed ends a line
 pub has_end : (bytes : List ℕ) (workers : ℕ) → HasLines bytes workers → HasLines (bytes ++ LINE_FEED ∷ []) (workers + 1)
 has_end bytes workers has = record {
   rows = has.rows ++ has.kinds ∷ [];
@@ -153,6 +156,7 @@ pub record TellsRows (text : List ℕ) (rows : List (List Kind)) : Type 0 where
   pub short : list_all is_short_line (slice_split ends_line text) ≡ true → AreShort rows
   pub lines : AreShort rows → list_all is_short_line (slice_split ends_line text) ≡ true
 
+-- the text of rows tells them
 pub tells_rows : (text : List ℕ) (rows : List (List Kind)) → text ≡ text_of rows → TellsRows text rows
 tells_rows text rows is = subst (λ (t : List ℕ). TellsRows t rows) (sym is) (record {
   workers = count-text_of rows;
@@ -230,12 +234,14 @@ letters_are_of_text : (kinds : List Kind) (rest : List ℕ) → All IsOfText res
 letters_are_of_text [] rest all = all
 letters_are_of_text (kind ∷ kinds) rest all = All-cons IsOfText (letter kind) (map letter kinds ++ rest) (inr (kind, refl)) (letters_are_of_text kinds rest all)
 
+-- the text of rows has bytes of such texts alone
 pub bytes_are_of_text : (rows : List (List Kind)) → All IsOfText (text_of rows)
 bytes_are_of_text [] = All-nil IsOfText
 bytes_are_of_text (row ∷ rows) =
     subst (λ (l : List ℕ). All IsOfText l) (sym (line_first row (text_of rows)))
     (letters_are_of_text row (LINE_FEED ∷ text_of rows) (All-cons IsOfText LINE_FEED (text_of rows) (inl refl) (bytes_are_of_text rows)))
 
+-- lines have such bytes alone
 pub lines_are_of_text : (bytes : List ℕ) (workers : ℕ) → HasLines bytes workers → All IsOfText bytes
 lines_are_of_text bytes workers lines =
     let whole = bytes_are_of_text lines.rows in
