@@ -1,14 +1,21 @@
 // The start of the workers: each waits for the others, but for no longer than its turns.
-use std::sync::atomic::{AtomicU64, Ordering};
+use std::sync::atomic::{AtomicBool, AtomicU64, Ordering};
 use std::{hint, thread};
 
 // How often a worker looks for the others in one turn, before it lets another thread run.
 const LOOKS: u32 = 1_000;
 
-// How many turns a worker waits for the others: some hundredths of a second where nothing else runs.
-const TURNS: u32 = 2_500;
+// How many turns a worker waits for the others to arrive: some hundredths of a second where nothing else runs.
+const ARRIVAL_TURNS: u32 = 2_500;
 
-/// The start of a run: it counts the workers that have arrived.
+// How many turns it then waits for two of them to run at the same time.
+const RUNNING_TURNS: u32 = 6_000;
+
+// How often a worker finds in one turn that another one came by, before it takes it that both run. On one core another one
+// comes by only where the first is taken off it.
+const PASSES: u32 = 64;
+
+/// The start of a run: it counts the workers that have arrived, and sees whether two of them run at the same time.
 ///
 /// `run` lets its workers meet so; whoever makes threads of its own for [`Worker`](crate::Worker)s can too. It waits for nobody
 /// for ever, and takes no memory.
@@ -16,6 +23,9 @@ const TURNS: u32 = 2_500;
 pub struct Start {
     workers: u64,
     arrivals: AtomicU64,
+    // The worker that came by last, by the place of its arrival.
+    last_by: AtomicU64,
+    is_open: AtomicBool,
 }
 
 impl Start {
@@ -24,20 +34,23 @@ impl Start {
         Start {
             workers: workers as u64,
             arrivals: AtomicU64::new(0),
+            last_by: AtomicU64::new(0),
+            is_open: AtomicBool::new(false),
         }
     }
 
-    /// Arrives, and stays until all workers have, or until 2,500 turns are used up, between which the thread yields. Then nobody
-    /// waits any more: where no thread can be started, the first worker alone waits for the others.
+    /// Arrives, and stays until all workers have arrived and two of them are seen to run at the same time.
+    ///
+    /// A system may let all threads of a young process take turns on one core, where one worker is done before the next begins.
+    /// So a worker waits up to 2,500 turns of 1,000 looks for the others, and then up to 6,000 for two that run at once, and
+    /// yields after each turn. Where one has used up its turns nobody waits any more: so where no thread can be started, the
+    /// first worker alone waits for the others, and on one core a run begins after some tenths of a second.
     pub fn meet(&self) {
-        self.arrivals.fetch_add(1, Ordering::SeqCst);
-        for _ in 0..TURNS {
-            if self.sees_all() {
-                return;
-            }
-            thread::yield_now();
+        let place = self.arrivals.fetch_add(1, Ordering::SeqCst);
+        self.wait_for_all();
+        if self.workers > 1 {
+            self.wait_for_two(place);
         }
-        self.arrivals.store(self.workers, Ordering::SeqCst);
     }
 
     /// Whether all workers are seen to have arrived, in one turn of 1,000 looks.
@@ -45,6 +58,44 @@ impl Start {
         for _ in 0..LOOKS {
             if self.arrivals.load(Ordering::SeqCst) >= self.workers {
                 return true;
+            }
+            hint::spin_loop();
+        }
+        false
+    }
+
+    // Stays until all have arrived; where the turns are used up, nobody waits any more.
+    fn wait_for_all(&self) {
+        for _ in 0..ARRIVAL_TURNS {
+            if self.sees_all() {
+                return;
+            }
+            thread::yield_now();
+        }
+        self.arrivals.store(self.workers, Ordering::SeqCst);
+        self.is_open.store(true, Ordering::SeqCst);
+    }
+
+    // Stays until two workers run at once; where the turns are used up, nobody waits any more.
+    fn wait_for_two(&self, place: u64) {
+        for _ in 0..RUNNING_TURNS {
+            if self.sees_another(place) {
+                break;
+            }
+            thread::yield_now();
+        }
+        self.is_open.store(true, Ordering::SeqCst);
+    }
+
+    // Whether the start is open, or another worker comes by so often in one turn that it runs at the same time.
+    fn sees_another(&self, place: u64) -> bool {
+        let mut passes = 0;
+        for _ in 0..LOOKS {
+            if self.is_open.load(Ordering::SeqCst) || passes >= PASSES {
+                return true;
+            }
+            if self.last_by.swap(place, Ordering::SeqCst) != place {
+                passes += 1;
             }
             hint::spin_loop();
         }
