@@ -43,23 +43,27 @@ pub record CalledAt (operations : List Operation) (life : Life) (ticket : ℕ) :
   pub is_of : IsOf life o
   pub called : o.call ≡ ticket
 
-dequeue_returns : (operations : List Operation) (life : Life) → IsLife operations life
-    → ReturnsAt operations life (dequeue_return life) ⊎ (dequeue_return life ≡ NEVER)
-dequeue_returns operations life is = go (dequeue_of life) refl is.2
+-- what holds of no dequeue, and of each dequeue of a life, holds of the life's
+of_dequeue : (operations : List Operation) (life : Life) → IsLife operations life → (Has : Option Operation → Type 0) → Has None
+    → ((d : Operation) → dequeue_of life ≡ Some d → Contains operations d → Has (Some d)) → Has (dequeue_of life)
+of_dequeue operations life is Has none some = go (dequeue_of life) refl is.2
   where
     go : (dequeue : Option Operation) → dequeue_of life ≡ dequeue → MatchOption dequeue (NoneDid operations (Deq is.0)) (λ d. Did operations d (Deq is.0))
-        → ReturnsAt operations life (return_or_never dequeue) ⊎ (return_or_never dequeue ≡ NEVER)
-    go None same none = inr refl
-    go (Some d) same did = inl (record { o = d; among = did.0; is_of = inr same; returns = refl })
+        → Has dequeue
+    go None same never = none
+    go (Some d) same did = some d same did.0
+
+dequeue_returns : (operations : List Operation) (life : Life) → IsLife operations life
+    → ReturnsAt operations life (dequeue_return life) ⊎ (dequeue_return life ≡ NEVER)
+dequeue_returns operations life is =
+    of_dequeue operations life is (λ d. ReturnsAt operations life (return_or_never d) ⊎ (return_or_never d ≡ NEVER)) (inr refl)
+    (λ d same among. inl (record { o = d; among = among; is_of = inr same; returns = refl }))
 
 dequeue_called : (operations : List Operation) (life : Life) → IsLife operations life
     → CalledAt operations life (dequeue_call life) ⊎ (dequeue_call life ≡ NEVER)
-dequeue_called operations life is = go (dequeue_of life) refl is.2
-  where
-    go : (dequeue : Option Operation) → dequeue_of life ≡ dequeue → MatchOption dequeue (NoneDid operations (Deq is.0)) (λ d. Did operations d (Deq is.0))
-        → CalledAt operations life (call_or_never dequeue) ⊎ (call_or_never dequeue ≡ NEVER)
-    go None same none = inr refl
-    go (Some d) same did = inl (record { o = d; among = did.0; is_of = inr same; called = refl })
+dequeue_called operations life is =
+    of_dequeue operations life is (λ d. CalledAt operations life (call_or_never d) ⊎ (call_or_never d ≡ NEVER)) (inr refl)
+    (λ d same among. inl (record { o = d; among = among; is_of = inr same; called = refl }))
 
 -- a value has entered at a return of its own
 pub entered_at_return : (operations : List Operation) (life : Life) → IsClear operations → IsLife operations life → ReturnsAt operations life (entered_by life)

@@ -26,29 +26,27 @@ use Rattle.linearizer.proofs.OneOrder.{before_through}
 pub through : (p q r : Position) → ¬ (StandsBefore p q) → ¬ (StandsBefore q r) → ¬ (StandsBefore p r)
 through p q r first second both = grind arith
 
--- of the enqueues and of the dequeues the next stands first
-pub next_enqueue : (lives : List Life) (i : ℕ) (p : Position) → i < length lives → IsEnqueueFrom lives i p → ¬ (StandsBefore p (enqueue_position lives i))
-next_enqueue lives i p within from before =
+-- of positions that rise none of the later ones stands before one
+none_later : (at : ℕ → Position) (count i : ℕ) (p : Position) → ((i j : ℕ) → i < j → j < count → StandsBefore (at i) (at j))
+    → ((n : ℕ) × (i ≤ n) × (n < count) × (p ≡ at n)) → ¬ (StandsBefore p (at i))
+none_later at count i p rise from before =
     let n = from.0 in
-    let there : StandsBefore (enqueue_position lives n) (enqueue_position lives i) = subst (λ p. StandsBefore p (enqueue_position lives i)) from.3 before in
+    let there : StandsBefore (at n) (at i) = subst (λ p. StandsBefore p (at i)) from.3 before in
     let order : (i < n) ⊎ (n ≡ i) = grind (arith, from.1) in
     elim order [
-      | inl later ↦ not_both (enqueue_position lives i) (enqueue_position lives n)
-          (enqueues_rise (length lives) (enqueue_gap lives) (dequeue_gap lives) (are_gaps lives) i n later from.2) there
-      | inr same ↦ not_itself (enqueue_position lives i) (subst (λ k. StandsBefore (enqueue_position lives k) (enqueue_position lives i)) same there)
+      | inl later ↦ not_both (at i) (at n) (rise i n later from.2) there
+      | inr same ↦ not_itself (at i) (subst (λ k. StandsBefore (at k) (at i)) same there)
     ]
+
+-- of the enqueues and of the dequeues the next stands first
+pub next_enqueue : (lives : List Life) (i : ℕ) (p : Position) → i < length lives → IsEnqueueFrom lives i p → ¬ (StandsBefore p (enqueue_position lives i))
+next_enqueue lives i p within from = none_later (enqueue_position lives) (length lives) i p
+    (enqueues_rise (length lives) (enqueue_gap lives) (dequeue_gap lives) (are_gaps lives)) from
 
 -- no dequeue that is left stands before the next
 pub next_dequeue : (lives : List Life) (j : ℕ) (p : Position) → j < length lives → IsDequeueFrom lives j p → ¬ (StandsBefore p (dequeue_position lives j))
-next_dequeue lives j p within from before =
-    let n = from.0 in
-    let there : StandsBefore (dequeue_position lives n) (dequeue_position lives j) = subst (λ p. StandsBefore p (dequeue_position lives j)) from.3 before in
-    let order : (j < n) ⊎ (n ≡ j) = grind (arith, from.1) in
-    elim order [
-      | inl later ↦ not_both (dequeue_position lives j) (dequeue_position lives n)
-          (dequeues_rise (length lives) (enqueue_gap lives) (dequeue_gap lives) (are_gaps lives) j n later from.2) there
-      | inr same ↦ not_itself (dequeue_position lives j) (subst (λ k. StandsBefore (dequeue_position lives k) (dequeue_position lives j)) same there)
-    ]
+next_dequeue lives j p within from = none_later (dequeue_position lives) (length lives) j p
+    (dequeues_rise (length lives) (enqueue_gap lives) (dequeue_gap lives) (are_gaps lives)) from
 
 -- of the idle operations too
 pub next_idle : (idles : List Placed) (k : ℕ) (x : Placed) (p : Position) → NeverFall idles → slice_get idles k ≡ Some x → IsIdleFrom idles k p

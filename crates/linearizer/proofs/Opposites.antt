@@ -26,32 +26,24 @@ order_violated : (operations : List Operation) (x y : Life) → NoOrderViolation
     → enqueue_return x < enqueue_call y → dequeue_return y < dequeue_call x → dequeue_return y < NEVER → ⊥
 order_violated operations x y none is_x is_y first later before_never = go (dequeue_of x) (dequeue_of y) is_x.2 is_y.2 later before_never
   where
+    violates : (dx : Option Operation) (d : Operation) → Did operations d (Deq is_y.0)
+        → MatchOption dx (NoneDid operations (Deq is_x.0)) (λ c. Did operations c (Deq is_x.0) × (d.ret < c.call)) → ⊥
+    violates dx d did_y dequeued_later = none (enqueue_of x) (enqueue_of y) d dx (record {
+      a = is_x.0;
+      b = is_y.0;
+      enqueues_a = is_x.1;
+      enqueues_b = is_y.1;
+      dequeues_b = did_y;
+      enqueued_first = first;
+      dequeued_later = dequeued_later;
+    })
+
     go : (dx dy : Option Operation) → MatchOption dx (NoneDid operations (Deq is_x.0)) (λ d. Did operations d (Deq is_x.0))
         → MatchOption dy (NoneDid operations (Deq is_y.0)) (λ d. Did operations d (Deq is_y.0))
         → return_or_never dy < call_or_never dx → return_or_never dy < NEVER → ⊥
     go dx None did_x did_y less bound = omega arith
-    go None (Some d) did_x did_y less bound =
-        none (enqueue_of x) (enqueue_of y) d None (record {
-          a = is_x.0;
-          b = is_y.0;
-          enqueues_a = is_x.1;
-          enqueues_b = is_y.1;
-          dequeues_b =
-              did_y;
-          enqueued_first = first;
-          dequeued_later = did_x;
-        })
-    go (Some c) (Some d) did_x did_y less bound =
-        none (enqueue_of x) (enqueue_of y) d (Some c) (record {
-          a = is_x.0;
-          b = is_y.0;
-          enqueues_a = is_x.1;
-          enqueues_b = is_y.1;
-          dequeues_b =
-              did_y;
-          enqueued_first = first;
-          dequeued_later = (did_x, less);
-        })
+    go None (Some d) did_x did_y less bound = violates None d did_y did_x
+    go (Some c) (Some d) did_x did_y less bound = violates (Some c) d did_y (did_x, less)
 
 -- no two lives stand in opposite orders, from what is known of their tickets
 pub unopposed_from_times : (operations : List Operation) (x y : Life) → NoOrderViolation operations → HasLifeTimes x → HasLifeTimes y

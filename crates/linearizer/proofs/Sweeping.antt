@@ -250,34 +250,29 @@ pub record IsNext (values : List MatchedValue) (taken : List Bool) (place : ℕ)
 pub chosen : (values : List MatchedValue) (taken : List Bool) (first_in first_out : Timed) (place : ℕ) → IsLeastLeft entered_by values taken first_in
     → IsLeastLeft dequeue_return values taken first_out → TakesOneOf values first_in first_out place → IsNext values taken place
 chosen values taken first_in first_out place a b takes = elim (takes a.value a.is_at) [
-  | inl dequeued ↦ record {
-    value = b.value;
-    is_at = ap (slice_get values) dequeued.1 ∙ b.is_at;
-    is_left = ap (slice_get taken) dequeued.1 ∙ b.is_left;
-    is_choice = record {
-      first_entered = a.value.life;
-      first_dequeued = b.value.life;
-      enters_first = a.is_least;
-      dequeued_first = b.is_least;
-      takes_dequeued = λ _. refl;
-      takes_entered = λ more. absurd (apart (dequeue_return b.value.life) first_out.time (leaves_from a.value.life) b.time_is dequeued.0 more);
-    };
-  }
-  | inr entered ↦ record {
-    value = a.value;
-    is_at = ap (slice_get values) entered.1 ∙ a.is_at;
-    is_left = ap (slice_get taken) entered.1 ∙ a.is_left;
-    is_choice = record {
-      first_entered = a.value.life;
-      first_dequeued = b.value.life;
-      enters_first = a.is_least;
-      dequeued_first = b.is_least;
-      takes_dequeued = λ less. absurd (apart' (dequeue_return b.value.life) first_out.time (leaves_from a.value.life) b.time_is entered.0 less);
-      takes_entered = λ _. refl;
-    };
-  }
+  | inl dequeued ↦ next b.value (ap (slice_get values) dequeued.1 ∙ b.is_at) (ap (slice_get taken) dequeued.1 ∙ b.is_left) (λ _. refl)
+      (λ more. absurd (apart (dequeue_return b.value.life) first_out.time (leaves_from a.value.life) b.time_is dequeued.0 more))
+  | inr entered ↦ next a.value (ap (slice_get values) entered.1 ∙ a.is_at) (ap (slice_get taken) entered.1 ∙ a.is_left)
+      (λ less. absurd (apart' (dequeue_return b.value.life) first_out.time (leaves_from a.value.life) b.time_is entered.0 less)) (λ _. refl)
 ]
   where
+    next : (value : MatchedValue) → slice_get values place ≡ Some value → slice_get taken place ≡ Some false
+        → (dequeue_return b.value.life < leaves_from a.value.life → value.life ≡ b.value.life)
+        → (leaves_from a.value.life ≤ dequeue_return b.value.life → value.life ≡ a.value.life) → IsNext values taken place
+    next value is_at is_left takes_dequeued takes_entered = record {
+      value = value;
+      is_at = is_at;
+      is_left = is_left;
+      is_choice = record {
+        first_entered = a.value.life;
+        first_dequeued = b.value.life;
+        enters_first = a.is_least;
+        dequeued_first = b.is_least;
+        takes_dequeued = takes_dequeued;
+        takes_entered = takes_entered;
+      };
+    }
+
     apart : (r t n : ℕ) → t ≡ r → t < n → n ≤ r → ⊥
     apart r t n same less more = omega arith
 

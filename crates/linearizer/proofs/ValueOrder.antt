@@ -45,31 +45,21 @@ choice_of x xs =
     let a = least_by entered_by x xs in
     let b = least_by dequeue_return x xs in
     let cases : (dequeue_return b.0 < leaves_from a.0) ⊎ (leaves_from a.0 ≤ dequeue_return b.0) = grind arith in
+    let of : (life : Life) → (dequeue_return b.0 < leaves_from a.0 → life ≡ b.0) → (leaves_from a.0 ≤ dequeue_return b.0 → life ≡ a.0)
+    → (life : Life) × IsChoice (x ∷ xs) life = λ life takes_dequeued takes_entered. (
+      life,
+      record {
+        first_entered = a.0;
+        first_dequeued = b.0;
+        enters_first = a.1;
+        dequeued_first = b.1;
+        takes_dequeued = takes_dequeued;
+        takes_entered = takes_entered;
+      },
+    ) in
     elim cases [
-      | inl less ↦ (
-        b.0,
-        record {
-          first_entered = a.0;
-          first_dequeued = b.0;
-          enters_first = a.1;
-          dequeued_first = b.1;
-          takes_dequeued =
-              λ _. refl;
-          takes_entered = λ more. absurd (omega arith);
-        },
-      )
-      | inr more ↦ (
-        a.0,
-        record {
-          first_entered = a.0;
-          first_dequeued = b.0;
-          enters_first = a.1;
-          dequeued_first = b.1;
-          takes_dequeued =
-              λ less. absurd (omega arith);
-          takes_entered = λ _. refl;
-        },
-      )
+      | inl less ↦ of b.0 (λ _. refl) (λ more. absurd (omega arith))
+      | inr more ↦ of a.0 (λ less. absurd (omega arith)) (λ _. refl)
     ]
 
 least_in_other_order : (number : Life → ℕ) (xs ys : List Life) (life : Life) → IsPermutation xs ys → IsLeastBy number xs life → IsLeastBy number ys life
