@@ -2,7 +2,7 @@
 ghost use Rattle.std.specs.Prelude.{◌≡◌, ◌≢◌, ◌≤◌, ◌<◌, ◌+◌, IfOk, IfErr, OnErr, [], length};
 ghost use Rattle.collector.specs.Ends.{Fits, Drains};
 ghost use Rattle.event_rings.specs.declared.drain_end.FinishFault.TheVariants.{Uncertified, Memory};
-ghost use Rattle.event_rings.specs.declared.TheConstants.{MAX_CAPACITY};
+ghost use Rattle.event_records.specs.declared.limits.TheConstants.{MAX_RING, MAX_THREADS};
 
 use event_records::Event;
 use event_rings::{CloseToken, DrainEnd, FinishFault};
@@ -44,17 +44,17 @@ impl Drained {
     // The thread whose ring it is.
     pub(crate) fn thread(&self) -> u8
         ensures value { result ≡ self.now.thread }
-        ensures small { result < 64 }
+        ensures small { result < MAX_THREADS }
     {
         self.end.thread().get()
     }
 
     // Drains at most `max` events, and tells how many. There is room for them before any leaves the ring.
     pub(crate) fn drain(&mut self, max: usize) -> Result<u64, AllocError>
-        requires { max ≤ MAX_CAPACITY }
+        requires { max ≤ MAX_RING }
         ensures drains { Drains max self.old self.new }
         ensures count { IfOk result (λ n. length self.new.received ≡ length self.old.received + n) }
-        ensures few { IfOk result (λ n. n ≤ MAX_CAPACITY) }
+        ensures few { IfOk result (λ n. n ≤ MAX_RING) }
         ensures refused { OnErr result (self.new ≡ self.old) }
     {
         let drained = self.end.drain_into(&mut self.events, max)?;

@@ -3,7 +3,7 @@ ghost use Rattle.std.specs.Prelude.{◌≡◌, ◌≢◌, ◌≤◌, ◌+◌, If
 ghost use Rattle.std.specs.List.{AllZip};
 ghost use Rattle.collector.specs.Ends.{AreInOrder, AreFresh, AreOwnUpTo, Drains, Fits, IsFirstForeign, StopsAt, count_received, rings_of, threads_of, threads_of_tokens};
 ghost use Rattle.collector.specs.declared.rounds.CollectError.TheVariants.{Memory, Uncertified};
-ghost use Rattle.event_rings.specs.declared.TheConstants.{MAX_CAPACITY};
+ghost use Rattle.event_records.specs.declared.limits.TheConstants.{MAX_RING};
 
 use crate::drained::Drained;
 use event_records::{Event, Lists};
@@ -73,7 +73,7 @@ impl Collector {
     /// Where room for a ring's events is refused, the round ends there. What was drained before is kept, and that ring
     /// and those after it are as they were: no event is lost. A later round may have more luck.
     pub fn drain_round(&mut self, max: usize) -> Result<u64, AllocError>
-        requires { max ≤ MAX_CAPACITY }
+        requires { max ≤ MAX_RING }
         ensures rings { rings_of self.new.rings ≡ rings_of self.old.rings }
         ensures drains { AllZip (Drains max) self.old.rings self.new.rings }
         ensures count { IfOk result (λ n. count_received self.new.rings ≡ count_received self.old.rings + n) }
@@ -128,7 +128,7 @@ fn all_drained(alloc: Global, ends: Vec<DrainEnd>, room: usize) -> Result<Vec<Dr
 
 // Drains at most `max` events from each ring.
 fn drain_each(rings: &mut Vec<Drained>, max: usize) -> Result<u64, AllocError>
-    requires few { max ≤ MAX_CAPACITY }
+    requires few { max ≤ MAX_RING }
     requires order { AreInOrder rings.old.items }
     ensures drains { AllZip (Drains max) rings.old.items rings.new.items }
     ensures order { AreInOrder rings.new.items }
@@ -137,7 +137,7 @@ fn drain_each(rings: &mut Vec<Drained>, max: usize) -> Result<u64, AllocError>
 {
     let mut total = 0;
     for place in 0..rings.len() {
-        // The place is its thread, and so below 64: the sum fits.
+        // The place is its thread, and so below `MAX_THREADS`: the sum fits.
         let _thread = rings[place].thread();
         total += rings[place].drain(max)?;
     }

@@ -22,6 +22,7 @@ use Rattle.clap.specs.declared.builder.value_parser.ValueParser.TheVariants as v
 use Rattle.clap.specs.declared.error.kind.ErrorKind.TheVariants as kind
 use Rattle.clap.specs.declared.parser.matches.ValueSource.TheVariants.{CommandLine}
 use Rattle.clap.proofs.ValueTestLemmas.{accepts-Accepts}
+use Rattle.event_records.specs.declared.limits.TheConstants.{MAX_RING, MAX_SEED, MAX_THREAD_OPERATIONS, MAX_WORKERS, MIN_RING}
 use Rattle.command_words.specs.Commands.{IsAnswerable, the_program}
 use Rattle.command_words.specs.Options.{HasNumber, HasSettings, number_rule, queue_rule, stress_rules}
 use Rattle.command_words.proofs.Levels.{first_by_default, first_given, last_checks}
@@ -82,14 +83,14 @@ all_use_well : AllUseWell test stress_built.rules
 all_use_well = (
   queue_uses,
   (
-    number_uses (codes "threads") 1 16 (codes "2") (λ v e. e),
+    number_uses (codes "threads") 1 MAX_WORKERS (codes "2") (λ v e. e),
     (
-      number_uses (codes "ops") 0 100000 (codes "1000") (λ v e. e),
+      number_uses (codes "ops") 0 MAX_THREAD_OPERATIONS (codes "1000") (λ v e. e),
       (
-        number_uses (codes "seed") 0 4294967295 (codes "1") (λ v e. e),
+        number_uses (codes "seed") 0 MAX_SEED (codes "1") (λ v e. e),
         (
           number_uses (codes "percent") 0 100 (codes "50") (λ v e. e),
-          (number_uses (codes "ring") 2 65536 (codes "1024") (λ v e. e), (help_uses, tt)),
+          (number_uses (codes "ring") MIN_RING MAX_RING (codes "1024") (λ v e. e), (help_uses, tt)),
         ),
       ),
     ),
@@ -134,11 +135,11 @@ module _ (rest : List Text) (none : level_fault stress_built [] nothing_held res
     queue = any_text _ (λ v. test (codes "queue") v ≡ true)
         (first_given test stress_built rest well defaults_do none (codes "queue")
         (given_queue (rows_after stress_built.rules [] rest) (last_checks test stress_built rest well defaults_do none)));
-    threads = number (codes "threads") 1 16 (λ v e. e) (inr (inl (refl, tt)));
-    operations = number (codes "ops") 0 100000 (λ v e. e) (inr (inr (inl (refl, tt))));
-    seed = number (codes "seed") 0 4294967295 (λ v e. e) (inr (inr (inr (inl (refl, tt)))));
+    threads = number (codes "threads") 1 MAX_WORKERS (λ v e. e) (inr (inl (refl, tt)));
+    operations = number (codes "ops") 0 MAX_THREAD_OPERATIONS (λ v e. e) (inr (inr (inl (refl, tt))));
+    seed = number (codes "seed") 0 MAX_SEED (λ v e. e) (inr (inr (inr (inl (refl, tt)))));
     percent = number (codes "percent") 0 100 (λ v e. e) (inr (inr (inr (inr (inl (refl, tt))))));
-    ring = number (codes "ring") 2 65536 (λ v e. e) (inr (inr (inr (inr (inr (inl (refl, tt)))))));
+    ring = number (codes "ring") MIN_RING MAX_RING (λ v e. e) (inr (inr (inr (inr (inr (inl (refl, tt)))))));
   }
 
 -- ---- the program

@@ -4,6 +4,7 @@ use Rattle.std.specs.Prelude.{IsSomeAnd}
 use Rattle.std.specs.Str.Parse.{digits_value, without_leading_plus}
 use Rattle.clap.specs.Values.{IsUnsignedIn}
 use Rattle.clap.specs.Walk.{Row, Text, first_of}
+use Rattle.event_records.specs.declared.limits.TheConstants.{MAX_RING, MAX_SEED, MAX_THREAD_OPERATIONS, MAX_WORKERS, MIN_RING}
 use Rattle.command_words.specs.Commands.{IsAnswerable, IsInRange, request_named, request_of_subcommand}
 use Rattle.command_words.specs.Options.{HasNumber, HasSettings, IsWithinRanges, number_in, settings_in}
 
@@ -18,11 +19,11 @@ in_range id low high rows h = bounded low high (first_of id rows) h
 
 within_ranges : (rows : List Row) → HasSettings rows → IsWithinRanges (settings_in rows)
 within_ranges rows h = record {
-  threads = in_range (codes "threads") 1 16 rows h.threads;
-  operations = (in_range (codes "ops") 0 100000 rows h.operations).1;
-  seed = let seed = in_range (codes "seed") 0 4294967295 rows h.seed in omega (arith, seed.1);
+  threads = in_range (codes "threads") 1 MAX_WORKERS rows h.threads;
+  operations = (in_range (codes "ops") 0 MAX_THREAD_OPERATIONS rows h.operations).1;
+  seed = (in_range (codes "seed") 0 MAX_SEED rows h.seed).1;
   percent = (in_range (codes "percent") 0 100 rows h.percent).1;
-  ring = in_range (codes "ring") 2 65536 rows h.ring;
+  ring = in_range (codes "ring") MIN_RING MAX_RING rows h.ring;
 }
 
 named : (name : Text) (rows : List Row) → IsAnswerable (Some (name, rows)) → IsSomeAnd (request_named name rows) IsInRange

@@ -1,11 +1,12 @@
 -- The options of `draw` and `stress`.
-use Rattle.std.specs.Prelude.{◌≤◌, ◌<◌, ◌^◌, ℕ, true, List, [], ◌∷◌, Some, IsSome, IsSomeAnd, codes, unwrap_or}
+use Rattle.std.specs.Prelude.{◌≤◌, ℕ, true, List, [], ◌∷◌, Some, IsSome, IsSomeAnd, codes, unwrap_or}
 use Rattle.std.specs.Str.Parse.{digits_value, without_leading_plus}
 use Rattle.clap.specs.Simple.{Shape, new_rule, new_shape}
 use Rattle.clap.specs.Values.{IsUnsignedIn}
 use Rattle.clap.specs.Walk.{Row, Rule, Text, first_of}
 use Rattle.clap.specs.declared.builder.action.ArgAction.TheVariants.{SetTrue}
 use Rattle.clap.specs.declared.builder.value_parser.ValueParser.TheVariants as vp
+use Rattle.event_records.specs.declared.limits.TheConstants.{MAX_RING, MAX_SEED, MAX_THREAD_OPERATIONS, MAX_WORKERS, MIN_RING}
 use Rattle.command_words.specs.declared.options.StressOptions.{StressOptions}
 
 -- ---- what may be written
@@ -41,11 +42,11 @@ the_draw = record (new_shape (codes "draw")) { rules = text_rule ∷ [] }
 
 -- the options in the order of the help: ranges and defaults
 abbrev pub stress_rules : List Rule
-stress_rules = queue_rule ∷ number_rule (codes "threads") 1 16 (codes "2")
-    ∷ number_rule (codes "ops") 0 100000 (codes "1000")
-    ∷ number_rule (codes "seed") 0 4294967295 (codes "1")
+stress_rules = queue_rule ∷ number_rule (codes "threads") 1 MAX_WORKERS (codes "2")
+    ∷ number_rule (codes "ops") 0 MAX_THREAD_OPERATIONS (codes "1000")
+    ∷ number_rule (codes "seed") 0 MAX_SEED (codes "1")
     ∷ number_rule (codes "percent") 0 100 (codes "50")
-    ∷ number_rule (codes "ring") 2 65536 (codes "1024") ∷ []
+    ∷ number_rule (codes "ring") MIN_RING MAX_RING (codes "1024") ∷ []
 
 -- the subcommand with its options
 abbrev pub the_stress : Shape
@@ -94,11 +95,11 @@ settings_in rows = record {
 
 -- each number lies in the range of its option
 pub record IsWithinRanges (s : Settings) : Type 0 where
-  pub threads : (1 ≤ s.threads) × (s.threads ≤ 16)
-  pub operations : s.operations ≤ 100000
-  pub seed : s.seed < 2 ^ 32
+  pub threads : (1 ≤ s.threads) × (s.threads ≤ MAX_WORKERS)
+  pub operations : s.operations ≤ MAX_THREAD_OPERATIONS
+  pub seed : s.seed ≤ MAX_SEED
   pub percent : s.percent ≤ 100
-  pub ring : (2 ≤ s.ring) × (s.ring ≤ 65536)
+  pub ring : (MIN_RING ≤ s.ring) × (s.ring ≤ MAX_RING)
 
 -- ---- what the parse has checked
 
@@ -109,8 +110,8 @@ HasNumber id low high rows = IsSomeAnd (first_of id rows) (IsUnsignedIn low high
 -- the queue's name is there, and each number is in its range
 pub record HasSettings (rows : List Row) : Type 0 where
   pub queue : IsSome (first_of (codes "queue") rows)
-  pub threads : HasNumber (codes "threads") 1 16 rows
-  pub operations : HasNumber (codes "ops") 0 100000 rows
-  pub seed : HasNumber (codes "seed") 0 4294967295 rows
+  pub threads : HasNumber (codes "threads") 1 MAX_WORKERS rows
+  pub operations : HasNumber (codes "ops") 0 MAX_THREAD_OPERATIONS rows
+  pub seed : HasNumber (codes "seed") 0 MAX_SEED rows
   pub percent : HasNumber (codes "percent") 0 100 rows
-  pub ring : HasNumber (codes "ring") 2 65536 rows
+  pub ring : HasNumber (codes "ring") MIN_RING MAX_RING rows

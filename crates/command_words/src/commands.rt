@@ -9,6 +9,7 @@ ghost use Rattle.command_words.specs.Options.{number_rule, queue_rule, text_rule
 use crate::help;
 use clap::builder::ValueParser;
 use clap::{Arg, ArgAction, Command};
+use event_records::{MAX_RING, MAX_SEED, MAX_THREAD_OPERATIONS, MAX_WORKERS, MIN_RING};
 use std::alloc::{AllocError, Global};
 
 /// The program with its subcommands.
@@ -62,11 +63,29 @@ fn stress_command<'a>(alloc: Global) -> Result<Command<'a>, AllocError>
 {
     plain_command(alloc, "stress", help::STRESS_ABOUT, help::STRESS_HELP)
         .arg(queue_option(alloc))?
-        .arg(number_option(alloc, "threads", (1, 16), "2", help::THREADS_HELP))?
-        .arg(number_option(alloc, "ops", (0, 100_000), "1000", help::OPERATIONS_HELP))?
-        .arg(number_option(alloc, "seed", (0, 4_294_967_295), "1", help::SEED_HELP))?
+        .arg(number_option(
+            alloc,
+            "threads",
+            (1, MAX_WORKERS as u64),
+            "2",
+            help::THREADS_HELP,
+        ))?
+        .arg(number_option(
+            alloc,
+            "ops",
+            (0, MAX_THREAD_OPERATIONS),
+            "1000",
+            help::OPERATIONS_HELP,
+        ))?
+        .arg(number_option(alloc, "seed", (0, MAX_SEED), "1", help::SEED_HELP))?
         .arg(number_option(alloc, "percent", (0, 100), "50", help::PERCENT_HELP))?
-        .arg(number_option(alloc, "ring", (2, 65_536), "1024", help::RING_HELP))
+        .arg(number_option(
+            alloc,
+            "ring",
+            (MIN_RING as u64, MAX_RING as u64),
+            "1024",
+            help::RING_HELP,
+        ))
 }
 
 fn queue_option<'a>(alloc: Global) -> Arg<'a>

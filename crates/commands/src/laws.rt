@@ -2,7 +2,7 @@
 ghost use Rattle.std.specs.Prelude.{◌≡◌, ◌≤◌, ◌⊎◌, List};
 ghost use Rattle.history_merge.specs.declared.operation.Operation.{Operation};
 ghost use Rattle.event_records.specs.declared.event.Event.{Event};
-ghost use Rattle.recorder_core.specs.declared.limits.TheConstants.{MAX_THREADS};
+ghost use Rattle.event_records.specs.declared.limits.TheConstants.{MAX_THREADS};
 ghost use Rattle.recorder_core.specs.Setting.{Setting};
 ghost use Rattle.recorder_core.specs.Schedule.{Attempt};
 ghost use Rattle.recorder_core.specs.Laws.{IsDone};

@@ -1,36 +1,9 @@
-ghost use Rattle.std.specs.Prelude.{◌≡◌};
-
+use event_records::Listed;
 use history_merge::OpId;
-use std::marker::Model;
 use value_match::Cover;
 
 /// The gaps of empty answers, seen as a list. Gap c is the place just after ticket c.
-#[derive(Debug, Drop)]
-pub struct Gaps {
-    gaps: Vec<u64>,
-}
-
-impl Model for Gaps {
-    ghost use Rattle.std.specs.Prelude.{ℕ, List};
-
-    ghost Value = { List ℕ };
-
-    ghost view = { λ a. a.gaps.items };
-}
-
-impl Gaps {
-    pub fn from_vec(gaps: Vec<u64>) -> Gaps
-        ensures { result ≡ gaps.items }
-    {
-        Gaps { gaps }
-    }
-
-    pub fn as_slice(&self) -> &[u64]
-        ensures { result.now ≡ self.now }
-    {
-        self.gaps.as_slice()
-    }
-}
+pub type Gaps = Listed<u64>;
 
 /// What is found of the window of one empty answer.
 #[derive(Debug, Drop)]

@@ -1,5 +1,5 @@
 -- Questions to a queue, their answers, and the events that record them.
-use Rattle.std.specs.Prelude.{ℕ, ◌+◌, ◌*◌, ◌^◌, Option, Some, None}
+use Rattle.std.specs.Prelude.{ℕ, ◌+◌, ◌*◌, Option, Some, None}
 use Rattle.tickets.specs.Views.{DrawnView}
 use Rattle.atomic_table.specs.Seated.{TableId}
 use Rattle.event_records.specs.declared.kind.Kind.{Kind}
@@ -9,6 +9,7 @@ use Rattle.event_records.specs.declared.event.What.TheVariants.{CallEnq, RetEnq,
 use Rattle.event_records.specs.declared.kind.Answer.{Answer}
 use Rattle.event_records.specs.declared.kind.Answer.TheVariants.{Taken, NotTaken, Got, Empty}
 use Rattle.event_records.specs.declared.event.Event.{Event}
+use Rattle.event_records.specs.declared.limits.TheConstants.{NAMES_OF_A_THREAD}
 
 -- one operation as its thread asks for it: which operation of the thread it is, from 0, its call ticket, and which ticket word that was drawn from
 pub record Question : Type 0 where
@@ -30,7 +31,7 @@ pub record NamerView : Type 0 where
 
 -- the value that a thread's n-th operation enqueues, n counted from 0
 abbrev pub value_name : ℕ → ℕ → ℕ
-value_name thread n = thread * 2 ^ 32 + n
+value_name thread n = thread * NAMES_OF_A_THREAD + n
 
 -- the next question of a namer, at a drawn ticket
 abbrev pub next_question : NamerView → Kind → DrawnView → Question

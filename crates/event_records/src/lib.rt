@@ -6,6 +6,7 @@ mod answers;
 mod event;
 mod kind;
 mod limits;
+mod listed;
 mod lists;
 mod noted;
 mod questions;
@@ -15,7 +16,11 @@ mod turns;
 pub use answers::{AnsweredDeq, AnsweredEnq};
 pub use event::{Event, What};
 pub use kind::{Answer, Kind};
-pub use limits::{MAX_EVENTS, MAX_OPERATIONS, MAX_THREAD, MAX_THREAD_OPERATIONS, MAX_TICKET};
+pub use limits::{
+    MAX_EVENTS, MAX_OPERATIONS, MAX_RING, MAX_SEED, MAX_STEPS, MAX_THREAD, MAX_THREAD_OPERATIONS,
+    MAX_THREADS, MAX_TICKET, MAX_WORKERS, MIN_RING, NAMES_OF_A_THREAD,
+};
+pub use listed::Listed;
 pub use lists::Lists;
 pub use noted::Noted;
 pub use questions::{AskDeq, AskEnq, Namer};

@@ -1,16 +1,38 @@
+//! The limits of what is recorded, run and read.
 use tickets::TICKET_LIMIT;
 
 /// The greatest ticket of an event.
 pub const MAX_TICKET: u64 = TICKET_LIMIT - 1;
 
-/// The greatest number of a thread in an event or a text.
-pub const MAX_THREAD: u8 = 63;
+/// The most threads of a history or a machine. They are numbered from 0.
+pub const MAX_THREADS: usize = 64;
 
-/// The most events of a history.
-pub const MAX_EVENTS: usize = 2_000_000;
+/// The greatest number of a thread in an event or a text.
+pub const MAX_THREAD: u8 = MAX_THREADS as u8 - 1;
+
+/// The most workers of a run.
+pub const MAX_WORKERS: usize = 16;
+
+/// How many values each thread has names for.
+pub const NAMES_OF_A_THREAD: u64 = 1 << 32;
 
 /// The most operations of one thread or worker.
 pub const MAX_THREAD_OPERATIONS: u64 = 100_000;
 
-/// The most operations of a run or of a machine, over all threads.
+/// The most operations of a run or of a machine, over all threads, and of a claimed verdict.
 pub const MAX_OPERATIONS: u64 = 1_000_000;
+
+/// The most events of a history.
+pub const MAX_EVENTS: usize = 2_000_000;
+
+/// The greatest seed of a plan, as the command line takes it.
+pub const MAX_SEED: u64 = u32::MAX as u64;
+
+/// The most steps of a schedule's text.
+pub const MAX_STEPS: usize = 2_000_000;
+
+/// The least number of events for which a ring has room.
+pub const MIN_RING: usize = 2;
+
+/// The greatest number of events for which a ring has room.
+pub const MAX_RING: usize = 65_536;

@@ -1,16 +1,15 @@
 // The questions that a thread asks, each once and under its own number.
-ghost use Rattle.std.specs.Prelude.{◌≡◌, ◌+◌, ◌<◌, ◌^◌};
+ghost use Rattle.std.specs.Prelude.{◌≡◌, ◌+◌, ◌<◌};
 ghost use Rattle.event_records.specs.Question.{next_question, call_event, value_name};
 ghost use Rattle.event_records.specs.declared.kind.Kind.TheVariants.{Enq, Deq};
+ghost use Rattle.event_records.specs.declared.limits.TheConstants.{MAX_THREADS, NAMES_OF_A_THREAD};
 
 use crate::event::{Event, What};
+use crate::limits::NAMES_OF_A_THREAD;
 use crate::noted::Noted;
 use crate::thread_no::ThreadNo;
 use std::marker::Model;
 use tickets::Drawn;
-
-// How many values each thread has names for.
-const NAMES_OF_A_THREAD: u64 = 4_294_967_296;
 
 /// Numbers the operations of one thread, from 0.
 ///
@@ -29,47 +28,53 @@ impl Model for Namer {
     ghost view = { λ n. record { thread = n.thread; asked = n.asked } };
 }
 
+// What questions of both kinds hold: who asks, which of its operations, and at which call ticket.
+#[derive(Drop)]
+struct Asked {
+    thread: ThreadNo,
+    number: u64,
+    drawn: Drawn,
+}
+
 /// A question to enqueue the value of its name.
 ///
 /// It is not `Clone`: the queue that answers it uses it up. Contracts see it as plain data, with the key of the
 /// `Tickets` that its call ticket was drawn from.
 #[derive(Drop)]
 pub struct AskEnq {
-    thread: ThreadNo,
-    number: u64,
-    drawn: Drawn,
+    asked: Asked,
 }
 
 impl Model for AskEnq {
-    ghost use Rattle.std.specs.Prelude.{◌<◌, ◌^◌};
+    ghost use Rattle.std.specs.Prelude.{◌<◌};
     ghost use Rattle.event_records.specs.Question.{Question};
     ghost use Rattle.event_records.specs.declared.kind.Kind.TheVariants.{Enq};
+    ghost use Rattle.event_records.specs.declared.limits.TheConstants.{NAMES_OF_A_THREAD};
 
     ghost Value = { Question };
 
-    ghost view = { λ q. record { thread = q.thread; number = q.number; kind = Enq; call = q.drawn.ticket; key = q.drawn.key } };
+    ghost view = { λ q. record { thread = q.asked.thread; number = q.asked.number; kind = Enq; call = q.asked.drawn.ticket; key = q.asked.drawn.key } };
 
-    ghost invariant = { λ q. q.number < 2 ^ 32 };
+    ghost invariant = { λ q. q.asked.number < NAMES_OF_A_THREAD };
 }
 
 /// A question to dequeue, one-use as an `AskEnq`.
 #[derive(Drop)]
 pub struct AskDeq {
-    thread: ThreadNo,
-    number: u64,
-    drawn: Drawn,
+    asked: Asked,
 }
 
 impl Model for AskDeq {
-    ghost use Rattle.std.specs.Prelude.{◌<◌, ◌^◌};
+    ghost use Rattle.std.specs.Prelude.{◌<◌};
     ghost use Rattle.event_records.specs.Question.{Question};
     ghost use Rattle.event_records.specs.declared.kind.Kind.TheVariants.{Deq};
+    ghost use Rattle.event_records.specs.declared.limits.TheConstants.{NAMES_OF_A_THREAD};
 
     ghost Value = { Question };
 
-    ghost view = { λ q. record { thread = q.thread; number = q.number; kind = Deq; call = q.drawn.ticket; key = q.drawn.key } };
+    ghost view = { λ q. record { thread = q.asked.thread; number = q.asked.number; kind = Deq; call = q.asked.drawn.ticket; key = q.asked.drawn.key } };
 
-    ghost invariant = { λ q. q.number < 2 ^ 32 };
+    ghost invariant = { λ q. q.asked.number < NAMES_OF_A_THREAD };
 }
 
 impl Namer {
@@ -87,59 +92,64 @@ impl Namer {
         self.asked
     }
 
-    // The number of the next operation, which is then counted.
-    fn next_number(&mut self) -> u64
-        requires { self.old.asked < 2 ^ 32 }
-        ensures number { result ≡ self.old.asked }
+    // The next operation, which is then counted.
+    fn next(&mut self, drawn: Drawn) -> Asked
+        requires { self.old.asked < NAMES_OF_A_THREAD }
+        ensures asked { result ≡ record { thread = self.old.thread; number = self.old.asked; drawn = drawn } }
         ensures counted { self.new ≡ record self.old { asked = self.old.asked + 1 } }
     {
         let number = self.asked;
         self.asked += 1;
-        number
+        Asked {
+            thread: self.thread,
+            number,
+            drawn,
+        }
     }
 
     /// The question of the next enqueue at a ticket that was drawn for it, and its call event.
     pub fn ask_enq(&mut self, drawn: Drawn) -> (AskEnq, Noted)
-        requires { self.old.asked < 2 ^ 32 }
+        requires { self.old.asked < NAMES_OF_A_THREAD }
         ensures question { result.0 ≡ next_question self.old Enq drawn }
         ensures noted { result.1 ≡ call_event result.0 }
         ensures counted { self.new ≡ record self.old { asked = self.old.asked + 1 } }
     {
-        let thread = self.thread;
-        let number = self.next_number();
-        let ask = AskEnq {
-            thread,
-            number,
-            drawn,
-        };
-        let noted = Noted::of(Event {
-            ticket: ask.call(),
-            thread: ask.thread(),
-            what: What::CallEnq(ask.value()),
-        });
-        (ask, noted)
+        let asked = self.next(drawn);
+        let noted = asked.noted(What::CallEnq(asked.value()));
+        (AskEnq { asked }, noted)
     }
 
     /// The question of the next dequeue at a ticket that was drawn for it, and its call event.
     pub fn ask_deq(&mut self, drawn: Drawn) -> (AskDeq, Noted)
-        requires { self.old.asked < 2 ^ 32 }
+        requires { self.old.asked < NAMES_OF_A_THREAD }
         ensures question { result.0 ≡ next_question self.old Deq drawn }
         ensures noted { result.1 ≡ call_event result.0 }
         ensures counted { self.new ≡ record self.old { asked = self.old.asked + 1 } }
     {
-        let thread = self.thread;
-        let number = self.next_number();
-        let ask = AskDeq {
-            thread,
-            number,
-            drawn,
-        };
-        let noted = Noted::of(Event {
-            ticket: ask.call(),
-            thread: ask.thread(),
-            what: What::CallDeq,
-        });
-        (ask, noted)
+        let asked = self.next(drawn);
+        let noted = asked.noted(What::CallDeq);
+        (AskDeq { asked }, noted)
+    }
+}
+
+impl Asked {
+    // The value of this operation, if it is an enqueue.
+    fn value(&self) -> u64
+        requires { self.now.number < NAMES_OF_A_THREAD }
+        ensures { result ≡ value_name self.now.thread self.now.number }
+    {
+        u64::from(self.thread.get()) * NAMES_OF_A_THREAD + self.number
+    }
+
+    // The event of this call.
+    fn noted(&self, what: What) -> Noted
+        ensures { result ≡ record { ticket = self.now.drawn.ticket; thread = self.now.thread; what = what } }
+    {
+        Noted::of(Event {
+            ticket: self.drawn.ticket(),
+            thread: self.thread.get(),
+            what,
+        })
     }
 }
 
@@ -147,31 +157,31 @@ impl AskEnq {
     /// The thread that asks.
     pub fn thread(&self) -> u8
         ensures value { result ≡ self.now.thread }
-        ensures small { result < 64 }
+        ensures small { result < MAX_THREADS }
     {
-        self.thread.get()
+        self.asked.thread.get()
     }
 
     /// Which operation of its thread it is, from 0.
     pub fn number(&self) -> u64
         ensures value { result ≡ self.now.number }
-        ensures small { result < 2 ^ 32 }
+        ensures small { result < NAMES_OF_A_THREAD }
     {
-        self.number
+        self.asked.number
     }
 
     /// The call ticket.
     pub fn call(&self) -> u64
         ensures { result ≡ self.now.call }
     {
-        self.drawn.ticket()
+        self.asked.drawn.ticket()
     }
 
     /// The value to enqueue: the thread times 2^32, plus the number. No two questions of one run have the same.
     pub fn value(&self) -> u64
         ensures { result ≡ value_name self.now.thread self.now.number }
     {
-        u64::from(self.thread.get()) * NAMES_OF_A_THREAD + self.number
+        self.asked.value()
     }
 }
 
@@ -179,23 +189,23 @@ impl AskDeq {
     /// The thread that asks.
     pub fn thread(&self) -> u8
         ensures value { result ≡ self.now.thread }
-        ensures small { result < 64 }
+        ensures small { result < MAX_THREADS }
     {
-        self.thread.get()
+        self.asked.thread.get()
     }
 
     /// Which operation of its thread it is, from 0.
     pub fn number(&self) -> u64
         ensures value { result ≡ self.now.number }
-        ensures small { result < 2 ^ 32 }
+        ensures small { result < NAMES_OF_A_THREAD }
     {
-        self.number
+        self.asked.number
     }
 
     /// The call ticket.
     pub fn call(&self) -> u64
         ensures { result ≡ self.now.call }
     {
-        self.drawn.ticket()
+        self.asked.drawn.ticket()
     }
 }

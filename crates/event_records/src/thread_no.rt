@@ -1,5 +1,7 @@
 ghost use Rattle.std.specs.Prelude.{◌≡◌, ◌<◌, SomeIff};
+ghost use Rattle.event_records.specs.declared.limits.TheConstants.{MAX_THREADS};
 
+use crate::limits::MAX_THREADS;
 use std::marker::Model;
 
 /// The number of a thread: 0 to 63.
@@ -10,12 +12,13 @@ pub struct ThreadNo {
 
 impl Model for ThreadNo {
     ghost use Rattle.std.specs.Prelude.{ℕ, ◌<◌};
+    ghost use Rattle.event_records.specs.declared.limits.TheConstants.{MAX_THREADS};
 
     ghost Value = { ℕ };
 
     ghost view = { λ a. a.number };
 
-    ghost invariant = { λ a. a.number < 64 };
+    ghost invariant = { λ a. a.number < MAX_THREADS };
 
     ghost inverse = { λ n. record { number = n } };
 }
@@ -23,9 +26,9 @@ impl Model for ThreadNo {
 impl ThreadNo {
     /// The thread of this number, or none where the number is above 63.
     pub fn new(number: u8) -> Option<ThreadNo>
-        ensures { SomeIff result (number < 64) number }
+        ensures { SomeIff result (number < MAX_THREADS) number }
     {
-        if number < 64 {
+        if usize::from(number) < MAX_THREADS {
             Some(ThreadNo { number })
         } else {
             None
@@ -35,7 +38,7 @@ impl ThreadNo {
     /// The number.
     pub fn get(self) -> u8
         ensures number { result ≡ self }
-        ensures in_range { result < 64 }
+        ensures in_range { result < MAX_THREADS }
     {
         self.number
     }

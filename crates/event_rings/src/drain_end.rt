@@ -70,7 +70,7 @@ impl DrainEnd {
     ghost use Rattle.std.specs.Prelude.{◌≡◌, ◌≤◌, ◌++◌, vec_len, IfOk, IfErr, OnErr, length, ◌≢◌};
     ghost use Rattle.event_rings.specs.Ring.{ring_of_consumer, DrainsInto};
     ghost use Rattle.event_rings.specs.declared.drain_end.FinishFault.TheVariants.{Uncertified, Memory};
-    ghost use Rattle.event_rings.specs.declared.TheConstants.{MAX_CAPACITY};
+    ghost use Rattle.event_records.specs.declared.limits.TheConstants.{MAX_RING};
     ghost use Rattle.rtrb.specs.Ring.{received};
 
     pub(crate) fn over(alloc: Global, thread: ThreadNo, consumer: Consumer<Event>) -> DrainEnd
@@ -94,7 +94,7 @@ impl DrainEnd {
     ///
     /// It reserves room for them first, so where that is refused they are all still in the ring.
     pub fn drain(&mut self, max: usize) -> Result<Vec<Event>, AllocError>
-        requires { max ≤ MAX_CAPACITY }
+        requires { max ≤ MAX_RING }
         ensures drained { IfOk result (λ events. self.new ≡ record self.old { received = self.old.received ++ events.items }) }
         ensures most { IfOk result (λ events. vec_len events ≤ max) }
         ensures refused { OnErr result (self.new ≡ self.old) }
@@ -109,7 +109,7 @@ impl DrainEnd {
     /// It makes room for what it sees in the ring first, so where that is refused the events are all still in the ring. Of
     /// an empty ring it takes no memory.
     pub fn drain_into(&mut self, events: &mut Vec<Event>, max: usize) -> Result<usize, AllocError>
-        requires { max ≤ MAX_CAPACITY }
+        requires { max ≤ MAX_RING }
         ensures drained { IfOk result (λ n. DrainsInto n self.old self.new events.old.items events.new.items) }
         ensures most { IfOk result (λ n. n ≤ max) }
         ensures refused { OnErr result (self.new ≡ self.old) }

@@ -11,15 +11,10 @@ mod push_end;
 
 pub use drain_end::{DrainEnd, FinishFault, Sealed};
 use event_records::ThreadNo;
+pub use event_records::{MAX_RING, MIN_RING};
 pub use push_end::{CloseLost, CloseToken, PushEnd};
 use rtrb::RingBuffer;
 use std::alloc::{AllocError, Global};
-
-/// The fewest events that a ring has room for.
-pub const MIN_CAPACITY: usize = 2;
-
-/// The most events that a ring has room for.
-pub const MAX_CAPACITY: usize = 65_536;
 
 /// A new ring of a thread, with room for `capacity` events.
 ///
@@ -29,7 +24,7 @@ pub fn ring(
     thread: ThreadNo,
     capacity: usize,
 ) -> Result<(PushEnd, DrainEnd), AllocError>
-    requires { (MIN_CAPACITY ≤ capacity) × (capacity ≤ MAX_CAPACITY) }
+    requires { (MIN_RING ≤ capacity) × (capacity ≤ MAX_RING) }
     ensures pair { IfOk result (λ ends. ends.1.ring ≡ ends.0.ring) }
     ensures threads { IfOk result (λ ends. (ends.0.thread ≡ thread) × (ends.1.thread ≡ thread)) }
     ensures empty { IfOk result (λ ends. (ends.0.sent ≡ []) × (ends.1.received ≡ [])) }

@@ -17,6 +17,7 @@ use Rattle.std.proofs.lemmas.List.Folds.{list_any_at, list_any_more, Any-from_li
 use Rattle.std.proofs.lemmas.List.Quantifiers.{all_pairs_push}
 use Rattle.std.proofs.lemmas.List.Sorted.{IsNonDecreasingBy-from_sort, IsPermutation-sym}
 use Rattle.std.proofs.lemmas.Map.Keys.{IsDistinct-from_apart, IsDistinct-IsPermutation, apart_from_distinct, sorted_from_strictly_increasing, below_from_sorted}
+use Rattle.event_records.specs.declared.limits.TheConstants.{MAX_THREADS}
 use Rattle.event_records.specs.declared.event.Event.{Event}
 use Rattle.history_merge.proofs.Distinct.{one_at}
 use Rattle.history_merge.specs.Complete.{called_value, called_values}
@@ -176,12 +177,12 @@ met_again events i e v met here calls again m = (m.no_repeat, (e, here, repeats_
 
 -- a walk over the first n events has met no value twice, and each value that it met is below the least that its name may have next
 pub record RisesTo (name : ℕ → ℕ) (events : List Event) (n : ℕ) (least : List ℕ) : Type 0 where
-  pub one_each : length least ≡ 64
+  pub one_each : length least ≡ MAX_THREADS
   pub below : (v : ℕ) → was_called (take n events) v ≡ true → v < get_or least (name v) 0
   pub no_repeat : NoRepeatBefore events n
 
 -- before the first event each name may have any value
-pub rises_at_first : (name : ℕ → ℕ) (events : List Event) (least : List ℕ) → length least ≡ 64 → RisesTo name events 0 least
+pub rises_at_first : (name : ℕ → ℕ) (events : List Event) (least : List ℕ) → length least ≡ MAX_THREADS → RisesTo name events 0 least
 rises_at_first name events least long = record {
   one_each = long;
   below = λ v called. absurd (false≢true called);
@@ -199,7 +200,7 @@ rises_none name events i e least here none r = record {
 
 -- a value that rises within its name
 pub rises_more : (name : ℕ → ℕ) (events : List Event) (i : ℕ) (e : Event) (v : ℕ) (least : List ℕ) → slice_get events i ≡ Some e → called_value e.what ≡ Some v
-    → name v < 64 → get_or least (name v) 0 ≤ v → RisesTo name events i least → RisesTo name events (i + 1) (set least (name v) (v + 1))
+    → name v < MAX_THREADS → get_or least (name v) 0 ≤ v → RisesTo name events i least → RisesTo name events (i + 1) (set least (name v) (v + 1))
 rises_more name events i e v least here calls fits above r = record {
   one_each = simp length-set r.one_each;
   below = each;

@@ -8,6 +8,7 @@ use Rattle.std.specs.BTreeSet.{BTreeSet, contains}
 use Rattle.std.proofs.lemmas.Bool.Decides.{eqb_tells, nat_tests}
 use Rattle.std.proofs.lemmas.Bool.{false_from_ne_true}
 use Rattle.std.proofs.lemmas.List.Folds.{list_any-append}
+use Rattle.event_records.specs.declared.limits.TheConstants.{MAX_THREADS}
 use Rattle.event_records.specs.declared.event.Event.{Event}
 use Rattle.history_merge.specs.declared.called.CalledValues.{CalledValues}
 use Rattle.history_merge.specs.Complete.{called_value}
@@ -86,7 +87,7 @@ knows_rising events e old new v calls rising above known still raised = record {
 
 -- where they stand in a set, that has one more
 pub knows_set : (events : List Event) (e : Event) (least : List ℕ) (old new : BTreeSet ℕ) (values : CalledValues) (v : ℕ)
-    → called_value e.what ≡ Some v → length least ≡ 64
+    → called_value e.what ≡ Some v → length least ≡ MAX_THREADS
     → ((q : ℕ) → contains nat_cmp old q ≡ was_called events q) → ((q : ℕ) → contains nat_cmp new q ≡ cond (is_eq (nat_cmp v q)) true (contains nat_cmp old q))
     → values.least ≡ least → values.others ≡ Some new → KnowsCalled (events ++ e ∷ []) values
 knows_set events e least old new values v calls long has adds same others = record {

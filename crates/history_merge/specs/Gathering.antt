@@ -1,9 +1,9 @@
 -- What a history in the making keeps of its events.
-use Rattle.std.specs.Prelude.{◌≡◌, ℕ, ◌+◌, ◌<◌, ◌≤◌, ◌/◌, ◌%◌, ◌^◌, ◌⊎◌, true, List, length, MatchOption, ⊤, option_map, slice_index_or}
+use Rattle.std.specs.Prelude.{◌≡◌, ℕ, ◌+◌, ◌<◌, ◌≤◌, ◌/◌, ◌%◌, ◌⊎◌, true, List, length, MatchOption, ⊤, option_map, slice_index_or}
 use Rattle.std.specs.Ordering.{nat_cmp}
 use Rattle.std.specs.BTreeSet.{contains}
 use Rattle.event_records.specs.declared.event.Event.{Event}
-use Rattle.event_records.specs.declared.limits.TheConstants.{MAX_THREAD}
+use Rattle.event_records.specs.declared.limits.TheConstants.{MAX_THREAD, MAX_THREADS, NAMES_OF_A_THREAD}
 use Rattle.history_merge.specs.declared.fault.HistoryFault.{HistoryFault}
 use Rattle.history_merge.specs.declared.fault.HistoryFault.TheVariants.{Memory}
 use Rattle.history_merge.specs.declared.called.CalledValues.{CalledValues}
@@ -13,13 +13,13 @@ use Rattle.history_merge.specs.Faults.{was_called, pending_call, NoFaultBefore, 
 use Rattle.history_merge.specs.Forming.{operations_so_far, waiting}
 use Rattle.history_merge.specs.Progress.{HasTracked}
 
--- the thread, of 64, in the upper half of a value's bits
+-- the thread, of all that there may be, in the upper half of a value's bits
 abbrev pub name_in : ℕ → ℕ
-name_in v = v / 2 ^ 32 % 64
+name_in v = v / NAMES_OF_A_THREAD % MAX_THREADS
 
 -- it is known which values were called: each is below the least that its name may have next, or they stand in a set
 pub record KnowsCalled (events : List Event) (values : CalledValues) : Type 0 where
-  pub one_each : length values.least ≡ 64
+  pub one_each : length values.least ≡ MAX_THREADS
   pub known : MatchOption values.others ((v : ℕ) → was_called events v ≡ true → v < slice_index_or values.least (name_in v) 0)
       (λ others. (v : ℕ) → contains nat_cmp others v ≡ was_called events v)
 

@@ -1,15 +1,16 @@
 //! The values that calls had so far.
-ghost use Rattle.std.specs.Prelude.{◌≡◌, ◌/◌, ◌%◌, ◌^◌, ℕ, List, [], ◌∷◌, ◌++◌, Some, None, IfOk};
+ghost use Rattle.std.specs.Prelude.{◌≡◌, ◌/◌, ◌%◌, ℕ, List, [], ◌∷◌, ◌++◌, Some, None, IfOk};
 ghost use Rattle.std.specs.Ordering.{nat_cmp};
 ghost use Rattle.std.specs.BTreeSet.{contains};
 ghost use Rattle.event_records.specs.declared.event.Event.{Event};
+ghost use Rattle.event_records.specs.declared.limits.TheConstants.{MAX_THREADS, NAMES_OF_A_THREAD};
 ghost use Rattle.history_merge.specs.Complete.{called_value};
 ghost use Rattle.history_merge.specs.Faults.{repeats_value, was_called};
 ghost use Rattle.history_merge.specs.Forming.{is_called_in, operations_so_far};
 ghost use Rattle.history_merge.specs.Gathering.{KnowsCalled};
 
 use crate::operation::Operation;
-use event_records::What;
+use event_records::{MAX_THREADS, NAMES_OF_A_THREAD, What};
 use std::alloc::{AllocError, Global};
 use std::collections::BTreeSet;
 
@@ -20,7 +21,7 @@ use std::collections::BTreeSet;
 #[derive(Drop)]
 pub struct CalledValues {
     alloc: Global,
-    least: [u64; 64],
+    least: [u64; MAX_THREADS],
     others: Option<BTreeSet<u64>>,
 }
 
@@ -30,7 +31,7 @@ impl CalledValues {
     {
         CalledValues {
             alloc,
-            least: [0; 64],
+            least: [0; MAX_THREADS],
             others: None,
         }
     }
@@ -77,11 +78,11 @@ impl CalledValues {
     }
 }
 
-/// The thread, of 64, in the upper half of a value's bits.
+/// The thread, of all that there may be, in the upper half of a value's bits.
 fn name_in(value: u64) -> usize
-    ensures { result ≡ value / 2 ^ 32 % 64 }
+    ensures { result ≡ value / NAMES_OF_A_THREAD % MAX_THREADS }
 {
-    (value / 4_294_967_296 % 64) as usize
+    (value / NAMES_OF_A_THREAD % MAX_THREADS as u64) as usize
 }
 
 /// The value that a call enqueues.

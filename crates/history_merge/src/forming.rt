@@ -9,14 +9,14 @@ ghost use Rattle.history_merge.specs.Gathering.{HasFormed};
 
 use crate::matching::is_call;
 use crate::operation::{OpKind, Operation};
-use event_records::{Event, MAX_THREAD, What};
+use event_records::{Event, MAX_THREAD, MAX_THREADS, What};
 use std::alloc::{AllocError, Global};
 
 /// The operations of the events so far, by call; and where that of each thread's last call stands.
 #[derive(Drop)]
 pub struct Forming {
     operations: Vec<Operation>,
-    places: [usize; 64],
+    places: [usize; MAX_THREADS],
 }
 
 impl Forming {
@@ -25,7 +25,7 @@ impl Forming {
     {
         Forming {
             operations: Vec::new(alloc),
-            places: [0; 64],
+            places: [0; MAX_THREADS],
         }
     }
 

@@ -1,16 +1,17 @@
 ghost use Rattle.std.specs.Prelude.{◌≡◌, ℕ, length, slice_index_or};
 ghost use Rattle.event_records.specs.Turns.{is_call};
+ghost use Rattle.event_records.specs.declared.limits.TheConstants.{MAX_THREADS};
 ghost use Rattle.history_merge.specs.Operations.{kind_of};
 
 use crate::operation::OpKind;
-use event_records::{Event, What};
+use event_records::{Event, MAX_THREADS, What};
 
 /// No event for any thread.
-pub fn no_events() -> [Option<Event>; 64]
+pub fn no_events() -> [Option<Event>; MAX_THREADS]
     ensures none { (thread : ℕ) → slice_index_or result thread None ≡ None }
-    ensures length { length result ≡ 64 }
+    ensures length { length result ≡ MAX_THREADS }
 {
-    [None; 64]
+    [None; MAX_THREADS]
 }
 
 /// Whether this is a call.

@@ -5,13 +5,13 @@ ghost use Rattle.history_merge.specs.Progress.{HasTracked};
 
 use crate::fault::HistoryFault;
 use crate::matching::{is_call, kind_of, no_events};
-use event_records::{Event, MAX_THREAD, MAX_TICKET};
+use event_records::{Event, MAX_THREAD, MAX_THREADS, MAX_TICKET};
 
 /// What the next event is judged by: the last ticket, and the call of each thread that is not answered yet.
 #[derive(Drop)]
 pub struct Progress {
     last_ticket: Option<u64>,
-    pending: [Option<Event>; 64],
+    pending: [Option<Event>; MAX_THREADS],
 }
 
 impl Progress {

@@ -7,8 +7,8 @@ use Rattle.recorder_core.specs.declared.step.Step.{Step}
 use Rattle.recorder_core.specs.declared.step.Step.TheVariants.{AskEnq, AskDeq, Push, Effect, Say, Ret, Drain, Close}
 use Rattle.recorder_core.specs.declared.step.Answer.{Answer}
 use Rattle.recorder_core.specs.declared.step.Answer.TheVariants.{Taken, Not, Got, Empty}
-use Rattle.recorder_core.specs.declared.limits.TheConstants.{MAX_THREADS, MIN_RING, MAX_RING}
-use Rattle.history_text.specs.declared.schedule.TheConstants.{MAX_STEPS, MOST_DRAINED}
+use Rattle.event_records.specs.declared.limits.TheConstants.{MAX_RING, MAX_STEPS, MAX_THREADS, MIN_RING}
+use Rattle.history_text.specs.declared.schedule.TheConstants.{MOST_DRAINED}
 use Rattle.text_lines.specs.Lines.{line, spaced, greatest_value, front_of, number_in, begins_as_end}
 use Rattle.history_text.specs.Items.{line_of, item_at_front}
 use Rattle.history_text.specs.Schedules.{step_fields, setting_fields, IsAnswerInRange, HasStepLine, step_in, draining, numbered_saying, setting_in}

@@ -7,7 +7,7 @@ use Rattle.recorder_core.specs.declared.step.Step.{Step}
 use Rattle.recorder_core.specs.declared.step.Step.TheVariants.{Say, Drain}
 use Rattle.recorder_core.specs.declared.step.Answer.{Answer}
 use Rattle.recorder_core.specs.declared.step.Answer.TheVariants.{Got}
-use Rattle.recorder_core.specs.declared.limits.TheConstants.{MAX_THREADS, MIN_RING, MAX_RING}
+use Rattle.event_records.specs.declared.limits.TheConstants.{MAX_THREADS, MIN_RING, MAX_RING}
 use Rattle.history_text.specs.declared.schedule.TheConstants.{MOST_DRAINED}
 use Rattle.text_lines.specs.Lines.{greatest_value, number_in, number_between}
 use Rattle.history_text.specs.Schedules.{answer_fields, step_fields, setting_fields, IsAnswerInRange, HasStepLine, is_plain, plain_step, plain_answer}

@@ -8,11 +8,11 @@ use Rattle.recorder_core.specs.declared.step.Step.{Step}
 use Rattle.recorder_core.specs.declared.step.Step.TheVariants.{AskEnq, AskDeq, Push, Effect, Say, Ret, Drain, Close}
 use Rattle.recorder_core.specs.declared.step.Answer.{Answer}
 use Rattle.recorder_core.specs.declared.step.Answer.TheVariants.{Taken, Not, Got, Empty}
-use Rattle.recorder_core.specs.declared.limits.TheConstants.{MAX_THREADS, MIN_RING, MAX_RING}
+use Rattle.event_records.specs.declared.limits.TheConstants.{MAX_RING, MAX_STEPS, MAX_THREADS, MIN_RING}
 use Rattle.text_lines.specs.declared.fault.TextFault.{TextFault}
 use Rattle.text_lines.specs.declared.fault.TextFault.TheVariants.{Line}
 use Rattle.history_text.specs.declared.schedule.Schedule.{Schedule}
-use Rattle.history_text.specs.declared.schedule.TheConstants.{MAX_STEPS, MOST_DRAINED}
+use Rattle.history_text.specs.declared.schedule.TheConstants.{MOST_DRAINED}
 use Rattle.text_lines.specs.Input.{Ending}
 use Rattle.text_lines.specs.Lines.{line, spaced, end_line, greatest_value, Front, Whole, TooLong, Unfinished, Nothing, front_of, fault_at}
 use Rattle.text_lines.specs.Lines.{header_fault, fields_of, number_in, number_between, ◌>>=◌, After}

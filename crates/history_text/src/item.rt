@@ -1,5 +1,6 @@
 //! What texts list: events, steps or operations, each in its line.
 ghost use Rattle.std.specs.Prelude.{◌≡◌, ◌≤◌, ◌&&◌, ◌++◌, IfOk, IfErr, IfSome};
+ghost use Rattle.event_records.specs.declared.limits.TheConstants.{MAX_EVENTS};
 ghost use Rattle.text_lines.specs.Lines.{IsLineFault, fields_of, begins_as_end};
 ghost use Rattle.history_text.specs.Items as judged;
 ghost use Rattle.history_text.specs.Items.{Kind, line_of};
@@ -37,7 +38,7 @@ pub(crate) trait Item: Drop {
     }
 
     /// No text has more items than that, so that its lines can be counted.
-    ghost few: { kind.most ≤ 2000000 };
+    ghost few: { kind.most ≤ MAX_EVENTS };
 }
 
 /// Whether the line is a last one, which counts the lines before it.

@@ -17,6 +17,7 @@ mod schedule;
 mod step_line;
 mod verdict_writer;
 
+pub use event_records::MAX_STEPS;
 pub use history_writer::write_history;
 pub use laws::{
     a_claim_on_a_text_has_a_text, a_text_has_no_fault, a_text_has_one_claim,
@@ -24,7 +25,7 @@ pub use laws::{
     no_text_begins_another, one_first_fault,
 };
 pub use reader::{TextReader, at_end, gather_history, read_history, read_schedule, read_verdict};
-pub use schedule::{MAX_STEPS, MOST_DRAINED, Schedule, Steps};
+pub use schedule::{MOST_DRAINED, Schedule, Steps};
 pub use text_lines::{
     Buffered, MemorySource, ReadFailed, TextFault, TextSink, TextSource, Watched, WriteFault,
     write_piece,

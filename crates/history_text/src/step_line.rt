@@ -6,8 +6,8 @@ ghost use Rattle.history_text.specs.Schedules as judged;
 ghost use Rattle.history_text.specs.Schedules.{step_kind};
 
 use crate::item::Item;
-use crate::schedule::{MAX_STEPS, MOST_DRAINED};
-use event_records::MAX_THREAD;
+use crate::schedule::MOST_DRAINED;
+use event_records::{MAX_STEPS, MAX_THREAD};
 use recorder_core::{Answer, MAX_RING, MAX_THREADS, MIN_RING, Step};
 use text_lines::{TextFault, number_between, number_in, split_field};
 

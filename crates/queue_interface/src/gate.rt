@@ -1,5 +1,6 @@
 // A queue in which calls wait for those of the other workers.
-ghost use Rattle.std.specs.Prelude.{◌≤◌, ◌<◌, ◌^◌};
+ghost use Rattle.std.specs.Prelude.{◌≤◌, ◌<◌};
+ghost use Rattle.event_records.specs.declared.limits.TheConstants.{MAX_THREADS, NAMES_OF_A_THREAD};
 
 use crate::TestQueue;
 use event_records::{AnsweredDeq, AnsweredEnq, AskDeq, AskEnq};
@@ -16,13 +17,13 @@ pub struct GateQueue {
     turns: u64,
     arrivals: AtomicU64,
     passed: AtomicU64,
-    ghost few: { workers ≤ 64 },
+    ghost few: { workers ≤ MAX_THREADS },
 }
 
 impl GateQueue {
     /// A gate for so many workers.
     pub fn new(workers: u64, turns: u64) -> GateQueue
-        requires { (2 ≤ workers) × (workers ≤ 64) }
+        requires { (2 ≤ workers) × (workers ≤ MAX_THREADS) }
     {
         GateQueue {
             workers,
@@ -39,7 +40,7 @@ impl GateQueue {
 
     // Lets the n-th call of a thread pass.
     fn pass(&self, number: u64)
-        requires { number < 2 ^ 32 }
+        requires { number < NAMES_OF_A_THREAD }
     {
         self.arrivals.fetch_add(1, Ordering::SeqCst);
         if self.sees_arrivals(self.workers * (number + 1)) {

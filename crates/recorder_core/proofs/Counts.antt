@@ -29,77 +29,23 @@ Counted setting t steps = AreCounts setting.ring (asks t steps) (answers t steps
 
 -- the counts before the first step
 pub counts_none : (ring : ℕ) → AreCounts ring 0 0 0 0 0 0
-counts_none ring = record {
-  events_are = refl;
-  pushed_below = omega arith;
-  one_held = omega arith;
-  returned_below = omega arith;
-  answered_below = omega arith;
-  one_pending = omega arith;
-  drained_below = omega arith;
-  fits = omega arith;
-}
+counts_none ring = search arith
 
 module _ (ring a n r p d e : ℕ) (k : AreCounts ring a n r p d e) where
   counts_asked : a + r ≤ p → a ≤ r → AreCounts ring (suc a) n r p d (suc e)
-  counts_asked none_held none_pending = record {
-    events_are = omega arith;
-    pushed_below = omega arith;
-    one_held = omega arith;
-    returned_below = omega arith;
-    answered_below = omega arith;
-    one_pending = omega arith;
-    drained_below = omega arith;
-    fits = omega arith;
-  }
+  counts_asked none_held none_pending = search arith
 
   counts_answered : r < a → n ≤ r → AreCounts ring a (suc n) r p d e
-  counts_answered one_pending no_answer = record {
-    events_are = omega arith;
-    pushed_below = omega arith;
-    one_held = omega arith;
-    returned_below = omega arith;
-    answered_below = omega arith;
-    one_pending = omega arith;
-    drained_below = omega arith;
-    fits = omega arith;
-  }
+  counts_answered one_pending no_answer = search arith
 
   counts_returned : a + r ≤ p → r < a → r < n → AreCounts ring a n (suc r) p d (suc e)
-  counts_returned none_held one_pending has_answer = record {
-    events_are = omega arith;
-    pushed_below = omega arith;
-    one_held = omega arith;
-    returned_below = omega arith;
-    answered_below = omega arith;
-    one_pending = omega arith;
-    drained_below = omega arith;
-    fits = omega arith;
-  }
+  counts_returned none_held one_pending has_answer = search arith
 
   counts_pushed : p < a + r → p - d < ring → AreCounts ring a n r (suc p) d e
-  counts_pushed one_held has_room = record {
-    events_are = omega arith;
-    pushed_below = omega arith;
-    one_held = omega arith;
-    returned_below = omega arith;
-    answered_below = omega arith;
-    one_pending = omega arith;
-    drained_below = omega arith;
-    fits = omega arith;
-  }
+  counts_pushed one_held has_room = search arith
 
   counts_drained : (m : ℕ) → AreCounts ring a n r p (d + min m (p - d)) e
-  counts_drained m = record {
-    events_are = omega arith;
-    pushed_below = omega arith;
-    one_held = omega arith;
-    returned_below = omega arith;
-    answered_below = omega arith;
-    one_pending = omega arith;
-    drained_below = omega arith;
-    fits = omega arith;
-  }
+  counts_drained m = search arith
 
 -- a list with one element more
 pub length-with_last : {X : Type 0} (items : List X) (x : X) → length (items ++ x ∷ []) ≡ suc (length items)

@@ -16,7 +16,7 @@ use Rattle.event_records.specs.Question.{value_name}
 use Rattle.event_records.specs.Turns.{TakesTurns, TicketsRise, is_call}
 use Rattle.history_merge.specs.Complete.{IsCompleteHistory, called_value}
 use Rattle.history_merge.specs.Merge.{IsMerged}
-use Rattle.recorder_core.specs.declared.limits.TheConstants.{MAX_THREADS}
+use Rattle.event_records.specs.declared.limits.TheConstants.{MAX_THREADS}
 use Rattle.recorder_core.specs.Replay.{IsListOf, AreRecorded}
 use Rattle.recorder_core.proofs.Members.{Below, contains_filter, filter_contains, contains_joined, joined_contains, contains_map, contains_range}
 use Rattle.recorder_core.proofs.Members.{nil_from_none, pairs_filter, pairs_filter_map, rising_unique}

@@ -31,58 +31,25 @@ ask_granted setting u before kind m = by_kind kind
         rw (a, b) refl
 
     by_kind : (k : Kind) → refusal setting before (record { step = ask_of k u; starved = false }) ≡ None
-    by_kind Enq = rw (
-      lt-leb setting.threads u m.known,
-      m.open_still,
-      le-ltb (pushes u before) (asks u before + returns u before) m.none_held,
-      le-ltb
-          (returns u before) (asks u before) m.none_pending,
-      limits,
-    ) refl
-    by_kind Deq = rw (
-      lt-leb setting.threads u m.known,
-      m.open_still,
-      le-ltb (pushes u before) (asks u before + returns u before) m.none_held,
-      le-ltb
-          (returns u before) (asks u before) m.none_pending,
-      limits,
-    ) refl
+    by_kind Enq = rw (lt-leb _ _ m.known, m.open_still, le-ltb _ _ m.none_held, le-ltb _ _ m.none_pending, limits) refl
+    by_kind Deq = rw (lt-leb _ _ m.known, m.open_still, le-ltb _ _ m.none_held, le-ltb _ _ m.none_pending, limits) refl
 
 -- a push that may come is accepted
 pub push_granted : (setting : Setting) (u : ℕ) (before : List Step) → MayPush setting u before
     → refusal setting before (record { step = Push u; starved = false }) ≡ None
-push_granted setting u before m = rw (
-  lt-leb setting.threads u m.known,
-  m.open_still,
-  lt-leb (asks u before + returns u before)
-      (pushes u before) m.one_held,
-  lt-leb setting.ring (pushes u before - drained u before) m.has_room,
-) refl
+push_granted setting u before m = rw (lt-leb _ _ m.known, m.open_still, lt-leb _ _ m.one_held, lt-leb _ _ m.has_room) refl
 
 -- an answer that may come is accepted
 pub say_granted : (setting : Setting) (u : ℕ) (before : List Step) (answer : Answer) → MayAnswer setting u before
     → is_wrong answer (question u before) ≡ false → refusal setting before (record { step = Say u answer; starved = false }) ≡ None
-say_granted setting u before answer m right = rw (
-  lt-leb setting.threads u m.known,
-  m.open_still,
-  lt-leb (asks u before)
-      (returns u before) m.one_pending,
-  le-ltb (returns u before) (answers u before) m.no_answer,
-  right,
-) refl
+say_granted setting u before answer m right =
+    rw (lt-leb _ _ m.known, m.open_still, lt-leb _ _ m.one_pending, le-ltb _ _ m.no_answer, right) refl
 
 -- a return that may come is accepted
 pub return_granted : (setting : Setting) (u : ℕ) (before : List Step) → MayReturn setting u before
     → refusal setting before (record { step = Ret u; starved = false }) ≡ None
-return_granted setting u before m = rw (
-  lt-leb setting.threads u m.known,
-  m.open_still,
-  le-ltb (pushes u before)
-      (asks u before + returns u before) m.none_held,
-  lt-leb (asks u before) (returns u before) m.one_pending,
-  lt-leb (answers u before)
-      (returns u before) m.has_answer,
-) refl
+return_granted setting u before m =
+    rw (lt-leb _ _ m.known, m.open_still, le-ltb _ _ m.none_held, lt-leb _ _ m.one_pending, lt-leb _ _ m.has_answer) refl
 
 -- a drain is accepted
 pub drain_granted : (setting : Setting) (u n : ℕ) (before : List Step) → u < setting.threads
@@ -92,13 +59,7 @@ drain_granted setting u n before known = rw (lt-leb setting.threads u known) ref
 -- a close that may come is accepted
 pub close_granted : (setting : Setting) (u : ℕ) (before : List Step) → MayClose setting u before
     → refusal setting before (record { step = Close u; starved = false }) ≡ None
-close_granted setting u before m = rw (
-  lt-leb setting.threads u m.known,
-  m.open_still,
-  le-ltb (pushes u before)
-      (asks u before + returns u before) m.none_held,
-  le-ltb (returns u before) (asks u before) m.none_pending,
-) refl
+close_granted setting u before m = rw (lt-leb _ _ m.known, m.open_still, le-ltb _ _ m.none_held, le-ltb _ _ m.none_pending) refl
 
 -- ---- lists of steps that are all accepted
 

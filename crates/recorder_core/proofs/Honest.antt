@@ -1,6 +1,6 @@
 -- The effects of an honest schedule: when each was taken, by which operation, and what it did.
 use Rattle.std.proofs.Common.{◌≡◌, ℕ, suc, ◌+◌, ◌*◌, ◌<◌, ◌≤◌, Bool, true, false, List, [], ◌∷◌, ◌++◌, length, map, Option, Some, None, refl, sym}
-use Rattle.std.proofs.Common.{◌∙◌, ap, subst, inl, inr, arith, eqb, length-append}
+use Rattle.std.proofs.Common.{◌∙◌, ap, subst, inl, inr, arith, eqb, cond, length-append}
 use Rattle.std.specs.Prelude.{All, AllPairs, slice_get, not}
 use Rattle.std.specs.List.{list_all}
 use Rattle.std.specs.Option.{option_map, option_map_or}
@@ -186,26 +186,27 @@ abbrev pub IsTakenAt : Setting → List Step → TakenEffect → Type 0
 IsTakenAt setting steps x = (x.thread < setting.threads) × IsTaken (tickets steps) (answers x.thread steps) (returns x.thread steps)
     (answered setting x.thread steps) (events setting x.thread steps) x.number x.time x.kind
 
+-- what is taken stays so with an ask of either kind
+taken_asking : (setting : Setting) (u : ℕ) (before : List Step) (x : TakenEffect) (what : What) → ((t : ℕ) → CountedAndRecorded setting t before)
+    → MayAsk setting u before → IsTakenAt setting before x
+    → (x.thread < setting.threads) × IsTaken (suc (tickets before)) (answers x.thread before) (returns x.thread before) (answered setting x.thread before)
+    (with_last (events setting x.thread before) (cond (eqb u x.thread) (Some (record { ticket = tickets before; thread = x.thread; what = what })) None))
+    x.number x.time x.kind
+taken_asking setting u before x what all may k = elim (cases_eq u x.thread) [
+  | inl same ↦
+      let m = subst (λ (v : ℕ). MayAsk setting v before) same may in
+      let c = (all x.thread).0 in
+      rw (eq-eqb u x.thread same)
+      (k.0, taken_asked _ _ _ _ _ _ _ _ k.1 _ (omega (arith, c.events_are, c.returned_below, c.answered_below, m.none_pending)))
+  | inr other ↦ rw (ne_eqb u x.thread other) (k.0, taken_later _ _ _ _ _ _ _ _ k.1 (suc (tickets before)) (omega arith))
+]
+
 -- what is taken stays so with each honest step
 taken_on : (setting : Setting) (step : Step) (starved : Bool) (before : List Step) (x : TakenEffect) → ((t : ℕ) → CountedAndRecorded setting t before)
     → without_says (step ∷ before) ≡ true → refusal setting before (record { step = step; starved = starved }) ≡ None → IsTakenAt setting before x
     → IsTakenAt setting (step ∷ before) x
-taken_on setting (AskEnq u) starved before x all honest none k = elim (cases_eq u x.thread) [
-  | inl same ↦
-      let e : eqb u x.thread ≡ true = eq-eqb u x.thread same in
-      let m = subst (λ (v : ℕ). MayAsk setting v before) same (may_ask setting before u starved none) in
-      let c = (all x.thread).0 in
-      rw e (k.0, taken_asked _ _ _ _ _ _ _ _ k.1 _ (omega (arith, c.events_are, c.returned_below, c.answered_below, m.none_pending)))
-  | inr other ↦ rw (ne_eqb u x.thread other) (k.0, taken_later _ _ _ _ _ _ _ _ k.1 (suc (tickets before)) (omega arith))
-]
-taken_on setting (AskDeq u) starved before x all honest none k = elim (cases_eq u x.thread) [
-  | inl same ↦
-      let e : eqb u x.thread ≡ true = eq-eqb u x.thread same in
-      let m = subst (λ (v : ℕ). MayAsk setting v before) same (may_ask setting before u starved none) in
-      let c = (all x.thread).0 in
-      rw e (k.0, taken_asked _ _ _ _ _ _ _ _ k.1 _ (omega (arith, c.events_are, c.returned_below, c.answered_below, m.none_pending)))
-  | inr other ↦ rw (ne_eqb u x.thread other) (k.0, taken_later _ _ _ _ _ _ _ _ k.1 (suc (tickets before)) (omega arith))
-]
+taken_on setting (AskEnq u) starved before x all honest none k = taken_asking setting u before x _ all (may_ask setting before u starved none) k
+taken_on setting (AskDeq u) starved before x all honest none k = taken_asking setting u before x _ all (may_ask setting before u starved none) k
 taken_on setting (Effect u) starved before x all honest none k = elim (cases_eq u x.thread) [
   | inl same ↦
       let e : eqb u x.thread ≡ true = eq-eqb u x.thread same in

@@ -17,7 +17,7 @@ use Rattle.history_merge.specs.Legal.{IsLegalOrder}
 use Rattle.history_merge.specs.Merge.{IsMerged}
 use Rattle.history_merge.specs.Operations.{Precedes, operations_of, operation_of, kind_of}
 use Rattle.history_merge.specs.Queue.{IsAccepted}
-use Rattle.recorder_core.specs.declared.limits.TheConstants.{MAX_THREADS}
+use Rattle.event_records.specs.declared.limits.TheConstants.{MAX_THREADS}
 use Rattle.recorder_core.specs.declared.step.Step.{Step}
 use Rattle.recorder_core.specs.declared.step.Step.TheVariants.{AskEnq, AskDeq, Push, Effect, Say, Ret, Drain, Close}
 use Rattle.recorder_core.specs.Setting.{Setting}

@@ -12,7 +12,7 @@ use Rattle.history_merge.specs.Operations.{operation_of}
 use Rattle.history_merge.specs.declared.operation.Operation.{Operation}
 use Rattle.history_merge.specs.declared.operation.OpKind.{OpKind}
 use Rattle.history_merge.specs.declared.operation.OpKind.TheVariants.{Enq, Deq, Empty, Not}
-use Rattle.recorder_core.specs.declared.limits.TheConstants.{MAX_THREADS}
+use Rattle.event_records.specs.declared.limits.TheConstants.{MAX_THREADS}
 use Rattle.recorder_core.specs.declared.step.Step.{Step}
 use Rattle.recorder_core.specs.declared.step.Step.TheVariants.{Effect, Say}
 use Rattle.recorder_core.specs.declared.step.Answer.{Answer}

@@ -16,7 +16,7 @@ ghost use Rattle.history_merge.specs.Complete.{IsCompleteHistory};
 ghost use Rattle.history_merge.specs.Merge.{IsMerged};
 ghost use Rattle.recorder_core.specs.Replay.{AreRecorded, Replays, IsHonest, effect_kinds, effects_order};
 
-use crate::limits::{MAX_RING, MAX_THREADS, MIN_RING};
+use event_records::{MAX_RING, MAX_THREADS, MIN_RING};
 
 /// Each thread's collected list is a prefix of its events.
 pub fn collected_is_a_prefix()

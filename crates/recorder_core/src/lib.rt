@@ -6,18 +6,17 @@
 #![tactic(auto)]
 
 mod laws;
-mod limits;
 mod machine;
 mod pending;
 mod step;
 mod thread;
 
+pub use event_records::{MAX_RING, MAX_THREADS, MIN_RING};
 pub use laws::{
     collected_is_a_prefix, done_collects_all, done_schedules_are_complete, effects_are_accepted,
     honest_schedules_are_legal, nothing_after_close, precedence_as_ticketed,
     recorded_lists_are_complete, recorded_lists_replay,
 };
-pub use limits::{MAX_RING, MAX_THREADS, MIN_RING};
 pub use machine::Machine;
 pub use pending::{Pending, Question};
 pub use step::{Answer, Done, Step, StepRefused};

@@ -7,17 +7,16 @@ ghost use Rattle.recorder_core.specs.Asked.{ask_of, asked_for, call_of, is_limit
 ghost use Rattle.recorder_core.specs.Seen.{is_thread_done};
 ghost use Rattle.recorder_core.specs.Schedule.{Attempt, answer_to, queue_answer, queue_after, is_wrong, return_of};
 
-use crate::limits::{MAX_RING, MAX_THREADS, MIN_RING};
 use crate::pending::Question;
 use crate::step::{Answer, Done, Step, StepRefused};
 use crate::thread::Thread;
-use event_records::{Event, Kind, MAX_OPERATIONS, MAX_THREAD_OPERATIONS, What};
+use event_records::{
+    Event, Kind, MAX_OPERATIONS, MAX_RING, MAX_THREAD_OPERATIONS, MAX_THREADS, MIN_RING,
+    NAMES_OF_A_THREAD, What,
+};
 use std::alloc::{AllocError, Global};
 use std::collections::VecDeque;
 use std::marker::Model;
-
-/// How many values are kept for the names of each thread.
-const NAMES: u64 = 1 << 32;
 
 /// What the recorder holds after a list of steps.
 ///
@@ -257,7 +256,7 @@ fn question_of(kind: Kind, thread: u8, number: u64) -> Question
     ensures { result ≡ asked_for kind thread number }
 {
     match kind {
-        Kind::Enq => Question::Enqueue(u64::from(thread) * NAMES + number),
+        Kind::Enq => Question::Enqueue(u64::from(thread) * NAMES_OF_A_THREAD + number),
         Kind::Deq => Question::Dequeue,
     }
 }

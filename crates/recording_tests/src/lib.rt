@@ -5,11 +5,15 @@
 #[cfg(test)]
 mod askings;
 #[cfg(test)]
+mod calls;
+#[cfg(test)]
 mod drawing;
 #[cfg(test)]
 mod faults;
 #[cfg(test)]
 mod filled;
+#[cfg(test)]
+mod listed;
 #[cfg(test)]
 mod machine;
 #[cfg(test)]

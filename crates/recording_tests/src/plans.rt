@@ -15,7 +15,7 @@ const FIRST_WORDS: [(u64, u64); 3] = [
 fn written(alloc: Global, plan: &Plan) -> Result<String, AllocError> {
     let mut text = String::new(alloc);
     for row in plan.rows() {
-        for kind in row.kinds() {
+        for kind in row.as_slice() {
             text.push(match kind {
                 Kind::Enq => 'E',
                 Kind::Deq => 'D',
@@ -99,10 +99,10 @@ fn first_words_decide_first_kinds(rt: HostRuntime) -> Result<(), Fail> {
 fn rows_within_the_limits_are_a_plan(rt: HostRuntime) -> Result<(), Fail> {
     let mut rows = Vec::new(rt.alloc());
     for _ in 0..=MAX_WORKERS {
-        rows.push(Row::new(Vec::new(rt.alloc())))?;
+        rows.push(Row::from_vec(Vec::new(rt.alloc())))?;
     }
     assert!(rt; Plan::of_rows(rows).is_none(), "17 workers");
-    let rows = vec![in rt.alloc(); Row::new(vec![in rt.alloc(); Kind::Deq]?)]?;
+    let rows = vec![in rt.alloc(); Row::from_vec(vec![in rt.alloc(); Kind::Deq]?)]?;
     let plan = Plan::of_rows(rows).ok_or("one worker")?;
     assert_eq!(rt; written(rt.alloc(), &plan)?.as_str(), "D\n");
     Ok(())

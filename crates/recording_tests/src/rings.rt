@@ -1,33 +1,8 @@
-ghost use Rattle.std.specs.Prelude.{◌≡◌, IfOk};
-
-use event_records::{Event, Namer, Noted, ThreadNo, What};
-use event_rings::{FinishFault, MAX_CAPACITY, PushEnd, ring};
-use std::alloc::{AllocError, Global};
+use crate::calls::{call, push_calls, three_calls};
+use event_records::ThreadNo;
+use event_rings::{FinishFault, MAX_RING, ring};
+use std::alloc::Global;
 use std::test::Fail;
-use tickets::Tickets;
-
-// The calls of a thread's first three operations, which enqueue.
-fn three_calls(alloc: Global, thread: ThreadNo) -> Result<(Noted, Noted, Noted), AllocError>
-    ensures first { IfOk result (λ calls. calls.0.thread ≡ thread) }
-    ensures second { IfOk result (λ calls. calls.1.thread ≡ thread) }
-    ensures third { IfOk result (λ calls. calls.2.thread ≡ thread) }
-{
-    let (tickets, mut pass) = Tickets::new(alloc, 3)?;
-    let mut namer = Namer::new(thread);
-    let (_, first) = namer.ask_enq(pass.draw(&tickets));
-    let (_, second) = namer.ask_enq(pass.draw(&tickets));
-    let (_, third) = namer.ask_enq(pass.draw(&tickets));
-    Ok((first, second, third))
-}
-
-// The call of thread 0's n-th operation, at ticket n.
-fn call(n: u64) -> Event {
-    Event {
-        ticket: n,
-        thread: 0,
-        what: What::CallEnq(n),
-    }
-}
 
 // How a finish with the token of the ring of `other` ends, where nothing was pushed.
 fn finish_with(alloc: Global, thread: ThreadNo, other: ThreadNo) -> Result<bool, Fail> {
@@ -85,28 +60,15 @@ fn tokens_certify_their_own_thread(rt: HostRuntime) -> Result<(), Fail> {
     Ok(())
 }
 
-// Pushes the first call of a thread so often.
-fn push_calls(alloc: Global, push: &mut PushEnd, thread: ThreadNo, count: usize) -> Result<(), Fail>
-    requires { push.old.thread ≡ thread }
-    ensures same { push.new.thread ≡ push.old.thread }
-    ensures ring { push.new.ring ≡ push.old.ring }
-{
-    for _ in 0..count {
-        let (first, _, _) = three_calls(alloc, thread)?;
-        push.push(first).ok().ok_or("full")?;
-    }
-    Ok(())
-}
-
 #[test]
 fn the_greatest_ring_is_filled_drained_and_sealed(rt: HostRuntime) -> Result<(), Fail> {
     let alloc = rt.alloc();
     let thread = ThreadNo::new(63).ok_or("thread")?;
-    let (mut push, mut drain) = ring(alloc, thread, MAX_CAPACITY)?;
-    push_calls(alloc, &mut push, thread, MAX_CAPACITY)?;
-    assert_eq!(rt; drain.drain(MAX_CAPACITY)?.len(), MAX_CAPACITY);
-    push_calls(alloc, &mut push, thread, MAX_CAPACITY)?;
+    let (mut push, mut drain) = ring(alloc, thread, MAX_RING)?;
+    push_calls(alloc, &mut push, thread, MAX_RING)?;
+    assert_eq!(rt; drain.drain(MAX_RING)?.len(), MAX_RING);
+    push_calls(alloc, &mut push, thread, MAX_RING)?;
     let token = push.close().ok().ok_or("closed")?;
-    assert_eq!(rt; drain.finish(token)?.into_events().len(), MAX_CAPACITY);
+    assert_eq!(rt; drain.finish(token)?.into_events().len(), MAX_RING);
     Ok(())
 }

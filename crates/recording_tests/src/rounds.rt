@@ -1,35 +1,12 @@
 ghost use Rattle.std.specs.Prelude.{◌≡◌, ◌∷◌, [], IfOk};
 ghost use Rattle.collector.specs.Ends.{rings_of};
 
+use crate::calls::{call, push_calls, three_calls};
 use collector::{CollectError, Collector};
-use event_records::{Event, Lists, Namer, Noted, ThreadNo, What};
-use event_rings::{CloseToken, DrainEnd, MAX_CAPACITY, PushEnd, ring};
+use event_records::{Event, Lists, ThreadNo};
+use event_rings::{CloseToken, DrainEnd, MAX_RING, ring};
 use std::alloc::{AllocError, Global};
 use std::test::Fail;
-use tickets::Tickets;
-
-// The calls of thread 0's first three operations, which enqueue.
-fn three_calls(alloc: Global, thread: ThreadNo) -> Result<(Noted, Noted, Noted), AllocError>
-    ensures first { IfOk result (λ calls. calls.0.thread ≡ thread) }
-    ensures second { IfOk result (λ calls. calls.1.thread ≡ thread) }
-    ensures third { IfOk result (λ calls. calls.2.thread ≡ thread) }
-{
-    let (tickets, mut pass) = Tickets::new(alloc, 3)?;
-    let mut namer = Namer::new(thread);
-    let (_, first) = namer.ask_enq(pass.draw(&tickets));
-    let (_, second) = namer.ask_enq(pass.draw(&tickets));
-    let (_, third) = namer.ask_enq(pass.draw(&tickets));
-    Ok((first, second, third))
-}
-
-// The call of thread 0's n-th operation, at ticket n.
-fn call(n: u64) -> Event {
-    Event {
-        ticket: n,
-        thread: 0,
-        what: What::CallEnq(n),
-    }
-}
 
 // The ring of a thread, closed with nothing in it.
 fn closed_ring(alloc: Global, thread: ThreadNo) -> Result<(DrainEnd, CloseToken), Fail>
@@ -109,30 +86,17 @@ fn no_event_is_lost(rt: HostRuntime) -> Result<(), Fail> {
     Ok(())
 }
 
-// Pushes the first call of thread 0 so often.
-fn push_calls(alloc: Global, push: &mut PushEnd, thread: ThreadNo, count: usize) -> Result<(), Fail>
-    requires { push.old.thread ≡ thread }
-    ensures same { push.new.thread ≡ push.old.thread }
-    ensures ring { push.new.ring ≡ push.old.ring }
-{
-    for _ in 0..count {
-        let (first, _, _) = three_calls(alloc, thread)?;
-        push.push(first).ok().ok_or("full")?;
-    }
-    Ok(())
-}
-
 #[test]
 fn the_greatest_rings_are_drained_and_sealed(rt: HostRuntime) -> Result<(), Fail> {
     let alloc = rt.alloc();
     let thread = ThreadNo::new(0).ok_or("thread")?;
-    let (mut push, drain) = ring(alloc, thread, MAX_CAPACITY)?;
+    let (mut push, drain) = ring(alloc, thread, MAX_RING)?;
     let mut collector = Collector::with_room(alloc, vec![in alloc; drain]?, 200_000)?;
-    push_calls(alloc, &mut push, thread, MAX_CAPACITY)?;
+    push_calls(alloc, &mut push, thread, MAX_RING)?;
     assert_eq!(rt; drain_full(&mut collector)?, 65_536);
-    push_calls(alloc, &mut push, thread, MAX_CAPACITY)?;
+    push_calls(alloc, &mut push, thread, MAX_RING)?;
     assert_eq!(rt; drain_full(&mut collector)?, 65_536);
-    push_calls(alloc, &mut push, thread, MAX_CAPACITY)?;
+    push_calls(alloc, &mut push, thread, MAX_RING)?;
     let token = push.close().ok().ok_or("closed")?;
     let lists = seal_one(alloc, collector, token)?;
     let longest = lists.iter().map(|list| list.len()).max();
@@ -144,7 +108,7 @@ fn the_greatest_rings_are_drained_and_sealed(rt: HostRuntime) -> Result<(), Fail
 fn drain_full(collector: &mut Collector) -> Result<u64, AllocError>
     ensures { rings_of collector.new.rings ≡ rings_of collector.old.rings }
 {
-    match collector.drain_round(MAX_CAPACITY) {
+    match collector.drain_round(MAX_RING) {
         Ok(drained) => Ok(drained),
         Err(refused) => Err(refused),
     }

@@ -1,4 +1,5 @@
-ghost use Rattle.std.specs.Prelude.{◌≡◌, ◌+◌, ◌≤◌, ◌<◌, ◌^◌, IfOk};
+ghost use Rattle.std.specs.Prelude.{◌≡◌, ◌+◌, ◌≤◌, ◌<◌, IfOk};
+ghost use Rattle.event_records.specs.declared.limits.TheConstants.{NAMES_OF_A_THREAD};
 
 use event_records::{Kind, Namer, ThreadNo};
 use event_rings::{DrainEnd, ring};
@@ -31,7 +32,7 @@ pub(crate) fn operate(
 ) -> Result<(), WorkerFault>
     requires key { worker.old.pass.key ≡ tickets.now.key }
     requires left { 2 ≤ worker.old.pass.left }
-    requires room { worker.old.asked < 2 ^ 32 }
+    requires room { worker.old.asked < NAMES_OF_A_THREAD }
     ensures key { worker.new.pass.key ≡ worker.old.pass.key }
     ensures left { worker.old.pass.left ≤ worker.new.pass.left + 2 }
     ensures asked { worker.new.asked ≤ worker.old.asked + 1 }

@@ -1,17 +1,16 @@
 ghost use Rattle.std.specs.Prelude.{◌≡◌, ◌≤◌, ◌<◌, IfOk, OnOk, [], ◌∷◌, List, length, map};
 ghost use Rattle.std.specs.Result.{result_err};
 ghost use Rattle.std.specs.List.{range_with_len};
-ghost use Rattle.recorder_core.specs.declared.limits.TheConstants.{MIN_RING, MAX_RING, MAX_THREADS};
+ghost use Rattle.event_records.specs.declared.limits.TheConstants.{MIN_RING, MAX_RING, MAX_THREADS};
 ghost use Rattle.recorder_core.specs.Setting.{Setting};
 ghost use Rattle.recorder_core.specs.Schedule.{Attempt, answer_to};
 ghost use Rattle.recorder_core.specs.After.{IsAfter};
 ghost use Rattle.recorder_core.specs.Laws.{collected_in};
 ghost use Rattle.simulation.specs.Simulations.{tried, schedule_of, rejections, EndsSo};
 
-use event_records::{Event, Lists};
+use event_records::{Event, Listed, Lists};
 use recorder_core::{Machine, Step, StepRefused};
 use std::alloc::{AllocError, Global};
-use std::marker::Model;
 
 /// A refused step: its place in the schedule, from 1, and why it is refused.
 #[derive(Clone, Copy, Debug, PartialEq, Eq)]
@@ -21,35 +20,7 @@ pub struct Rejection {
 }
 
 /// The refused steps of a schedule in their order, seen as a list.
-#[derive(Debug, Drop)]
-pub struct Rejections {
-    rejections: Vec<Rejection>,
-}
-
-impl Model for Rejections {
-    ghost use Rattle.std.specs.Prelude.{List};
-    ghost use Rattle.simulation.specs.declared.playing.Rejection.{Rejection};
-
-    ghost Value = { List Rejection };
-
-    ghost view = { λ a. a.rejections.items };
-}
-
-impl Rejections {
-    /// These, in their order; without taking memory.
-    pub fn from_vec(rejections: Vec<Rejection>) -> Rejections
-        ensures { result ≡ rejections.items }
-    {
-        Rejections { rejections }
-    }
-
-    /// The refused steps, in their order.
-    pub fn as_slice(&self) -> &[Rejection]
-        ensures { result.now ≡ self.now }
-    {
-        self.rejections.as_slice()
-    }
-}
+pub type Rejections = Listed<Rejection>;
 
 /// What the machine is after the last step of a schedule.
 #[derive(Debug, Drop)]

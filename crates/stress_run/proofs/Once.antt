@@ -5,10 +5,11 @@ use Rattle.std.proofs.lemmas.List.Elements.{All-push, All-cons}
 use Rattle.std.proofs.lemmas.Bool.{false≢true}
 use Rattle.std.specs.List.Sorted.{IsStrictlyIncreasing}
 use Rattle.stress_run.proofs.Composed.{rising-join, All-left, All-right}
-use Rattle.tickets.specs.Views.{PassView, DrawsOne}
+use Rattle.tickets.specs.Views.{PassView, DrawnView, DrawsOne}
 use Rattle.std.specs.Prelude.{IsTrue}
-use Rattle.event_records.specs.Question.{Question, call_event, call_what, return_what, value_name}
+use Rattle.event_records.specs.Question.{Answered, NamerView, Question, call_event, call_what, next_question, return_event, return_what, value_name}
 use Rattle.event_records.specs.Turns.{answers}
+use Rattle.event_records.specs.declared.event.Event.{Event}
 use Rattle.event_records.specs.declared.kind.Kind.{Kind}
 use Rattle.event_records.specs.declared.kind.Kind.TheVariants.{Enq, Deq}
 use Rattle.event_records.specs.declared.kind.Answer.{Answer}
@@ -21,7 +22,7 @@ one_rises : (n : ℕ) → IsStrictlyIncreasing (n ∷ [])
 one_rises n k h = absurd (omega (arith, h))
 
 module _ (may : Question → Answer → Type 0) where
-  pub works_one : (k : Kind) (w u : WorkerView) (o : Operation) (p : PassView)
+  works_one : (k : Kind) (w u : WorkerView) (o : Operation) (p : PassView)
       → (o.question.thread ≡ w.thread) × (o.question.key ≡ w.pass.key) × (o.question.number ≡ w.asked) × (o.question.kind ≡ k)
       → IsOfKind o.question.kind o.answer
       → may o.question o.answer
@@ -71,19 +72,11 @@ of_kind_called Deq v (Got x) h = tt
 of_kind_called Deq v Empty h = tt
 
 -- an answer is of the question's kind where its return answers the question's call
-pub of_kind : (q : Question) (a : Answer) → IsTrue (answers (call_event q).what (return_what a)) → IsOfKind q.kind a
+of_kind : (q : Question) (a : Answer) → IsTrue (answers (call_event q).what (return_what a)) → IsOfKind q.kind a
 of_kind q a h = of_kind_called q.kind (value_name q.thread q.number) a h
 
--- a record that names the pass, the thread and the ring of a worker anew
-pub draws_from : (p p' u u' : PassView) (t t' : ℕ) → DrawsOne p t u → p ≡ p' → t ≡ t' → u ≡ u' → DrawsOne p' t' u'
-draws_from p p' u u' t t' d a b e =
-    let P : PassView → Type 0 = λ x. DrawsOne x t u in
-    let Q : ℕ → Type 0 = λ x. DrawsOne p' x u in
-    let S : PassView → Type 0 = λ x. DrawsOne p' t' x in
-    subst S e (subst Q b (subst P a d))
-
 -- an operation whose return can't be pushed stalls its worker
-pub stalls_after : (k : Kind) (w u : WorkerView) (q : Question) (ret : ℕ) (p : PassView)
+stalls_after : (k : Kind) (w u : WorkerView) (q : Question) (ret : ℕ) (p : PassView)
     → (q.thread ≡ w.thread) × (q.number ≡ w.asked) × (q.kind ≡ k)
     → (u.thread ≡ w.thread) × (u.ring ≡ w.ring) × (u.sent ≡ w.sent ++ call_event q ∷ []) × (u.stopped ≡ true) × (u.asked ≡ w.asked + 1)
     × (u.capacity ≡ w.capacity) × (u.tries ≡ w.tries)
@@ -105,6 +98,85 @@ stalls_after k w u q ret p asked s filled ran d e =
       idle = λ h. absurd (false≢true (sym ran ∙ h));
     }
 
--- a ring that is full stays so
-pub filled_still : (c c' n n' : ℕ) → c' ≡ c → n' ≡ n → c ≤ n → c' ≤ n'
-filled_still c c' n n' e f h = omega (arith, e, f, h)
+-- a worker that drew a ticket, and sent an event
+abbrev sent_by : PassView → Event → WorkerView → WorkerView
+sent_by p e w = record w { pass = p; sent = w.sent ++ e ∷ [] }
+
+-- a worker that drew a ticket, asked at it as its n-th operation, and sent the call
+abbrev called_by : PassView → ℕ → Event → WorkerView → WorkerView
+called_by p n e w = record w { pass = p; asked = n; sent = w.sent ++ e ∷ [] }
+
+-- a worker that drew a ticket, and stopped
+abbrev stopped_by : PassView → WorkerView → WorkerView
+stopped_by p w = record w { pass = p; stopped = true }
+
+-- a worker opened at `b`, with the namer `n`, that draws, asks, and sends the call, so that it is at `v`; reopened there it draws again
+module _ (k : Kind) (w b v b' u : WorkerView) (n : NamerView) (asked : ℕ) (d : DrawnView) (p r : PassView) (q : Question) (call returned : Event)
+    (opened : b ≡ w) (own : (n.thread ≡ b.thread) × (n.asked ≡ b.asked)) (draws : DrawsOne b.pass d.ticket p)
+    (asks : (q ≡ next_question n k d) × (call ≡ call_event q) × (asked ≡ n.asked + 1))
+    (called : v ≡ called_by p asked call b)
+    (reopened : b' ≡ v) (draws_again : DrawsOne b'.pass returned.ticket r) where
+  -- the worker before its second push, by what it was at first
+  halfway : b' ≡ called_by p (w.asked + 1) (call_event q) w
+  halfway =
+      let counted : asked ≡ b.asked + 1 = asks.2 ∙ ap (λ x. x + 1) own.1 in
+      reopened ∙ called ∙ ap (λ x. called_by p x call b) counted
+      ∙ ap (λ e. called_by p (b.asked + 1) e b) asks.1
+      ∙ ap (λ x. called_by p (x.asked + 1) (call_event q) x) opened
+
+  first_draw : DrawsOne w.pass q.call p
+  first_draw = subst (λ x. DrawsOne x.pass q.call p) opened (subst (λ t. DrawsOne b.pass t p) (sym (ap (λ x. x.call) asks.0)) draws)
+
+  second_draw : DrawsOne p returned.ticket r
+  second_draw = subst (λ x. DrawsOne x.pass returned.ticket r) halfway draws_again
+
+  of_worker : (q.thread ≡ w.thread) × (q.number ≡ w.asked) × (q.kind ≡ k)
+  of_worker = (
+    ap (λ x. x.thread) asks.0 ∙ own.0 ∙ ap (λ x. x.thread) opened,
+    ap (λ x. x.number) asks.0 ∙ own.1 ∙ ap (λ x. x.asked) opened,
+    ap (λ x. x.kind) asks.0,
+  )
+
+  -- it works, where the queue answered this question and the return of the answer is sent
+  pub works_once : (may : Question → Answer → Type 0) (a : Answered) → d.key ≡ w.pass.key → a.question ≡ q → may q a.answer
+      → returned ≡ return_event a returned.ticket → IsTrue (answers (call_event a.question).what returned.what)
+      → u ≡ sent_by r returned b'
+      → Works may (k ∷ []) w u
+  works_once may a of_key of_question allowed said answers_call ended =
+      let answered_to : Question → Answered = λ x. record { question = x; answer = a.answer } in
+      let whole : a ≡ answered_to q = ap answered_to of_question in
+      let says : returned ≡ return_event (answered_to q) returned.ticket = said ∙ ap (λ x. return_event x returned.ticket) whole in
+      let is_answer = subst (λ x. IsTrue (answers (call_event x).what returned.what)) of_question answers_call in
+      let is : u ≡ sent_by r returned (called_by p (w.asked + 1) (call_event q) w) =
+      ended ∙ ap (sent_by r returned) halfway in
+      works_one may k w u (record { question = q; answer = a.answer; ret = returned.ticket }) p
+      (of_worker.0, ap (λ x. x.key) asks.0 ∙ of_key, of_worker.1, of_worker.2)
+      (of_kind q a.answer (subst (λ e. IsTrue (answers (call_event q).what e.what)) says is_answer))
+      allowed (
+        ap (λ x. x.thread) is,
+        ap (λ x. x.ring) is,
+        ap (λ x. x.asked) is,
+        ap (λ x. x.sent) is ∙ append_assoc w.sent (call_event q ∷ []) (returned ∷ []) ∙ ap (λ e. w.sent ++ call_event q ∷ e ∷ []) says,
+        ap (λ x. x.stopped) is,
+        ap (λ x. x.capacity) is,
+        ap (λ x. x.tries) is,
+      )
+      first_draw (subst (DrawsOne p returned.ticket) (sym (ap (λ x. x.pass) is)) second_draw)
+
+  -- it stalls, where the return finds no room
+  pub stalls_once : w.stopped ≡ false → b'.capacity ≤ length b'.sent → u ≡ stopped_by r b' → Stalls k w u
+  stalls_once ran filled ended =
+      let is : u ≡ stopped_by r (called_by p (w.asked + 1) (call_event q) w) =
+      ended ∙ ap (stopped_by r) halfway in
+      let full = subst (λ x. x.capacity ≤ length x.sent) halfway filled in
+      stalls_after k w u q returned.ticket p of_worker (
+        ap (λ x. x.thread) is,
+        ap (λ x. x.ring) is,
+        ap (λ x. x.sent) is,
+        ap (λ x. x.stopped) is,
+        ap (λ x. x.asked) is,
+        ap (λ x. x.capacity) is,
+        ap (λ x. x.tries) is,
+      )
+      (subst (λ x. x.capacity ≤ length x.sent) (sym is) full)
+      ran first_draw (subst (DrawsOne p returned.ticket) (sym (ap (λ x. x.pass) is)) second_draw)

@@ -1,6 +1,6 @@
 -- The order of the faults of a run, and what it refuses.
 use Rattle.std.specs.Prelude.{◌≡◌, ℕ, ◌<◌, ◌≤◌, ◌⊎◌}
-use Rattle.event_rings.specs.declared.TheConstants.{MIN_CAPACITY, MAX_CAPACITY}
+use Rattle.event_records.specs.declared.limits.TheConstants.{MIN_RING, MAX_RING}
 use Rattle.stress_run.specs.declared.TheConstants.{MAX_TRIES}
 use Rattle.collector.specs.declared.rounds.CollectError.{CollectError}
 use Rattle.collector.specs.declared.rounds.CollectError.TheVariants.{Memory as OfMemory, Uncertified as OfToken}
@@ -33,7 +33,7 @@ AreTries tries = (1 ≤ tries) × (tries ≤ MAX_TRIES)
 
 -- a ring may have room for so many events, and a push be tried so often
 abbrev pub IsWithinLimits : ℕ → ℕ → Type 0
-IsWithinLimits ring tries = (MIN_CAPACITY ≤ ring) × (ring ≤ MAX_CAPACITY) × AreTries tries
+IsWithinLimits ring tries = (MIN_RING ≤ ring) × (ring ≤ MAX_RING) × AreTries tries
 
 -- the fault of a run whose rings were not sealed for this reason
 abbrev pub IsFaultOf : CollectError → RunFault → Type 0

@@ -1,5 +1,5 @@
 -- What contracts see of a worker, and what its calls do.
-use Rattle.std.specs.Prelude.{◌≡◌, ℕ, ◌+◌, ◌*◌, ◌≤◌, ◌<◌, ◌^◌, List, [], ◌∷◌, ◌++◌, length, All, slice_index_or, Bool, true, ◌⊎◌}
+use Rattle.std.specs.Prelude.{◌≡◌, ℕ, ◌+◌, ◌*◌, ◌≤◌, ◌<◌, List, [], ◌∷◌, ◌++◌, length, All, slice_index_or, Bool, true, ◌⊎◌}
 use Rattle.std.specs.List.Sorted.{IsStrictlyIncreasing}
 use Rattle.atomic_table.specs.Seated.{TableId}
 use Rattle.tickets.specs.Views.{PassView, share_of}
@@ -7,6 +7,7 @@ use Rattle.event_records.specs.Question.{Question, call_event}
 use Rattle.event_records.specs.declared.kind.Kind.{Kind}
 use Rattle.event_records.specs.declared.kind.Answer.{Answer}
 use Rattle.event_records.specs.declared.event.Event.{Event}
+use Rattle.event_records.specs.declared.limits.TheConstants.{NAMES_OF_A_THREAD}
 use Rattle.event_rings.specs.Ring.{RingName}
 use Rattle.stress_run.specs.Operations.{Operates, tickets_of}
 
@@ -78,7 +79,7 @@ WorksOrStalls may kinds w w' = Works may kinds w w' ⊎ StallsIn may kinds w w'
 pub record IsReady (key : TableId) (kinds : List Kind) (w : WorkerView) : Type 0 where
   pub of_key : w.pass.key ≡ key
   pub enough : 2 * length kinds ≤ w.pass.left
-  pub room : w.asked + length kinds ≤ 2 ^ 32
+  pub room : w.asked + length kinds ≤ NAMES_OF_A_THREAD
 
 -- a worker's row of a plan
 abbrev pub row_of : List (List Kind) → WorkerView → List Kind

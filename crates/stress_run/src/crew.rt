@@ -46,7 +46,7 @@ fn work_row(queue: &dyn TestQueue, tickets: &Tickets, rows: &[Row], worker: Work
     ensures { WorksIn (may queue.now) rows.now worker result }
 {
     let row = &rows[worker.place()];
-    work(queue, tickets, worker, row.kinds())
+    work(queue, tickets, worker, row.as_slice())
 }
 
 // Each worker on its row of a plan, in a thread of its own, or one after another where no thread can be started. They start

@@ -1,15 +1,14 @@
 // The workers of a run, each with its thread, its share of the tickets and its ring.
 ghost use Rattle.std.specs.Prelude.{◌≡◌, ◌-◌, ◌*◌, ◌≤◌, ◌<◌, ◌↔◌, [], length, map, sum_by, IfOk, IsSome, IfSome};
 ghost use Rattle.workloads.specs.Plans.{IsPlan};
-ghost use Rattle.event_records.specs.declared.limits.TheConstants.{MAX_THREAD_OPERATIONS};
-ghost use Rattle.event_rings.specs.declared.TheConstants.{MAX_CAPACITY};
+ghost use Rattle.event_records.specs.declared.limits.TheConstants.{MAX_RING, MAX_THREAD_OPERATIONS, MAX_THREADS};
 ghost use Rattle.stress_run.specs.Crew.{IsNew, IsCrew, end_of};
 ghost use Rattle.stress_run.specs.Faults.{IsWithinLimits};
 
 use crate::MAX_TRIES;
 use crate::worker::Worker;
 use event_records::{Namer, ThreadNo};
-use event_rings::{DrainEnd, MAX_CAPACITY, MIN_CAPACITY, ring};
+use event_rings::{DrainEnd, MAX_RING, MIN_RING, ring};
 use std::alloc::{AllocError, Global};
 use std::marker::Model;
 use tickets::{Pass, Tickets};
@@ -41,7 +40,7 @@ impl Sizes {
         ensures limits { IsSome result ↔ IsWithinLimits ring tries }
         ensures sizes { IfSome result (λ sizes. sizes ≡ record { ring = ring; tries = tries }) }
     {
-        if (MIN_CAPACITY..=MAX_CAPACITY).contains(&ring) && (1..=MAX_TRIES).contains(&tries) {
+        if (MIN_RING..=MAX_RING).contains(&ring) && (1..=MAX_TRIES).contains(&tries) {
             Some(Sizes { ring, tries })
         } else {
             None
@@ -51,7 +50,7 @@ impl Sizes {
     // For how many events each ring has room.
     pub(crate) fn ring(self) -> usize
         ensures value { result ≡ self.ring }
-        ensures most { result ≤ MAX_CAPACITY }
+        ensures most { result ≤ MAX_RING }
     {
         self.ring
     }
@@ -67,7 +66,7 @@ pub(crate) struct Crew {
 
 // The thread of this place.
 fn thread_at(place: usize) -> ThreadNo
-    requires { place < 64 }
+    requires { place < MAX_THREADS }
     ensures { result ≡ place }
 {
     match ThreadNo::new(place as u8) {

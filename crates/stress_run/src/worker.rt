@@ -1,6 +1,7 @@
 // One worker: it draws tickets, asks the queue, and pushes what it did into its ring.
-ghost use Rattle.std.specs.Prelude.{◌≡◌, ◌∷◌, ◌++◌, [], ◌≤◌, ◌<◌, ◌^◌, IfOk, OnOk, OnErr, length, true, false};
+ghost use Rattle.std.specs.Prelude.{◌≡◌, ◌∷◌, ◌++◌, [], ◌≤◌, ◌<◌, IfOk, OnOk, OnErr, length, true, false};
 ghost use Rattle.event_records.specs.declared.kind.Kind.TheVariants.{Enq, Deq};
+ghost use Rattle.event_records.specs.declared.limits.TheConstants.{NAMES_OF_A_THREAD};
 ghost use Rattle.stress_run.specs.Crew.{token_of};
 ghost use Rattle.stress_run.specs.Faults.{AreTries};
 ghost use Rattle.stress_run.specs.Workers.{Works, Stalls};
@@ -137,7 +138,7 @@ impl Worker {
     fn enqueue_once(&mut self, queue: &dyn TestQueue, tickets: &Tickets) -> Result<(), WorkerFault>
         requires key { self.old.pass.key ≡ tickets.now.key }
         requires left { 2 ≤ self.old.pass.left }
-        requires room { self.old.asked < 2 ^ 32 }
+        requires room { self.old.asked < NAMES_OF_A_THREAD }
         requires running { self.old.stopped ≡ false }
         ensures works { OnOk result (Works (may queue.now) (Enq ∷ []) self.old self.new) }
         ensures stalls { OnErr result (Stalls Enq self.old self.new) }
@@ -153,7 +154,7 @@ impl Worker {
     fn dequeue_once(&mut self, queue: &dyn TestQueue, tickets: &Tickets) -> Result<(), WorkerFault>
         requires key { self.old.pass.key ≡ tickets.now.key }
         requires left { 2 ≤ self.old.pass.left }
-        requires room { self.old.asked < 2 ^ 32 }
+        requires room { self.old.asked < NAMES_OF_A_THREAD }
         requires running { self.old.stopped ≡ false }
         ensures works { OnOk result (Works (may queue.now) (Deq ∷ []) self.old self.new) }
         ensures stalls { OnErr result (Stalls Deq self.old self.new) }
@@ -170,7 +171,7 @@ impl Worker {
 ///
 /// The call ticket is drawn before the question is made, and the return ticket when the answer is there. The call is pushed
 /// before the queue is asked, so a queue isn't asked whose call found no room; no contract says so. The pass is of these
-/// `Tickets` and has two tickets left, and the namer has asked fewer than 2^32 operations.
+/// `Tickets` and has two tickets left, and the namer has asked fewer operations than a thread has names for.
 ///
 /// `Stalled` comes where a push found no room in all tries of the worker, between which the thread yields, and is then the
 /// answer of each later call, which draws nothing. It waits for nobody but where the queue does, and takes no memory.
@@ -182,7 +183,7 @@ pub fn one_call(
 ) -> Result<(), WorkerFault>
     requires key { worker.old.pass.key ≡ tickets.now.key }
     requires left { 2 ≤ worker.old.pass.left }
-    requires room { worker.old.asked < 2 ^ 32 }
+    requires room { worker.old.asked < NAMES_OF_A_THREAD }
     ensures works { OnOk result (Works (may queue.now) (kind ∷ []) worker.old worker.new) }
     ensures stalls { OnErr result (Stalls kind worker.old worker.new) }
     ensures running { OnOk result (worker.old.stopped ≡ false) }

@@ -1,7 +1,7 @@
 ghost use Rattle.std.specs.Prelude.{◌≡◌, ◌≤◌, length};
 ghost use Rattle.value_match.specs.Named as named;
 
-use event_records::MAX_EVENTS;
+use event_records::{MAX_EVENTS, MAX_THREADS, NAMES_OF_A_THREAD};
 use history_merge::Operation;
 use std::alloc::{AllocError, Global};
 
@@ -11,7 +11,7 @@ use std::alloc::{AllocError, Global};
 /// Nothing rests on the place that it tells for a value: who asks looks there.
 #[derive(Drop)]
 pub(crate) struct Names {
-    starts: [u32; 64],
+    starts: [u32; MAX_THREADS],
     places: Vec<u32>,
 }
 
@@ -24,7 +24,7 @@ impl Names {
         let mut next = starts;
         let mut places = vec![in alloc; 0; operations.len()]?;
         for (place, operation) in operations.iter().enumerate() {
-            let thread = usize::from(operation.thread % 64);
+            let thread = usize::from(operation.thread) % MAX_THREADS;
             let at = next[thread];
             next[thread] = at.wrapping_add(1);
             if let Ok(at) = usize::try_from(at)
@@ -41,8 +41,8 @@ impl Names {
     pub(crate) fn place_of(&self, value: u64) -> usize
         ensures { result ≡ named.place_of self.now value }
     {
-        let start = self.starts[(value / 4_294_967_296 % 64) as usize];
-        let at = u64::from(start) + value % 4_294_967_296;
+        let start = self.starts[(value / NAMES_OF_A_THREAD % MAX_THREADS as u64) as usize];
+        let at = u64::from(start) + value % NAMES_OF_A_THREAD;
         match self.places.get(at as usize) {
             Some(place) => *place as usize,
             None => 0,
@@ -51,15 +51,15 @@ impl Names {
 }
 
 /// For each thread how many operations those of lower number have.
-fn starts_of(operations: &[Operation]) -> [u32; 64] {
-    let mut counts = [0u32; 64];
+fn starts_of(operations: &[Operation]) -> [u32; MAX_THREADS] {
+    let mut counts = [0u32; MAX_THREADS];
     for operation in operations {
-        let thread = usize::from(operation.thread % 64);
+        let thread = usize::from(operation.thread) % MAX_THREADS;
         counts[thread] = counts[thread].wrapping_add(1);
     }
-    let mut starts = [0; 64];
+    let mut starts = [0; MAX_THREADS];
     let mut sum = 0u32;
-    for thread in 0..64 {
+    for thread in 0..MAX_THREADS {
         starts[thread] = sum;
         sum = sum.wrapping_add(counts[thread]);
     }

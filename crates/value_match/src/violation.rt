@@ -1,7 +1,5 @@
-ghost use Rattle.std.specs.Prelude.{◌≡◌};
-
+use event_records::Listed;
 use history_merge::OpId;
-use std::marker::Model;
 
 /// The places of an accepted enqueue and of the dequeue of its value, if there is one.
 #[derive(Clone, Copy, Debug, PartialEq, Eq)]
@@ -10,36 +8,9 @@ pub struct CoverStep {
     pub dequeue: Option<OpId>,
 }
 
-/// Values that between them keep the queue from being empty, seen as the list of their places.
-#[derive(Debug, Drop)]
-pub struct Cover {
-    steps: Vec<CoverStep>,
-}
-
-impl Model for Cover {
-    ghost use Rattle.std.specs.Prelude.{List};
-    ghost use Rattle.value_match.specs.declared.violation.CoverStep.{CoverStep};
-
-    ghost Value = { List CoverStep };
-
-    ghost view = { λ a. a.steps.items };
-}
-
-impl Cover {
-    /// The cover of these steps; takes no memory.
-    pub fn from_vec(steps: Vec<CoverStep>) -> Cover
-        ensures { result ≡ steps.items }
-    {
-        Cover { steps }
-    }
-
-    /// The steps, in the order in which each takes over from the one before.
-    pub fn as_slice(&self) -> &[CoverStep]
-        ensures { result.now ≡ self.now }
-    {
-        self.steps.as_slice()
-    }
-}
+/// Values that between them keep the queue from being empty, seen as the list of their places, in the order in which each
+/// takes over from the one before.
+pub type Cover = Listed<CoverStep>;
 
 /// What is wrong with a history, by the places of the operations that show it.
 #[derive(Debug, Drop)]

@@ -4,40 +4,12 @@ ghost use Rattle.verdicts.specs.Claims.{IsTrueClaim};
 
 use crate::claimed_breach::shows_violation;
 use crate::claimed_order::is_legal_order;
+use event_records::Listed;
 use history_merge::{History, Operation};
 use std::alloc::{AllocError, Global};
-use std::marker::Model;
 
 /// The operations of a verdict as it lists them, seen as a list. Any operations may stand in it.
-#[derive(Debug, Drop)]
-pub struct Lines {
-    lines: Vec<Operation>,
-}
-
-impl Model for Lines {
-    ghost use Rattle.std.specs.Prelude.{List};
-    ghost use Rattle.history_merge.specs.declared.operation.Operation.{Operation};
-
-    ghost Value = { List Operation };
-
-    ghost view = { λ a. a.lines.items };
-}
-
-impl Lines {
-    /// These operations, in their order; without taking memory.
-    pub fn from_vec(lines: Vec<Operation>) -> Lines
-        ensures { result ≡ lines.items }
-    {
-        Lines { lines }
-    }
-
-    /// The operations, in their order.
-    pub fn as_slice(&self) -> &[Operation]
-        ensures { result.now ≡ self.now }
-    {
-        self.lines.as_slice()
-    }
-}
+pub type Lines = Listed<Operation>;
 
 /// The kinds of violation, by the names that verdicts print.
 #[derive(Clone, Copy, Debug, PartialEq, Eq)]

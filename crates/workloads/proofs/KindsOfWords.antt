@@ -9,7 +9,7 @@ use Rattle.rand_pcg.specs.Lcg.{Lcg}
 use Rattle.rand_pcg.specs.Pcg.{pcg64}
 use Rattle.event_records.specs.declared.kind.Kind.{Kind}
 use Rattle.event_records.specs.declared.limits.TheConstants.{MAX_OPERATIONS, MAX_THREAD_OPERATIONS}
-use Rattle.workloads.specs.declared.TheConstants.{MAX_WORKERS}
+use Rattle.event_records.specs.declared.limits.TheConstants.{MAX_WORKERS}
 use Rattle.workloads.specs.Plans.{IsPlan}
 use Rattle.workloads.specs.Seeds.{kind_of_word, kinds_of_words, generator_of, GivesKinds, IsSeeded}
 

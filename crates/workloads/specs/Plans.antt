@@ -2,7 +2,7 @@
 use Rattle.std.specs.Prelude.{◌≤◌, List, length, All, sum_by}
 use Rattle.event_records.specs.declared.limits.TheConstants.{MAX_OPERATIONS, MAX_THREAD_OPERATIONS}
 use Rattle.event_records.specs.declared.kind.Kind.{Kind}
-use Rattle.workloads.specs.declared.TheConstants.{MAX_WORKERS}
+use Rattle.event_records.specs.declared.limits.TheConstants.{MAX_WORKERS}
 
 -- no worker makes more operations than one thread may
 abbrev pub AreShort : List (List Kind) → Type 0

@@ -5,9 +5,6 @@ mod plans;
 mod seeds;
 mod texts;
 
-pub use event_records::Kind;
+pub use event_records::{Kind, MAX_WORKERS};
 pub use plans::{Plan, Row};
 pub use texts::PlanFault;
-
-/// The most workers of a run.
-pub const MAX_WORKERS: usize = 16;

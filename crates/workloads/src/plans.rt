@@ -3,54 +3,11 @@ ghost use Rattle.std.specs.Prelude.{◌≡◌, ◌+◌, ◌^◌, ◌<◌, ◌≤
 ghost use Rattle.event_records.specs.declared.limits.TheConstants.{MAX_OPERATIONS};
 ghost use Rattle.workloads.specs.Plans.{AreShort, IsPlan};
 
-use crate::MAX_WORKERS;
-use event_records::{Kind, MAX_OPERATIONS, MAX_THREAD_OPERATIONS};
+use event_records::{Kind, Listed, MAX_OPERATIONS, MAX_THREAD_OPERATIONS, MAX_WORKERS};
 use std::marker::Model;
 
-/// The operations of one worker, in order.
-#[derive(Debug, Drop)]
-pub struct Row {
-    kinds: Vec<Kind>,
-}
-
-impl Model for Row {
-    ghost use Rattle.std.specs.Prelude.{List};
-    ghost use Rattle.event_records.specs.declared.kind.Kind.{Kind};
-
-    ghost Value = { List Kind };
-
-    ghost view = { λ r. r.kinds.items };
-}
-
-impl Row {
-    /// The row of these kinds. Takes no memory.
-    pub fn new(kinds: Vec<Kind>) -> Row
-        ensures { result ≡ kinds.items }
-    {
-        Row { kinds }
-    }
-
-    /// The kinds, in order.
-    pub fn kinds(&self) -> &[Kind]
-        ensures { result.now ≡ self.now }
-    {
-        self.kinds.as_slice()
-    }
-
-    /// How many operations there are.
-    pub fn len(&self) -> usize
-        ensures { result ≡ length self.now }
-    {
-        self.kinds.len()
-    }
-
-    /// Whether the worker makes no operation.
-    pub fn is_empty(&self) -> bool
-        ensures { IsTrue result ↔ (length self.now ≡ 0) }
-    {
-        self.kinds.is_empty()
-    }
-}
+/// The operations of one worker, in order, seen as the list of their kinds.
+pub type Row = Listed<Kind>;
 
 /// One row for each worker, row 0 that of worker 0, within the limits of a run: 1 to 16 workers, at most 100,000
 /// operations of one worker, and at most 1,000,000 of all together.

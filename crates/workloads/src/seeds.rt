@@ -1,7 +1,7 @@
 // Plans that a seed determines.
 ghost use Rattle.std.specs.Prelude.{◌≡◌, ◌*◌, ◌≤◌, length, IfOk};
 ghost use Rattle.event_records.specs.declared.limits.TheConstants.{MAX_OPERATIONS, MAX_THREAD_OPERATIONS};
-ghost use Rattle.workloads.specs.declared.TheConstants.{MAX_WORKERS};
+ghost use Rattle.event_records.specs.declared.limits.TheConstants.{MAX_WORKERS};
 ghost use Rattle.workloads.specs.Seeds.{GivesKinds, IsSeeded, kind_of_word};
 
 use crate::plans::{Plan, Row};
@@ -52,7 +52,7 @@ fn next_row(
     for _ in 0..operations {
         kinds.push(kind_of(words.next_word(), percent))?;
     }
-    Ok(Row::new(kinds))
+    Ok(Row::from_vec(kinds))
 }
 
 fn kind_of(word: u64, percent: u8) -> Kind

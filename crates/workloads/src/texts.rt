@@ -5,9 +5,8 @@ ghost use Rattle.event_records.specs.declared.kind.Kind.{Kind};
 ghost use Rattle.workloads.specs.Plans.{IsPlan};
 ghost use Rattle.workloads.specs.Texts.{letter, text_of, ends_line, is_short_line, IsCut, HasLines, HasStray, IsPlanText, IsFaultOf};
 
-use crate::MAX_WORKERS;
 use crate::plans::{Plan, Row};
-use event_records::{Kind, MAX_OPERATIONS, MAX_THREAD_OPERATIONS};
+use event_records::{Kind, MAX_OPERATIONS, MAX_THREAD_OPERATIONS, MAX_WORKERS};
 use std::alloc::{AllocError, Global};
 use std::mem;
 use thiserror::Error;
@@ -153,7 +152,7 @@ fn read_rows(alloc: Global, text: &[u8]) -> Result<Vec<Row>, AllocError>
     for byte in text {
         match kind_of_letter(*byte) {
             Some(kind) => kinds.push(kind)?,
-            None => rows.push(Row::new(mem::replace(&mut kinds, Vec::new(alloc))))?,
+            None => rows.push(Row::from_vec(mem::replace(&mut kinds, Vec::new(alloc))))?,
         }
     }
     Ok(rows)

@@ -20,7 +20,7 @@ loop-byte-preserved c =
             w.rows-is,
             w.kinds-is,
             w.in_ok-push-in-None.ensures.items,
-            w.new-in-None.ensures,
+            w.from_vec.ensures,
             w.replace.ensures.value,
             w.replace.ensures.after,
             w.new.ensures.items,
