@@ -10,6 +10,7 @@ use event_records::{Event, Lists};
 use event_rings::{CloseToken, DrainEnd, FinishFault};
 use std::alloc::{AllocError, Global};
 use std::marker::Model;
+use thiserror::Error;
 
 /// Drains the rings of threads 0, 1, 2 and on, and keeps what it drained.
 ///
@@ -32,11 +33,13 @@ impl Model for Collector {
 }
 
 /// Why the rings were not sealed. No list is given, and the rings are gone.
-#[derive(Debug, Drop)]
+#[derive(Debug, Drop, Error)]
 pub enum CollectError {
     /// There was no memory for the list of some thread. The tokens up to that thread's are of their places' threads.
+    #[error("Memory")]
     Memory,
     /// The token at this thread's place is of another thread's ring, and no token before it is.
+    #[error("Uncertified {0}")]
     Uncertified(u8),
 }
 

@@ -1,13 +1,14 @@
 -- From the faults of calls on the reader to the fault of the input.
-use Rattle.std.proofs.Common.{◌≡◌, ℕ, ◌+◌, List, ◌++◌, length, Option, Some, None, inl, inr, ap, sym, ◌∙◌, refl, append-nil, IfSome, subst}
+use Rattle.std.proofs.Common.{◌≡◌, ℕ, ◌+◌, List, ◌++◌, length, ◌⊎◌, Option, Some, None, inl, inr, ap, sym, ◌∙◌, refl, append-nil, IfSome, subst}
 use Rattle.event_records.specs.declared.event.Event.{Event}
 use Rattle.text_lines.specs.declared.fault.TextFault.{TextFault}
 use Rattle.text_lines.specs.declared.fault.TextFault.TheVariants.{Read, Header, Line, Number, Limit, Count, Cut, Trailing, Memory}
-use Rattle.history_text.specs.Histories.{history_text, HasHistoryText}
-use Rattle.history_text.specs.Claims.{IsVerdictTextFault}
+use Rattle.text_lines.proofs.MemoryOrNot.{follows}
+use Rattle.history_text.specs.Histories.{history_text, HasHistoryText, IsHistoryTextFault, NoRoomFor}
+use Rattle.history_text.specs.Claims.{IsVerdictTextFault, NoRoomForVerdict}
 use Rattle.text_lines.specs.Input.{Ahead, Ending, Takes}
 use Rattle.history_text.specs.Reading.{HasFirstFault, HasEndFault, HasHistoryTextFault, HasVerdictTextFault}
-use Rattle.commands.specs.Inputs.{IsFaultOfOneText, IsFaultOfClaimInput}
+use Rattle.commands.specs.Inputs.{IsFaultOfOneText, IsFaultAfter, AfterHistory, IsFaultOfClaimInput}
 
 -- ---- one text
 
@@ -16,15 +17,10 @@ module _ {A : Type 0} (HasText : A → Type 0) (text_of : A → List ℕ) (IsTex
   pub text_fault : (input : Option Ahead) (fault : TextFault) → HasFirstFault IsTextFault LacksRoom input fault
       → IfSome input (λ a. IsFaultOfOneText HasText text_of IsTextFault LacksRoom a fault)
   text_fault None fault h = tt
-  text_fault (Some a) Memory h = h
-  text_fault (Some a) Read h = inl h
-  text_fault (Some a) Header h = inl h
-  text_fault (Some a) (Line n) h = inl h
-  text_fault (Some a) (Number n) h = inl h
-  text_fault (Some a) (Limit n) h = inl h
-  text_fault (Some a) Count h = inl h
-  text_fault (Some a) Cut h = inl h
-  text_fault (Some a) Trailing h = inl h
+  text_fault (Some a) fault h =
+      follows (LacksRoom a.bytes) (LacksRoom a.bytes) (IsTextFault a.ending a.bytes)
+      (λ f. IsTextFault a.ending a.bytes f ⊎ ((value : A) × HasText value × IsFaultAfter (text_of value) a f))
+      fault (λ room. room) (λ f is. inl is) h
 
   -- a fault of what comes after the text
   pub end_fault : (input left : Option Ahead) (value : A) (fault : TextFault) → HasText value → Takes input left (text_of value)
@@ -56,18 +52,19 @@ module _ {A : Type 0} (HasText : A → Type 0) (text_of : A → List ℕ) (IsTex
 
 -- ---- a history, and a verdict on it
 
+-- the fault of a claim's input, want of memory aside
+abbrev IsClaimFault : Ahead → TextFault → Type 0
+IsClaimFault a fault = IsHistoryTextFault 0 a.ending a.bytes fault ⊎ AfterHistory (λ lines rest. IsVerdictTextFault lines a.ending rest fault) a.bytes
+
+-- there was no room for what it says
+abbrev LacksRoomForClaim : Ahead → Type 0
+LacksRoomForClaim a = NoRoomFor a.bytes ⊎ AfterHistory (λ lines rest. NoRoomForVerdict rest) a.bytes
+
 -- a fault of the history's text
 pub history_fault : (input : Option Ahead) (fault : TextFault) → HasHistoryTextFault 0 input fault → IfSome input (λ a. IsFaultOfClaimInput a fault)
 history_fault None fault h = tt
-history_fault (Some a) Memory h = inl h
-history_fault (Some a) Read h = inl h
-history_fault (Some a) Header h = inl h
-history_fault (Some a) (Line n) h = inl h
-history_fault (Some a) (Number n) h = inl h
-history_fault (Some a) (Limit n) h = inl h
-history_fault (Some a) Count h = inl h
-history_fault (Some a) Cut h = inl h
-history_fault (Some a) Trailing h = inl h
+history_fault (Some a) fault h =
+    follows (NoRoomFor a.bytes) (LacksRoomForClaim a) (IsHistoryTextFault 0 a.ending a.bytes) (IsClaimFault a) fault (λ room. inl room) (λ f is. inl is) h
 
 -- the same fault, in the words of the whole input
 later : (events : List Event) (a b : Ahead) (lines : ℕ) (fault : TextFault) → b.ending ≡ a.ending → lines ≡ length events + 2
@@ -81,21 +78,8 @@ pub verdict_fault : (input left : Option Ahead) (events : List Event) (lines : �
     → IfSome input (λ a. IsFaultOfClaimInput a fault)
 verdict_fault None left events lines fault text taken is h = tt
 verdict_fault (Some a) None events lines fault text taken is h = absurd taken
-verdict_fault (Some a) (Some b) events lines Memory text taken is h =
-    inr (record { events = events; rest = b.bytes; history = text; front = taken.0; after = h })
-verdict_fault (Some a) (Some b) events lines Read text taken is h =
-    inr (record { events = events; rest = b.bytes; history = text; front = taken.0; after = later events a b lines Read taken.1 is h })
-verdict_fault (Some a) (Some b) events lines Header text taken is h =
-    inr (record { events = events; rest = b.bytes; history = text; front = taken.0; after = later events a b lines Header taken.1 is h })
-verdict_fault (Some a) (Some b) events lines (Line n) text taken is h =
-    inr (record { events = events; rest = b.bytes; history = text; front = taken.0; after = later events a b lines (Line n) taken.1 is h })
-verdict_fault (Some a) (Some b) events lines (Number n) text taken is h =
-    inr (record { events = events; rest = b.bytes; history = text; front = taken.0; after = later events a b lines (Number n) taken.1 is h })
-verdict_fault (Some a) (Some b) events lines (Limit n) text taken is h =
-    inr (record { events = events; rest = b.bytes; history = text; front = taken.0; after = later events a b lines (Limit n) taken.1 is h })
-verdict_fault (Some a) (Some b) events lines Count text taken is h =
-    inr (record { events = events; rest = b.bytes; history = text; front = taken.0; after = later events a b lines Count taken.1 is h })
-verdict_fault (Some a) (Some b) events lines Cut text taken is h =
-    inr (record { events = events; rest = b.bytes; history = text; front = taken.0; after = later events a b lines Cut taken.1 is h })
-verdict_fault (Some a) (Some b) events lines Trailing text taken is h =
-    inr (record { events = events; rest = b.bytes; history = text; front = taken.0; after = later events a b lines Trailing taken.1 is h })
+verdict_fault (Some a) (Some b) events lines fault text taken is h =
+    follows (NoRoomForVerdict b.bytes) (LacksRoomForClaim a) (IsVerdictTextFault lines b.ending b.bytes) (IsClaimFault a) fault
+    (λ room. inr (record { events = events; rest = b.bytes; history = text; front = taken.0; after = room }))
+    (λ f first. inr (record { events = events; rest = b.bytes; history = text; front = taken.0; after = later events a b lines f taken.1 is first }))
+    h

@@ -1,5 +1,5 @@
 -- Want of memory aside, an input has one answer.
-use Rattle.std.proofs.Common.{◌≡◌, ◌≢◌, ◌⊎◌, ◌↔◌, Bool, true, false, IsTrue, List, refl, sym, ◌∙◌, ap, subst, inl, inr}
+use Rattle.std.proofs.Common.{◌≡◌, ◌≢◌, ◌↔◌, Bool, true, false, IsTrue, List, refl, sym, ◌∙◌, ap, subst, inl, inr}
 use Rattle.std.specs.Prelude.{Contains, flat_map}
 use Rattle.std.proofs.lemmas.List.Sorted.{Contains-permutation, IsPermutation-sym}
 use Rattle.event_records.specs.declared.event.Event.{Event}
@@ -23,6 +23,7 @@ use Rattle.history_text.specs.declared.schedule.Schedule.{Schedule}
 use Rattle.history_text.specs.Histories.{history_text, HasHistoryText, IsHistoryTextFault, NoRoomFor}
 use Rattle.history_text.specs.Schedules.{schedule_text, HasScheduleText, IsScheduleTextFault, NoRoomForSchedule}
 use Rattle.text_lines.specs.Input.{Ahead}
+use Rattle.text_lines.proofs.MemoryOrNot.{is_memory}
 use Rattle.history_text.proofs.OneText as histories
 use Rattle.history_text.proofs.OneSchedule as schedules
 use Rattle.command_words.specs.Commands.{check, shrink, verify, draw, sim}
@@ -35,17 +36,6 @@ use Rattle.commands.proofs.OneInput.{one_value, only_memory, one_known_fault, on
 use Rattle.commands.proofs.ShrunkTexts.{one_verdict_claim}
 
 -- ---- from what is answered of values and faults to what is answered of inputs
-
-is_memory : (fault : TextFault) → (fault ≡ text.Memory) ⊎ (fault ≢ text.Memory)
-is_memory text.Memory = inl refl
-is_memory text.Read = inr (λ same. cc)
-is_memory text.Header = inr (λ same. cc)
-is_memory (text.Line n) = inr (λ same. cc)
-is_memory (text.Number n) = inr (λ same. cc)
-is_memory (text.Limit n) = inr (λ same. cc)
-is_memory text.Count = inr (λ same. cc)
-is_memory text.Cut = inr (λ same. cc)
-is_memory text.Trailing = inr (λ same. cc)
 
 answers_memory : (answer : Answer) (fault : TextFault) → answer ≡ answer_of_text_fault fault → fault ≡ text.Memory → answer ≡ memory_fault
 answers_memory answer fault is same = is ∙ ap answer_of_text_fault same

@@ -1,12 +1,13 @@
 -- An input says one thing, or has one fault.
-use Rattle.std.proofs.Common.{◌≡◌, ◌≢◌, ℕ, ◌+◌, ◌⊎◌, List, [], ◌∷◌, ◌++◌, length, refl, sym, ◌∙◌, ap, subst, inl, inr, append-nil}
+use Rattle.std.proofs.Common.{◌≡◌, ◌≢◌, ℕ, ◌+◌, ◌⊎◌, List, [], ◌∷◌, ◌++◌, length, sym, ◌∙◌, ap, subst, inl, inr, append-nil}
 use Rattle.event_records.specs.declared.event.Event.{Event}
 use Rattle.text_lines.specs.declared.fault.TextFault.{TextFault}
 use Rattle.text_lines.specs.declared.fault.TextFault.TheVariants as text
 use Rattle.text_lines.specs.Input.{Ahead, Ending, EndOfInput, Failure}
-use Rattle.history_text.specs.Histories.{history_text, IsHistoryTextFault}
+use Rattle.text_lines.proofs.MemoryOrNot.{known_fault}
+use Rattle.history_text.specs.Histories.{history_text, IsHistoryTextFault, NoRoomFor}
 use Rattle.history_text.specs.Verdicts.{verdict_text}
-use Rattle.history_text.specs.Claims.{IsVerdictTextFault}
+use Rattle.history_text.specs.Claims.{IsVerdictTextFault, NoRoomForVerdict}
 use Rattle.history_text.proofs.OneText as histories
 use Rattle.history_text.proofs.OneVerdict as verdict_texts
 use Rattle.commands.specs.Inputs.{IsWhole, IsFaultAfter, IsFaultOfOneText, ClaimOnEvents, IsClaimOf, AfterHistory, IsFaultOfClaimInput}
@@ -23,15 +24,7 @@ module _ {A : Type 0} (HasText : A → Type 0) (text_of : A → List ℕ) (IsTex
 
   is_fault : (input : Ahead) (fault : TextFault) → fault ≢ text.Memory → IsFaultOfOneText HasText text_of IsTextFault LacksRoom input fault
       → IsFault input fault
-  is_fault input text.Memory known is = absurd (known refl)
-  is_fault input text.Read known is = is
-  is_fault input text.Header known is = is
-  is_fault input (text.Line n) known is = is
-  is_fault input (text.Number n) known is = is
-  is_fault input (text.Limit n) known is = is
-  is_fault input text.Count known is = is
-  is_fault input text.Cut known is = is
-  is_fault input text.Trailing known is = is
+  is_fault input fault known is = known_fault (LacksRoom input.bytes) (IsFault input) fault known is
 
   whole_again : (x : A) (input : Ahead) → IsWhole (text_of x) input → input.bytes ≡ text_of x ++ []
   whole_again x input whole = whole.bytes ∙ sym (append-nil (text_of x))
@@ -91,15 +84,8 @@ IsClaimFault input fault = IsHistoryTextFault 0 input.ending input.bytes fault
     ⊎ AfterHistory (λ lines rest. IsVerdictTextFault lines input.ending rest fault) input.bytes
 
 is_claim_fault : (input : Ahead) (fault : TextFault) → fault ≢ text.Memory → IsFaultOfClaimInput input fault → IsClaimFault input fault
-is_claim_fault input text.Memory known is = absurd (known refl)
-is_claim_fault input text.Read known is = is
-is_claim_fault input text.Header known is = is
-is_claim_fault input (text.Line n) known is = is
-is_claim_fault input (text.Number n) known is = is
-is_claim_fault input (text.Limit n) known is = is
-is_claim_fault input text.Count known is = is
-is_claim_fault input text.Cut known is = is
-is_claim_fault input text.Trailing known is = is
+is_claim_fault input fault known is =
+    known_fault (NoRoomFor input.bytes ⊎ AfterHistory (λ lines rest. NoRoomForVerdict rest) input.bytes) (IsClaimFault input) fault known is
 
 -- an input has one claim
 pub one_claim : (input : Ahead) (x y : ClaimOnEvents) → IsClaimOf input x → IsClaimOf input y → x ≡ y

@@ -1,19 +1,20 @@
 -- What the program answers: its text and its status.
-use Rattle.std.specs.Prelude.{ℕ, List, ◌++◌, Bool, true, false, codes, decimal}
+use Rattle.std.specs.Prelude.{ℕ, List, ◌++◌, Bool, true, false, codes, decimal, Option, Some, None}
 use Rattle.std.specs.List.{flat_map}
 use Rattle.event_records.specs.declared.event.Event.{Event}
 use Rattle.text_lines.specs.declared.fault.TextFault.{TextFault}
 use Rattle.text_lines.specs.declared.fault.TextFault.TheVariants as text
+use Rattle.text_lines.specs.Faults as text_names
 use Rattle.text_lines.specs.Lines.{line}
 use Rattle.history_text.specs.Histories.{history_text}
 use Rattle.history_text.specs.Verdicts.{verdict_text}
 use Rattle.history_merge.specs.declared.fault.HistoryFault.{HistoryFault}
 use Rattle.history_merge.specs.declared.fault.HistoryFault.TheVariants as history
-use Rattle.recorder_core.specs.declared.step.StepRefused.{StepRefused}
-use Rattle.recorder_core.specs.declared.step.StepRefused.TheVariants as step
+use Rattle.history_merge.specs.Names as history_names
+use Rattle.recorder_core.specs.Names.{name_of}
 use Rattle.simulation.specs.declared.playing.Rejection.{Rejection}
 use Rattle.stress_run.specs.declared.faults.RunFault.{RunFault}
-use Rattle.stress_run.specs.declared.faults.RunFault.TheVariants as run
+use Rattle.stress_run.specs.Faults as run_names
 use Rattle.verdicts.specs.declared.verifying.Claimed.{Claimed}
 use Rattle.verdicts.specs.declared.verifying.Claimed.TheVariants as claim
 
@@ -46,57 +47,33 @@ pub data Answer : Type 0 where
 
 -- ---- names
 
+-- a name, and a number behind it where there is one
+abbrev pub named : List ℕ → Option ℕ → List ℕ
+named name None = name
+named name (Some n) = name ++ codes " " ++ decimal n
+
 -- the name of a text's fault, and its line where it has one
 abbrev pub text_fault_name : TextFault → List ℕ
-text_fault_name text.Read = codes "Read"
-text_fault_name text.Header = codes "Header"
-text_fault_name (text.Line n) = codes "Line " ++ decimal n
-text_fault_name (text.Number n) = codes "Number " ++ decimal n
-text_fault_name (text.Limit n) = codes "Limit " ++ decimal n
-text_fault_name text.Count = codes "Count"
-text_fault_name text.Cut = codes "Cut"
-text_fault_name text.Trailing = codes "Trailing"
-text_fault_name text.Memory = codes "Memory"
+text_fault_name fault = named (text_names.name_of fault) (text_names.line_in fault)
 
 -- the name of a history's fault, and its place from 0 or its ticket
 abbrev pub history_fault_name : HistoryFault → List ℕ
-history_fault_name (history.TicketOrder i) = codes "TicketOrder " ++ decimal i
-history_fault_name (history.BadThread i) = codes "BadThread " ++ decimal i
-history_fault_name (history.CallWhilePending i) = codes "CallWhilePending " ++ decimal i
-history_fault_name (history.ReturnWithoutCall i) = codes "ReturnWithoutCall " ++ decimal i
-history_fault_name (history.WrongReturn i) = codes "WrongReturn " ++ decimal i
-history_fault_name (history.DuplicateValue i) = codes "DuplicateValue " ++ decimal i
-history_fault_name (history.Pending ticket) = codes "Pending " ++ decimal ticket
-history_fault_name history.Memory = codes "Memory"
+history_fault_name fault = named (history_names.name_of fault) (history_names.place_in fault)
 
 -- the name of a run's fault, and its thread where it has one
 abbrev pub run_fault_name : RunFault → List ℕ
-run_fault_name run.Limit = codes "Limit"
-run_fault_name run.Memory = codes "Memory"
-run_fault_name (run.Stalled thread) = codes "Stalled " ++ decimal thread
-run_fault_name (run.CloseLost thread) = codes "CloseLost " ++ decimal thread
-run_fault_name (run.Uncertified thread) = codes "Uncertified " ++ decimal thread
+run_fault_name fault = named (run_names.name_of fault) (run_names.thread_in fault)
 
--- the name of the reason why a step is refused
-abbrev pub reason_name : StepRefused → List ℕ
-reason_name step.NoThread = codes "NoThread"
-reason_name step.Closed = codes "Closed"
-reason_name step.Held = codes "Held"
-reason_name step.NothingHeld = codes "NothingHeld"
-reason_name step.RingFull = codes "RingFull"
-reason_name step.Pending = codes "Pending"
-reason_name step.NotPending = codes "NotPending"
-reason_name step.NoAnswer = codes "NoAnswer"
-reason_name step.AnswerTaken = codes "AnswerTaken"
-reason_name step.WrongAnswer = codes "WrongAnswer"
-reason_name step.Limit = codes "Limit"
-reason_name step.Memory = codes "Memory"
+-- how the line of a refusal begins, or that of a failure
+abbrev pub beginning : Bool → List ℕ
+beginning true = codes "REFUSED "
+beginning false = codes "FAULT "
 
 -- ---- texts
 
 -- the line of a refused step: its place from 1, and the reason
 abbrev pub rejection_line : Rejection → List ℕ
-rejection_line rejection = line (codes "REJECTED " ++ decimal rejection.step ++ codes " " ++ reason_name rejection.reason)
+rejection_line rejection = line (codes "REJECTED " ++ decimal rejection.step ++ codes " " ++ name_of rejection.reason)
 
 -- the lines of refused steps
 abbrev pub rejection_lines : List Rejection → List ℕ
@@ -115,14 +92,14 @@ answer_text (left_open rejections) = rejection_lines rejections ++ line (codes "
 answer_text (played rejections events claimed) = rejection_lines rejections ++ (history_text events ++ verdict_text claimed)
 answer_text (verified valid) = line (validity valid)
 answer_text (drawn picture) = picture
-answer_text (refused_text fault) = line (codes "REFUSED " ++ text_fault_name fault)
-answer_text (refused_history fault) = line (codes "REFUSED " ++ history_fault_name fault)
-answer_text refused_size = line (codes "REFUSED Size")
-answer_text refused_queue = line (codes "REFUSED Queue")
-answer_text refused_limit = line (codes "REFUSED Limit")
-answer_text read_fault = line (codes "FAULT Read")
-answer_text memory_fault = line (codes "FAULT Memory")
-answer_text (run_fault fault) = line (codes "FAULT " ++ run_fault_name fault)
+answer_text (refused_text fault) = line (beginning true ++ text_fault_name fault)
+answer_text (refused_history fault) = line (beginning true ++ history_fault_name fault)
+answer_text refused_size = line (beginning true ++ codes "Size")
+answer_text refused_queue = line (beginning true ++ codes "Queue")
+answer_text refused_limit = line (beginning true ++ codes "Limit")
+answer_text read_fault = line (beginning false ++ codes "Read")
+answer_text memory_fault = line (beginning false ++ codes "Memory")
+answer_text (run_fault fault) = line (beginning false ++ run_fault_name fault)
 
 -- ---- statuses
 
@@ -136,6 +113,11 @@ abbrev pub validity_status : Bool → ℕ
 validity_status true = 0
 validity_status false = 1
 
+-- the status of a refusal, or that of a failure
+abbrev pub fault_status : Bool → ℕ
+fault_status true = 2
+fault_status false = 3
+
 -- the status that goes with an answer
 abbrev pub answer_status : Answer → ℕ
 answer_status (judged claimed) = claim_status claimed
@@ -144,14 +126,14 @@ answer_status (left_open rejections) = 0
 answer_status (played rejections events claimed) = claim_status claimed
 answer_status (verified valid) = validity_status valid
 answer_status (drawn picture) = 0
-answer_status (refused_text fault) = 2
-answer_status (refused_history fault) = 2
-answer_status refused_size = 2
-answer_status refused_queue = 2
-answer_status refused_limit = 2
-answer_status read_fault = 3
-answer_status memory_fault = 3
-answer_status (run_fault fault) = 3
+answer_status (refused_text fault) = fault_status true
+answer_status (refused_history fault) = fault_status true
+answer_status refused_size = fault_status true
+answer_status refused_queue = fault_status true
+answer_status refused_limit = fault_status true
+answer_status read_fault = fault_status false
+answer_status memory_fault = fault_status false
+answer_status (run_fault fault) = fault_status false
 
 -- ---- answers to faults
 

@@ -4,6 +4,7 @@ use Rattle.event_records.specs.declared.event.Event.{Event}
 use Rattle.verdicts.specs.declared.verifying.Claimed.{Claimed}
 use Rattle.text_lines.specs.declared.fault.TextFault.{TextFault}
 use Rattle.text_lines.specs.declared.fault.TextFault.TheVariants as text
+use Rattle.text_lines.specs.Faults.{MemoryOr}
 use Rattle.history_text.specs.declared.schedule.Schedule.{Schedule}
 use Rattle.history_text.specs.Histories.{history_text, HasHistoryText, IsHistoryTextFault, NoRoomFor}
 use Rattle.history_text.specs.Schedules.{schedule_text, HasScheduleText, IsScheduleTextFault, NoRoomForSchedule}
@@ -37,9 +38,10 @@ IsFaultAfter written input fault = ((fault ≡ text.Trailing) × GoesOnAfter wri
 -- want of memory says that a line without fault was there
 abbrev pub IsFaultOfOneText : {A : Type 0} → (A → Type 0) → (A → List ℕ) → (Ending → List ℕ → TextFault → Type 0) → (List ℕ → Type 0) → Ahead
     → TextFault → Type 0
-IsFaultOfOneText HasText text_of IsTextFault LacksRoom input text.Memory = LacksRoom input.bytes
 IsFaultOfOneText {A} HasText text_of IsTextFault LacksRoom input fault =
-    IsTextFault input.ending input.bytes fault ⊎ ((value : A) × HasText value × IsFaultAfter (text_of value) input fault)
+    MemoryOr (LacksRoom input.bytes)
+    (λ f. IsTextFault input.ending input.bytes f ⊎ ((value : A) × HasText value × IsFaultAfter (text_of value) input f))
+    fault
 
 -- ---- histories
 
@@ -84,6 +86,7 @@ pub record AfterHistory (P : ℕ → List ℕ → Type 0) (bytes : List ℕ) : T
 
 -- the fault of input that should be a history and a verdict: that of the first text, or else of the second, whose lines count on
 abbrev pub IsFaultOfClaimInput : Ahead → TextFault → Type 0
-IsFaultOfClaimInput input text.Memory = NoRoomFor input.bytes ⊎ AfterHistory (λ lines rest. NoRoomForVerdict rest) input.bytes
 IsFaultOfClaimInput input fault =
-    IsHistoryTextFault 0 input.ending input.bytes fault ⊎ AfterHistory (λ lines rest. IsVerdictTextFault lines input.ending rest fault) input.bytes
+    MemoryOr (NoRoomFor input.bytes ⊎ AfterHistory (λ lines rest. NoRoomForVerdict rest) input.bytes)
+    (λ f. IsHistoryTextFault 0 input.ending input.bytes f ⊎ AfterHistory (λ lines rest. IsVerdictTextFault lines input.ending rest f) input.bytes)
+    fault

@@ -28,11 +28,11 @@ where
 {
     match gathered_of(alloc, reader) {
         Ok(builder) => judge(rt, alloc, builder),
-        Err(fault) => Outcome::of_text_fault(fault),
+        Err(fault) => Outcome::TextFailed(fault),
     }
 }
 
-/// What `check` finds in the events of a text.
+/// What `check` finds in the events that a history in the making was given.
 fn judge<R: Threads + Sync>(rt: &R, alloc: Global, builder: HistoryBuilder) -> Outcome
     requires { (events : List Event) × HasGathered events builder × (length events ≤ MAX_EVENTS) }
     ensures found { (events : List Event) → HasGathered events builder → AnswersOrNoMemory Judges events (answer_of result) }
@@ -40,7 +40,7 @@ fn judge<R: Threads + Sync>(rt: &R, alloc: Global, builder: HistoryBuilder) -> O
 {
     let operations = match builder.finish() {
         Ok(operations) => operations,
-        Err(fault) => return Outcome::of_history_fault(fault),
+        Err(fault) => return Outcome::HistoryFailed(fault),
     };
     match decide_operations_par(rt, alloc, &operations, PIECES) {
         Ok(verdict) => Outcome::Judged(operations, verdict),

@@ -1,15 +1,14 @@
 //! `draw`: the picture of a history and a verdict on it.
-ghost use Rattle.std.specs.Prelude.{◌≡◌, ◌≤◌, IfSome, length, vec_len};
+ghost use Rattle.std.specs.Prelude.{◌≡◌, IfSome, length};
 ghost use Rattle.history_text.specs.Claims.{operations_in};
 ghost use Rattle.commands.specs.Inputs.{IsClaimOf, IsFaultOfClaimInput};
 ghost use Rattle.commands.specs.Judging.{Draws, AnswersFor, AnswersOrNoMemory};
 ghost use Rattle.commands.specs.Outcomes.{answer_of, NamesPlaces};
 
-use crate::input::claim_of;
 use crate::outcome::Outcome;
+use crate::verify::claimed_history;
 use drawing::{MOST_DRAWN, terminal_picture};
-use event_records::{Event, MAX_EVENTS};
-use history_merge::{History, history};
+use history_merge::History;
 use history_text::TextSource;
 use std::alloc::Global;
 use verdicts::Claimed;
@@ -21,23 +20,10 @@ where
     ensures found { IfSome (S.ahead reader) (λ input. AnswersFor IsClaimOf IsFaultOfClaimInput Draws input (answer_of result)) }
     ensures places { NamesPlaces result }
 {
-    match claim_of(alloc, reader) {
-        Ok((events, claimed)) => draw_claim(alloc, events, &claimed),
-        Err(fault) => Outcome::of_text_fault(fault),
+    match claimed_history(alloc, reader) {
+        Ok((history, claimed)) => draw_history(alloc, &history, &claimed),
+        Err(outcome) => outcome,
     }
-}
-
-/// The picture of these events with the claim, where they are a small history and the claim is evidence in it.
-fn draw_claim(alloc: Global, events: Vec<Event>, claimed: &Claimed) -> Outcome
-    requires { vec_len events ≤ MAX_EVENTS }
-    ensures found { AnswersOrNoMemory Draws (record { events = events.items; claimed = claimed.now }) (answer_of result) }
-    ensures places { NamesPlaces result }
-{
-    let history = match history(alloc, events) {
-        Ok(history) => history,
-        Err(fault) => return Outcome::of_history_fault(fault),
-    };
-    draw_history(alloc, &history, claimed)
 }
 
 /// The picture of this history with the claim, where both are small and the claim is evidence.

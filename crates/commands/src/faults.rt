@@ -1,119 +1,76 @@
-//! Faults of an input as outcomes, and how they are printed.
-ghost use Rattle.std.specs.Prelude.{◌≡◌, ◌++◌, ◌||◌, OnOk, OnErr, codes, decimal, is_err};
+//! Faults, and the lines that tell them.
+ghost use Rattle.std.specs.Prelude.{◌≡◌, ◌≤◌, ◌++◌, ◌||◌, [], OnOk, OnErr, is_err, length};
 ghost use Rattle.std.specs.Io.KnownBytes.{Appends};
 ghost use Rattle.text_lines.specs.Lines.{line};
 ghost use Rattle.text_lines.specs.Writing.{AppendsFront, IsWritten, IsRefused};
-ghost use Rattle.commands.specs.Answers.{answer_of_text_fault, answer_of_history_fault, text_fault_name, history_fault_name, run_fault_name};
-ghost use Rattle.commands.specs.Outcomes.{answer_of, NamesPlaces};
+ghost use Rattle.commands.specs.Answers.{answer_text, answer_status, answer_of_text_fault, answer_of_history_fault, beginning, fault_status, named, text_fault_name, history_fault_name};
 
-use crate::outcome::Outcome;
-use crate::print::write_numbered;
 use history_merge::HistoryFault;
 use history_text::{TextFault, TextSink, WriteFault, write_piece};
-use stress_run::RunFault;
+use text_lines::Kept;
 
-impl Outcome {
-    /// What is answered where the text has this fault.
-    pub fn of_text_fault(fault: TextFault) -> Outcome
-        ensures answer { answer_of result ≡ answer_of_text_fault fault }
-        ensures places { NamesPlaces result }
-    {
-        match fault {
-            TextFault::Read => Outcome::ReadFault,
-            TextFault::Memory => Outcome::MemoryFault,
-            _ => Outcome::TextRefused(fault),
-        }
-    }
-
-    /// What is answered where the events have this fault.
-    pub fn of_history_fault(fault: HistoryFault) -> Outcome
-        ensures answer { answer_of result ≡ answer_of_history_fault fault }
-        ensures places { NamesPlaces result }
-    {
-        match fault {
-            HistoryFault::Memory => Outcome::MemoryFault,
-            _ => Outcome::HistoryRefused(fault),
-        }
-    }
-}
-
-/// Writes that the text is refused, and why.
-pub fn write_text_refusal<W: TextSink>(writer: &mut W, fault: TextFault) -> Result<(), WriteFault>
-    ensures ok { OnOk result (Appends (W.contents writer.old) (W.contents writer.new) (line (codes "REFUSED " ++ text_fault_name fault))) }
-    ensures err { OnErr result (AppendsFront (W.contents writer.old) (W.contents writer.new) (line (codes "REFUSED " ++ text_fault_name fault))) }
-    ensures refused { W.has_refused writer.new ≡ (W.has_refused writer.old || is_err result) }
-    ensures written { OnOk result (IsWritten W.goes writer.old writer.new) }
-    ensures stopped { OnErr result (IsRefused W.goes writer.old writer.new) }
+/// Whether the text is refused for its fault, or else the command failed.
+pub fn refuses_text(fault: TextFault) -> bool
+    ensures line { answer_text (answer_of_text_fault fault) ≡ line (beginning result ++ text_fault_name fault) }
+    ensures status { answer_status (answer_of_text_fault fault) ≡ fault_status result }
 {
-    match fault {
-        TextFault::Read => return write_piece(writer, b"REFUSED Read\n"),
-        TextFault::Header => return write_piece(writer, b"REFUSED Header\n"),
-        TextFault::Line(n) => return write_numbered(writer, b"REFUSED Line ", n),
-        TextFault::Number(n) => return write_numbered(writer, b"REFUSED Number ", n),
-        TextFault::Limit(n) => return write_numbered(writer, b"REFUSED Limit ", n),
-        TextFault::Count => return write_piece(writer, b"REFUSED Count\n"),
-        TextFault::Cut => return write_piece(writer, b"REFUSED Cut\n"),
-        TextFault::Trailing => return write_piece(writer, b"REFUSED Trailing\n"),
-        TextFault::Memory => return write_piece(writer, b"REFUSED Memory\n"),
-    }
+    !matches!(fault, TextFault::Read | TextFault::Memory)
 }
 
-/// Writes that the events are refused, and why.
-pub fn write_history_refusal<W: TextSink>(
+/// Whether the events are refused for their fault, or else the command failed.
+pub fn refuses_events(fault: HistoryFault) -> bool
+    ensures line { answer_text (answer_of_history_fault fault) ≡ line (beginning result ++ history_fault_name fault) }
+    ensures status { answer_status (answer_of_history_fault fault) ≡ fault_status result }
+{
+    !matches!(fault, HistoryFault::Memory)
+}
+
+/// How the line of a refusal begins, or that of a failure.
+fn beginning_of(is_refused: bool) -> &'static [u8]
+    ensures words { result.now ≡ beginning is_refused }
+    ensures short { length result.now ≤ 8 }
+{
+    if is_refused { b"REFUSED " } else { b"FAULT " }
+}
+
+/// The status of a refusal, or that of a failure.
+pub fn status_of_fault(is_refused: bool) -> u8
+    ensures { result ≡ fault_status is_refused }
+{
+    if is_refused { 2 } else { 3 }
+}
+
+/// The line of a fault.
+fn push_fault(kept: &mut Kept, is_refused: bool, name: &str, place: Option<u64>)
+    requires fresh { kept.old ≡ [] }
+    requires short { length name.now ≤ 20 }
+    ensures { kept.new ≡ line (beginning is_refused ++ named name.now place) }
+{
+    kept.push(beginning_of(is_refused));
+    kept.push(name.as_bytes());
+    if let Some(place) = place {
+        kept.push(b" ");
+        kept.push_number(place);
+    }
+    kept.push(b"\n");
+}
+
+/// Writes the line of a fault: whether the input is refused or the command failed, the fault's name, and the place, the line,
+/// the ticket or the thread that it tells.
+pub fn write_fault<W: TextSink>(
     writer: &mut W,
-    fault: HistoryFault,
+    is_refused: bool,
+    name: &str,
+    place: Option<u64>,
 ) -> Result<(), WriteFault>
-    ensures ok { OnOk result (Appends (W.contents writer.old) (W.contents writer.new) (line (codes "REFUSED " ++ history_fault_name fault))) }
-    ensures err { OnErr result (AppendsFront (W.contents writer.old) (W.contents writer.new) (line (codes "REFUSED " ++ history_fault_name fault))) }
+    requires short { length name.now ≤ 20 }
+    ensures ok { OnOk result (Appends (W.contents writer.old) (W.contents writer.new) (line (beginning is_refused ++ named name.now place))) }
+    ensures err { OnErr result (AppendsFront (W.contents writer.old) (W.contents writer.new) (line (beginning is_refused ++ named name.now place))) }
     ensures refused { W.has_refused writer.new ≡ (W.has_refused writer.old || is_err result) }
     ensures written { OnOk result (IsWritten W.goes writer.old writer.new) }
     ensures stopped { OnErr result (IsRefused W.goes writer.old writer.new) }
 {
-    match fault {
-        HistoryFault::TicketOrder(i) => {
-            return write_numbered(writer, b"REFUSED TicketOrder ", i as u64);
-        }
-        HistoryFault::BadThread(i) => {
-            return write_numbered(writer, b"REFUSED BadThread ", i as u64);
-        }
-        HistoryFault::CallWhilePending(i) => {
-            return write_numbered(writer, b"REFUSED CallWhilePending ", i as u64);
-        }
-        HistoryFault::ReturnWithoutCall(i) => {
-            return write_numbered(writer, b"REFUSED ReturnWithoutCall ", i as u64);
-        }
-        HistoryFault::WrongReturn(i) => {
-            return write_numbered(writer, b"REFUSED WrongReturn ", i as u64);
-        }
-        HistoryFault::DuplicateValue(i) => {
-            return write_numbered(writer, b"REFUSED DuplicateValue ", i as u64);
-        }
-        HistoryFault::Pending(ticket) => {
-            return write_numbered(writer, b"REFUSED Pending ", ticket);
-        }
-        HistoryFault::Memory => return write_piece(writer, b"REFUSED Memory\n"),
-    }
-}
-
-/// Writes that a run gave no history, and why.
-pub fn write_run_fault<W: TextSink>(writer: &mut W, fault: RunFault) -> Result<(), WriteFault>
-    ensures ok { OnOk result (Appends (W.contents writer.old) (W.contents writer.new) (line (codes "FAULT " ++ run_fault_name fault))) }
-    ensures err { OnErr result (AppendsFront (W.contents writer.old) (W.contents writer.new) (line (codes "FAULT " ++ run_fault_name fault))) }
-    ensures refused { W.has_refused writer.new ≡ (W.has_refused writer.old || is_err result) }
-    ensures written { OnOk result (IsWritten W.goes writer.old writer.new) }
-    ensures stopped { OnErr result (IsRefused W.goes writer.old writer.new) }
-{
-    match fault {
-        RunFault::Limit => return write_piece(writer, b"FAULT Limit\n"),
-        RunFault::Memory => return write_piece(writer, b"FAULT Memory\n"),
-        RunFault::Stalled(thread) => {
-            return write_numbered(writer, b"FAULT Stalled ", u64::from(thread));
-        }
-        RunFault::CloseLost(thread) => {
-            return write_numbered(writer, b"FAULT CloseLost ", u64::from(thread));
-        }
-        RunFault::Uncertified(thread) => {
-            return write_numbered(writer, b"FAULT Uncertified ", u64::from(thread));
-        }
-    }
+    let mut kept = Kept::new();
+    push_fault(&mut kept, is_refused, name, place);
+    write_piece(writer, kept.as_slice())
 }

@@ -20,18 +20,16 @@ pub enum Outcome {
     Verified(bool),
     /// A picture, in lines of characters.
     Drawn(Vec<u8>),
-    /// The input is not the text that it should be.
-    TextRefused(TextFault),
-    /// The events are no complete history.
-    HistoryRefused(HistoryFault),
+    /// The input is not the text that it should be, or it wasn't read whole.
+    TextFailed(TextFault),
+    /// The events are no complete history, or there was no memory for one.
+    HistoryFailed(HistoryFault),
     /// The history or the verdict has more operations than are drawn.
     SizeRefused,
     /// No queue has the name that was asked for.
     QueueRefused,
     /// More operations were asked for than a run may have.
     LimitRefused,
-    /// A read failed.
-    ReadFault,
     /// Memory ran out.
     MemoryFault,
     /// A run gave no history.

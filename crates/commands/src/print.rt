@@ -1,48 +1,18 @@
 //! What is written, and the status that goes with it.
-ghost use Rattle.std.specs.Prelude.{◌≡◌, ◌++◌, ◌||◌, List, OnOk, OnErr, is_err, false, decimal};
+ghost use Rattle.std.specs.Prelude.{◌≡◌, ◌||◌, List, OnOk, OnErr, is_err, false};
 ghost use Rattle.std.specs.Io.KnownBytes.{Appends};
 ghost use Rattle.history_merge.specs.declared.operation.Operation.{Operation};
-ghost use Rattle.text_lines.specs.Lines.{line};
 ghost use Rattle.history_text.specs.Verdicts.{claim_of};
 ghost use Rattle.text_lines.specs.Writing.{AppendsFront, IsWritten, IsRefused};
 ghost use Rattle.commands.specs.Answers.{answer_text, answer_status, claim_status};
 ghost use Rattle.commands.specs.Outcomes.{answer_of, NamesPlaces};
 ghost use Rattle.commands.specs.Running.{Prints, PrintsAnswer, WritesAndFlushes};
 
-use crate::faults::{write_history_refusal, write_run_fault, write_text_refusal};
+use crate::faults::{refuses_events, refuses_text, status_of_fault, write_fault};
 use crate::outcome::Outcome;
 use crate::show::{write_left_open, write_played, write_shown};
 use history_text::{TextSink, WriteFault, write_piece, write_verdict_on};
 use verdicts::Verdict;
-
-/// A line of words and a number.
-pub fn write_numbered<W: TextSink>(
-    writer: &mut W,
-    words: &[u8],
-    number: u64,
-) -> Result<(), WriteFault>
-    ensures ok { OnOk result (Appends (W.contents writer.old) (W.contents writer.new) (line (words.now ++ decimal number))) }
-    ensures err { OnErr result (AppendsFront (W.contents writer.old) (W.contents writer.new) (line (words.now ++ decimal number))) }
-    ensures refused { W.has_refused writer.new ≡ (W.has_refused writer.old || is_err result) }
-    ensures written { OnOk result (IsWritten W.goes writer.old writer.new) }
-    ensures stopped { OnErr result (IsRefused W.goes writer.old writer.new) }
-{
-    write_piece(writer, words)?;
-    write_number(writer, number)?;
-    write_piece(writer, b"\n")
-}
-
-/// A number.
-pub fn write_number<W: TextSink>(writer: &mut W, number: u64) -> Result<(), WriteFault>
-    ensures ok { OnOk result (Appends (W.contents writer.old) (W.contents writer.new) (decimal number)) }
-    ensures err { OnErr result (AppendsFront (W.contents writer.old) (W.contents writer.new) (decimal number)) }
-    ensures refused { W.has_refused writer.new ≡ (W.has_refused writer.old || is_err result) }
-    ensures written { OnOk result (IsWritten W.goes writer.old writer.new) }
-    ensures stopped { OnErr result (IsRefused W.goes writer.old writer.new) }
-{
-    let mut buffer = itoa::Buffer::new();
-    write_piece(writer, buffer.format(number).as_bytes())
-}
 
 /// Writes what a command found.
 pub fn write_outcome<W: TextSink>(writer: &mut W, outcome: &Outcome) -> Result<(), WriteFault>
@@ -65,14 +35,19 @@ pub fn write_outcome<W: TextSink>(writer: &mut W, outcome: &Outcome) -> Result<(
         Outcome::Verified(true) => return write_piece(writer, b"VALID\n"),
         Outcome::Verified(false) => return write_piece(writer, b"INVALID\n"),
         Outcome::Drawn(picture) => return write_piece(writer, picture.as_slice()),
-        Outcome::TextRefused(fault) => return write_text_refusal(writer, *fault),
-        Outcome::HistoryRefused(fault) => return write_history_refusal(writer, *fault),
-        Outcome::SizeRefused => return write_piece(writer, b"REFUSED Size\n"),
-        Outcome::QueueRefused => return write_piece(writer, b"REFUSED Queue\n"),
-        Outcome::LimitRefused => return write_piece(writer, b"REFUSED Limit\n"),
-        Outcome::ReadFault => return write_piece(writer, b"FAULT Read\n"),
-        Outcome::MemoryFault => return write_piece(writer, b"FAULT Memory\n"),
-        Outcome::RunFailed(fault) => return write_run_fault(writer, *fault),
+        Outcome::TextFailed(fault) => {
+            return write_fault(writer, refuses_text(*fault), fault.name(), fault.line());
+        }
+        Outcome::HistoryFailed(fault) => {
+            return write_fault(writer, refuses_events(*fault), fault.name(), fault.place());
+        }
+        Outcome::SizeRefused => return write_fault(writer, true, "Size", None),
+        Outcome::QueueRefused => return write_fault(writer, true, "Queue", None),
+        Outcome::LimitRefused => return write_fault(writer, true, "Limit", None),
+        Outcome::MemoryFault => return write_fault(writer, false, "Memory", None),
+        Outcome::RunFailed(fault) => {
+            return write_fault(writer, false, fault.name(), fault.thread().map(u64::from));
+        }
     }
 }
 
@@ -97,14 +72,13 @@ pub fn status_of(outcome: &Outcome) -> u8
         Outcome::Verified(true) => return 0,
         Outcome::Verified(false) => return 1,
         Outcome::Drawn(_) => return 0,
-        Outcome::TextRefused(_) => return 2,
-        Outcome::HistoryRefused(_) => return 2,
-        Outcome::SizeRefused => return 2,
-        Outcome::QueueRefused => return 2,
-        Outcome::LimitRefused => return 2,
-        Outcome::ReadFault => return 3,
-        Outcome::MemoryFault => return 3,
-        Outcome::RunFailed(_) => return 3,
+        Outcome::TextFailed(fault) => return status_of_fault(refuses_text(*fault)),
+        Outcome::HistoryFailed(fault) => return status_of_fault(refuses_events(*fault)),
+        Outcome::SizeRefused => return status_of_fault(true),
+        Outcome::QueueRefused => return status_of_fault(true),
+        Outcome::LimitRefused => return status_of_fault(true),
+        Outcome::MemoryFault => return status_of_fault(false),
+        Outcome::RunFailed(_) => return status_of_fault(false),
     }
 }
 

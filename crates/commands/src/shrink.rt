@@ -27,7 +27,7 @@ where
 {
     match events_of(alloc, reader) {
         Ok(events) => shrink_events(alloc, events),
-        Err(fault) => Outcome::of_text_fault(fault),
+        Err(fault) => Outcome::TextFailed(fault),
     }
 }
 
@@ -39,7 +39,7 @@ fn shrink_events(alloc: Global, events: Vec<Event>) -> Outcome
 {
     let history = match history(alloc, events) {
         Ok(history) => history,
-        Err(fault) => return Outcome::of_history_fault(fault),
+        Err(fault) => return Outcome::HistoryFailed(fault),
     };
     match decide(alloc, &history) {
         Ok(Verdict::Yes(order)) => {

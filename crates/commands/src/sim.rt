@@ -22,7 +22,7 @@ where
 {
     match schedule_of(alloc, reader) {
         Ok(schedule) => play(alloc, &schedule),
-        Err(fault) => Outcome::of_text_fault(fault),
+        Err(fault) => Outcome::TextFailed(fault),
     }
 }
 

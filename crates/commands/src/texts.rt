@@ -27,7 +27,7 @@ pub fn check_text(alloc: Global, text: &[u8]) -> Outcome
 {
     match gathered_of(alloc, MemorySource::new(text)) {
         Ok(builder) => judge_gathered(alloc, builder),
-        Err(fault) => Outcome::of_text_fault(fault),
+        Err(fault) => Outcome::TextFailed(fault),
     }
 }
 
@@ -55,7 +55,7 @@ pub fn judge_gathered(alloc: Global, builder: HistoryBuilder) -> Outcome
 {
     let operations = match builder.finish() {
         Ok(operations) => operations,
-        Err(fault) => return Outcome::of_history_fault(fault),
+        Err(fault) => return Outcome::HistoryFailed(fault),
     };
     match decide_operations(alloc, &operations) {
         Ok(verdict) => Outcome::Judged(operations, verdict),

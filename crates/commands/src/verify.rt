@@ -1,13 +1,13 @@
 //! `verify`: whether a verdict is evidence in a history.
-ghost use Rattle.std.specs.Prelude.{◌≤◌, IfSome, vec_len};
-ghost use Rattle.commands.specs.Inputs.{IsClaimOf, IsFaultOfClaimInput};
-ghost use Rattle.commands.specs.Judging.{Verifies, AnswersFor, AnswersOrNoMemory};
+ghost use Rattle.std.specs.Prelude.{IfOk, IfErr, IfSome};
+ghost use Rattle.history_merge.specs.Complete.{IsCompleteHistory};
+ghost use Rattle.commands.specs.Inputs.{ClaimOnEvents, IsClaimOf, IsFaultOfClaimInput};
+ghost use Rattle.commands.specs.Judging.{IsFaulty, Verifies, AnswersFor, AnswersOrNoMemory};
 ghost use Rattle.commands.specs.Outcomes.{answer_of, NamesPlaces};
 
 use crate::input::claim_of;
 use crate::outcome::Outcome;
-use event_records::{Event, MAX_EVENTS};
-use history_merge::history;
+use history_merge::{History, history};
 use history_text::TextSource;
 use std::alloc::Global;
 use verdicts::Claimed;
@@ -19,23 +19,41 @@ where
     ensures found { IfSome (S.ahead reader) (λ input. AnswersFor IsClaimOf IsFaultOfClaimInput Verifies input (answer_of result)) }
     ensures places { NamesPlaces result }
 {
-    match claim_of(alloc, reader) {
-        Ok((events, claimed)) => verify_claim(alloc, events, &claimed),
-        Err(fault) => Outcome::of_text_fault(fault),
+    match claimed_history(alloc, reader) {
+        Ok((history, claimed)) => verify_claim(alloc, &history, &claimed),
+        Err(outcome) => outcome,
     }
 }
 
-/// Whether the claim is evidence in the history of these events.
-fn verify_claim(alloc: Global, events: Vec<Event>, claimed: &Claimed) -> Outcome
-    requires { vec_len events ≤ MAX_EVENTS }
-    ensures found { AnswersOrNoMemory Verifies (record { events = events.items; claimed = claimed.now }) (answer_of result) }
+/// The history that the reader gives, and what is claimed of it; or what is found where there is none.
+pub fn claimed_history<S: TextSource>(
+    alloc: Global,
+    reader: S,
+) -> Result<(History, Claimed), Outcome>
+where
+    S: Drop,
+    ensures claim { IfOk result (λ read. IfSome (S.ahead reader) (λ input. IsClaimOf input (record { events = read.0; claimed = read.1 }))) }
+    ensures found { IfErr result (λ outcome. IfSome (S.ahead reader) (λ input. AnswersFor IsClaimOf IsFaultOfClaimInput (λ claim. IsFaulty claim.events) input (answer_of outcome))) }
+    ensures places { IfErr result NamesPlaces }
+{
+    let (events, claimed) = match claim_of(alloc, reader) {
+        Ok(read) => read,
+        Err(fault) => return Err(Outcome::TextFailed(fault)),
+    };
+    match history(alloc, events) {
+        Ok(history) => return Ok((history, claimed)),
+        Err(fault) => return Err(Outcome::HistoryFailed(fault)),
+    }
+}
+
+/// Whether the claim is evidence in the history.
+fn verify_claim(alloc: Global, history: &History, claimed: &Claimed) -> Outcome
+    ensures found { AnswersOrNoMemory Verifies (record { events = history.now; claimed = claimed.now }) (answer_of result) }
     ensures places { NamesPlaces result }
 {
-    let history = match history(alloc, events) {
-        Ok(history) => history,
-        Err(fault) => return Outcome::of_history_fault(fault),
-    };
-    match verdicts::verify(alloc, &history, claimed) {
+    // A history is complete, as its accessor says.
+    let _events = history.events();
+    match verdicts::verify(alloc, history, claimed) {
         Ok(valid) => Outcome::Verified(valid),
         Err(_) => Outcome::MemoryFault,
     }

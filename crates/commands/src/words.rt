@@ -10,13 +10,16 @@ use history_text::TextSink;
 use std::env;
 use std::env::Env;
 use std::io::ErrorKind;
+use thiserror::Error;
 
 /// Why a command can't begin.
-#[derive(Clone, Copy, Debug, PartialEq, Eq)]
+#[derive(Clone, Copy, Debug, PartialEq, Eq, Error)]
 pub enum StartFault {
     /// Some word isn't UTF-8.
+    #[error("NoText")]
     NoText,
     /// Memory ran out for the words or for the shelf.
+    #[error("Memory")]
     Memory,
 }
 

@@ -7,6 +7,7 @@ use event_records::{Event, ThreadNo, What};
 use rtrb::Consumer;
 use std::alloc::{AllocError, Global};
 use std::marker::Model;
+use thiserror::Error;
 
 // What a list holds at a place until an event is moved there.
 const BLANK: Event = Event {
@@ -48,11 +49,13 @@ impl Model for Sealed {
 }
 
 /// Why a ring was not sealed. What was left in it is lost.
-#[derive(Debug, Drop)]
+#[derive(Debug, Drop, Error)]
 pub enum FinishFault {
     /// The token is of another thread's ring.
+    #[error("Uncertified")]
     Uncertified,
     /// There was no memory for the events that are left.
+    #[error("Memory")]
     Memory,
 }
 

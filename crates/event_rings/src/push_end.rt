@@ -4,6 +4,7 @@ ghost use Rattle.std.specs.Prelude.{◌≡◌};
 use event_records::{Event, Noted, ThreadNo};
 use rtrb::{Finished, Producer, PushError};
 use std::marker::Model;
+use thiserror::Error;
 
 /// The end of a thread's ring that pushes events. The thread itself holds it.
 #[derive(Drop)]
@@ -43,7 +44,8 @@ impl Model for CloseToken {
 /// The ring gave no close token. What was pushed is lost.
 ///
 /// The base gives none where the drain end was dropped before. No contract says so.
-#[derive(Debug, Drop)]
+#[derive(Debug, Drop, Error)]
+#[error("CloseLost")]
 pub struct CloseLost;
 
 impl CloseToken {

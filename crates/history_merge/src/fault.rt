@@ -1,25 +1,37 @@
+ghost use Rattle.std.specs.Prelude.{◌≡◌, ◌≤◌, length};
+ghost use Rattle.history_merge.specs.Names.{name_of, place_in};
+
 use std::alloc::AllocError;
+use thiserror::Error;
 
 /// Why a list of events is no complete history. Places count from 0.
 ///
 /// Of one event's faults the one that stands first here is answered.
-#[derive(Clone, Copy, Debug, PartialEq, Eq)]
+#[derive(Clone, Copy, Debug, PartialEq, Eq, Error)]
 pub enum HistoryFault {
     /// The ticket of the event at this place is not above that of the event before, or is above `MAX_TICKET`.
+    #[error("{name} {0}", name = self.name())]
     TicketOrder(usize),
     /// The thread of the event at this place is above `MAX_THREAD`.
+    #[error("{name} {0}", name = self.name())]
     BadThread(usize),
     /// The event at this place is a call, and the last event of its thread was a call too.
+    #[error("{name} {0}", name = self.name())]
     CallWhilePending(usize),
     /// The event at this place is a return, and its thread has no call that waits for one.
+    #[error("{name} {0}", name = self.name())]
     ReturnWithoutCall(usize),
     /// The event at this place is a return of the other kind than its thread's call.
+    #[error("{name} {0}", name = self.name())]
     WrongReturn(usize),
     /// The event at this place calls to enqueue a value that an earlier event called to enqueue.
+    #[error("{name} {0}", name = self.name())]
     DuplicateValue(usize),
     /// No event has a fault, but the call of this ticket has no return, and no call before it lacks one.
+    #[error("{name} {0}", name = self.name())]
     Pending(u64),
     /// A growth was refused for want of memory.
+    #[error("{name}", name = self.name())]
     Memory,
 }
 
@@ -31,5 +43,40 @@ impl From<AllocError> for HistoryFault {
 
     fn from(_refused: AllocError) -> HistoryFault {
         HistoryFault::Memory
+    }
+}
+
+impl HistoryFault {
+    /// Its name, as it is printed before its place or its ticket.
+    pub fn name(self) -> &'static str
+        ensures name { result.now ≡ name_of self }
+        ensures short { length result.now ≤ 20 }
+    {
+        match self {
+            HistoryFault::TicketOrder(_) => "TicketOrder",
+            HistoryFault::BadThread(_) => "BadThread",
+            HistoryFault::CallWhilePending(_) => "CallWhilePending",
+            HistoryFault::ReturnWithoutCall(_) => "ReturnWithoutCall",
+            HistoryFault::WrongReturn(_) => "WrongReturn",
+            HistoryFault::DuplicateValue(_) => "DuplicateValue",
+            HistoryFault::Pending(_) => "Pending",
+            HistoryFault::Memory => "Memory",
+        }
+    }
+
+    /// The place of its event, or the ticket of a call without return.
+    pub fn place(self) -> Option<u64>
+        ensures { result ≡ place_in self }
+    {
+        match self {
+            HistoryFault::TicketOrder(place)
+            | HistoryFault::BadThread(place)
+            | HistoryFault::CallWhilePending(place)
+            | HistoryFault::ReturnWithoutCall(place)
+            | HistoryFault::WrongReturn(place)
+            | HistoryFault::DuplicateValue(place) => Some(place as u64),
+            HistoryFault::Pending(ticket) => Some(ticket),
+            HistoryFault::Memory => None,
+        }
     }
 }

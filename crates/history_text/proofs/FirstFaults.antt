@@ -1,31 +1,37 @@
 -- From a fault of one line to the first fault of the whole input.
 use Rattle.std.proofs.Common.{◌≡◌, ℕ, ◌+◌, ◌<◌, false, List, [], ◌∷◌, ◌++◌, length, arith, ap, sym, subst, ◌∙◌, refl, append-nil, length-append}
-use Rattle.std.proofs.Common.{Option, Some, None, Ok, Err, IfSome, IfOk, IfErr, MatchResult}
+use Rattle.std.proofs.Common.{Option, Some, None, inl, inr, Ok, Err, IfSome, IfOk, IfErr, MatchResult}
 use Rattle.std.specs.Prelude.{OnOk, is_err}
 use Rattle.std.specs.declared.result.Result.{Result}
 use Rattle.std.specs.List.{flat_map, AllByRecursion}
 use Rattle.std.proofs.lemmas.Grind.{flat_map-append}
 use Rattle.text_lines.specs.declared.fault.TextFault.{TextFault}
 use Rattle.text_lines.specs.declared.fault.TextFault.TheVariants.{Read, Header, Line, Number, Limit, Count, Cut, Trailing, Memory}
+use Rattle.text_lines.specs.Faults.{MemoryOr}
 use Rattle.text_lines.specs.Lines.{front_of}
 use Rattle.history_text.specs.Items.{Kind, line_of, lines_of, HaveLines, ItemFault, NoRoom, item_at_front}
 use Rattle.text_lines.specs.Input.{Ahead, Ending, Takes}
 use Rattle.history_text.specs.Reading.{HasFirstFault}
 use Rattle.history_text.specs.Taking.{HasItemFault, HasItemsFault, IsOfInput}
 use Rattle.text_lines.proofs.Consuming.{Takes-append}
+use Rattle.text_lines.proofs.MemoryOrNot.{is_memory, known_fault, follows}
+
+other_fault : (Lacking : Type 0) (IsFault : TextFault → Type 0) (fault : TextFault) → IsOfInput fault → IsFault fault → MemoryOr Lacking IsFault fault
+other_fault L F Memory other h = absurd other
+other_fault L F Read other h = h
+other_fault L F Header other h = h
+other_fault L F (Line n) other h = h
+other_fault L F (Number n) other h = h
+other_fault L F (Limit n) other h = h
+other_fault L F Count other h = h
+other_fault L F Cut other h = h
+other_fault L F Trailing other h = h
 
 -- a fault of the input is no want of memory
 pub first_is : (IsFault : Ending → List ℕ → TextFault → Type 0) (LacksRoom : List ℕ → Type 0) (old : Option Ahead) (fault : TextFault)
     → IsOfInput fault → IfSome old (λ a. IsFault a.ending a.bytes fault) → HasFirstFault IsFault LacksRoom old fault
-first_is F L old Memory other h = absurd other
-first_is F L old Read other h = h
-first_is F L old Header other h = h
-first_is F L old (Line n) other h = h
-first_is F L old (Number n) other h = h
-first_is F L old (Limit n) other h = h
-first_is F L old Count other h = h
-first_is F L old Cut other h = h
-first_is F L old Trailing other h = h
+first_is F L None fault other h = tt
+first_is F L (Some a) fault other h = other_fault (L a.bytes) (F a.ending a.bytes) fault other h
 
 -- what holds of the input after a front holds of the whole
 moved : (P Q : Ending → List ℕ → Type 0) (old mid : Option Ahead) (front : List ℕ) → Takes old mid front
@@ -46,19 +52,9 @@ line_fault P Q L old mid front fault of_input taken step h = first_is Q L old fa
 pub later_fault : (P Q : Ending → List ℕ → TextFault → Type 0) (L M : List ℕ → Type 0) (old mid : Option Ahead) (front : List ℕ) (fault : TextFault)
     → Takes old mid front → ((e : Ending) (r : List ℕ) (f : TextFault) → P e r f → Q e (front ++ r) f) → ((r : List ℕ) → L r → M (front ++ r))
     → HasFirstFault P L mid fault → HasFirstFault Q M old fault
-later_fault P Q L M old mid front Memory taken step room h = moved (λ e r. L r) (λ e r. M r) old mid front taken (λ e r. room r) h
-later_fault P Q L M old mid front Read taken step room h = moved (λ e r. P e r Read) (λ e r. Q e r Read) old mid front taken (λ e r. step e r Read) h
-later_fault P Q L M old mid front Header taken step room h = moved (λ e r. P e r Header) (λ e r. Q e r Header) old mid front taken (λ e r. step e r Header) h
-later_fault P Q L M old mid front (Line n) taken step room h =
-    moved (λ e r. P e r (Line n)) (λ e r. Q e r (Line n)) old mid front taken (λ e r. step e r (Line n)) h
-later_fault P Q L M old mid front (Number n) taken step room h =
-    moved (λ e r. P e r (Number n)) (λ e r. Q e r (Number n)) old mid front taken (λ e r. step e r (Number n)) h
-later_fault P Q L M old mid front (Limit n) taken step room h =
-    moved (λ e r. P e r (Limit n)) (λ e r. Q e r (Limit n)) old mid front taken (λ e r. step e r (Limit n)) h
-later_fault P Q L M old mid front Count taken step room h = moved (λ e r. P e r Count) (λ e r. Q e r Count) old mid front taken (λ e r. step e r Count) h
-later_fault P Q L M old mid front Cut taken step room h = moved (λ e r. P e r Cut) (λ e r. Q e r Cut) old mid front taken (λ e r. step e r Cut) h
-later_fault P Q L M old mid front Trailing taken step room h =
-    moved (λ e r. P e r Trailing) (λ e r. Q e r Trailing) old mid front taken (λ e r. step e r Trailing) h
+later_fault P Q L M old mid front fault taken step room h =
+    moved (λ e r. MemoryOr (L r) (P e r) fault) (λ e r. MemoryOr (M r) (Q e r) fault) old mid front taken
+    (λ e r. follows (L r) (M (front ++ r)) (P e r) (Q e (front ++ r)) fault (room r) (step e r)) h
 
 -- the line after some items has the first fault
 pub item_is_first : {A : Type 0} (kind : Kind A) (n m : ℕ) (items : List A) (k : ℕ) (old mid : Option Ahead) (fault : TextFault) → IsOfInput fault
@@ -121,15 +117,11 @@ faults_by (Err fault) P Q step h = step fault h
 -- where the input has no fault, only memory can run out
 only_memory : (IsFault : Ending → List ℕ → TextFault → Type 0) (LacksRoom : List ℕ → Type 0) (a : Ahead) (fault : TextFault)
     → ((f : TextFault) → IsFault a.ending a.bytes f → ⊥) → HasFirstFault IsFault LacksRoom (Some a) fault → fault ≡ Memory
-only_memory F L a Memory none h = refl
-only_memory F L a Read none h = absurd (none Read h)
-only_memory F L a Header none h = absurd (none Header h)
-only_memory F L a (Line n) none h = absurd (none (Line n) h)
-only_memory F L a (Number n) none h = absurd (none (Number n) h)
-only_memory F L a (Limit n) none h = absurd (none (Limit n) h)
-only_memory F L a Count none h = absurd (none Count h)
-only_memory F L a Cut none h = absurd (none Cut h)
-only_memory F L a Trailing none h = absurd (none Trailing h)
+only_memory F L a fault none h =
+    elim (is_memory fault) [
+      | inl same ↦ same
+      | inr known ↦ absurd (none fault (known_fault (L a.bytes) (F a.ending a.bytes) fault known h))
+    ]
 
 -- what stands there without a fault is read, unless memory runs out
 pub is_read : {V : Type 0} (IsFault : Ending → List ℕ → TextFault → Type 0) (LacksRoom : List ℕ → Type 0) (P Q : V → Type 0) (a : Ahead)

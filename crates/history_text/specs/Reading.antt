@@ -1,7 +1,8 @@
 -- What a call on a reader says of the input that the reader had ahead.
 use Rattle.std.specs.Prelude.{◌≡◌, ℕ, Bool, List, ◌∷◌, ◌++◌, Option, Some, None, IfSome}
 use Rattle.text_lines.specs.declared.fault.TextFault.{TextFault}
-use Rattle.text_lines.specs.declared.fault.TextFault.TheVariants.{Read, Trailing, Memory}
+use Rattle.text_lines.specs.declared.fault.TextFault.TheVariants.{Read, Trailing}
+use Rattle.text_lines.specs.Faults.{MemoryOr}
 use Rattle.text_lines.specs.Input.{Ahead, Ending, EndOfInput, Failure, IsOver}
 use Rattle.history_text.specs.Histories.{IsHistoryTextFault, NoRoomFor}
 use Rattle.history_text.specs.Schedules.{IsScheduleTextFault, NoRoomForSchedule}
@@ -20,8 +21,7 @@ with_front front (Some a) = Some (record { bytes = front ++ a.bytes; ending = a.
 
 -- the first fault of what is ahead, as far as that is known; want of memory says that a line without fault was there
 abbrev pub HasFirstFault : (Ending → List ℕ → TextFault → Type 0) → (List ℕ → Type 0) → Option Ahead → TextFault → Type 0
-HasFirstFault IsFault LacksRoom left Memory = IfSome left (λ a. LacksRoom a.bytes)
-HasFirstFault IsFault LacksRoom left fault = IfSome left (λ a. IsFault a.ending a.bytes fault)
+HasFirstFault IsFault LacksRoom left fault = IfSome left (λ a. MemoryOr (LacksRoom a.bytes) (IsFault a.ending a.bytes) fault)
 
 -- the first fault of a history's text
 abbrev pub HasHistoryTextFault : ℕ → Option Ahead → TextFault → Type 0

@@ -7,8 +7,8 @@
 
 mod two_stacks;
 
-use anyhow::{Error, Result, anyhow, bail};
-use history_text::{Watched, WriteFault, write_history, write_verdict};
+use anyhow::{Result, bail};
+use history_text::{Watched, write_history, write_verdict};
 use std::alloc::Global;
 use std::process::ExitCode;
 use std::{env, io};
@@ -46,14 +46,9 @@ fn number_or(word: Option<String>, other: u64) -> Result<u64> {
 fn show<R: Print>(rt: &R, alloc: Global, history: &History) -> Result<Verdict> {
     let verdict = decide(alloc, history)?;
     let mut output = Watched::new(io::writer(rt));
-    write_history(history, &mut output).map_err(unwritten)?;
-    write_verdict(history, &verdict, &mut output).map_err(unwritten)?;
+    write_history(history, &mut output)?;
+    write_verdict(history, &verdict, &mut output)?;
     Ok(verdict)
-}
-
-/// What is said where standard output takes no more.
-fn unwritten(_: WriteFault) -> Error {
-    anyhow!("the texts can't be written")
 }
 
 fn main(rt: HostRuntime) -> Result<ExitCode> {

@@ -8,8 +8,8 @@
 
 mod sized_apart;
 
-use anyhow::{Error, Result, anyhow, bail};
-use history_text::{Watched, WriteFault, write_history, write_verdict};
+use anyhow::{Result, bail};
+use history_text::{Watched, write_history, write_verdict};
 use sized_apart::SizedApart;
 use std::alloc::Global;
 use std::process::ExitCode;
@@ -52,16 +52,11 @@ fn shows_violation<R: Print>(rt: &R, alloc: Global, history: &History) -> Result
     let small = shrink(alloc, history, violation)?;
     let small_verdict = decide(alloc, &small)?;
     let mut output = Watched::new(io::writer(rt));
-    write_history(history, &mut output).map_err(unwritten)?;
-    write_verdict(history, &verdict, &mut output).map_err(unwritten)?;
-    write_history(&small, &mut output).map_err(unwritten)?;
-    write_verdict(&small, &small_verdict, &mut output).map_err(unwritten)?;
+    write_history(history, &mut output)?;
+    write_verdict(history, &verdict, &mut output)?;
+    write_history(&small, &mut output)?;
+    write_verdict(&small, &small_verdict, &mut output)?;
     Ok(true)
-}
-
-/// What is said where standard output takes no more.
-fn unwritten(_: WriteFault) -> Error {
-    anyhow!("the texts can't be written")
 }
 
 fn main(rt: HostRuntime) -> Result<ExitCode> {

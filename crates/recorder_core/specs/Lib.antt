@@ -6,3 +6,4 @@ pub mod Laws
 pub mod Replay
 pub mod Seen
 pub mod Asked
+pub mod Names

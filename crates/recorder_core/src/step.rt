@@ -1,3 +1,6 @@
+ghost use Rattle.std.specs.Prelude.{◌≡◌, ◌≤◌, length};
+ghost use Rattle.recorder_core.specs.Names.{name_of};
+
 use thiserror::Error;
 
 /// The answer of an operation.
@@ -52,41 +55,53 @@ pub enum Done {
 
 /// Why a step is refused: the first reason of this list that the step can give and that is there.
 #[derive(Clone, Copy, Debug, PartialEq, Eq, Error)]
+#[error("{name}", name = self.name())]
 pub enum StepRefused {
     /// The machine has no thread of this number.
-    #[error("NoThread")]
     NoThread,
     /// The thread is closed.
-    #[error("Closed")]
     Closed,
     /// The thread holds an event that is not pushed yet.
-    #[error("Held")]
     Held,
     /// The thread holds no event to push.
-    #[error("NothingHeld")]
     NothingHeld,
     /// The thread's ring has no room.
-    #[error("RingFull")]
     RingFull,
     /// An operation of the thread is pending.
-    #[error("Pending")]
     Pending,
     /// No operation of the thread is pending.
-    #[error("NotPending")]
     NotPending,
     /// The pending operation has no answer to return with.
-    #[error("NoAnswer")]
     NoAnswer,
     /// The pending operation has its answer.
-    #[error("AnswerTaken")]
     AnswerTaken,
     /// An enqueue is told an answer of a dequeue, or a dequeue one of an enqueue.
-    #[error("WrongAnswer")]
     WrongAnswer,
     /// The thread has asked 100,000 operations, or all threads together 1,000,000.
-    #[error("Limit")]
     Limit,
     /// A growth was refused: of a ring by a push, of the queue by an effect, of the collected events by a drain.
-    #[error("Memory")]
     Memory,
+}
+
+impl StepRefused {
+    /// Its name, as it is printed.
+    pub fn name(self) -> &'static str
+        ensures name { result.now ≡ name_of self }
+        ensures short { length result.now ≤ 20 }
+    {
+        match self {
+            StepRefused::NoThread => "NoThread",
+            StepRefused::Closed => "Closed",
+            StepRefused::Held => "Held",
+            StepRefused::NothingHeld => "NothingHeld",
+            StepRefused::RingFull => "RingFull",
+            StepRefused::Pending => "Pending",
+            StepRefused::NotPending => "NotPending",
+            StepRefused::NoAnswer => "NoAnswer",
+            StepRefused::AnswerTaken => "AnswerTaken",
+            StepRefused::WrongAnswer => "WrongAnswer",
+            StepRefused::Limit => "Limit",
+            StepRefused::Memory => "Memory",
+        }
+    }
 }

@@ -1,6 +1,6 @@
 // Why a run gave no history, and which of several faults is answered.
-ghost use Rattle.std.specs.Prelude.{◌≡◌, ◌⊎◌, ◌↔◌, [], All, Contains, IfSome, IsNone, true, false};
-ghost use Rattle.stress_run.specs.Faults.{number_of, thread_of, IsNotAfter};
+ghost use Rattle.std.specs.Prelude.{◌≡◌, ◌≤◌, ◌⊎◌, ◌↔◌, [], length, All, Contains, IfSome, IsNone, true, false};
+ghost use Rattle.stress_run.specs.Faults.{number_of, thread_of, name_of, thread_in, IsNotAfter};
 
 use collector::CollectError;
 use std::alloc::AllocError;
@@ -12,23 +12,49 @@ use thiserror::Error;
 #[derive(Clone, Copy, Debug, PartialEq, Eq, Error)]
 pub enum RunFault {
     /// The capacity of the rings or the number of tries is out of range. No thread was started.
-    #[error("Limit")]
+    #[error("{name}", name = self.name())]
     Limit,
     /// A growth was refused, also one of the collector while the workers ran.
-    #[error("Memory")]
+    #[error("{name}", name = self.name())]
     Memory,
     /// A push of this thread found no room in as many tries as it had.
-    #[error("Stalled {0}")]
+    #[error("{name} {0}", name = self.name())]
     Stalled(u8),
     /// The ring of this thread gave no close token.
-    #[error("CloseLost {0}")]
+    #[error("{name} {0}", name = self.name())]
     CloseLost(u8),
     /// The ring of this thread was not certified by the token in its place.
-    #[error("Uncertified {0}")]
+    #[error("{name} {0}", name = self.name())]
     Uncertified(u8),
 }
 
 impl RunFault {
+    /// Its name, as it is printed before its thread.
+    pub fn name(self) -> &'static str
+        ensures name { result.now ≡ name_of self }
+        ensures short { length result.now ≤ 20 }
+    {
+        match self {
+            RunFault::Limit => "Limit",
+            RunFault::Memory => "Memory",
+            RunFault::Stalled(_) => "Stalled",
+            RunFault::CloseLost(_) => "CloseLost",
+            RunFault::Uncertified(_) => "Uncertified",
+        }
+    }
+
+    /// The thread that it names.
+    pub fn thread(self) -> Option<u8>
+        ensures { result ≡ thread_in self }
+    {
+        match self {
+            RunFault::Limit | RunFault::Memory => None,
+            RunFault::Stalled(thread)
+            | RunFault::CloseLost(thread)
+            | RunFault::Uncertified(thread) => Some(thread),
+        }
+    }
+
     // Its place in the order of faults.
     fn number(self) -> u8
         ensures { result ≡ number_of self }
@@ -43,15 +69,10 @@ impl RunFault {
     }
 
     // The thread that it names, or 0.
-    fn thread(self) -> u8
+    fn thread_or_zero(self) -> u8
         ensures { result ≡ thread_of self }
     {
-        match self {
-            RunFault::Limit | RunFault::Memory => 0,
-            RunFault::Stalled(thread)
-            | RunFault::CloseLost(thread)
-            | RunFault::Uncertified(thread) => thread,
-        }
+        self.thread().unwrap_or(0)
     }
 
     // Whether this fault is answered where `other` stands too.
@@ -60,7 +81,7 @@ impl RunFault {
         ensures no { result ≡ false → IsNotAfter other self }
     {
         let (number, others) = (self.number(), other.number());
-        number < others || (number == others && self.thread() <= other.thread())
+        number < others || (number == others && self.thread_or_zero() <= other.thread_or_zero())
     }
 }
 

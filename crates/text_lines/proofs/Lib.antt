@@ -2,6 +2,7 @@
 -- Consuming, Fronts: bytes that are taken in turn, and the front of bytes of which the beginning is known.
 -- Digits, Numbers, Fields: numbers and words, read as they are spelled; the fields of a line.
 -- Scanning: what stands at the front, found in one pass.
+-- MemoryOrNot: want of memory, and the other faults.
 -- Appending, Asking, Holding: bytes that are written in turn, what a sink was asked, and what it keeps back.
 -- WrittenLines: what is written of fields, numbers and lines is read back.
 pub mod Digits
@@ -14,3 +15,4 @@ pub mod Asking
 pub mod Holding
 pub mod WrittenLines
 pub mod Scanning
+pub mod MemoryOrNot

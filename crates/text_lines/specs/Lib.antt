@@ -4,3 +4,4 @@ pub mod Lines
 pub mod Writing
 pub mod Watching
 pub mod Holding
+pub mod Faults

@@ -5,11 +5,13 @@ ghost use Rattle.text_lines.specs.Writing.{is_refusal, AppendsFront, Asked, aske
 
 use crate::source::Watched;
 use std::io::Write;
+use thiserror::Error;
 
 /// Why a text isn't written whole.
-#[derive(Clone, Copy, Debug, PartialEq, Eq)]
+#[derive(Clone, Copy, Debug, PartialEq, Eq, Error)]
 pub enum WriteFault {
     /// The writer failed, or took no byte of a piece that wasn't empty.
+    #[error("Write")]
     Write,
 }
 

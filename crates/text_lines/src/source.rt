@@ -4,9 +4,11 @@ ghost use Rattle.text_lines.specs.Input.{Ahead, ReadTakes};
 
 use std::io::Read;
 use std::marker::Model;
+use thiserror::Error;
 
 /// A read failed.
-#[derive(Clone, Copy, Debug, PartialEq, Eq)]
+#[derive(Clone, Copy, Debug, PartialEq, Eq, Error)]
+#[error("Read")]
 pub struct ReadFailed;
 
 /// What texts are read from.

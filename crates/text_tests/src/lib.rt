@@ -5,6 +5,8 @@
 #[cfg(test)]
 mod changed;
 #[cfg(test)]
+mod errors;
+#[cfg(test)]
 mod help;
 #[cfg(test)]
 mod pictures;

@@ -1,7 +1,6 @@
 use Rattle.std.proofs.Common.{inl, refl}
 use Rattle.history_merge.specs.Operations.{operations_of}
 use Rattle.history_text.specs.Verdicts.{claim_of}
-use Rattle.verdicts.proofs.TrueClaims.{evidence_within}
 use Rattle.commands.specs.Judging.{IsVerdictClaim}
 use Rattle.commands.proofs.Played.{left_open_found, played_found, merges_to_complete, few_events}
 use Rattle.commands.proofs.sim.play.Goals as goal
@@ -37,6 +36,3 @@ returns-in-Ok-decide-clause-found c =
       claim = refl;
     } in
     inl (played_found _ _ _ rejected c.in-Done.lists _ _ ended c.in-Ok-merged_history.ensures.merged c.in-Ok-merged_history.ensures.complete right)
-
-pub returns-in-Ok-decide-clause-places : goal.returns-in-Ok-decide-clause-places
-returns-in-Ok-decide-clause-places c = evidence_within (operations_of c.in-Ok-merged_history.history) c.in-Ok-decide.verdict c.in-Ok-decide.ensures.evidence

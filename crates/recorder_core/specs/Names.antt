@@ -1,0 +1,20 @@
+-- How the reasons why steps are refused are printed.
+use Rattle.std.specs.Prelude.{ℕ, List, codes}
+use Rattle.recorder_core.specs.declared.step.StepRefused.{StepRefused}
+use Rattle.recorder_core.specs.declared.step.StepRefused.TheVariants.{NoThread, Closed, Held, NothingHeld, RingFull, Pending, NotPending, NoAnswer}
+use Rattle.recorder_core.specs.declared.step.StepRefused.TheVariants.{AnswerTaken, WrongAnswer, Limit, Memory}
+
+-- the name of a reason
+abbrev pub name_of : StepRefused → List ℕ
+name_of NoThread = codes "NoThread"
+name_of Closed = codes "Closed"
+name_of Held = codes "Held"
+name_of NothingHeld = codes "NothingHeld"
+name_of RingFull = codes "RingFull"
+name_of Pending = codes "Pending"
+name_of NotPending = codes "NotPending"
+name_of NoAnswer = codes "NoAnswer"
+name_of AnswerTaken = codes "AnswerTaken"
+name_of WrongAnswer = codes "WrongAnswer"
+name_of Limit = codes "Limit"
+name_of Memory = codes "Memory"
