@@ -1,0 +1,16 @@
+//! Pictures of histories, with what is claimed of them, as SVG documents.
+#![tactic(auto)]
+
+mod bars;
+mod beside;
+mod elements;
+mod layout;
+mod lines;
+mod markup;
+mod picture;
+mod rows;
+mod words;
+mod writing;
+
+pub use picture::svg_picture;
+pub use writing::write_svg_picture;
