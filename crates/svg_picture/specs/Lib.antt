@@ -3,3 +3,4 @@ pub mod Layout
 pub mod Words
 pub mod Elements
 pub mod Picture
+pub mod Laws

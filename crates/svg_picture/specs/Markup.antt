@@ -37,9 +37,13 @@ text_of (Words words) = words
 text_of (Element name attributes content) = start_tag name attributes ++ (text_of content ++ end_tag name)
 text_of (Then first second) = text_of first ++ text_of second
 
+-- what the text is
+abbrev pub declaration : List ℕ
+declaration = codes "<?xml version=\"1.0\" encoding=\"UTF-8\"?>\n"
+
 -- a document: what it is, and its one element
 abbrev pub document : Content → List ℕ
-document content = codes "<?xml version=\"1.0\" encoding=\"UTF-8\"?>\n" ++ text_of content
+document content = declaration ++ text_of content
 
 -- ---- contents
 

@@ -17,7 +17,7 @@ use Rattle.drawing.specs.Bands.{bands_of, head_text}
 use Rattle.drawing.specs.Captions.{headline, caption}
 use Rattle.drawing.specs.Terminal.{way}
 use Rattle.svg_picture.specs.declared.layout.Measures.{Measures}
-use Rattle.svg_picture.specs.Markup.{Content, Nothing, Words, Element, each, group, number, words, document}
+use Rattle.svg_picture.specs.Markup.{Named, Content, Nothing, Words, Element, each, group, number, words, document}
 use Rattle.svg_picture.specs.Layout.{Page, shown, bar_width, thread_x, right, band_x, width, legend_y, top, row, effect_row, row_y, call_y, ret_y}
 use Rattle.svg_picture.specs.Layout.{bottom, height, line_count, parts, longest}
 use Rattle.svg_picture.specs.Words.{kind_word, corner, form_class, legend}
@@ -265,12 +265,15 @@ frame page = group (about page.claimed ∷ background page.measures ∷ heading 
 unfoldable pub inside : Page → Content
 inside page = group (frame page ∷ bands page ∷ ways page page.claimed ∷ order page page.claimed ∷ bars page ∷ [])
 
+-- the attributes of the picture
+abbrev pub page_attributes : Measures → List Named
+page_attributes m =
+    words (codes "xmlns") (codes "http://www.w3.org/2000/svg") ∷ words (codes "version") (codes "1.1") ∷ number (codes "width") (width m)
+    ∷ number (codes "height") (height m) ∷ words (codes "viewBox") (view_box m) ∷ words (codes "role") (codes "img") ∷ []
+
 -- the picture on a page
 unfoldable pub page_content : Page → Content
-page_content page =
-    Element (codes "svg") (words (codes "xmlns") (codes "http://www.w3.org/2000/svg") ∷ words (codes "version") (codes "1.1")
-    ∷ number (codes "width") (width page.measures) ∷ number (codes "height") (height page.measures)
-    ∷ words (codes "viewBox") (view_box page.measures) ∷ words (codes "role") (codes "img") ∷ []) (inside page)
+page_content page = Element (codes "svg") (page_attributes page.measures) (inside page)
 
 -- ---- of a history and a claim
 

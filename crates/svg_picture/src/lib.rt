@@ -4,6 +4,7 @@
 mod bars;
 mod beside;
 mod elements;
+mod laws;
 mod layout;
 mod lines;
 mod markup;
@@ -12,5 +13,6 @@ mod rows;
 mod words;
 mod writing;
 
+pub use laws::{bars_overlap_as_operations_do, pictures_are_well_formed, svg_lanes_stand_apart};
 pub use picture::svg_picture;
 pub use writing::write_svg_picture;
