@@ -10,7 +10,8 @@ use Rattle.clap.specs.declared.parser.matches.Found.{Found}
 use Rattle.clap.proofs.WalkLemmas.{first_value-rows}
 
 module _ (f : Found) (id : Text) (o : Option (Bor Text)) (got : option_map (λ s. s.now) o ≡ first_value f id) where
-  absent : o ≡ None → None ≡ first_of id (rows_of f)
+  -- an option that wasn't got has no row
+  pub absent : o ≡ None → None ≡ first_of id (rows_of f)
   absent none = ap (option_map (λ s. s.now)) (sym none) ∙ got ∙ first_value-rows f id
 
   -- an option whose text has a property has a text

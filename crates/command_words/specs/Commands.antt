@@ -5,7 +5,8 @@ use Rattle.clap.specs.Faults.{fault_of}
 use Rattle.clap.specs.Kinds.{Kinds}
 use Rattle.clap.specs.Simple.{App, new_shape, subcommand_of}
 use Rattle.clap.specs.Walk.{Row, Text}
-use Rattle.command_words.specs.Options.{HasSettings, IsWithinRanges, Settings, settings_in, settings_of, the_draw, the_stress}
+use Rattle.command_words.specs.Options.{HasSettings, IsWithinRanges, Settings, form_in, settings_in, settings_of, the_draw, the_stress}
+use Rattle.command_words.specs.declared.options.PictureForm.{PictureForm}
 use Rattle.command_words.specs.declared.tasks.Task.{Task}
 use Rattle.command_words.specs.declared.tasks.Task.TheVariants as task
 
@@ -26,7 +27,7 @@ pub data Request : Type 0 where
   check : Request
   shrink : Request
   verify : Request
-  draw : Request
+  draw : PictureForm → Request
   sim : Request
   stress : Settings → Request
 
@@ -36,7 +37,7 @@ request_named name rows =
     if bytes_eq name (codes "check") then Some check
     else if bytes_eq name (codes "shrink") then Some shrink
     else if bytes_eq name (codes "verify") then Some verify
-    else if bytes_eq name (codes "draw") then Some draw
+    else if bytes_eq name (codes "draw") then Some (draw (form_in rows))
     else if bytes_eq name (codes "sim") then Some sim
     else if bytes_eq name (codes "stress") then Some (stress (settings_in rows)) else None
 
@@ -53,7 +54,7 @@ abbrev pub request_of : Task → Request
 request_of task.Check = check
 request_of task.Shrink = shrink
 request_of task.Verify = verify
-request_of task.Draw = draw
+request_of (task.Draw form) = draw form
 request_of task.Sim = sim
 request_of (task.Stress options) = stress (settings_of options)
 

@@ -1,5 +1,6 @@
 -- The options of `draw` and `stress`.
-use Rattle.std.specs.Prelude.{◌≤◌, ℕ, true, List, [], ◌∷◌, Some, IsSome, IsSomeAnd, codes, unwrap_or}
+use Rattle.std.specs.Prelude.{◌≤◌, ℕ, true, List, [], ◌∷◌, Option, Some, None, IsSome, IsSomeAnd, codes, unwrap_or, if◌then◌else◌}
+use Rattle.std.specs.Str.{bytes_eq}
 use Rattle.std.specs.Str.Parse.{digits_value, without_leading_plus}
 use Rattle.clap.specs.Simple.{Shape, new_rule, new_shape}
 use Rattle.clap.specs.Values.{IsUnsignedIn}
@@ -7,6 +8,8 @@ use Rattle.clap.specs.Walk.{Row, Rule, Text, first_of}
 use Rattle.clap.specs.declared.builder.action.ArgAction.TheVariants.{SetTrue}
 use Rattle.clap.specs.declared.builder.value_parser.ValueParser.TheVariants as vp
 use Rattle.event_records.specs.declared.limits.TheConstants.{MAX_RING, MAX_SEED, MAX_THREAD_OPERATIONS, MAX_WORKERS, MIN_RING}
+use Rattle.command_words.specs.declared.options.PictureForm.{PictureForm}
+use Rattle.command_words.specs.declared.options.PictureForm.TheVariants.{Svg, Terminal}
 use Rattle.command_words.specs.declared.options.StressOptions.{StressOptions}
 
 -- ---- what may be written
@@ -28,12 +31,11 @@ queue_rule = record (new_rule (codes "queue")) {
   required = true;
 }
 
--- the flag that asks for a picture of characters, which has to be given
+-- the flag that asks for a picture of characters
 abbrev pub text_rule : Rule
 text_rule = record (new_rule (codes "text")) {
   long = Some (codes "text");
   action = Some SetTrue;
-  required = true;
 }
 
 -- `draw` with its flag
@@ -81,6 +83,15 @@ text_in id rows = unwrap_or (first_of id rows) []
 -- the decimal value of an option's text, before which a `+` may stand
 abbrev pub number_in : Text → List Row → ℕ
 number_in id rows = digits_value 10 (without_leading_plus (text_in id rows))
+
+-- the form that the text of the flag asks for
+abbrev pub form_of : Option Text → PictureForm
+form_of None = Svg
+form_of (Some text) = if bytes_eq text (codes "true") then Terminal else Svg
+
+-- the form of a picture that clap's matches of `draw` ask for: characters where the flag was given
+abbrev pub form_in : List Row → PictureForm
+form_in rows = form_of (first_of (codes "text") rows)
 
 -- the settings that clap's matches of `stress` give, in which an option that isn't given has its default
 abbrev pub settings_in : List Row → Settings

@@ -49,11 +49,9 @@ fn text_option<'a>(alloc: Global) -> Arg<'a>
     ensures rule { rule_of result ≡ text_rule }
     ensures local { result.global ≡ false }
 {
-    let wanted = true;
     Arg::new(alloc, "text")
         .long("text")
         .action(ArgAction::SetTrue)
-        .required(wanted)
         .help(help::TEXT_HELP)
 }
 

@@ -84,12 +84,13 @@ pub(crate) const DRAW_HELP: &str = "\
 Input: the text of a history, from the line `fifo-history 1` to the line `end N`, directly followed by
 the text of a verdict, from the line `YES` or `NO ..` on, as for `verify`.
 
-Output: a picture in lines of ASCII. Time runs down: each event has a line, each thread a lane, in which
-`[` is a call, `]` its return and `|` stands between; what was called stands beside it. Of a yes the
-order stands at the right, and each number where its operation takes effect. Of a no the operations
-that show it are numbered in the order of the verdict's lines, and `###`, `xxx` and `:::` say when a value
-surely was in the queue, was not, and the time that contradicts it. Where the verdict is no evidence
-in the history, `INVALID`, and nothing is drawn.
+Output: a picture, as an SVG document for a browser, or with `--text` in lines of ASCII for a terminal.
+Time runs down: each event has a row, each thread a lane, and each operation a bar from its call to its
+return. Of a yes the order stands beside the lanes, and each number where its operation takes effect.
+Of a no the operations that show it are numbered in the order of the verdict's lines, and bands say
+when a value surely was in the queue, was not, and the time that contradicts it. In characters `[` is
+a call, `]` its return and `|` stands between, and bands are `###`, `xxx` and `:::`. Where the verdict
+is no evidence in the history, `INVALID`, and nothing is drawn.
 
 Status: 0 drawn, 1 invalid, 2 the input is refused (a line `REFUSED ..` says why), 3 a read, a write
 or memory failed (a line `FAULT ..`). More than 400 operations, in the history or in the verdict, are
@@ -114,7 +115,7 @@ Example:
        1  ]              xxx
 ";
 
-pub(crate) const TEXT_HELP: &str = "Draws in lines of characters";
+pub(crate) const TEXT_HELP: &str = "Draws in lines of characters, and not as SVG";
 
 pub(crate) const SIM_ABOUT: &str =
     "Reads a schedule from standard input, steps the recorder through it, and judges what it recorded";

@@ -1,10 +1,39 @@
-//! The options of `stress`.
-ghost use Rattle.std.specs.Prelude.{◌≡◌, ℕ};
+//! The options of `draw` and `stress`.
+ghost use Rattle.std.specs.Prelude.{◌≡◌, ℕ, Some};
 ghost use Rattle.clap.specs.Matches.{found_of};
 ghost use Rattle.clap.specs.Walk.{rows_of};
-ghost use Rattle.command_words.specs.Options.{HasNumber, HasSettings, IsWithinRanges, number_in, settings_in, settings_of};
+ghost use Rattle.command_words.specs.Options.{HasNumber, HasSettings, IsWithinRanges, form_in, form_of, number_in, settings_in, settings_of};
 
 use clap::ArgMatches;
+
+/// How a picture is drawn.
+#[derive(Clone, Copy, Debug, PartialEq, Eq)]
+pub enum PictureForm {
+    /// An SVG document.
+    Svg,
+    /// Lines of characters for a terminal.
+    Terminal,
+}
+
+/// The form of a picture in the matches of `draw`.
+pub(crate) fn picture_form(matches: &ArgMatches<'_>) -> PictureForm
+    ensures { result ≡ form_in (rows_of (found_of matches.now)) }
+{
+    match matches.get_str("text") {
+        None => PictureForm::Svg,
+        Some(text) => form_of(text),
+    }
+}
+
+fn form_of(text: &str) -> PictureForm
+    ensures { result ≡ form_of (Some text.now) }
+{
+    if text == "true" {
+        PictureForm::Terminal
+    } else {
+        PictureForm::Svg
+    }
+}
 
 /// What `stress` runs.
 #[derive(Clone, Copy, Debug, PartialEq, Eq)]

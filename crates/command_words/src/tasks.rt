@@ -5,7 +5,7 @@ ghost use Rattle.clap.specs.Simple.{subcommand_rows_of};
 ghost use Rattle.command_words.specs.Commands.{IsAnswerable, IsInRange, faults_in, request_in, request_of, request_of_subcommand};
 
 use crate::commands::the_command;
-use crate::options::{StressOptions, stress_options};
+use crate::options::{PictureForm, StressOptions, picture_form, stress_options};
 use clap::{ArgMatches, Error};
 use std::alloc::Global;
 use std::convert::AsStr;
@@ -19,8 +19,8 @@ pub enum Task<'a> {
     Shrink,
     /// Read a history and a claimed verdict, and print whether the verdict holds.
     Verify,
-    /// Read a history and a claimed verdict, and print a picture of both in lines of characters.
-    Draw,
+    /// Read a history and a claimed verdict, and print a picture of both in this form.
+    Draw(PictureForm),
     /// Read a schedule, run it on the recorder's machine, and print what it recorded and the verdict.
     Sim,
     /// Run workers on a queue, and print what was recorded and the verdict.
@@ -58,7 +58,7 @@ fn task_of<'a>(matches: &ArgMatches<'a>) -> Task<'a>
         "check" => Task::Check,
         "shrink" => Task::Shrink,
         "verify" => Task::Verify,
-        "draw" => Task::Draw,
+        "draw" => Task::Draw(picture_form(options)),
         "sim" => Task::Sim,
         "stress" => Task::Stress(stress_options(options)),
         _ => unreachable!(),

@@ -26,6 +26,7 @@ use Rattle.text_lines.specs.Input.{Ahead}
 use Rattle.text_lines.proofs.MemoryOrNot.{is_memory}
 use Rattle.history_text.proofs.OneText as histories
 use Rattle.history_text.proofs.OneSchedule as schedules
+use Rattle.command_words.specs.declared.options.PictureForm.{PictureForm}
 use Rattle.command_words.specs.Commands.{check, shrink, verify, draw, sim}
 use Rattle.commands.specs.Answers.{Answer, judged, shown, played, verified, memory_fault, answer_of_text_fault, answer_of_history_fault}
 use Rattle.commands.specs.Inputs.{ClaimOnEvents, IsHistoryOf, IsFaultOfHistoryInput, IsScheduleOf, IsFaultOfScheduleInput, IsClaimOf, IsFaultOfClaimInput}
@@ -137,23 +138,23 @@ one_verification claim a b (inr x) (inr y) =
 
 -- ---- pictures
 
-one_picture : (claim : ClaimOnEvents) (a b : Answer) → Draws claim a → Draws claim b → a ≡ b
-one_picture claim a b (inl x) (inl y) = one_faulty claim.events a b x y
-one_picture claim a b (inl x) (inr (inl y)) = absurd (not_both claim.events a x y.complete)
-one_picture claim a b (inl x) (inr (inr (inl y))) = absurd (not_both claim.events a x y.complete)
-one_picture claim a b (inl x) (inr (inr (inr y))) = absurd (not_both claim.events a x y.complete)
-one_picture claim a b (inr (inl x)) (inl y) = absurd (not_both claim.events b y x.complete)
-one_picture claim a b (inr (inr (inl x))) (inl y) = absurd (not_both claim.events b y x.complete)
-one_picture claim a b (inr (inr (inr x))) (inl y) = absurd (not_both claim.events b y x.complete)
-one_picture claim a b (inr (inl x)) (inr (inl y)) = x.is ∙ sym y.is
-one_picture claim a b (inr (inl x)) (inr (inr (inl y))) = absurd (x.large y.small)
-one_picture claim a b (inr (inl x)) (inr (inr (inr y))) = absurd (x.large y.small)
-one_picture claim a b (inr (inr (inl x))) (inr (inl y)) = absurd (y.large x.small)
-one_picture claim a b (inr (inr (inr x))) (inr (inl y)) = absurd (y.large x.small)
-one_picture claim a b (inr (inr (inl x))) (inr (inr (inl y))) = x.is ∙ sym y.is
-one_picture claim a b (inr (inr (inl x))) (inr (inr (inr y))) = absurd (x.untrue y.evidence)
-one_picture claim a b (inr (inr (inr x))) (inr (inr (inl y))) = absurd (y.untrue x.evidence)
-one_picture claim a b (inr (inr (inr x))) (inr (inr (inr y))) = x.is ∙ sym y.is
+one_picture : (form : PictureForm) (claim : ClaimOnEvents) (a b : Answer) → Draws form claim a → Draws form claim b → a ≡ b
+one_picture form claim a b (inl x) (inl y) = one_faulty claim.events a b x y
+one_picture form claim a b (inl x) (inr (inl y)) = absurd (not_both claim.events a x y.complete)
+one_picture form claim a b (inl x) (inr (inr (inl y))) = absurd (not_both claim.events a x y.complete)
+one_picture form claim a b (inl x) (inr (inr (inr y))) = absurd (not_both claim.events a x y.complete)
+one_picture form claim a b (inr (inl x)) (inl y) = absurd (not_both claim.events b y x.complete)
+one_picture form claim a b (inr (inr (inl x))) (inl y) = absurd (not_both claim.events b y x.complete)
+one_picture form claim a b (inr (inr (inr x))) (inl y) = absurd (not_both claim.events b y x.complete)
+one_picture form claim a b (inr (inl x)) (inr (inl y)) = x.is ∙ sym y.is
+one_picture form claim a b (inr (inl x)) (inr (inr (inl y))) = absurd (x.large y.small)
+one_picture form claim a b (inr (inl x)) (inr (inr (inr y))) = absurd (x.large y.small)
+one_picture form claim a b (inr (inr (inl x))) (inr (inl y)) = absurd (y.large x.small)
+one_picture form claim a b (inr (inr (inr x))) (inr (inl y)) = absurd (y.large x.small)
+one_picture form claim a b (inr (inr (inl x))) (inr (inr (inl y))) = x.is ∙ sym y.is
+one_picture form claim a b (inr (inr (inl x))) (inr (inr (inr y))) = absurd (x.untrue y.evidence)
+one_picture form claim a b (inr (inr (inr x))) (inr (inr (inl y))) = absurd (y.untrue x.evidence)
+one_picture form claim a b (inr (inr (inr x))) (inr (inr (inr y))) = x.is ∙ sym y.is
 
 -- ---- schedules
 
@@ -205,8 +206,9 @@ pub verify_has_one : HasOneAnswer verify
 verify_has_one = of_input IsClaimOf IsFaultOfClaimInput Verifies one_claim only_memory_of_claim one_known_fault_of_claim one_verification
 
 -- `draw` has one answer
-pub draw_has_one : HasOneAnswer draw
-draw_has_one = of_input IsClaimOf IsFaultOfClaimInput Draws one_claim only_memory_of_claim one_known_fault_of_claim one_picture
+pub draw_has_one : (form : PictureForm) → HasOneAnswer (draw form)
+draw_has_one form =
+    of_input IsClaimOf IsFaultOfClaimInput (Draws form) one_claim only_memory_of_claim one_known_fault_of_claim (one_picture form)
 
 -- `sim` has one answer
 pub sim_has_one : HasOneAnswer sim

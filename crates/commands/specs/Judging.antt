@@ -1,5 +1,5 @@
 -- What the commands that read answer of what they read.
-use Rattle.std.specs.Prelude.{◌≡◌, ◌≢◌, ◌≤◌, Bool, false, IsTrue, List, length, ◌⊎◌, ◌↔◌}
+use Rattle.std.specs.Prelude.{◌≡◌, ◌≢◌, ◌≤◌, Bool, false, IsTrue, List, length, ◌⊎◌, ◌↔◌, ℕ}
 use Rattle.event_records.specs.declared.event.Event.{Event}
 use Rattle.history_merge.specs.declared.fault.HistoryFault.{HistoryFault}
 use Rattle.history_merge.specs.declared.fault.HistoryFault.TheVariants as history
@@ -22,7 +22,10 @@ use Rattle.verdicts.specs.Verdicts.{IsVerdictOf, IsEvidence, IsExact}
 use Rattle.verdicts.specs.Selection.{KeepsViolation, StaysChosen, IsMinimal, HasShortestCover, ArePartOf}
 use Rattle.history_text.specs.Verdicts.{claim_of}
 use Rattle.history_text.specs.Claims.{operations_in}
+use Rattle.command_words.specs.declared.options.PictureForm.{PictureForm}
+use Rattle.command_words.specs.declared.options.PictureForm.TheVariants.{Svg, Terminal}
 use Rattle.drawing.specs.Terminal.{terminal_picture}
+use Rattle.svg_picture.specs.Picture.{svg_picture}
 use Rattle.drawing.specs.declared.columns.TheConstants.{MOST_DRAWN}
 use Rattle.text_lines.specs.declared.fault.TextFault.{TextFault}
 use Rattle.history_text.specs.declared.schedule.Schedule.{Schedule}
@@ -113,16 +116,21 @@ pub record IsRefuted (claim : ClaimOnEvents) (answer : Answer) : Type 0 where
   pub untrue : ¬ (IsTrueClaim (operations_of claim.events) claim.claimed)
   pub is : answer ≡ verified false
 
--- the events are a complete history, the claim is evidence in it, and this is the picture of both
-pub record IsDrawn (claim : ClaimOnEvents) (answer : Answer) : Type 0 where
+-- the picture of a history and a claim, in a form
+abbrev pub picture_in : PictureForm → ClaimOnEvents → List ℕ
+picture_in Svg claim = svg_picture claim.events claim.claimed
+picture_in Terminal claim = terminal_picture claim.events claim.claimed
+
+-- the events are a complete history, the claim is evidence in it, and this is the picture of both in that form
+pub record IsDrawn (form : PictureForm) (claim : ClaimOnEvents) (answer : Answer) : Type 0 where
   pub complete : IsCompleteHistory claim.events
   pub small : IsSmall claim
   pub evidence : IsTrueClaim (operations_of claim.events) claim.claimed
-  pub is : answer ≡ drawn (terminal_picture claim.events claim.claimed)
+  pub is : answer ≡ drawn (picture_in form claim)
 
--- `draw`: the first fault of the events, or their picture with the claim, where they are small and the claim is evidence
-abbrev pub Draws : ClaimOnEvents → Answer → Type 0
-Draws claim answer = IsFaulty claim.events answer ⊎ (IsTooLarge claim answer ⊎ (IsRefuted claim answer ⊎ IsDrawn claim answer))
+-- `draw`: the first fault of the events, or their picture in a form with the claim, where they are small and the claim is evidence
+abbrev pub Draws : PictureForm → ClaimOnEvents → Answer → Type 0
+Draws form claim answer = IsFaulty claim.events answer ⊎ (IsTooLarge claim answer ⊎ (IsRefuted claim answer ⊎ IsDrawn form claim answer))
 
 -- ---- schedules
 

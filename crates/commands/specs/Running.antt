@@ -31,7 +31,7 @@ abbrev pub AnswersOf : Request → Ahead → Answer → Type 0
 AnswersOf check input answer = AnswersFor IsHistoryOf IsFaultOfHistoryInput Judges input answer
 AnswersOf shrink input answer = AnswersFor IsHistoryOf IsFaultOfHistoryInput Shrinks input answer
 AnswersOf verify input answer = AnswersFor IsClaimOf IsFaultOfClaimInput Verifies input answer
-AnswersOf draw input answer = AnswersFor IsClaimOf IsFaultOfClaimInput Draws input answer
+AnswersOf (draw form) input answer = AnswersFor IsClaimOf IsFaultOfClaimInput (Draws form) input answer
 AnswersOf sim input answer = AnswersFor IsScheduleOf IsFaultOfScheduleInput Simulates input answer
 AnswersOf (stress settings) input answer = Unit {0}
 

@@ -102,7 +102,7 @@ where
         Task::Check => return check(rt, rt.alloc(), reader),
         Task::Shrink => return shrink(rt.alloc(), reader),
         Task::Verify => return verify(rt.alloc(), reader),
-        Task::Draw => return draw(rt.alloc(), reader),
+        Task::Draw(form) => return draw(rt.alloc(), reader, form),
         Task::Sim => return sim(rt.alloc(), reader),
         Task::Stress(options) => return stress(rt, rt.alloc(), shelf, &options),
     }

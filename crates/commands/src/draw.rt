@@ -1,34 +1,41 @@
 //! `draw`: the picture of a history and a verdict on it.
-ghost use Rattle.std.specs.Prelude.{◌≡◌, IfSome, length};
+ghost use Rattle.std.specs.Prelude.{◌≡◌, ◌≤◌, IfOk, IfSome, length};
 ghost use Rattle.history_text.specs.Claims.{operations_in};
 ghost use Rattle.commands.specs.Inputs.{IsClaimOf, IsFaultOfClaimInput};
-ghost use Rattle.commands.specs.Judging.{Draws, AnswersFor, AnswersOrNoMemory};
+ghost use Rattle.commands.specs.Judging.{Draws, AnswersFor, AnswersOrNoMemory, picture_in};
 ghost use Rattle.commands.specs.Outcomes.{answer_of, NamesPlaces};
 
 use crate::outcome::Outcome;
 use crate::verify::claimed_history;
+use command_words::PictureForm;
 use drawing::{MOST_DRAWN, terminal_picture};
 use history_merge::History;
 use history_text::TextSource;
-use std::alloc::Global;
+use std::alloc::{AllocError, Global};
+use svg_picture::svg_picture;
 use verdicts::Claimed;
 
-/// What `draw` finds in what the reader gives.
-pub fn draw<S: TextSource>(alloc: Global, reader: S) -> Outcome
+/// What `draw` finds in what the reader gives, for a picture in this form.
+pub fn draw<S: TextSource>(alloc: Global, reader: S, form: PictureForm) -> Outcome
 where
     S: Drop,
-    ensures found { IfSome (S.ahead reader) (λ input. AnswersFor IsClaimOf IsFaultOfClaimInput Draws input (answer_of result)) }
+    ensures found { IfSome (S.ahead reader) (λ input. AnswersFor IsClaimOf IsFaultOfClaimInput (Draws form) input (answer_of result)) }
     ensures places { NamesPlaces result }
 {
     match claimed_history(alloc, reader) {
-        Ok((history, claimed)) => draw_history(alloc, &history, &claimed),
+        Ok((history, claimed)) => draw_history(alloc, &history, &claimed, form),
         Err(outcome) => outcome,
     }
 }
 
 /// The picture of this history with the claim, where both are small and the claim is evidence.
-fn draw_history(alloc: Global, history: &History, claimed: &Claimed) -> Outcome
-    ensures found { AnswersOrNoMemory Draws (record { events = history.now; claimed = claimed.now }) (answer_of result) }
+fn draw_history(
+    alloc: Global,
+    history: &History,
+    claimed: &Claimed,
+    form: PictureForm,
+) -> Outcome
+    ensures found { AnswersOrNoMemory (Draws form) (record { events = history.now; claimed = claimed.now }) (answer_of result) }
     ensures places { NamesPlaces result }
 {
     if history.operations().len() > MOST_DRAWN || lines_of(claimed) > MOST_DRAWN {
@@ -39,9 +46,25 @@ fn draw_history(alloc: Global, history: &History, claimed: &Claimed) -> Outcome
         Ok(false) => return Outcome::Verified(false),
         Err(_) => return Outcome::MemoryFault,
     }
-    match terminal_picture(alloc, history, claimed) {
+    match picture_in(alloc, history, claimed, form) {
         Ok(picture) => Outcome::Drawn(picture),
         Err(_) => Outcome::MemoryFault,
+    }
+}
+
+/// The picture of a history and a claim in this form.
+fn picture_in(
+    alloc: Global,
+    history: &History,
+    claimed: &Claimed,
+    form: PictureForm,
+) -> Result<Vec<u8>, AllocError>
+    requires { length (operations_in claimed.now) ≤ MOST_DRAWN }
+    ensures { IfOk result (λ picture. picture.items ≡ picture_in form (record { events = history.now; claimed = claimed.now })) }
+{
+    match form {
+        PictureForm::Svg => svg_picture(alloc, history, claimed),
+        PictureForm::Terminal => terminal_picture(alloc, history, claimed),
     }
 }
 

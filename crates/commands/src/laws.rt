@@ -12,6 +12,7 @@ ghost use Rattle.verdicts.specs.declared.verifying.Claimed.TheVariants.{Yes};
 ghost use Rattle.commands.specs.Answers.{Answer, played};
 ghost use Rattle.commands.specs.Judging.{SimulatesIn};
 ghost use Rattle.commands.specs.OneAnswer.{HasOneAnswer};
+ghost use Rattle.command_words.specs.declared.options.PictureForm.{PictureForm};
 ghost use Rattle.command_words.specs.Commands.{check, shrink, verify, draw, sim};
 
 /// No false alarm: what is answered of an honest schedule that is done is a yes.
@@ -27,6 +28,6 @@ pub fn one_answer()
     ensures check { HasOneAnswer check }
     ensures shrink { HasOneAnswer shrink }
     ensures verify { HasOneAnswer verify }
-    ensures draw { HasOneAnswer draw }
+    ensures draw { (form : PictureForm) → HasOneAnswer (draw form) }
     ensures sim { HasOneAnswer sim }
 {}

@@ -177,7 +177,7 @@ fn push_repeat_bands(bands: &mut Vec<Band>, lines: &[Operation]) -> Result<(), A
 }
 
 /// The bands of a claim, left to right.
-pub(crate) fn bands_of(alloc: Global, claimed: &Claimed) -> Result<Vec<Band>, AllocError>
+pub fn bands_of(alloc: Global, claimed: &Claimed) -> Result<Vec<Band>, AllocError>
     ensures bands { IfOk result (λ bands. bands.items ≡ bands_of claimed.now) }
     ensures few { IfOk result (λ bands. vec_len bands ≤ length (operations_in claimed.now) + 2) }
 {
@@ -205,7 +205,7 @@ fn push_numbered(text: &mut Vec<u8>, number: u64, words: &[u8]) -> Result<(), Al
 }
 
 /// Adds the words above a band.
-pub(crate) fn push_head(text: &mut Vec<u8>, head: Head) -> Result<(), AllocError>
+pub fn push_head(text: &mut Vec<u8>, head: Head) -> Result<(), AllocError>
     ensures { OnOk result (text.new.items ≡ text.old.items ++ head_text head) }
 {
     match head {

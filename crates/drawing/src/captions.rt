@@ -10,7 +10,7 @@ use std::alloc::AllocError;
 use verdicts::{Claimed, ViolationKind};
 
 /// What a picture shows, in a line.
-pub(crate) fn headline(claimed: &Claimed) -> &'static [u8]
+pub fn headline(claimed: &Claimed) -> &'static [u8]
     ensures { result.now ≡ headline claimed.now }
 {
     match claimed {
@@ -218,9 +218,9 @@ fn push_yes_caption(text: &mut Vec<u8>) -> Result<(), AllocError>
     )
 }
 
-/// Adds what a claim says, in sentences.
+/// Adds what a claim says, in sentences, each line with its line feed.
 #[tactic(auto, unfolding(crate::specs::Captions::caption))]
-pub(crate) fn push_caption(text: &mut Vec<u8>, claimed: &Claimed) -> Result<(), AllocError>
+pub fn push_caption(text: &mut Vec<u8>, claimed: &Claimed) -> Result<(), AllocError>
     requires { length (operations_in claimed.now) ≤ 400 }
     ensures { OnOk result (text.new.items ≡ text.old.items ++ caption claimed.now) }
 {

@@ -31,7 +31,7 @@ pub struct Lane {
 }
 
 /// How many digits a number has.
-pub(crate) fn digits(number: u64) -> usize
+pub fn digits(number: u64) -> usize
     ensures value { result ≡ digits number }
     ensures few { result ≤ 20 }
 {
@@ -47,7 +47,7 @@ fn has_events(events: &[Event], thread: u8) -> bool
 
 /// The threads that have events, the least first.
 #[tactic(auto, using(crate::proofs::Loops::threads_yes, crate::proofs::Loops::threads_no, crate::proofs::Loops::threads_none))]
-pub(crate) fn threads_of(alloc: Global, events: &[Event]) -> Result<Vec<u8>, AllocError>
+pub fn threads_of(alloc: Global, events: &[Event]) -> Result<Vec<u8>, AllocError>
     ensures threads { IfOk result (λ threads. threads.items ≡ threads_of events.now) }
     ensures few { IfOk result (λ threads. vec_len threads ≤ 64) }
 {
@@ -70,7 +70,8 @@ fn label_len(kind: OpKind) -> usize
     }
 }
 
-fn label_width(operations: &[Operation]) -> usize
+/// The length of the longest label of these operations, or of `empty`.
+pub fn label_width(operations: &[Operation]) -> usize
     ensures value { result ≡ label_width operations.now }
     ensures few { result ≤ 24 }
 {
@@ -81,7 +82,8 @@ fn label_width(operations: &[Operation]) -> usize
     widest
 }
 
-fn last_ticket(events: &[Event]) -> u64
+/// The ticket of the last event, or 0 where there is none.
+pub fn last_ticket(events: &[Event]) -> u64
     ensures { result ≡ last_ticket events.now }
 {
     match events.last() {

@@ -10,11 +10,14 @@ mod lookup;
 mod terminal;
 mod writing;
 
-pub use bands::{Band, Head};
-pub use columns::{Columns, Lane, MOST_DRAWN};
+pub use bands::{Band, Head, bands_of, push_head};
+pub use captions::{headline, push_caption};
+pub use columns::{Columns, Lane, MOST_DRAWN, digits, label_width, last_ticket, threads_of};
 pub use laws::{
     bars_are_the_operations, effects_rise_within_bars, lanes_stand_apart,
     numbers_are_those_of_the_claim,
 };
-pub use terminal::terminal_picture;
+pub use line::push_line;
+pub use lookup::place_in;
+pub use terminal::{operations_in, order_of, push_label, terminal_picture, way};
 pub use writing::write_terminal_picture;

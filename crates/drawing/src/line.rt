@@ -1,6 +1,7 @@
 //! Text made of pieces, and lines of words that stand at columns.
 ghost use Rattle.std.specs.Prelude.{◌≡◌, ◌++◌, OnOk};
 ghost use Rattle.std.specs.List.{flat_map};
+ghost use Rattle.text_lines.specs.Lines.{line};
 ghost use Rattle.drawing.specs.Words.{placed, piece_text};
 
 use itoa::Buffer;
@@ -49,5 +50,14 @@ pub(crate) fn push_all(text: &mut Vec<u8>, pieces: &[Piece<'_>]) -> Result<(), A
     for piece in pieces {
         push_piece(text, *piece)?;
     }
+    Ok(())
+}
+
+/// Adds a line to a text: these bytes, and a line feed.
+pub fn push_line(text: &mut Vec<u8>, bytes: &[u8]) -> Result<(), AllocError>
+    ensures { OnOk result (text.new.items ≡ text.old.items ++ line bytes.now) }
+{
+    text.extend_from_slice(bytes)?;
+    text.push(b'\n')?;
     Ok(())
 }

@@ -35,7 +35,7 @@ pub(crate) fn called_at(operations: &[Operation], ticket: u64) -> Option<Operati
 }
 
 /// The place of an operation in a claim, from 0.
-pub(crate) fn place_in(lines: &[Operation], operation: Operation) -> Option<usize>
+pub fn place_in(lines: &[Operation], operation: Operation) -> Option<usize>
     ensures value { result ≡ place_in lines.now operation }
     ensures within { IfSome result (λ place. place < length lines.now) }
 {

@@ -12,7 +12,7 @@ ghost use Rattle.drawing.specs.Terminal.{ticket_word, sign, lane_words, label_if
 use crate::bands::{Band, Head, bands_of, form, holds_gap, push_head};
 use crate::captions::{headline, push_caption, push_legend};
 use crate::columns::{Columns, Lane, MOST_DRAWN, columns_of, digits, lanes_of, threads_of};
-use crate::line::{Piece, place, push_all};
+use crate::line::{Piece, place, push_all, push_line};
 use crate::lookup::{called_at, place_in, under_way};
 use event_records::Event;
 use history_merge::{History, OpKind, Operation};
@@ -94,7 +94,8 @@ fn place_lanes(
     Ok(())
 }
 
-fn push_label(text: &mut Vec<u8>, kind: OpKind) -> Result<(), AllocError>
+/// Adds what an operation did, and its value in full.
+pub fn push_label(text: &mut Vec<u8>, kind: OpKind) -> Result<(), AllocError>
     ensures { OnOk result (text.new.items ≡ text.old.items ++ label kind) }
 {
     match kind {
@@ -143,7 +144,8 @@ fn place_bands(
     Ok(())
 }
 
-fn way(kind: OpKind) -> &'static [u8]
+/// Whether the value of an operation goes in or out.
+pub fn way(kind: OpKind) -> &'static [u8]
     ensures { result.now ≡ way kind }
 {
     match kind {
@@ -183,7 +185,8 @@ struct Sheet<'a> {
     claimed: &'a Claimed,
 }
 
-fn order_of(claimed: &Claimed) -> &[Operation]
+/// The order of a yes.
+pub fn order_of(claimed: &Claimed) -> &[Operation]
     ensures { result.now ≡ order_of claimed.now }
 {
     match claimed {
@@ -200,15 +203,6 @@ fn shown_by(claimed: &Claimed) -> &[Operation]
         Claimed::Yes(_) => &[],
         Claimed::No(_, lines) => lines.as_slice(),
     }
-}
-
-/// Adds a line to a text.
-fn push_line(text: &mut Vec<u8>, bytes: &[u8]) -> Result<(), AllocError>
-    ensures { OnOk result (text.new.items ≡ text.old.items ++ line bytes.now) }
-{
-    text.extend_from_slice(bytes)?;
-    text.push(b'\n')?;
-    Ok(())
 }
 
 /// The line of an event.
@@ -547,7 +541,8 @@ fn push_words(text: &mut Vec<u8>, claimed: &Claimed) -> Result<(), AllocError>
     push_line(text, b"")
 }
 
-fn operations_in(claimed: &Claimed) -> &[Operation]
+/// The operations that a claim lists.
+pub fn operations_in(claimed: &Claimed) -> &[Operation]
     ensures { result.now ≡ operations_in claimed.now }
 {
     match claimed {

@@ -1,6 +1,6 @@
 use clap::Error;
 use clap::error::ErrorKind;
-use command_words::{StressOptions, Task, task_in};
+use command_words::{PictureForm, StressOptions, Task, task_in};
 use std::alloc::AllocError;
 use std::test::Fail;
 
@@ -32,10 +32,13 @@ fn subcommands_name_tasks(rt: HostRuntime) -> Result<(), Fail> {
 }
 
 #[test]
-fn a_picture_is_asked_for_in_characters(rt: HostRuntime) -> Result<(), Fail> {
-    assert!(rt; has_task(&rt, &["fifobench", "draw", "--text"], Task::Draw)?);
-    let kind = ErrorKind::MissingRequiredArgument;
-    assert!(rt; has_fault(&rt, &["fifobench", "draw"], kind)?);
+fn a_picture_is_svg_or_characters(rt: HostRuntime) -> Result<(), Fail> {
+    let svg = Task::Draw(PictureForm::Svg);
+    assert!(rt; has_task(&rt, &["fifobench", "draw"], svg)?);
+    let terminal = Task::Draw(PictureForm::Terminal);
+    assert!(rt; has_task(&rt, &["fifobench", "draw", "--text"], terminal)?);
+    let kind = ErrorKind::UnknownArgument;
+    assert!(rt; has_fault(&rt, &["fifobench", "draw", "--svg"], kind)?);
     Ok(())
 }
 

@@ -1,0 +1,11 @@
+-- Texts to which pieces are added in turn.
+use Rattle.std.proofs.Common.{◌≡◌, List, ◌++◌, ap, ◌∙◌, append_assoc, Ok, Err}
+use Rattle.std.specs.Prelude.{OnOk}
+use Rattle.std.specs.declared.result.Result.{Result}
+
+-- a tag, what stands behind it, and another tag
+pub around : {A T E : Type 0} (r : Result T E) (old one two last a b c : List A) → one ≡ old ++ a → two ≡ one ++ b → OnOk r (last ≡ two ++ c)
+    → OnOk r (last ≡ old ++ (a ++ (b ++ c)))
+around (Ok x) old one two last a b c h k l =
+    l ∙ ap (λ (t : List _). t ++ c) k ∙ append_assoc one b c ∙ ap (λ (t : List _). t ++ (b ++ c)) h ∙ append_assoc old a (b ++ c)
+around (Err e) old one two last a b c h k l = tt

@@ -1,0 +1,6 @@
+pub mod Chains
+pub mod Each
+pub mod Cuts
+pub mod Rising
+pub mod Plain
+pub mod Documents

@@ -1,0 +1,10 @@
+use Rattle.std.proofs.Common.{◌≡◌, ◌++◌, take}
+use Rattle.std.specs.List.{enumerate_from}
+use Rattle.svg_picture.specs.Markup.{each, text_of}
+use Rattle.svg_picture.specs.Layout.{page_on}
+use Rattle.svg_picture.specs.Picture.{numbered_line}
+use Rattle.svg_picture.proofs.beside.push_order_lines.Given as goal
+
+abbrev pub invariant-loop-i : goal.invariant-loop-i
+invariant-loop-i l =
+    l.text.items ≡ l.fn.text.items ++ text_of (each (numbered_line (page_on l.sheet)) (enumerate_from 0 (take l.i l.operations)))

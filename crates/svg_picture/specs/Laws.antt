@@ -1,0 +1,91 @@
+-- What holds of SVG pictures.
+use Rattle.std.specs.Prelude.{◌≡◌, ℕ, ◌+◌, ◌<◌, ◌≤◌, ◌↔◌, ◌&&◌, ◌||◌, ◌==◌, not, nat_le, ⊤, Bool, true, List, [], ◌∷◌, ◌++◌, map, codes, Contains}
+use Rattle.std.specs.List.{list_all, list_any}
+use Rattle.std.specs.Str.{bytes_eq}
+use Rattle.event_records.specs.declared.event.Event.{Event}
+use Rattle.history_merge.specs.declared.operation.Operation.{Operation}
+use Rattle.history_merge.specs.Complete.{IsCompleteHistory}
+use Rattle.history_merge.specs.Operations.{Precedes, operations_of}
+use Rattle.verdicts.specs.declared.verifying.Claimed.{Claimed}
+use Rattle.svg_picture.specs.Markup.{Named, declaration, start_tag, end_tag}
+use Rattle.svg_picture.specs.Layout.{Page, lane_width, thread_x, row, call_y, ret_y}
+use Rattle.svg_picture.specs.Picture.{page_of, svg_picture}
+
+-- ---- well-formed text
+
+-- the byte stands for itself: it is none of `<`, `>`, `&` and the quote
+abbrev pub is_plain : ℕ → Bool
+is_plain b = not (b == 60 || b == 62 || b == 38 || b == 34)
+
+-- each byte stands for itself
+abbrev pub are_plain : List ℕ → Bool
+are_plain bytes = list_all is_plain bytes
+
+-- a letter
+abbrev pub is_letter : ℕ → Bool
+is_letter b = (nat_le 65 b && nat_le b 90) || (nat_le 97 b && nat_le b 122)
+
+-- a letter or a digit
+abbrev pub is_name_byte : ℕ → Bool
+is_name_byte b = is_letter b || (nat_le 48 b && nat_le b 57)
+
+-- a letter, and letters and digits after it
+abbrev pub is_name : List ℕ → Bool
+is_name [] = not true
+is_name (b ∷ bytes) = is_letter b && list_all is_name_byte bytes
+
+-- no name stands twice
+abbrev pub are_distinct : List (List ℕ) → Bool
+are_distinct [] = true
+are_distinct (name ∷ names) = not (list_any (bytes_eq name) names) && are_distinct names
+
+-- each attribute has a name, and a value of bytes that stand for themselves
+abbrev pub AreAttributes : List Named → Type 0
+AreAttributes [] = ⊤
+AreAttributes (a ∷ attributes) = ((is_name a.name ≡ true) × (are_plain a.value ≡ true)) × AreAttributes attributes
+
+-- the name of an element, and attributes of different names
+pub record IsTag (name : List ℕ) (attributes : List Named) : Type 0 where
+  pub named : is_name name ≡ true
+  pub distinct : are_distinct (map (λ a. a.name) attributes) ≡ true
+  pub each : AreAttributes attributes
+
+-- what may stand in an element: nothing, bytes that stand for themselves, an element that its end tag closes, or one after another
+pub data IsMarkup : List ℕ → Type 0 where
+  nothing : IsMarkup []
+  plain : (bytes : List ℕ) → are_plain bytes ≡ true → IsMarkup bytes
+  closed : (name : List ℕ) (attributes : List Named) (inner : List ℕ) → IsTag name attributes → IsMarkup inner
+      → IsMarkup (start_tag name attributes ++ (inner ++ end_tag name))
+  both : (first second : List ℕ) → IsMarkup first → IsMarkup second → IsMarkup (first ++ second)
+
+-- what it is, and one element `svg` around the rest
+pub record IsDocument (text : List ℕ) : Type 0 where
+  pub attributes : List Named
+  pub inner : List ℕ
+  pub tag : IsTag (codes "svg") attributes
+  pub markup : IsMarkup inner
+  pub is : text ≡ declaration ++ (start_tag (codes "svg") attributes ++ (inner ++ end_tag (codes "svg")))
+
+-- a picture is a well-formed document
+abbrev pub PicturesAreWellFormed : Type 0
+PicturesAreWellFormed = (events : List Event) (claimed : Claimed) → IsDocument (svg_picture events claimed)
+
+-- ---- time
+
+-- the row of an event stands above those of later tickets
+abbrev pub RowsRise : Type 0
+RowsRise = (page : Page) (e : Event) (later : ℕ) → Contains page.events e → e.ticket < later → row page e.ticket < row page later
+
+-- a bar ends above another begins exactly where its operation precedes the other: so bars share a height exactly where operations overlap
+abbrev pub BarsOverlapInTime : Type 0
+BarsOverlapInTime =
+    (events : List Event) (claimed : Claimed) (x y : Operation) → IsCompleteHistory events → Contains (operations_of events) x
+    → Contains (operations_of events) y → Precedes x y ↔ (ret_y (page_of events claimed) x.ret < call_y (page_of events claimed) y.call)
+
+-- ---- lanes
+
+-- the lane of a thread ends before that of a higher one begins
+abbrev pub LanesAreApart : Type 0
+LanesAreApart =
+    (page : Page) (thread higher : ℕ) → Contains page.threads thread → thread < higher
+    → thread_x page thread + lane_width page.measures ≤ thread_x page higher

@@ -1,0 +1,6 @@
+pub mod Markup
+pub mod Layout
+pub mod Words
+pub mod Elements
+pub mod Picture
+pub mod Laws

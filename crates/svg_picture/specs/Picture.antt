@@ -1,0 +1,324 @@
+-- The picture of a history and what is claimed of it: the whole as a tree of elements, and its text.
+use Rattle.std.specs.Prelude.{ℕ, ◌+◌, ◌-◌, ◌*◌, max, Bool, true, false, if◌then◌else◌, Option, Some, None, List, [], ◌∷◌, ◌++◌, length, map, codes, decimal, nat_eq, slice_get}
+use Rattle.std.specs.Prelude.{find}
+use Rattle.std.specs.List.{concat, enumerate_from, range_with_len}
+use Rattle.event_records.specs.declared.event.Event.{Event}
+use Rattle.history_merge.specs.declared.operation.Operation.{Operation}
+use Rattle.history_merge.specs.Operations.{operations_of}
+use Rattle.verdicts.specs.declared.verifying.Claimed.{Claimed}
+use Rattle.verdicts.specs.declared.verifying.Claimed.TheVariants.{Yes, No}
+use Rattle.verdicts.specs.declared.verifying.ViolationKind.TheVariants.{VRepeat}
+use Rattle.history_text.specs.Claims.{operations_in}
+use Rattle.drawing.specs.declared.bands.Band.{Band}
+use Rattle.drawing.specs.declared.bands.Head.{Head}
+use Rattle.drawing.specs.declared.bands.Head.TheVariants.{Dequeued, InAndOut, SaidEmpty}
+use Rattle.drawing.specs.Layout.{digits, label, label_width, last_ticket, threads_of, place_in, order_of, point}
+use Rattle.drawing.specs.Bands.{bands_of, head_text}
+use Rattle.drawing.specs.Captions.{headline, caption}
+use Rattle.drawing.specs.Terminal.{way}
+use Rattle.svg_picture.specs.declared.layout.Measures.{Measures}
+use Rattle.svg_picture.specs.Markup.{Named, Content, Nothing, Words, Element, each, group, number, words, document}
+use Rattle.svg_picture.specs.Layout.{Page, shown, bar_width, thread_x, right, band_x, width, legend_y, top, row, effect_row, row_y, call_y, ret_y}
+use Rattle.svg_picture.specs.Layout.{bottom, height, line_count, parts, longest}
+use Rattle.svg_picture.specs.Words.{kind_word, corner, form_class, legend}
+use Rattle.svg_picture.specs.Elements.{text_at, rect, stroke, lines_at, samples, hatch, style_element}
+
+-- ---- what is claimed of an operation
+
+-- the place of an operation in the claim, from 0, where it is there
+abbrev pub place_of : Page → Operation → Option ℕ
+place_of page o = place_in (operations_in page.claimed) o
+
+-- how an operation is marked: of a no those of the claim are on, the others off
+abbrev pub mark : Claimed → Option ℕ → List ℕ
+mark (Yes order) place = codes "yes"
+mark (No kind lines) None = codes "off"
+mark (No kind lines) (Some place) = codes "on"
+
+-- a ticket, or 0 where there is none
+abbrev pub or_zero : Option ℕ → ℕ
+or_zero None = 0
+or_zero (Some n) = n
+
+-- the row of operation i of the order, where it takes effect
+abbrev pub row_of_effect : Page → ℕ → ℕ
+row_of_effect page i = effect_row page (or_zero (slice_get page.points i)) i
+
+-- ---- bars
+
+-- the number of an operation at this place of the claim, in words
+abbrev pub number_words : Option ℕ → List ℕ
+number_words None = []
+number_words (Some place) = codes ", number " ++ decimal (place + 1)
+
+-- what is told of a bar: its thread, what it did, its tickets, and its number
+unfoldable pub bar_words : Operation → Option ℕ → List ℕ
+bar_words o place =
+    concat (codes "thread " ∷ decimal o.thread ∷ codes ": " ∷ label o.kind ∷ codes ", tickets " ∷ decimal o.call ∷ codes " to " ∷ decimal o.ret
+    ∷ number_words place ∷ [])
+
+-- the upper edge of a number: of a yes in the row of the effect, of a no beside the label
+abbrev pub number_y : Page → Claimed → Operation → ℕ → ℕ
+number_y page (Yes order) o place = row_y page (row_of_effect page place) + 2
+number_y page (No kind lines) o place = row_y page (row page o.call) + 12
+
+-- a number in a pill
+unfoldable pub pill : ℕ → ℕ → ℕ → Content
+pill x y n =
+    group (rect (codes "pill") 8 x y (10 + 7 * digits n) 16 ∷ text_at 7 (codes "pick") (x + 5) (y + 12) (decimal n) ∷ [])
+
+-- the number of an operation at this place of the claim
+unfoldable pub bar_number : Page → Operation → Option ℕ → Content
+bar_number page o None = Nothing
+bar_number page o (Some place) =
+    pill (thread_x page o.thread + (15 + 7 * page.measures.label)) (number_y page page.claimed o place) (place + 1)
+
+-- the bar itself, from its call to its return
+unfoldable pub bar_rect : Page → Operation → Content
+bar_rect page o =
+    rect (kind_word o.kind) (corner o.kind) (thread_x page o.thread + 3) (call_y page o.call) (bar_width page.measures) (ret_y page o.ret - call_y page o.call)
+
+-- the label of a bar
+unfoldable pub bar_label : Page → Operation → Content
+bar_label page o = text_at 7 (codes "label") (thread_x page o.thread + 9) (row_y page (row page o.call) + 24) (label o.kind)
+
+-- what stands within the group of a bar
+unfoldable pub bar_parts : Page → Operation → Option ℕ → Content
+bar_parts page o place =
+    group (Element (codes "title") [] (Words (bar_words o place)) ∷ bar_rect page o ∷ bar_label page o ∷ bar_number page o place ∷ [])
+
+-- the bar of an operation at this place of the claim
+unfoldable pub placed_bar : Page → Operation → Option ℕ → Content
+placed_bar page o place = Element (codes "g") (words (codes "class") (mark page.claimed place) ∷ []) (bar_parts page o place)
+
+-- the bar of an operation
+abbrev pub bar : Page → Operation → Content
+bar page o = placed_bar page o (place_of page o)
+
+-- the bars of the operations
+unfoldable pub bars : Page → Content
+bars page = each (bar page) page.operations
+
+-- ---- bands of a no
+
+-- the band is the time that contradicts the others
+abbrev pub is_time : Head → Bool
+is_time (Dequeued v) = true
+is_time (InAndOut v) = true
+is_time SaidEmpty = true
+is_time _ = false
+
+-- the upper edge of a band: the time begins at a call, a value surely is in from a return on
+abbrev pub first_y : Page → Head → Option ℕ → ℕ
+first_y page head None = top page.measures
+first_y page head (Some ticket) = if is_time head then call_y page ticket else ret_y page ticket
+
+-- the lower edge of a band: the time ends at a return, a value surely is in up to a call
+abbrev pub last_y : Page → Head → Option ℕ → ℕ
+last_y page head None = bottom page.measures
+last_y page head (Some ticket) = if is_time head then ret_y page ticket else call_y page ticket
+
+-- the event at this ticket
+abbrev pub event_at : List Event → ℕ → Option Event
+event_at events ticket = find (λ e. nat_eq e.ticket ticket) events
+
+-- a dotted line from the lane of an event to a band
+unfoldable pub from_event : Page → List ℕ → ℕ → ℕ → Option Event → Content
+from_event page class x y None = Nothing
+from_event page class x y (Some e) = stroke class (thread_x page e.thread) y x y
+
+-- a dotted line from the lane of the event at an edge, where it has one
+abbrev pub from_edge : Page → List ℕ → ℕ → ℕ → Option ℕ → Content
+from_edge page class x y None = Nothing
+from_edge page class x y (Some ticket) = from_event page class x y (event_at page.events ticket)
+
+-- a thin line from the head of a band to it, and the band between its edges
+unfoldable pub band_between : List ℕ → ℕ → ℕ → ℕ → ℕ → Content
+band_between class x y first last =
+    group (stroke (codes "lead") x y x first ∷ rect class 0 x first 28 (last - first) ∷ [])
+
+-- the band with its dotted lines, below its head
+unfoldable pub drawn_band : Page → List ℕ → ℕ → ℕ → Band → Content
+drawn_band page class x y band =
+    group (from_edge page class x (first_y page band.head band.first) band.first ∷ from_edge page class x (last_y page band.head band.last) band.last
+    ∷ band_between class x y (first_y page band.head band.first) (last_y page band.head band.last) ∷ [])
+
+-- the band, where its head has a form
+abbrev pub formed_band : Page → List ℕ → ℕ → ℕ → Band → Content
+formed_band page [] x y band = Nothing
+formed_band page (b ∷ class) x y band = drawn_band page (b ∷ class) x y band
+
+-- the heads stand one above another, so that each has the room to its right
+abbrev pub head_y : Measures → ℕ → ℕ
+head_y m i = top m - (8 + 20 * (m.heads - (i + 1)))
+
+-- band i with its head
+unfoldable pub band_at : Page → ℕ → Band → Content
+band_at page i band =
+    group (text_at 7 (codes "name") (band_x page.measures i) (head_y page.measures i) (head_text band.head)
+    ∷ formed_band page (form_class band.head) (band_x page.measures i + 3) (head_y page.measures i + 4) band ∷ [])
+
+-- band i with its head, as it is numbered
+abbrev pub numbered_band : Page → ℕ × Band → Content
+numbered_band page (i, band) = band_at page i band
+
+-- the bands of a no
+unfoldable pub bands : Page → Content
+bands page = each (numbered_band page) (enumerate_from 0 page.bands)
+
+-- whether the value of an operation goes in or out, with a dotted line from its lane
+unfoldable pub way_mark : Page → Operation → Content
+way_mark page o =
+    group (stroke (codes "time") (thread_x page o.thread) (row_y page (row page o.call) + 20) (right page.measures - 3) (row_y page (row page o.call) + 20)
+    ∷ text_at 7 (codes "name") (right page.measures) (row_y page (row page o.call) + 24) (way o.kind) ∷ [])
+
+-- where a value was dequeued twice, the words `in` and `out`
+unfoldable pub ways : Page → Claimed → Content
+ways page (No VRepeat lines) = each (way_mark page) lines
+ways page _ = Nothing
+
+-- ---- the order of a yes
+
+-- the number and the label of operation i of the order, in the row where it takes effect
+unfoldable pub order_line : Page → ℕ → Operation → Content
+order_line page i o =
+    text_at 7 (codes "label") (shown page.measures + 7 * (page.measures.number - digits (i + 1))) (row_y page (row_of_effect page i) + 14)
+    (concat (decimal (i + 1) ∷ codes " " ∷ label o.kind ∷ []))
+
+-- the same, as it is numbered
+abbrev pub numbered_line : Page → ℕ × Operation → Content
+numbered_line page (i, o) = order_line page i o
+
+-- the order of a yes under its name
+unfoldable pub order : Page → Claimed → Content
+order page (Yes operations) =
+    group (text_at 7 (codes "dim") (shown page.measures) (top page.measures - 8) (codes "order")
+    ∷ each (numbered_line page) (enumerate_from 0 operations) ∷ [])
+order page (No kind lines) = Nothing
+
+-- ---- rows and lanes
+
+-- a ticket, at the right of its column
+unfoldable pub ticket_at : Page → Event → Content
+ticket_at page e =
+    text_at 7 (codes "dim") (6 + 7 * (page.measures.ticket - digits e.ticket)) (row_y page (row page e.ticket) + 14) (decimal e.ticket)
+
+-- the tickets, between their name and the end
+unfoldable pub tickets : Page → Content
+tickets page =
+    group (text_at 7 (codes "dim") (6 + 7 * (page.measures.ticket - 6)) (top page.measures - 8) (codes "ticket") ∷ each (ticket_at page) page.events
+    ∷ text_at 7 (codes "dim") (6 + 7 * (page.measures.ticket - 3)) (bottom page.measures - 6) (codes "end") ∷ [])
+
+-- the name of a thread
+unfoldable pub thread_name : ℕ → List ℕ
+thread_name thread = codes "thread " ++ decimal thread
+
+-- the name of a thread above its lane and below it
+unfoldable pub lane_names : Page → ℕ → Content
+lane_names page thread =
+    group (text_at 7 (codes "name") (thread_x page thread + 3) (top page.measures - 8) (thread_name thread)
+    ∷ text_at 7 (codes "name") (thread_x page thread + 3) (bottom page.measures + 14) (thread_name thread) ∷ [])
+
+-- the names of the threads
+unfoldable pub threads : Page → Content
+threads page = each (lane_names page) page.threads
+
+-- the pattern of rows: each second one is tinted
+unfoldable pub row_pattern : Measures → Content
+row_pattern m =
+    Element (codes "pattern") (words (codes "id") (codes "rows") ∷ number (codes "x") 0 ∷ number (codes "y") (top m) ∷ number (codes "width") (width m)
+    ∷ number (codes "height") 40 ∷ words (codes "patternUnits") (codes "userSpaceOnUse") ∷ []) (rect (codes "row") 0 0 0 (width m) 20)
+
+-- the patterns of hatched bands and of rows
+unfoldable pub patterns : Measures → Content
+patterns m = Element (codes "defs") [] (group (hatch ∷ row_pattern m ∷ []))
+
+-- the background, and the rows
+unfoldable pub background : Measures → Content
+background m =
+    group (patterns m ∷ rect (codes "page") 0 0 0 (width m) (height m)
+    ∷ rect (codes "rows") 0 0 (top m) (width m) (bottom m - top m) ∷ [])
+
+-- ---- the whole
+
+-- the words above: the headline, the caption, and how to read the picture
+unfoldable pub heading : Page → Content
+heading page =
+    group (text_at 9 (codes "head") 6 26 (headline page.claimed) ∷ lines_at 8 (codes "say") 46 (caption page.claimed)
+    ∷ samples (legend_y page.measures) ∷ lines_at 7 (codes "dim") (legend_y page.measures + 35) (legend page.claimed) ∷ [])
+
+-- what the picture tells those who don't see it, and its style
+unfoldable pub about : Claimed → Content
+about claimed =
+    group (Element (codes "title") [] (Words (headline claimed)) ∷ Element (codes "desc") [] (Words (caption claimed))
+    ∷ style_element ∷ [])
+
+-- the whole picture's own units
+unfoldable pub view_box : Measures → List ℕ
+view_box m = concat (codes "0 0 " ∷ decimal (width m) ∷ codes " " ∷ decimal (height m) ∷ [])
+
+-- what stands above and under the lanes
+unfoldable pub frame : Page → Content
+frame page = group (about page.claimed ∷ background page.measures ∷ heading page ∷ tickets page ∷ threads page ∷ [])
+
+-- what stands between the tags of the picture
+unfoldable pub inside : Page → Content
+inside page = group (frame page ∷ bands page ∷ ways page page.claimed ∷ order page page.claimed ∷ bars page ∷ [])
+
+-- the attributes of the picture
+abbrev pub page_attributes : Measures → List Named
+page_attributes m =
+    words (codes "xmlns") (codes "http://www.w3.org/2000/svg") ∷ words (codes "version") (codes "1.1") ∷ number (codes "width") (width m)
+    ∷ number (codes "height") (height m) ∷ words (codes "viewBox") (view_box m) ∷ words (codes "role") (codes "img") ∷ []
+
+-- the picture on a page
+unfoldable pub page_content : Page → Content
+page_content page = Element (codes "svg") (page_attributes page.measures) (inside page)
+
+-- ---- of a history and a claim
+
+-- there is an order
+abbrev pub is_yes : Claimed → Bool
+is_yes (Yes order) = true
+is_yes (No kind lines) = false
+
+-- the tickets just after which the operations of an order take effect
+abbrev pub points_of : List Operation → List ℕ
+points_of order = map (point order) (range_with_len 0 (length order))
+
+-- how wide the parts of a picture are, in characters, and how many there are
+abbrev pub measures_of : List Event → Claimed → Measures
+measures_of events claimed = record {
+  ticket = max 6 (digits (last_ticket events));
+  number = digits (length (operations_in claimed));
+  label = label_width (operations_of events);
+  lanes = length (threads_of events);
+  events = length events;
+  effects = length (order_of claimed);
+  heads = length (bands_of claimed);
+  head = longest (map (λ band. head_text band.head) (bands_of claimed));
+  captions = line_count (caption claimed);
+  caption = longest (parts (caption claimed));
+  legend = line_count (legend claimed);
+  is_yes = is_yes claimed;
+}
+
+-- what the picture of a history and a claim is made of
+abbrev pub page_of : List Event → Claimed → Page
+page_of events claimed = record {
+  measures = measures_of events claimed;
+  events = events;
+  operations = operations_of events;
+  threads = threads_of events;
+  claimed = claimed;
+  bands = bands_of claimed;
+  points = points_of (order_of claimed);
+}
+
+-- the picture of a history and what is claimed of it, as a tree of elements
+unfoldable pub picture_content : List Event → Claimed → Content
+picture_content events claimed = page_content (page_of events claimed)
+
+-- the picture of a history and what is claimed of it, as a document
+unfoldable pub svg_picture : List Event → Claimed → List ℕ
+svg_picture events claimed = document (picture_content events claimed)

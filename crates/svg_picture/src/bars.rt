@@ -1,0 +1,240 @@
+//! The bars of the operations.
+ghost use Rattle.std.specs.Prelude.{◌≡◌, ◌++◌, ◌≤◌, ◌^◌, [], OnOk, IfOk, IfSome, length, codes};
+ghost use Rattle.history_text.specs.Claims.{operations_in};
+ghost use Rattle.svg_picture.specs.Markup.{Element, text_of};
+ghost use Rattle.svg_picture.specs.Markup.{Words as InWords};
+ghost use Rattle.svg_picture.specs.Layout.{page_on};
+ghost use Rattle.svg_picture.specs.Picture.{mark, row_of_effect, number_words, bar_words, number_y, pill, bar_number, bar_rect, bar_label, bar_parts, placed_bar, bar, bars};
+
+use crate::elements::{Rect, push_rect, push_text_at};
+use crate::layout::{Sheet, bar_width, call_y, effect_row, ret_y, row, row_y, thread_x};
+use crate::markup::Attribute::Words;
+use crate::markup::{push_element, push_end, push_number, push_start};
+use crate::words::{corner, kind_word};
+use drawing::{digits, operations_in, place_in, push_label};
+use history_merge::Operation;
+use itoa::Buffer;
+use std::alloc::{AllocError, Global};
+use verdicts::Claimed;
+
+fn mark(claimed: &Claimed, place: Option<usize>) -> &'static [u8]
+    ensures { result.now ≡ mark claimed.now place }
+{
+    match claimed {
+        Claimed::Yes(_) => b"yes",
+        Claimed::No(_, _) => match place {
+            None => b"off",
+            Some(_) => b"on",
+        },
+    }
+}
+
+/// The row of an operation of the order, where it takes effect.
+pub(crate) fn row_of_effect(sheet: &Sheet<'_>, i: usize) -> u128
+    ensures value { result ≡ row_of_effect (page_on sheet.now) i }
+    ensures small { result ≤ 2 ^ 65 }
+{
+    let point = match sheet.points.get(i) {
+        None => 0,
+        Some(point) => *point,
+    };
+    effect_row(sheet, point, i)
+}
+
+fn push_number_words(text: &mut Vec<u8>, place: Option<usize>) -> Result<(), AllocError>
+    ensures { OnOk result (text.new.items ≡ text.old.items ++ number_words place) }
+{
+    match place {
+        None => Ok(()),
+        Some(place) => {
+            text.extend_from_slice(b", number ")?;
+            push_number(text, place as u128 + 1)
+        }
+    }
+}
+
+/// What is told of a bar.
+#[tactic(auto, unfolding(crate::specs::Picture::bar_words))]
+fn bar_words(
+    alloc: Global,
+    operation: Operation,
+    place: Option<usize>,
+) -> Result<Vec<u8>, AllocError>
+    ensures { IfOk result (λ words. words.items ≡ bar_words operation place) }
+{
+    let mut words = Vec::from_slice(alloc, b"thread ")?;
+    push_number(&mut words, u128::from(operation.thread))?;
+    words.extend_from_slice(b": ")?;
+    push_label(&mut words, operation.kind)?;
+    words.extend_from_slice(b", tickets ")?;
+    push_number(&mut words, u128::from(operation.call))?;
+    words.extend_from_slice(b" to ")?;
+    push_number(&mut words, u128::from(operation.ret))?;
+    push_number_words(&mut words, place)?;
+    Ok(words)
+}
+
+fn number_y(sheet: &Sheet<'_>, operation: Operation, place: usize) -> u128
+    ensures value { result ≡ number_y (page_on sheet.now) sheet.now.claimed.now operation place }
+    ensures small { result ≤ 2 ^ 92 }
+{
+    match sheet.claimed {
+        Claimed::Yes(_) => row_y(sheet, row_of_effect(sheet, place)) + 2,
+        Claimed::No(_, _) => row_y(sheet, row(sheet, operation.call)) + 12,
+    }
+}
+
+/// Adds a number in a pill.
+#[tactic(auto, unfolding(crate::specs::Picture::pill))]
+fn push_pill(text: &mut Vec<u8>, x: u128, y: u128, number: u64) -> Result<(), AllocError>
+    requires x { x ≤ 2 ^ 92 }
+    requires y { y ≤ 2 ^ 92 }
+    ensures { OnOk result (text.new.items ≡ text.old.items ++ text_of (pill x y number)) }
+{
+    let area = Rect {
+        x,
+        y,
+        width: 10 + 7 * digits(number) as u128,
+        height: 16,
+    };
+    push_rect(text, b"pill", 8, area)?;
+    let mut buffer = Buffer::new();
+    let words = buffer.format(number).as_bytes();
+    push_text_at(text, 7, b"pick", x + 5, y + 12, words)
+}
+
+#[tactic(auto, unfolding(crate::specs::Picture::bar_number))]
+fn push_bar_number(
+    text: &mut Vec<u8>,
+    sheet: &Sheet<'_>,
+    operation: Operation,
+    place: Option<usize>,
+) -> Result<(), AllocError>
+    requires { IfSome place (λ place. place ≤ 1000000) }
+    ensures { OnOk result (text.new.items ≡ text.old.items ++ text_of (bar_number (page_on sheet.now) operation place)) }
+{
+    match place {
+        None => Ok(()),
+        Some(place) => {
+            let label = 15 + 7 * u128::from(sheet.measures.label);
+            let x = thread_x(sheet, operation.thread) + label;
+            let y = number_y(sheet, operation, place);
+            push_pill(text, x, y, place as u64 + 1)
+        }
+    }
+}
+
+#[tactic(auto, unfolding(crate::specs::Picture::bar_rect))]
+fn push_bar_rect(
+    text: &mut Vec<u8>,
+    sheet: &Sheet<'_>,
+    operation: Operation,
+) -> Result<(), AllocError>
+    ensures { OnOk result (text.new.items ≡ text.old.items ++ text_of (bar_rect (page_on sheet.now) operation)) }
+{
+    let y = call_y(sheet, operation.call);
+    let area = Rect {
+        x: thread_x(sheet, operation.thread) + 3,
+        y,
+        width: bar_width(sheet.measures),
+        height: ret_y(sheet, operation.ret).saturating_sub(y),
+    };
+    push_rect(
+        text,
+        kind_word(operation.kind),
+        corner(operation.kind),
+        area,
+    )
+}
+
+#[tactic(auto, unfolding(crate::specs::Picture::bar_label))]
+fn push_bar_label(
+    alloc: Global,
+    text: &mut Vec<u8>,
+    sheet: &Sheet<'_>,
+    operation: Operation,
+) -> Result<(), AllocError>
+    ensures { OnOk result (text.new.items ≡ text.old.items ++ text_of (bar_label (page_on sheet.now) operation)) }
+{
+    let mut label = Vec::new(alloc);
+    push_label(&mut label, operation.kind)?;
+    let x = thread_x(sheet, operation.thread) + 9;
+    let y = row_y(sheet, row(sheet, operation.call)) + 24;
+    push_text_at(text, 7, b"label", x, y, label.as_slice())
+}
+
+fn push_title(
+    alloc: Global,
+    text: &mut Vec<u8>,
+    operation: Operation,
+    place: Option<usize>,
+) -> Result<(), AllocError>
+    ensures { OnOk result (text.new.items ≡ text.old.items ++ text_of (Element (codes "title") [] (InWords (bar_words operation place)))) }
+{
+    let words = bar_words(alloc, operation, place)?;
+    push_element(text, b"title", &[], words.as_slice())
+}
+
+/// What stands within the group of a bar.
+#[tactic(auto, unfolding(crate::specs::Picture::bar_parts))]
+fn push_bar_parts(
+    alloc: Global,
+    text: &mut Vec<u8>,
+    sheet: &Sheet<'_>,
+    operation: Operation,
+    place: Option<usize>,
+) -> Result<(), AllocError>
+    requires { IfSome place (λ place. place ≤ 1000000) }
+    ensures { OnOk result (text.new.items ≡ text.old.items ++ text_of (bar_parts (page_on sheet.now) operation place)) }
+{
+    push_title(alloc, text, operation, place)?;
+    push_bar_rect(text, sheet, operation)?;
+    push_bar_label(alloc, text, sheet, operation)?;
+    push_bar_number(text, sheet, operation, place)
+}
+
+#[tactic(auto, unfolding(crate::specs::Picture::placed_bar))]
+fn push_placed_bar(
+    alloc: Global,
+    text: &mut Vec<u8>,
+    sheet: &Sheet<'_>,
+    operation: Operation,
+    place: Option<usize>,
+) -> Result<(), AllocError>
+    requires { IfSome place (λ place. place ≤ 1000000) }
+    ensures { OnOk result (text.new.items ≡ text.old.items ++ text_of (placed_bar (page_on sheet.now) operation place)) }
+{
+    let class = mark(sheet.claimed, place);
+    push_start(text, b"g", &[Words(b"class", class)])?;
+    push_bar_parts(alloc, text, sheet, operation, place)?;
+    push_end(text, b"g")
+}
+
+fn push_bar(
+    alloc: Global,
+    text: &mut Vec<u8>,
+    sheet: &Sheet<'_>,
+    operation: Operation,
+) -> Result<(), AllocError>
+    requires { length (operations_in sheet.now.claimed.now) ≤ 400 }
+    ensures { OnOk result (text.new.items ≡ text.old.items ++ text_of (bar (page_on sheet.now) operation)) }
+{
+    let place = place_in(operations_in(sheet.claimed), operation);
+    push_placed_bar(alloc, text, sheet, operation, place)
+}
+
+/// Adds the bars of the operations.
+#[tactic(auto, unfolding(crate::specs::Picture::bars))]
+pub(crate) fn push_bars(
+    alloc: Global,
+    text: &mut Vec<u8>,
+    sheet: &Sheet<'_>,
+) -> Result<(), AllocError>
+    requires { length (operations_in sheet.now.claimed.now) ≤ 400 }
+    ensures { OnOk result (text.new.items ≡ text.old.items ++ text_of (bars (page_on sheet.now))) }
+{
+    for operation in sheet.operations {
+        push_bar(alloc, text, sheet, *operation)?;
+    }
+    Ok(())
+}

@@ -1,0 +1,313 @@
+//! What stands beside the lanes: the bands of a no, or the order of a yes.
+ghost use Rattle.std.specs.Prelude.{◌≡◌, ◌++◌, ◌∷◌, ◌≤◌, ◌^◌, [], OnOk, IfOk, length, codes, decimal};
+ghost use Rattle.std.specs.List.{concat, enumerate_from};
+ghost use Rattle.history_text.specs.Claims.{operations_in};
+ghost use Rattle.drawing.specs.Layout.{label};
+ghost use Rattle.svg_picture.specs.Markup.{each, text_of};
+ghost use Rattle.svg_picture.specs.Layout.{page_on};
+ghost use Rattle.svg_picture.specs.Picture.{is_time, first_y, last_y, event_at, from_event, from_edge, band_between, drawn_band, formed_band, head_y, band_at, numbered_band, bands, way_mark, ways, order_line, numbered_line, order};
+
+use crate::bars::row_of_effect;
+use crate::elements::{Rect, push_rect, push_stroke, push_text_at};
+use crate::layout::{
+    Measures, Sheet, band_x, bottom, call_y, ret_y, right, row, row_y, shown, thread_x, top,
+};
+use crate::lines::head_words;
+use crate::markup::push_number;
+use crate::words::form_class;
+use drawing::{Band, Head, digits, push_label, way};
+use event_records::Event;
+use history_merge::Operation;
+use std::alloc::{AllocError, Global};
+use verdicts::{Claimed, ViolationKind};
+
+fn is_time(head: Head) -> bool
+    ensures { result ≡ is_time head }
+{
+    match head {
+        Head::Dequeued(_) | Head::InAndOut(_) | Head::SaidEmpty => true,
+        _ => false,
+    }
+}
+
+/// The upper edge of a band.
+fn first_y(sheet: &Sheet<'_>, head: Head, first: Option<u64>) -> u128
+    ensures { result ≡ first_y (page_on sheet.now) head first }
+{
+    match first {
+        None => top(sheet.measures),
+        Some(ticket) => {
+            if is_time(head) {
+                call_y(sheet, ticket)
+            } else {
+                ret_y(sheet, ticket)
+            }
+        }
+    }
+}
+
+/// The lower edge of a band.
+fn last_y(sheet: &Sheet<'_>, head: Head, last: Option<u64>) -> u128
+    ensures { result ≡ last_y (page_on sheet.now) head last }
+{
+    match last {
+        None => bottom(sheet.measures),
+        Some(ticket) => {
+            if is_time(head) {
+                ret_y(sheet, ticket)
+            } else {
+                call_y(sheet, ticket)
+            }
+        }
+    }
+}
+
+fn event_at(events: &[Event], ticket: u64) -> Option<Event>
+    ensures { result ≡ event_at events.now ticket }
+{
+    for event in events {
+        if event.ticket == ticket {
+            return Some(*event);
+        }
+    }
+    None
+}
+
+#[tactic(auto, unfolding(crate::specs::Picture::from_event))]
+fn push_from_event(
+    text: &mut Vec<u8>,
+    sheet: &Sheet<'_>,
+    class: &[u8],
+    x: u128,
+    y: u128,
+    event: Option<Event>,
+) -> Result<(), AllocError>
+    ensures { OnOk result (text.new.items ≡ text.old.items ++ text_of (from_event (page_on sheet.now) class.now x y event)) }
+{
+    match event {
+        None => Ok(()),
+        Some(event) => push_stroke(text, class, (thread_x(sheet, event.thread), y), (x, y)),
+    }
+}
+
+/// A dotted line from the lane of the event at an edge.
+fn push_from_edge(
+    text: &mut Vec<u8>,
+    sheet: &Sheet<'_>,
+    class: &[u8],
+    x: u128,
+    y: u128,
+    edge: Option<u64>,
+) -> Result<(), AllocError>
+    ensures { OnOk result (text.new.items ≡ text.old.items ++ text_of (from_edge (page_on sheet.now) class.now x y edge)) }
+{
+    match edge {
+        None => Ok(()),
+        Some(ticket) => {
+            let event = event_at(sheet.events, ticket);
+            push_from_event(text, sheet, class, x, y, event)
+        }
+    }
+}
+
+#[tactic(auto, unfolding(crate::specs::Picture::band_between))]
+fn push_band_between(
+    text: &mut Vec<u8>,
+    class: &[u8],
+    x: u128,
+    y: u128,
+    first: u128,
+    last: u128,
+) -> Result<(), AllocError>
+    ensures { OnOk result (text.new.items ≡ text.old.items ++ text_of (band_between class.now x y first last)) }
+{
+    push_stroke(text, b"lead", (x, y), (x, first))?;
+    let area = Rect {
+        x,
+        y: first,
+        width: 28,
+        height: last.saturating_sub(first),
+    };
+    push_rect(text, class, 0, area)
+}
+
+#[tactic(auto, unfolding(crate::specs::Picture::drawn_band))]
+fn push_drawn_band(
+    text: &mut Vec<u8>,
+    sheet: &Sheet<'_>,
+    class: &[u8],
+    x: u128,
+    y: u128,
+    band: Band,
+) -> Result<(), AllocError>
+    ensures { OnOk result (text.new.items ≡ text.old.items ++ text_of (drawn_band (page_on sheet.now) class.now x y band)) }
+{
+    let first = first_y(sheet, band.head, band.first);
+    let last = last_y(sheet, band.head, band.last);
+    push_from_edge(text, sheet, class, x, first, band.first)?;
+    push_from_edge(text, sheet, class, x, last, band.last)?;
+    push_band_between(text, class, x, y, first, last)
+}
+
+fn push_formed_band(
+    text: &mut Vec<u8>,
+    sheet: &Sheet<'_>,
+    class: &[u8],
+    x: u128,
+    y: u128,
+    band: Band,
+) -> Result<(), AllocError>
+    ensures { OnOk result (text.new.items ≡ text.old.items ++ text_of (formed_band (page_on sheet.now) class.now x y band)) }
+{
+    match class {
+        [] => Ok(()),
+        [_, ..] => push_drawn_band(text, sheet, class, x, y, band),
+    }
+}
+
+fn head_y(m: Measures, i: usize) -> u128
+    ensures value { result ≡ head_y m i }
+    ensures small { result ≤ 2 ^ 92 }
+{
+    let later = (m.heads as u128).saturating_sub(i as u128 + 1);
+    top(m).saturating_sub(8 + 20 * later)
+}
+
+#[tactic(auto, unfolding(crate::specs::Picture::band_at))]
+fn push_band_at(
+    alloc: Global,
+    text: &mut Vec<u8>,
+    sheet: &Sheet<'_>,
+    i: usize,
+    band: Band,
+) -> Result<(), AllocError>
+    ensures { OnOk result (text.new.items ≡ text.old.items ++ text_of (band_at (page_on sheet.now) i band)) }
+{
+    let x = band_x(sheet.measures, i);
+    let y = head_y(sheet.measures, i);
+    let words = head_words(alloc, band.head)?;
+    push_text_at(text, 7, b"name", x, y, words.as_slice())?;
+    push_formed_band(text, sheet, form_class(band.head), x + 3, y + 4, band)
+}
+
+/// Adds the bands of a no, with their heads.
+#[tactic(auto, unfolding(crate::specs::Picture::bands))]
+pub(crate) fn push_bands(
+    alloc: Global,
+    text: &mut Vec<u8>,
+    sheet: &Sheet<'_>,
+) -> Result<(), AllocError>
+    ensures { OnOk result (text.new.items ≡ text.old.items ++ text_of (bands (page_on sheet.now))) }
+{
+    for (i, band) in sheet.bands.iter().enumerate() {
+        push_band_at(alloc, text, sheet, i, *band)?;
+    }
+    Ok(())
+}
+
+#[tactic(auto, unfolding(crate::specs::Picture::way_mark))]
+fn push_way_mark(
+    text: &mut Vec<u8>,
+    sheet: &Sheet<'_>,
+    operation: Operation,
+) -> Result<(), AllocError>
+    ensures { OnOk result (text.new.items ≡ text.old.items ++ text_of (way_mark (page_on sheet.now) operation)) }
+{
+    let x = right(sheet.measures);
+    let y = row_y(sheet, row(sheet, operation.call));
+    let from = (thread_x(sheet, operation.thread), y + 20);
+    push_stroke(text, b"time", from, (x.saturating_sub(3), y + 20))?;
+    push_text_at(text, 7, b"name", x, y + 24, way(operation.kind))
+}
+
+fn push_way_marks(
+    text: &mut Vec<u8>,
+    sheet: &Sheet<'_>,
+    lines: &[Operation],
+) -> Result<(), AllocError>
+    ensures { OnOk result (text.new.items ≡ text.old.items ++ text_of (each (way_mark (page_on sheet.now)) lines.now)) }
+{
+    for operation in lines {
+        push_way_mark(text, sheet, *operation)?;
+    }
+    Ok(())
+}
+
+/// Adds the words `in` and `out`, where a value was dequeued twice.
+#[tactic(auto, unfolding(crate::specs::Picture::ways))]
+pub(crate) fn push_ways(text: &mut Vec<u8>, sheet: &Sheet<'_>) -> Result<(), AllocError>
+    ensures { OnOk result (text.new.items ≡ text.old.items ++ text_of (ways (page_on sheet.now) sheet.now.claimed.now)) }
+{
+    match sheet.claimed {
+        Claimed::No(ViolationKind::VRepeat, lines) => {
+            push_way_marks(text, sheet, lines.as_slice())
+        }
+        _ => Ok(()),
+    }
+}
+
+/// The number and the label of an operation of the order.
+fn order_words(alloc: Global, number: u64, operation: Operation) -> Result<Vec<u8>, AllocError>
+    ensures { IfOk result (λ words. words.items ≡ concat (decimal number ∷ codes " " ∷ label operation.kind ∷ [])) }
+{
+    let mut words = Vec::new(alloc);
+    push_number(&mut words, u128::from(number))?;
+    words.extend_from_slice(b" ")?;
+    push_label(&mut words, operation.kind)?;
+    Ok(words)
+}
+
+#[tactic(auto, unfolding(crate::specs::Picture::order_line))]
+fn push_order_line(
+    alloc: Global,
+    text: &mut Vec<u8>,
+    sheet: &Sheet<'_>,
+    i: usize,
+    operation: Operation,
+) -> Result<(), AllocError>
+    requires { i ≤ 1000000 }
+    ensures { OnOk result (text.new.items ≡ text.old.items ++ text_of (order_line (page_on sheet.now) i operation)) }
+{
+    let number = i as u64 + 1;
+    let blanks = u128::from(sheet.measures.number).saturating_sub(digits(number) as u128);
+    let x = shown(sheet.measures) + 7 * blanks;
+    let y = row_y(sheet, row_of_effect(sheet, i)) + 14;
+    let words = order_words(alloc, number, operation)?;
+    push_text_at(text, 7, b"label", x, y, words.as_slice())
+}
+
+fn push_order_lines(
+    alloc: Global,
+    text: &mut Vec<u8>,
+    sheet: &Sheet<'_>,
+    operations: &[Operation],
+) -> Result<(), AllocError>
+    requires { length operations.now ≤ 400 }
+    ensures { OnOk result (text.new.items ≡ text.old.items ++ text_of (each (numbered_line (page_on sheet.now)) (enumerate_from 0 operations.now))) }
+{
+    for (i, operation) in operations.iter().enumerate() {
+        push_order_line(alloc, text, sheet, i, *operation)?;
+    }
+    Ok(())
+}
+
+/// Adds the order of a yes under its name.
+#[tactic(auto, unfolding(crate::specs::Picture::order))]
+pub(crate) fn push_order(
+    alloc: Global,
+    text: &mut Vec<u8>,
+    sheet: &Sheet<'_>,
+) -> Result<(), AllocError>
+    requires { length (operations_in sheet.now.claimed.now) ≤ 400 }
+    ensures { OnOk result (text.new.items ≡ text.old.items ++ text_of (order (page_on sheet.now) sheet.now.claimed.now)) }
+{
+    match sheet.claimed {
+        Claimed::No(_, _) => Ok(()),
+        Claimed::Yes(operations) => {
+            let x = shown(sheet.measures);
+            let y = top(sheet.measures) - 8;
+            push_text_at(text, 7, b"dim", x, y, b"order")?;
+            push_order_lines(alloc, text, sheet, operations.as_slice())
+        }
+    }
+}

@@ -1,0 +1,199 @@
+//! The elements of a picture.
+ghost use Rattle.std.specs.Prelude.{◌≡◌, ◌+◌, ◌*◌, ◌++◌, ◌≤◌, ◌^◌, OnOk, length};
+ghost use Rattle.svg_picture.specs.Layout.{parts};
+ghost use Rattle.svg_picture.specs.Markup.{text_of, named};
+ghost use Rattle.svg_picture.specs.Elements.{text_at, rect, stroke, line_at, lines_from, lines_at, sample, samples, hatch};
+
+use crate::lines::split_line;
+use crate::markup::Attribute::{Number, Words};
+use crate::markup::{push_element, push_end, push_start};
+use std::alloc::AllocError;
+
+/// Adds words of a class from a point on, so many pixels for each character.
+#[tactic(auto, unfolding(crate::specs::Elements::text_at))]
+pub(crate) fn push_text_at(
+    text: &mut Vec<u8>,
+    char: u8,
+    class: &[u8],
+    x: u128,
+    y: u128,
+    words: &[u8],
+) -> Result<(), AllocError>
+    ensures { OnOk result (text.new.items ≡ text.old.items ++ text_of (text_at char class.now x y words.now)) }
+{
+    let wide = u128::from(char) * words.len() as u128;
+    push_element(
+        text,
+        b"text",
+        &[
+            Number(b"x", x),
+            Number(b"y", y),
+            Number(b"textLength", wide),
+            Words(b"class", class),
+        ],
+        words,
+    )
+}
+
+/// A rectangle.
+#[derive(Clone, Copy)]
+pub(crate) struct Rect {
+    pub x: u128,
+    pub y: u128,
+    pub width: u128,
+    pub height: u128,
+}
+
+/// Adds a rectangle of a class, with round corners.
+#[tactic(auto, unfolding(crate::specs::Elements::rect))]
+pub(crate) fn push_rect(
+    text: &mut Vec<u8>,
+    class: &[u8],
+    round: u128,
+    area: Rect,
+) -> Result<(), AllocError>
+    ensures { OnOk result (text.new.items ≡ text.old.items ++ text_of (rect class.now round area.x area.y area.width area.height)) }
+{
+    push_element(
+        text,
+        b"rect",
+        &[
+            Number(b"x", area.x),
+            Number(b"y", area.y),
+            Number(b"width", area.width),
+            Number(b"height", area.height),
+            Number(b"rx", round),
+            Words(b"class", class),
+        ],
+        b"",
+    )
+}
+
+/// Adds a straight line of a class.
+#[tactic(auto, unfolding(crate::specs::Elements::stroke))]
+pub(crate) fn push_stroke(
+    text: &mut Vec<u8>,
+    class: &[u8],
+    from: (u128, u128),
+    to: (u128, u128),
+) -> Result<(), AllocError>
+    ensures { OnOk result (text.new.items ≡ text.old.items ++ text_of (stroke class.now from.0 from.1 to.0 to.1)) }
+{
+    push_element(
+        text,
+        b"line",
+        &[
+            Number(b"x1", from.0),
+            Number(b"y1", from.1),
+            Number(b"x2", to.0),
+            Number(b"y2", to.1),
+            Words(b"class", class),
+        ],
+        b"",
+    )
+}
+
+fn push_line_at(
+    text: &mut Vec<u8>,
+    char: u8,
+    class: &[u8],
+    y: u128,
+    words: &[u8],
+) -> Result<(), AllocError>
+    ensures { OnOk result (text.new.items ≡ text.old.items ++ text_of (line_at char class.now y words.now)) }
+{
+    match words {
+        [] => Ok(()),
+        [_, ..] => push_text_at(text, char, class, 6, y, words),
+    }
+}
+
+fn push_lines_from(
+    text: &mut Vec<u8>,
+    char: u8,
+    class: &[u8],
+    y: u128,
+    words: &[u8],
+) -> Result<(), AllocError>
+    requires { y + 20 * length words.now ≤ 2 ^ 100 }
+    ensures { OnOk result (text.new.items ≡ text.old.items ++ text_of (lines_from char class.now y (parts words.now))) }
+{
+    match split_line(words) {
+        None => push_line_at(text, char, class, y, words),
+        Some((line, rest)) => {
+            push_line_at(text, char, class, y, line)?;
+            push_lines_from(text, char, class, y + 20, rest)
+        }
+    }
+}
+
+/// Adds the lines of a text, each 20 pixels below the one before.
+#[tactic(auto, unfolding(crate::specs::Elements::lines_at))]
+pub(crate) fn push_lines_at(
+    text: &mut Vec<u8>,
+    char: u8,
+    class: &[u8],
+    y: u128,
+    words: &[u8],
+) -> Result<(), AllocError>
+    requires { y ≤ 2 ^ 90 }
+    ensures { OnOk result (text.new.items ≡ text.old.items ++ text_of (lines_at char class.now y words.now)) }
+{
+    push_lines_from(text, char, class, y, words)
+}
+
+/// Adds a sample of a bar with its word, and what it means.
+#[tactic(auto, unfolding(crate::specs::Elements::sample))]
+fn push_sample(
+    text: &mut Vec<u8>,
+    x: u128,
+    y: u128,
+    class: &[u8],
+    round: u128,
+    meaning: &[u8],
+) -> Result<(), AllocError>
+    requires x { x ≤ 2 ^ 90 }
+    requires y { y ≤ 2 ^ 90 }
+    ensures { OnOk result (text.new.items ≡ text.old.items ++ text_of (sample x y class.now round meaning.now)) }
+{
+    let bar = Rect {
+        x,
+        y,
+        width: 47,
+        height: 18,
+    };
+    push_rect(text, class, round, bar)?;
+    push_text_at(text, 7, b"label", x + 6, y + 13, class)?;
+    push_text_at(text, 7, b"dim", x + 53, y + 13, meaning)
+}
+
+/// Adds the four samples of bars.
+#[tactic(auto, unfolding(crate::specs::Elements::samples))]
+pub(crate) fn push_samples(text: &mut Vec<u8>, y: u128) -> Result<(), AllocError>
+    requires { y ≤ 2 ^ 90 }
+    ensures { OnOk result (text.new.items ≡ text.old.items ++ text_of (samples y)) }
+{
+    push_sample(text, 6, y, b"enq", 0, b"enqueued")?;
+    push_sample(text, 151, y, b"deq", 9, b"dequeued")?;
+    push_sample(text, 296, y, b"empty", 9, b"found empty")?;
+    push_sample(text, 441, y, b"not", 0, b"not taken")
+}
+
+/// Adds the pattern of a hatched band.
+#[tactic(auto, unfolding(crate::specs::Elements::hatch))]
+pub(crate) fn push_hatch(text: &mut Vec<u8>) -> Result<(), AllocError>
+    ensures { OnOk result (text.new.items ≡ text.old.items ++ text_of hatch) }
+{
+    push_start(
+        text,
+        b"pattern",
+        &[
+            Words(b"id", b"hatch"),
+            Number(b"width", 8),
+            Number(b"height", 8),
+            Words(b"patternUnits", b"userSpaceOnUse"),
+        ],
+    )?;
+    push_stroke(text, b"hatch", (0, 8), (8, 0))?;
+    push_end(text, b"pattern")
+}

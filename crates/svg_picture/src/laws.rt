@@ -1,0 +1,19 @@
+ghost use Rattle.svg_picture.specs.Laws.{PicturesAreWellFormed, RowsRise, BarsOverlapInTime, LanesAreApart};
+
+/// A picture is a well-formed document: each element is closed, and no value or words have a byte that means markup. The law is
+/// the contract; the body is empty.
+pub fn pictures_are_well_formed()
+    ensures { PicturesAreWellFormed }
+{}
+
+/// Rows rise with tickets, and bars share a height exactly where operations overlap. The laws are the contract; the body is
+/// empty.
+pub fn bars_overlap_as_operations_do()
+    ensures rise { RowsRise }
+    ensures overlap { BarsOverlapInTime }
+{}
+
+/// The lane of a thread ends before that of a higher one begins. The law is the contract; the body is empty.
+pub fn svg_lanes_stand_apart()
+    ensures { LanesAreApart }
+{}

@@ -1,0 +1,213 @@
+//! Where things stand in a picture, in pixels.
+ghost use Rattle.std.specs.Prelude.{◌≡◌, ◌≤◌, ◌^◌};
+ghost use Rattle.svg_picture.specs.Layout.{page_on, shown, order_width, left, bar_width, lane_width, lane_x, thread_x, right, band_x, width, legend_y, top, row, effect_row, row_y, call_y, ret_y, bottom, height};
+
+use drawing::Band;
+use event_records::Event;
+use history_merge::Operation;
+use verdicts::Claimed;
+
+/// How wide the parts of a picture are, in characters, and how many there are.
+#[derive(Clone, Copy, Debug, PartialEq, Eq)]
+pub struct Measures {
+    /// The widest ticket, or the word above it.
+    pub ticket: u8,
+    /// The greatest number of the claim.
+    pub number: u8,
+    /// The longest label.
+    pub label: u8,
+    /// How many threads have events.
+    pub lanes: usize,
+    /// How many events there are.
+    pub events: usize,
+    /// How many operations the order of a yes has.
+    pub effects: usize,
+    /// How many bands of a no have a head.
+    pub heads: usize,
+    /// The longest head.
+    pub head: usize,
+    /// How many lines the caption has.
+    pub captions: usize,
+    /// The longest of them.
+    pub caption: usize,
+    /// How many lines say how to read the picture.
+    pub legend: usize,
+    /// Whether it is of a yes.
+    pub is_yes: bool,
+}
+
+/// What a picture is made of.
+#[derive(Clone, Copy)]
+pub struct Sheet<'a> {
+    pub measures: Measures,
+    pub events: &'a [Event],
+    pub operations: &'a [Operation],
+    pub threads: &'a [u8],
+    pub claimed: &'a Claimed,
+    pub bands: &'a [Band],
+    /// The tickets just after which the operations of a yes take effect, in its order.
+    pub points: &'a [u64],
+}
+
+/// Where the tickets end, with a gap.
+pub(crate) fn shown(m: Measures) -> u128
+    ensures value { result ≡ shown m }
+    ensures small { result ≤ 10000 }
+{
+    18 + 7 * u128::from(m.ticket)
+}
+
+fn order_width(m: Measures) -> u128
+    ensures value { result ≡ order_width m }
+    ensures small { result ≤ 10000 }
+{
+    if m.is_yes {
+        12 + 7 * (u128::from(m.number) + 1 + u128::from(m.label))
+    } else {
+        0
+    }
+}
+
+fn left(m: Measures) -> u128
+    ensures value { result ≡ left m }
+    ensures small { result ≤ 20000 }
+{
+    shown(m) + order_width(m)
+}
+
+/// How wide a bar is.
+pub(crate) fn bar_width(m: Measures) -> u128
+    ensures value { result ≡ bar_width m }
+    ensures small { result ≤ 10000 }
+{
+    28 + 7 * (u128::from(m.label) + u128::from(m.number))
+}
+
+fn lane_x(m: Measures, before: usize) -> u128
+    ensures value { result ≡ lane_x m before }
+    ensures small { result ≤ 2 ^ 90 }
+{
+    let lane = bar_width(m) + 6;
+    left(m) + lane * before as u128
+}
+
+/// Where the lane of a thread begins.
+#[tactic(auto, unfolding(crate::specs::Layout::thread_x))]
+pub(crate) fn thread_x(sheet: &Sheet<'_>, thread: u8) -> u128
+    ensures value { result ≡ thread_x (page_on sheet.now) thread }
+    ensures small { result ≤ 2 ^ 90 }
+{
+    let before = sheet
+        .threads
+        .iter()
+        .filter(|lower| **lower < thread)
+        .count();
+    lane_x(sheet.measures, before)
+}
+
+/// Where the lanes end, with a gap.
+pub(crate) fn right(m: Measures) -> u128
+    ensures value { result ≡ right m }
+    ensures small { result ≤ 2 ^ 91 }
+{
+    lane_x(m, m.lanes) + 12
+}
+
+/// Where a band stands, with so many to its left.
+pub(crate) fn band_x(m: Measures, i: usize) -> u128
+    ensures value { result ≡ band_x m i }
+    ensures small { result ≤ 2 ^ 92 }
+{
+    right(m) + 36 * i as u128
+}
+
+/// How wide the picture is.
+#[tactic(auto, unfolding(crate::specs::Layout::width))]
+pub(crate) fn width(m: Measures) -> u128
+    ensures value { result ≡ width m }
+    ensures small { result ≤ 2 ^ 93 }
+{
+    let words = (6 + 8 * m.caption as u128).max(582);
+    let lanes = right(m) + 36 * m.heads as u128 + 7 * m.head as u128;
+    6 + words.max(lanes)
+}
+
+/// Where the samples of bars stand.
+pub(crate) fn legend_y(m: Measures) -> u128
+    ensures value { result ≡ legend_y m }
+    ensures small { result ≤ 2 ^ 80 }
+{
+    40 + 20 * m.captions as u128
+}
+
+/// Where the first row begins.
+#[tactic(auto, unfolding(crate::specs::Layout::top))]
+pub(crate) fn top(m: Measures) -> u128
+    ensures value { result ≡ top m }
+    ensures small { result ≤ 2 ^ 90 }
+    ensures room { 92 ≤ result }
+{
+    legend_y(m) + 32 + 20 * (m.legend as u128 + m.heads.max(1) as u128)
+}
+
+/// The row of an event, from 0.
+#[tactic(auto, unfolding(crate::specs::Layout::row))]
+pub(crate) fn row(sheet: &Sheet<'_>, ticket: u64) -> u128
+    ensures value { result ≡ row (page_on sheet.now) ticket }
+    ensures small { result ≤ 2 ^ 65 }
+{
+    let events = sheet.events.iter().filter(|event| event.ticket < ticket);
+    let effects = sheet.points.iter().filter(|point| **point < ticket);
+    events.count() as u128 + effects.count() as u128
+}
+
+/// The row of an effect just after this ticket, from 0, with so many effects before it.
+#[tactic(auto, unfolding(crate::specs::Layout::effect_row))]
+pub(crate) fn effect_row(sheet: &Sheet<'_>, point: u64, i: usize) -> u128
+    ensures value { result ≡ effect_row (page_on sheet.now) point i }
+    ensures small { result ≤ 2 ^ 65 }
+{
+    let events = sheet.events.iter().filter(|event| event.ticket <= point);
+    events.count() as u128 + i as u128
+}
+
+/// The upper edge of a row.
+pub(crate) fn row_y(sheet: &Sheet<'_>, row: u128) -> u128
+    requires { row ≤ 2 ^ 65 }
+    ensures value { result ≡ row_y (page_on sheet.now) row }
+    ensures small { result ≤ 2 ^ 91 }
+{
+    top(sheet.measures) + 20 * row
+}
+
+/// The upper edge of a bar, in the row of its call.
+pub(crate) fn call_y(sheet: &Sheet<'_>, ticket: u64) -> u128
+    ensures { result ≡ call_y (page_on sheet.now) ticket }
+{
+    row_y(sheet, row(sheet, ticket)) + 3
+}
+
+/// The lower edge of a bar, in the row of its return.
+pub(crate) fn ret_y(sheet: &Sheet<'_>, ticket: u64) -> u128
+    ensures { result ≡ ret_y (page_on sheet.now) ticket }
+{
+    row_y(sheet, row(sheet, ticket)) + 17
+}
+
+/// Where the last row ends.
+#[tactic(auto, unfolding(crate::specs::Layout::bottom))]
+pub(crate) fn bottom(m: Measures) -> u128
+    ensures value { result ≡ bottom m }
+    ensures small { result ≤ 2 ^ 91 }
+    ensures room { top m ≤ result }
+    ensures below { 112 ≤ result }
+{
+    top(m) + 20 * (m.events as u128 + m.effects as u128 + 1)
+}
+
+/// How high the picture is.
+pub(crate) fn height(m: Measures) -> u128
+    ensures { result ≡ height m }
+{
+    bottom(m) + 26
+}

@@ -1,0 +1,18 @@
+//! Pictures of histories, with what is claimed of them, as SVG documents.
+#![tactic(auto)]
+
+mod bars;
+mod beside;
+mod elements;
+mod laws;
+mod layout;
+mod lines;
+mod markup;
+mod picture;
+mod rows;
+mod words;
+mod writing;
+
+pub use laws::{bars_overlap_as_operations_do, pictures_are_well_formed, svg_lanes_stand_apart};
+pub use picture::svg_picture;
+pub use writing::write_svg_picture;

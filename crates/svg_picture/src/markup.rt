@@ -1,0 +1,98 @@
+//! Markup: elements with attributes, each closed by its end tag.
+ghost use Rattle.std.specs.Prelude.{◌≡◌, ◌++◌, OnOk, map, decimal};
+ghost use Rattle.std.specs.List.{flat_map};
+ghost use Rattle.svg_picture.specs.Markup.{Element, attribute_text, named, start_tag, end_tag, text_of};
+ghost use Rattle.svg_picture.specs.Markup.{Words as InWords};
+
+use itoa::Buffer;
+use std::alloc::AllocError;
+
+/// An attribute of an element: its name and its value.
+#[derive(Clone, Copy, Debug)]
+pub enum Attribute<'a> {
+    /// The digits of this number.
+    Number(&'a [u8], u128),
+    /// These words.
+    Words(&'a [u8], &'a [u8]),
+}
+
+/// Adds a number in its digits.
+pub(crate) fn push_number(text: &mut Vec<u8>, number: u128) -> Result<(), AllocError>
+    ensures { OnOk result (text.new.items ≡ text.old.items ++ decimal number) }
+{
+    let mut buffer = Buffer::new();
+    text.extend_from_slice(buffer.format(number).as_bytes())
+}
+
+fn push_value(text: &mut Vec<u8>, attribute: Attribute<'_>) -> Result<(), AllocError>
+    ensures { OnOk result (text.new.items ≡ text.old.items ++ (named attribute.entry).value) }
+{
+    match attribute {
+        Attribute::Number(_, number) => push_number(text, number),
+        Attribute::Words(_, words) => text.extend_from_slice(words),
+    }
+}
+
+fn name_of<'a>(attribute: Attribute<'a>) -> &'a [u8]
+    ensures { result.now ≡ (named attribute.entry).name }
+{
+    match attribute {
+        Attribute::Number(name, _) | Attribute::Words(name, _) => name,
+    }
+}
+
+fn push_attribute(text: &mut Vec<u8>, attribute: Attribute<'_>) -> Result<(), AllocError>
+    ensures { OnOk result (text.new.items ≡ text.old.items ++ attribute_text (named attribute.entry)) }
+{
+    text.extend_from_slice(b" ")?;
+    text.extend_from_slice(name_of(attribute))?;
+    text.extend_from_slice(b"=\"")?;
+    push_value(text, attribute)?;
+    text.extend_from_slice(b"\"")
+}
+
+fn push_attributes(text: &mut Vec<u8>, attributes: &[Attribute<'_>]) -> Result<(), AllocError>
+    ensures { OnOk result (text.new.items ≡ text.old.items ++ flat_map attribute_text (map named attributes.now)) }
+{
+    for attribute in attributes {
+        push_attribute(text, *attribute)?;
+    }
+    Ok(())
+}
+
+/// Adds the tag that begins an element.
+pub(crate) fn push_start(
+    text: &mut Vec<u8>,
+    name: &[u8],
+    attributes: &[Attribute<'_>],
+) -> Result<(), AllocError>
+    ensures { OnOk result (text.new.items ≡ text.old.items ++ start_tag name.now (map named attributes.now)) }
+{
+    text.extend_from_slice(b"<")?;
+    text.extend_from_slice(name)?;
+    push_attributes(text, attributes)?;
+    text.extend_from_slice(b">")
+}
+
+/// Adds the tag that closes an element.
+pub(crate) fn push_end(text: &mut Vec<u8>, name: &[u8]) -> Result<(), AllocError>
+    ensures { OnOk result (text.new.items ≡ text.old.items ++ end_tag name.now) }
+{
+    text.extend_from_slice(b"</")?;
+    text.extend_from_slice(name)?;
+    text.extend_from_slice(b">\n")
+}
+
+/// Adds an element with words in it.
+pub(crate) fn push_element(
+    text: &mut Vec<u8>,
+    name: &[u8],
+    attributes: &[Attribute<'_>],
+    words: &[u8],
+) -> Result<(), AllocError>
+    ensures { OnOk result (text.new.items ≡ text.old.items ++ text_of (Element name.now (map named attributes.now) (InWords words.now))) }
+{
+    push_start(text, name, attributes)?;
+    text.extend_from_slice(words)?;
+    push_end(text, name)
+}

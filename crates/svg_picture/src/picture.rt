@@ -1,0 +1,210 @@
+//! A picture as an SVG document.
+ghost use Rattle.std.specs.Prelude.{◌≡◌, ◌++◌, ◌≤◌, OnOk, IfOk, length};
+ghost use Rattle.history_text.specs.Claims.{operations_in};
+ghost use Rattle.drawing.specs.Layout.{threads_of};
+ghost use Rattle.drawing.specs.Bands.{bands_of};
+ghost use Rattle.drawing.specs.Captions.{caption};
+ghost use Rattle.svg_picture.specs.Markup.{text_of};
+ghost use Rattle.svg_picture.specs.Layout.{page_on};
+ghost use Rattle.svg_picture.specs.Picture.{about, frame, heading, inside, is_yes, measures_of, page_content, points_of, svg_picture, view_box};
+
+use crate::bars::push_bars;
+use crate::beside::{push_bands, push_order, push_ways};
+use crate::elements::{push_lines_at, push_samples, push_text_at};
+use crate::layout::{Measures, Sheet, height, legend_y, width};
+use crate::lines::{line_count, longest_head, longest_line};
+use crate::markup::Attribute::{Number, Words};
+use crate::markup::{push_element, push_end, push_number, push_start};
+use crate::rows::{push_background, push_threads, push_tickets};
+use crate::words::{legend, push_style};
+use drawing::{
+    Band, MOST_DRAWN, bands_of, digits, headline, label_width, last_ticket, operations_in,
+    order_of, push_caption, threads_of,
+};
+use history_merge::{History, Operation};
+use std::alloc::{AllocError, Global};
+use verdicts::Claimed;
+
+fn caption_of(alloc: Global, claimed: &Claimed) -> Result<Vec<u8>, AllocError>
+    requires { length (operations_in claimed.now) ≤ 400 }
+    ensures { IfOk result (λ words. words.items ≡ caption claimed.now) }
+{
+    let mut words = Vec::new(alloc);
+    push_caption(&mut words, claimed)?;
+    Ok(words)
+}
+
+/// Adds the words above: the headline, the caption, and how to read the picture.
+#[tactic(auto, unfolding(crate::specs::Picture::heading))]
+fn push_heading(alloc: Global, text: &mut Vec<u8>, sheet: &Sheet<'_>) -> Result<(), AllocError>
+    requires { length (operations_in sheet.now.claimed.now) ≤ 400 }
+    ensures { OnOk result (text.new.items ≡ text.old.items ++ text_of (heading (page_on sheet.now))) }
+{
+    let y = legend_y(sheet.measures);
+    push_text_at(text, 9, b"head", 6, 26, headline(sheet.claimed))?;
+    let caption = caption_of(alloc, sheet.claimed)?;
+    push_lines_at(text, 8, b"say", 46, caption.as_slice())?;
+    push_samples(text, y)?;
+    let legend = legend(alloc, sheet.claimed)?;
+    push_lines_at(text, 7, b"dim", y + 35, legend.as_slice())
+}
+
+/// Adds what the picture tells those who don't see it, and its style.
+#[tactic(auto, unfolding(crate::specs::Picture::about))]
+fn push_about(alloc: Global, text: &mut Vec<u8>, claimed: &Claimed) -> Result<(), AllocError>
+    requires { length (operations_in claimed.now) ≤ 400 }
+    ensures { OnOk result (text.new.items ≡ text.old.items ++ text_of (about claimed.now)) }
+{
+    push_element(text, b"title", &[], headline(claimed))?;
+    let caption = caption_of(alloc, claimed)?;
+    push_element(text, b"desc", &[], caption.as_slice())?;
+    push_style(text)
+}
+
+/// Adds what stands above and under the lanes.
+#[tactic(auto, unfolding(crate::specs::Picture::frame))]
+fn push_frame(alloc: Global, text: &mut Vec<u8>, sheet: &Sheet<'_>) -> Result<(), AllocError>
+    requires { length (operations_in sheet.now.claimed.now) ≤ 400 }
+    ensures { OnOk result (text.new.items ≡ text.old.items ++ text_of (frame (page_on sheet.now))) }
+{
+    push_about(alloc, text, sheet.claimed)?;
+    push_background(text, sheet.measures)?;
+    push_heading(alloc, text, sheet)?;
+    push_tickets(text, sheet)?;
+    push_threads(alloc, text, sheet)
+}
+
+#[tactic(auto, unfolding(crate::specs::Picture::inside))]
+fn push_inside(alloc: Global, text: &mut Vec<u8>, sheet: &Sheet<'_>) -> Result<(), AllocError>
+    requires { length (operations_in sheet.now.claimed.now) ≤ 400 }
+    ensures { OnOk result (text.new.items ≡ text.old.items ++ text_of (inside (page_on sheet.now))) }
+{
+    push_frame(alloc, text, sheet)?;
+    push_bands(alloc, text, sheet)?;
+    push_ways(text, sheet)?;
+    push_order(alloc, text, sheet)?;
+    push_bars(alloc, text, sheet)
+}
+
+#[tactic(auto, unfolding(crate::specs::Picture::view_box))]
+fn view_box(alloc: Global, m: Measures) -> Result<Vec<u8>, AllocError>
+    ensures { IfOk result (λ words. words.items ≡ view_box m) }
+{
+    let mut words = Vec::from_slice(alloc, b"0 0 ")?;
+    push_number(&mut words, width(m))?;
+    words.extend_from_slice(b" ")?;
+    push_number(&mut words, height(m))?;
+    Ok(words)
+}
+
+#[tactic(auto, unfolding(crate::specs::Picture::page_content))]
+fn push_page(alloc: Global, text: &mut Vec<u8>, sheet: &Sheet<'_>) -> Result<(), AllocError>
+    requires { length (operations_in sheet.now.claimed.now) ≤ 400 }
+    ensures { OnOk result (text.new.items ≡ text.old.items ++ text_of (page_content (page_on sheet.now))) }
+{
+    let m = sheet.measures;
+    let view_box = view_box(alloc, m)?;
+    push_start(
+        text,
+        b"svg",
+        &[
+            Words(b"xmlns", b"http://www.w3.org/2000/svg"),
+            Words(b"version", b"1.1"),
+            Number(b"width", width(m)),
+            Number(b"height", height(m)),
+            Words(b"viewBox", view_box.as_slice()),
+            Words(b"role", b"img"),
+        ],
+    )?;
+    push_inside(alloc, text, sheet)?;
+    push_end(text, b"svg")
+}
+
+fn is_yes(claimed: &Claimed) -> bool
+    ensures { result ≡ is_yes claimed.now }
+{
+    matches!(claimed, Claimed::Yes(_))
+}
+
+/// The tickets just after which the operations of an order take effect.
+fn points_of(alloc: Global, order: &[Operation]) -> Result<Vec<u64>, AllocError>
+    ensures { IfOk result (λ points. points.items ≡ points_of order.now) }
+{
+    let mut points = Vec::with_capacity(alloc, order.len())?;
+    let mut greatest = 0u64;
+    for operation in order {
+        greatest = greatest.max(operation.call);
+        points.push(greatest)?;
+    }
+    Ok(points)
+}
+
+/// How wide the parts of a picture are, and how many there are.
+fn measures_of(
+    alloc: Global,
+    history: &History,
+    threads: &[u8],
+    claimed: &Claimed,
+    bands: &[Band],
+) -> Result<Measures, AllocError>
+    requires few { length (operations_in claimed.now) ≤ 400 }
+    requires threads { threads.now ≡ threads_of history.now }
+    requires bands { bands.now ≡ bands_of claimed.now }
+    ensures { IfOk result (λ m. m ≡ measures_of history.now claimed.now) }
+{
+    let events = history.events();
+    let caption = caption_of(alloc, claimed)?;
+    let legend = legend(alloc, claimed)?;
+    Ok(Measures {
+        ticket: digits(last_ticket(events)).max(6) as u8,
+        number: digits(operations_in(claimed).len() as u64) as u8,
+        label: label_width(history.operations()) as u8,
+        lanes: threads.len(),
+        events: events.len(),
+        effects: order_of(claimed).len(),
+        heads: bands.len(),
+        head: longest_head(alloc, bands)?,
+        captions: line_count(caption.as_slice()),
+        caption: longest_line(caption.as_slice()),
+        legend: line_count(legend.as_slice()),
+        is_yes: is_yes(claimed),
+    })
+}
+
+/// The picture of a history and what is claimed of it, as an SVG 1.1 document.
+///
+/// The claim need not be evidence: what stands in the picture follows its lines. Time O(n n) for n events; memory for the text,
+/// of O(n) bytes. `AllocError` comes only where a growth was refused.
+#[tactic(auto, unfolding(crate::specs::Picture::svg_picture, crate::specs::Picture::picture_content))]
+pub fn svg_picture(
+    alloc: Global,
+    history: &History,
+    claimed: &Claimed,
+) -> Result<Vec<u8>, AllocError>
+    // The claim has few enough lines to be drawn.
+    requires { length (operations_in claimed.now) ≤ MOST_DRAWN }
+    ensures { IfOk result (λ text. text.items ≡ svg_picture history.now claimed.now) }
+{
+    let threads = threads_of(alloc, history.events())?;
+    let bands = bands_of(alloc, claimed)?;
+    let points = points_of(alloc, order_of(claimed))?;
+    let measures = measures_of(
+        alloc,
+        history,
+        threads.as_slice(),
+        claimed,
+        bands.as_slice(),
+    )?;
+    let sheet = Sheet {
+        measures,
+        events: history.events(),
+        operations: history.operations(),
+        threads: threads.as_slice(),
+        claimed,
+        bands: bands.as_slice(),
+        points: points.as_slice(),
+    };
+    let mut text = Vec::from_slice(alloc, b"<?xml version=\"1.0\" encoding=\"UTF-8\"?>\n")?;
+    push_page(alloc, &mut text, &sheet)?;
+    Ok(text)
+}

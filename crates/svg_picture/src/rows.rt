@@ -1,0 +1,151 @@
+//! Rows, tickets and the names of threads.
+ghost use Rattle.std.specs.Prelude.{◌≡◌, ◌+◌, ◌-◌, ◌*◌, ◌++◌, OnOk, IfOk};
+ghost use Rattle.svg_picture.specs.Markup.{each, text_of};
+ghost use Rattle.svg_picture.specs.Layout.{page_on};
+ghost use Rattle.svg_picture.specs.Picture.{ticket_at, tickets, thread_name, lane_names, threads, row_pattern, patterns, background};
+
+use crate::elements::{Rect, push_hatch, push_rect, push_text_at};
+use crate::layout::{Measures, Sheet, bottom, height, row, row_y, thread_x, top, width};
+use crate::markup::Attribute::{Number, Words};
+use crate::markup::{push_end, push_number, push_start};
+use drawing::digits;
+use event_records::Event;
+use itoa::Buffer;
+use std::alloc::{AllocError, Global};
+
+/// How far a word of so many characters stands from the left, at the right of the column of tickets.
+fn ticket_x(m: Measures, characters: usize) -> u128
+    ensures { result ≡ 6 + 7 * (m.ticket - characters) }
+{
+    6 + 7 * u128::from(m.ticket).saturating_sub(characters as u128)
+}
+
+#[tactic(auto, unfolding(crate::specs::Picture::ticket_at))]
+fn push_ticket_at(text: &mut Vec<u8>, sheet: &Sheet<'_>, event: Event) -> Result<(), AllocError>
+    ensures { OnOk result (text.new.items ≡ text.old.items ++ text_of (ticket_at (page_on sheet.now) event)) }
+{
+    let x = ticket_x(sheet.measures, digits(event.ticket));
+    let y = row_y(sheet, row(sheet, event.ticket)) + 14;
+    let mut buffer = Buffer::new();
+    let words = buffer.format(event.ticket).as_bytes();
+    push_text_at(text, 7, b"dim", x, y, words)
+}
+
+fn push_event_tickets(text: &mut Vec<u8>, sheet: &Sheet<'_>) -> Result<(), AllocError>
+    ensures { OnOk result (text.new.items ≡ text.old.items ++ text_of (each (ticket_at (page_on sheet.now)) sheet.now.events.now)) }
+{
+    for event in sheet.events {
+        push_ticket_at(text, sheet, *event)?;
+    }
+    Ok(())
+}
+
+/// Adds the tickets, between their name and the end.
+#[tactic(auto, unfolding(crate::specs::Picture::tickets))]
+pub(crate) fn push_tickets(text: &mut Vec<u8>, sheet: &Sheet<'_>) -> Result<(), AllocError>
+    ensures { OnOk result (text.new.items ≡ text.old.items ++ text_of (tickets (page_on sheet.now))) }
+{
+    let m = sheet.measures;
+    push_text_at(text, 7, b"dim", ticket_x(m, 6), top(m) - 8, b"ticket")?;
+    push_event_tickets(text, sheet)?;
+    push_text_at(text, 7, b"dim", ticket_x(m, 3), bottom(m) - 6, b"end")
+}
+
+#[tactic(auto, unfolding(crate::specs::Picture::thread_name))]
+fn thread_name(alloc: Global, thread: u8) -> Result<Vec<u8>, AllocError>
+    ensures { IfOk result (λ name. name.items ≡ thread_name thread) }
+{
+    let mut name = Vec::from_slice(alloc, b"thread ")?;
+    push_number(&mut name, u128::from(thread))?;
+    Ok(name)
+}
+
+#[tactic(auto, unfolding(crate::specs::Picture::lane_names))]
+fn push_lane_names(
+    alloc: Global,
+    text: &mut Vec<u8>,
+    sheet: &Sheet<'_>,
+    thread: u8,
+) -> Result<(), AllocError>
+    ensures { OnOk result (text.new.items ≡ text.old.items ++ text_of (lane_names (page_on sheet.now) thread)) }
+{
+    let m = sheet.measures;
+    let name = thread_name(alloc, thread)?;
+    let x = thread_x(sheet, thread) + 3;
+    push_text_at(text, 7, b"name", x, top(m) - 8, name.as_slice())?;
+    push_text_at(text, 7, b"name", x, bottom(m) + 14, name.as_slice())
+}
+
+/// Adds the names of the threads, above their lanes and below them.
+#[tactic(auto, unfolding(crate::specs::Picture::threads))]
+pub(crate) fn push_threads(
+    alloc: Global,
+    text: &mut Vec<u8>,
+    sheet: &Sheet<'_>,
+) -> Result<(), AllocError>
+    ensures { OnOk result (text.new.items ≡ text.old.items ++ text_of (threads (page_on sheet.now))) }
+{
+    for thread in sheet.threads {
+        push_lane_names(alloc, text, sheet, *thread)?;
+    }
+    Ok(())
+}
+
+#[tactic(auto, unfolding(crate::specs::Picture::row_pattern))]
+fn push_row_pattern(text: &mut Vec<u8>, m: Measures) -> Result<(), AllocError>
+    ensures { OnOk result (text.new.items ≡ text.old.items ++ text_of (row_pattern m)) }
+{
+    let wide = width(m);
+    let tint = Rect {
+        x: 0,
+        y: 0,
+        width: wide,
+        height: 20,
+    };
+    push_start(
+        text,
+        b"pattern",
+        &[
+            Words(b"id", b"rows"),
+            Number(b"x", 0),
+            Number(b"y", top(m)),
+            Number(b"width", wide),
+            Number(b"height", 40),
+            Words(b"patternUnits", b"userSpaceOnUse"),
+        ],
+    )?;
+    push_rect(text, b"row", 0, tint)?;
+    push_end(text, b"pattern")
+}
+
+#[tactic(auto, unfolding(crate::specs::Picture::patterns))]
+fn push_patterns(text: &mut Vec<u8>, m: Measures) -> Result<(), AllocError>
+    ensures { OnOk result (text.new.items ≡ text.old.items ++ text_of (patterns m)) }
+{
+    push_start(text, b"defs", &[])?;
+    push_hatch(text)?;
+    push_row_pattern(text, m)?;
+    push_end(text, b"defs")
+}
+
+/// Adds the background, and the rows.
+#[tactic(auto, unfolding(crate::specs::Picture::background))]
+pub(crate) fn push_background(text: &mut Vec<u8>, m: Measures) -> Result<(), AllocError>
+    ensures { OnOk result (text.new.items ≡ text.old.items ++ text_of (background m)) }
+{
+    let page = Rect {
+        x: 0,
+        y: 0,
+        width: width(m),
+        height: height(m),
+    };
+    let rows = Rect {
+        x: 0,
+        y: top(m),
+        width: width(m),
+        height: bottom(m).saturating_sub(top(m)),
+    };
+    push_patterns(text, m)?;
+    push_rect(text, b"page", 0, page)?;
+    push_rect(text, b"rows", 0, rows)
+}

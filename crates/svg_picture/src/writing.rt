@@ -1,0 +1,36 @@
+//! Writing a picture.
+ghost use Rattle.std.specs.Prelude.{◌≡◌, ◌≤◌, ◌||◌, OnOk, OnErr, IfOk, length, is_err};
+ghost use Rattle.std.specs.Io.KnownBytes.{Appends};
+ghost use Rattle.history_text.specs.Claims.{operations_in};
+ghost use Rattle.text_lines.specs.Writing.{AppendsFront, IsWritten, IsRefused};
+ghost use Rattle.svg_picture.specs.Picture.{svg_picture};
+
+use crate::picture::svg_picture;
+use drawing::MOST_DRAWN;
+use history_merge::History;
+use history_text::{TextSink, WriteFault, write_piece};
+use std::alloc::{AllocError, Global};
+use verdicts::Claimed;
+
+/// Writes the picture of a history and what is claimed of it, as an SVG 1.1 document of ASCII.
+///
+/// The whole text is made before its first byte is written: `AllocError` leaves the writer as it was, and comes only where a
+/// growth was refused. The inner result is that of the writer. It isn't flushed.
+pub fn write_svg_picture<W: TextSink>(
+    alloc: Global,
+    history: &History,
+    claimed: &Claimed,
+    writer: &mut W,
+) -> Result<Result<(), WriteFault>, AllocError>
+    // The claim has few enough lines to be drawn.
+    requires { length (operations_in claimed.now) ≤ MOST_DRAWN }
+    ensures ok { IfOk result (λ written. OnOk written (Appends (W.contents writer.old) (W.contents writer.new) (svg_picture history.now claimed.now))) }
+    ensures err { IfOk result (λ written. OnErr written (AppendsFront (W.contents writer.old) (W.contents writer.new) (svg_picture history.now claimed.now))) }
+    ensures refused { IfOk result (λ written. W.has_refused writer.new ≡ (W.has_refused writer.old || is_err written)) }
+    ensures written { IfOk result (λ written. OnOk written (IsWritten W.goes writer.old writer.new)) }
+    ensures stopped { IfOk result (λ written. OnErr written (IsRefused W.goes writer.old writer.new)) }
+    ensures memory { OnErr result (writer.new ≡ writer.old) }
+{
+    let text = svg_picture(alloc, history, claimed)?;
+    Ok(write_piece(writer, text.as_slice()))
+}
