@@ -2,7 +2,8 @@
 use Rattle.std.proofs.Common.{◌≡◌, ℕ, List, [], ◌∷◌, refl, ap}
 use Rattle.std.specs.List.{AllZip}
 use Rattle.event_rings.specs.Ring.{DrainView, TokenView}
-use Rattle.collector.specs.Ends.{Fits, Drains, rings_of, rings_of_tokens}
+use Rattle.collector.specs.Ends.{Fits, Drains, rings_of}
+use Rattle.collector.specs.Inner.Ends.{rings_of_tokens}
 
 head_same : {X : Type 0} (x y : X) (xs ys : List X) → x ∷ xs ≡ y ∷ ys → x ≡ y
 head_same x y xs ys e = cc

@@ -22,10 +22,6 @@ threads_of_tokens tokens = map (λ t. t.thread) tokens
 abbrev pub rings_of : List DrainView → List (RingName × ℕ)
 rings_of ends = map (λ e. (e.ring, e.thread)) ends
 
--- which rings these tokens close, and of which threads
-abbrev pub rings_of_tokens : List TokenView → List (RingName × ℕ)
-rings_of_tokens tokens = map (λ t. (t.ring, t.thread)) tokens
-
 -- the ends of threads 0, 1, 2 and so on
 abbrev pub AreInOrder : List DrainView → Type 0
 AreInOrder ends = threads_of ends ≡ numbers_below (length ends)

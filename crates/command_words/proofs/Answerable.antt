@@ -23,8 +23,10 @@ use Rattle.clap.specs.declared.error.kind.ErrorKind.TheVariants as kind
 use Rattle.clap.specs.declared.parser.matches.ValueSource.TheVariants.{CommandLine}
 use Rattle.clap.proofs.ValueTestLemmas.{accepts-Accepts}
 use Rattle.event_records.specs.declared.limits.TheConstants.{MAX_RING, MAX_SEED, MAX_THREAD_OPERATIONS, MAX_WORKERS, MIN_RING}
-use Rattle.command_words.specs.Commands.{IsAnswerable, the_program}
-use Rattle.command_words.specs.Options.{HasNumber, HasSettings, number_rule, queue_rule, stress_rules}
+use Rattle.command_words.specs.Commands.{the_program}
+use Rattle.command_words.specs.Inner.Commands.{IsAnswerable}
+use Rattle.command_words.specs.Options.{number_rule, queue_rule, stress_rules}
+use Rattle.command_words.specs.Inner.Options.{HasNumber, HasSettings}
 use Rattle.command_words.proofs.Levels.{first_by_default, first_given, last_checks}
 use Rattle.command_words.proofs.NoKinds.{first_none, then_none}
 use Rattle.command_words.proofs.Rows.{DefaultsPass, HasDefault, RowsPass, set_passes}

@@ -5,8 +5,10 @@ use Rattle.std.specs.Str.Parse.{digits_value, without_leading_plus}
 use Rattle.clap.specs.Values.{IsUnsignedIn}
 use Rattle.clap.specs.Walk.{Row, Text, first_of}
 use Rattle.event_records.specs.declared.limits.TheConstants.{MAX_RING, MAX_SEED, MAX_THREAD_OPERATIONS, MAX_WORKERS, MIN_RING}
-use Rattle.command_words.specs.Commands.{IsAnswerable, IsInRange, request_named, request_of_subcommand}
-use Rattle.command_words.specs.Options.{HasNumber, HasSettings, IsWithinRanges, number_in, settings_in}
+use Rattle.command_words.specs.Commands.{IsInRange, request_named, request_of_subcommand}
+use Rattle.command_words.specs.Inner.Commands.{IsAnswerable}
+use Rattle.command_words.specs.Options.{IsWithinRanges, number_in, settings_in}
+use Rattle.command_words.specs.Inner.Options.{HasNumber, HasSettings}
 
 -- the value of a text that is a number in a range
 bounded : (low high : ℕ) (o : Option Text) → IsSomeAnd o (IsUnsignedIn low high)

@@ -1,11 +1,11 @@
 -- The commands of the program.
-use Rattle.std.specs.Prelude.{◌≡◌, ◌⊎◌, true, false, List, [], ◌∷◌, Option, Some, None, option_and_then, codes, if◌then◌else◌, ⊤}
+use Rattle.std.specs.Prelude.{true, false, List, [], ◌∷◌, Option, Some, None, option_and_then, codes, if◌then◌else◌, ⊤}
 use Rattle.std.specs.Str.{bytes_eq}
 use Rattle.clap.specs.Faults.{fault_of}
 use Rattle.clap.specs.Kinds.{Kinds}
 use Rattle.clap.specs.Simple.{App, new_shape, subcommand_of}
 use Rattle.clap.specs.Walk.{Row, Text}
-use Rattle.command_words.specs.Options.{HasSettings, IsWithinRanges, Settings, form_in, settings_in, settings_of, the_draw, the_stress}
+use Rattle.command_words.specs.Options.{IsWithinRanges, Settings, form_in, settings_in, settings_of, the_draw, the_stress}
 use Rattle.command_words.specs.declared.options.PictureForm.{PictureForm}
 use Rattle.command_words.specs.declared.tasks.Task.{Task}
 use Rattle.command_words.specs.declared.tasks.Task.TheVariants as task
@@ -62,9 +62,3 @@ request_of (task.Stress options) = stress (settings_of options)
 abbrev pub IsInRange : Request → Type 0
 IsInRange (stress settings) = IsWithinRanges settings
 IsInRange _ = ⊤
-
--- a subcommand of the program was met, and where it is `stress` its options are there and in their ranges
-abbrev pub IsAnswerable : Option (Text × List Row) → Type 0
-IsAnswerable None = ⊥
-IsAnswerable (Some p) = (p.0 ≡ codes "check") ⊎ (p.0 ≡ codes "shrink") ⊎ (p.0 ≡ codes "verify")
-    ⊎ (p.0 ≡ codes "draw") ⊎ (p.0 ≡ codes "sim") ⊎ ((p.0 ≡ codes "stress") × HasSettings p.1)

@@ -1,9 +1,8 @@
 -- The options of `draw` and `stress`.
-use Rattle.std.specs.Prelude.{◌≤◌, ℕ, true, List, [], ◌∷◌, Option, Some, None, IsSome, IsSomeAnd, codes, unwrap_or, if◌then◌else◌}
+use Rattle.std.specs.Prelude.{◌≤◌, ℕ, true, List, [], ◌∷◌, Option, Some, None, codes, unwrap_or, if◌then◌else◌}
 use Rattle.std.specs.Str.{bytes_eq}
 use Rattle.std.specs.Str.Parse.{digits_value, without_leading_plus}
 use Rattle.clap.specs.Simple.{Shape, new_rule, new_shape}
-use Rattle.clap.specs.Values.{IsUnsignedIn}
 use Rattle.clap.specs.Walk.{Row, Rule, Text, first_of}
 use Rattle.clap.specs.declared.builder.action.ArgAction.TheVariants.{SetTrue}
 use Rattle.clap.specs.declared.builder.value_parser.ValueParser.TheVariants as vp
@@ -111,18 +110,3 @@ pub record IsWithinRanges (s : Settings) : Type 0 where
   pub seed : s.seed ≤ MAX_SEED
   pub percent : s.percent ≤ 100
   pub ring : (MIN_RING ≤ s.ring) × (s.ring ≤ MAX_RING)
-
--- ---- what the parse has checked
-
--- the option has a text, which is a number from low to high
-abbrev pub HasNumber : Text → ℕ → ℕ → List Row → Type 0
-HasNumber id low high rows = IsSomeAnd (first_of id rows) (IsUnsignedIn low high)
-
--- the queue's name is there, and each number is in its range
-pub record HasSettings (rows : List Row) : Type 0 where
-  pub queue : IsSome (first_of (codes "queue") rows)
-  pub threads : HasNumber (codes "threads") 1 MAX_WORKERS rows
-  pub operations : HasNumber (codes "ops") 0 MAX_THREAD_OPERATIONS rows
-  pub seed : HasNumber (codes "seed") 0 MAX_SEED rows
-  pub percent : HasNumber (codes "percent") 0 100 rows
-  pub ring : HasNumber (codes "ring") MIN_RING MAX_RING rows

@@ -2,7 +2,8 @@
 ghost use Rattle.std.specs.Prelude.{◌≡◌, ℕ, Some};
 ghost use Rattle.clap.specs.Matches.{found_of};
 ghost use Rattle.clap.specs.Walk.{rows_of};
-ghost use Rattle.command_words.specs.Options.{HasNumber, HasSettings, IsWithinRanges, form_in, form_of, number_in, settings_in, settings_of};
+ghost use Rattle.command_words.specs.Options.{IsWithinRanges, form_in, form_of, number_in, settings_in, settings_of};
+ghost use Rattle.command_words.specs.Inner.Options.{HasNumber, HasSettings};
 
 use clap::ArgMatches;
 

@@ -9,7 +9,8 @@ use Rattle.command_words.specs.Commands.{Request, stress}
 use Rattle.command_words.specs.Options.{Settings}
 use Rattle.commands.specs.Answers.{Answer, memory_fault}
 use Rattle.commands.specs.Judging.{AnswersOrNoMemory}
-use Rattle.commands.specs.Running.{AnswersOf, PrintsOneOf, PrintsAnswer, Explains}
+use Rattle.commands.specs.Running.{AnswersOf, PrintsOneOf, PrintsAnswer}
+use Rattle.commands.specs.Inner.Running.{Explains}
 
 -- memory ran out, and that is printed
 pub memory_ran_out : (e : Error) (kinds : Kinds) (old new : Option (List ℕ)) (refused : Bool) (result : ℕ) → kinds ≡ [] → HasKind kinds e

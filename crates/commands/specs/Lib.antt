@@ -7,3 +7,4 @@ pub mod Stressing
 pub mod Evidence
 pub mod Shelf
 pub mod OneAnswer
+pub mod Inner

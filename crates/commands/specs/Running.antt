@@ -1,5 +1,5 @@
 -- What a run of the program leaves behind.
-use Rattle.std.specs.Prelude.{◌≡◌, ◌≢◌, ℕ, Bool, true, false, List, Option, ◌⊎◌, codes}
+use Rattle.std.specs.Prelude.{◌≡◌, ℕ, Bool, true, false, List, Option, ◌⊎◌, codes}
 use Rattle.std.specs.Io.KnownBytes.{Appends}
 use Rattle.text_lines.specs.Input.{Ahead}
 use Rattle.text_lines.specs.Lines.{line}
@@ -61,13 +61,3 @@ pub record PrintsUsage (kinds : Kinds) (old new : Option (List ℕ)) (refused : 
 -- words that are no command have a text about the use of the program, or memory ran out
 abbrev pub ExplainsUse : Kinds → Option (List ℕ) → Option (List ℕ) → Bool → ℕ → Type 0
 ExplainsUse kinds old new refused result = PrintsUsage kinds old new refused result ⊎ PrintsAnswer old new refused result memory_fault
-
--- some text, with the status of this kind of error
-pub record PrintsText (reason : ErrorKind) (old new : Option (List ℕ)) (refused : Bool) (result : ℕ) : Type 0 where
-  pub usual : reason ≢ kind.OutOfMemory
-  pub text : List ℕ
-  pub printed : Prints old new refused result text (usage_status reason)
-
--- an error of this kind prints its text, or memory ran out
-abbrev pub Explains : ErrorKind → Option (List ℕ) → Option (List ℕ) → Bool → ℕ → Type 0
-Explains reason old new refused result = PrintsText reason old new refused result ⊎ PrintsAnswer old new refused result memory_fault

@@ -4,7 +4,8 @@ ghost use Rattle.command_words.specs.Commands.{Request, stress, request_in, requ
 ghost use Rattle.command_words.specs.Options.{Settings};
 ghost use Rattle.commands.specs.Judging.{AnswersOrNoMemory};
 ghost use Rattle.commands.specs.Outcomes.{answer_of, NamesPlaces};
-ghost use Rattle.commands.specs.Running.{AnswersOf, PrintsOneOf, ExplainsUse, Explains, WritesAndFlushes, usage_status};
+ghost use Rattle.commands.specs.Running.{AnswersOf, PrintsOneOf, ExplainsUse, WritesAndFlushes, usage_status};
+ghost use Rattle.commands.specs.Inner.Running.{Explains};
 ghost use Rattle.commands.specs.Stressing.{Stresses};
 ghost use Rattle.clap.specs.Values.{kind_of};
 

@@ -4,3 +4,4 @@ pub mod Words
 pub mod Captions
 pub mod Terminal
 pub mod Laws
+pub mod Inner

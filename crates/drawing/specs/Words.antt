@@ -1,12 +1,5 @@
 -- Pieces of text, and lines of words that stand at columns.
-use Rattle.std.specs.Prelude.{ℕ, ◌-◌, List, [], ◌∷◌, ◌++◌, length, replicate, fold, decimal}
-use Rattle.drawing.specs.declared.line.Piece.{Piece}
-use Rattle.drawing.specs.declared.line.Piece.TheVariants.{Words, Number}
-
--- the bytes of a piece
-abbrev pub piece_text : Piece → List ℕ
-piece_text (Words bytes) = bytes.now
-piece_text (Number n) = decimal n
+use Rattle.std.specs.Prelude.{ℕ, ◌-◌, List, [], ◌∷◌, ◌++◌, length, replicate, fold}
 
 -- a word at a column of a line; columns are counted from 0
 pub record Word : Type 0 where

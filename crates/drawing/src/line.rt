@@ -2,7 +2,8 @@
 ghost use Rattle.std.specs.Prelude.{◌≡◌, ◌++◌, OnOk};
 ghost use Rattle.std.specs.List.{flat_map};
 ghost use Rattle.text_lines.specs.Lines.{line};
-ghost use Rattle.drawing.specs.Words.{placed, piece_text};
+ghost use Rattle.drawing.specs.Words.{placed};
+ghost use Rattle.drawing.specs.Inner.Words.{piece_text};
 
 use itoa::Buffer;
 use std::alloc::AllocError;

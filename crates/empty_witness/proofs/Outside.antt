@@ -10,7 +10,8 @@ use Rattle.std.proofs.lemmas.List.Elements.{Contains-get_or}
 use Rattle.history_merge.specs.declared.operation.Operation.{Operation}
 use Rattle.value_match.specs.Lives.{IsFreeGap, IsCovered, IsLeastFreeGap}
 use Rattle.empty_witness.specs.declared.spans.Span.{Span}
-use Rattle.empty_witness.specs.Spans.{Holds, AreApart, AreSpansOf, IsFirstOutside}
+use Rattle.empty_witness.specs.Spans.{Holds, AreApart, AreSpansOf}
+use Rattle.empty_witness.specs.Inner.Spans.{IsFirstOutside}
 
 -- the starts of spans that are apart rise
 pub starts_rise : (spans : List Span) → AreApart spans → IsNonDecreasingBy (λ span. span.start) spans

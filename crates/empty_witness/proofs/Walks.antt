@@ -18,7 +18,7 @@ use Rattle.value_match.specs.Outcome.{NamesCover}
 use Rattle.value_match.specs.Longest.{EntersBefore, IsLongestOf, FindsLongest}
 use Rattle.value_match.proofs.Lists.{one_more_zipped}
 use Rattle.value_match.proofs.Lives.{value_is_life, value_of_life, places_of_value}
-use Rattle.empty_witness.specs.Covered.{NamesChosenCover}
+use Rattle.empty_witness.specs.Inner.Covered.{NamesChosenCover}
 use Rattle.empty_witness.proofs.Covers.{chosen_cover_violates}
 
 -- the steps taken so far name values of the chosen cover, which goes on from the frontier

@@ -3,21 +3,11 @@ use Rattle.std.specs.Prelude.{◌≡◌, ℕ, ◌≤◌, ◌⊎◌, List, All}
 use Rattle.history_merge.specs.declared.operation.Operation.{Operation}
 use Rattle.history_merge.specs.declared.operation.OpKind.TheVariants.{Empty}
 use Rattle.history_merge.specs.Operations.{Did, IsAt}
-use Rattle.value_match.specs.declared.life.Life.{Life}
-use Rattle.value_match.specs.declared.violation.CoverStep.{CoverStep}
 use Rattle.value_match.specs.Lives.{HoldsPlaces, IsCovered, is_empty_answer}
-use Rattle.value_match.specs.Violations.{IsWitnessViolation}
-use Rattle.value_match.specs.Choice.{IsChosenCover}
-use Rattle.value_match.specs.Outcome.{NamesCover}
 use Rattle.empty_witness.specs.declared.search.EmptyAnswer.{EmptyAnswer}
 use Rattle.empty_witness.specs.declared.search.Windows.{Windows}
 use Rattle.empty_witness.specs.declared.search.Windows.TheVariants.{Free, Covered}
 use Rattle.empty_witness.specs.Answers.{AreGapsAt}
-
--- the steps name the chosen cover of the operation's window, which is a violation
-abbrev pub NamesChosenCover : List Operation → Operation → List CoverStep → Type 0
-NamesChosenCover operations o steps = (lives : List Life) × NamesCover operations steps lives × IsChosenCover operations o lives
-    × IsWitnessViolation operations o lives
 
 -- one of the two answers, which returned no later than each
 pub record IsSoonerOf (first second sooner : EmptyAnswer) : Type 0 where

@@ -1,3 +1,4 @@
 pub mod Spans
 pub mod Covered
 pub mod Answers
+pub mod Inner

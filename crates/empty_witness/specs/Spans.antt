@@ -35,9 +35,3 @@ stay_of life = record { start = enqueue_return life; end = dequeue_call life }
 pub record AreSpansOf (operations : List Operation) (spans : List Span) : Type 0 where
   pub apart : AreApart spans
   pub cover : (c : ℕ) → LiesIn spans c ↔ ((life : Life) × IsLife operations life × Covers life c)
-
--- the least gap from this one on that lies in no span
-pub record IsFirstOutside (spans : List Span) (from c : ℕ) : Type 0 where
-  pub no_less : from ≤ c
-  pub outside : ¬ (LiesIn spans c)
-  pub least : (b : ℕ) → from ≤ b → b < c → LiesIn spans b

@@ -2,7 +2,7 @@ ghost use Rattle.std.specs.Prelude.{IfOk};
 ghost use Rattle.history_merge.specs.declared.operation.OpKind.TheVariants.{Empty};
 ghost use Rattle.history_merge.specs.Operations.{Did};
 ghost use Rattle.value_match.specs.Lives.{IsCovered};
-ghost use Rattle.empty_witness.specs.Covered.{NamesChosenCover};
+ghost use Rattle.empty_witness.specs.Inner.Covered.{NamesChosenCover};
 
 use history_merge::Operation;
 use std::alloc::{AllocError, Global};

@@ -1,7 +1,8 @@
 ghost use Rattle.std.specs.Prelude.{List, MatchOption};
 ghost use Rattle.history_merge.specs.declared.operation.Operation.{Operation};
 ghost use Rattle.value_match.specs.Lives.{IsCovered, IsLeastFreeGap};
-ghost use Rattle.empty_witness.specs.Spans.{AreApart, AreSpansOf, IsFirstOutside};
+ghost use Rattle.empty_witness.specs.Spans.{AreApart, AreSpansOf};
+ghost use Rattle.empty_witness.specs.Inner.Spans.{IsFirstOutside};
 
 use crate::spans::Span;
 use history_merge::Operation;

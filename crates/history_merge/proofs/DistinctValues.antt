@@ -21,7 +21,8 @@ use Rattle.event_records.specs.declared.limits.TheConstants.{MAX_THREADS}
 use Rattle.event_records.specs.declared.event.Event.{Event}
 use Rattle.history_merge.proofs.Distinct.{one_at}
 use Rattle.history_merge.specs.Complete.{called_value, called_values}
-use Rattle.history_merge.specs.Faults.{was_called, repeats_value, NoRepeatBefore, IsFirstRepeat}
+use Rattle.history_merge.specs.Faults.{was_called, repeats_value}
+use Rattle.history_merge.specs.Inner.Faults.{NoRepeatBefore, IsFirstRepeat}
 
 nat_eq_flips : (x y : ℕ) → nat_eq x y ≡ nat_eq y x
 nat_eq_flips x y = elim (eqb_tells x y) [

@@ -20,7 +20,8 @@ use Rattle.history_merge.specs.declared.fault.HistoryFault.{HistoryFault}
 use Rattle.history_merge.specs.declared.fault.HistoryFault.TheVariants.{TicketOrder, BadThread, CallWhilePending, ReturnWithoutCall, WrongReturn}
 use Rattle.history_merge.specs.declared.fault.HistoryFault.TheVariants.{DuplicateValue, Pending, Memory}
 use Rattle.history_merge.specs.Complete.{IsCompleteHistory, called_values}
-use Rattle.history_merge.specs.Faults.{fault_at, NoFaultBefore, NothingPending, IsFirstFault, IsFirstFaultAt, IsFirstRepeat, repeats_value}
+use Rattle.history_merge.specs.Faults.{fault_at, NoFaultBefore, IsFirstFault, IsFirstFaultAt, repeats_value}
+use Rattle.history_merge.specs.Inner.Faults.{NothingPending, IsFirstRepeat}
 use Rattle.history_merge.proofs.Distinct.{one_at}
 use Rattle.history_merge.proofs.Tracking.{projection-push_own, projection-push_other}
 use Rattle.history_merge.proofs.DistinctValues.{AreDistinct, cut_at, distinct_push, new_from_distinct}

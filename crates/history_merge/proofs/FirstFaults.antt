@@ -11,7 +11,7 @@ use Rattle.history_merge.specs.declared.fault.HistoryFault.{HistoryFault}
 use Rattle.history_merge.specs.declared.fault.HistoryFault.TheVariants.{TicketOrder, BadThread, CallWhilePending, ReturnWithoutCall, WrongReturn}
 use Rattle.history_merge.specs.declared.fault.HistoryFault.TheVariants.{DuplicateValue}
 use Rattle.history_merge.specs.Faults.{fault_at, breaks_ticket_order, answers_pending, repeats_value, pending_call}
-use Rattle.history_merge.specs.Forming.{FitsTurn}
+use Rattle.history_merge.specs.Inner.Forming.{FitsTurn}
 use Rattle.history_merge.proofs.Turns.{answer_is_return}
 
 -- the event breaks no rule after the events before it

@@ -19,7 +19,8 @@ use Rattle.history_merge.specs.declared.forming.Forming.{Forming}
 use Rattle.history_merge.specs.Complete.{IsCompleteHistory}
 use Rattle.history_merge.specs.Faults.{pending_call}
 use Rattle.history_merge.specs.Operations.{operations_of, operation_of, kind_of}
-use Rattle.history_merge.specs.Forming.{FitsTurn, begun, answered, operation_so_far, operations_so_far, waiting}
+use Rattle.history_merge.specs.Forming.{begun, answered, operation_so_far, operations_so_far, waiting}
+use Rattle.history_merge.specs.Inner.Forming.{FitsTurn}
 use Rattle.history_merge.specs.Gathering.{HasFormed}
 use Rattle.history_merge.proofs.Tracking.{pending_call-push_own, pending_call-push_other}
 use Rattle.history_merge.proofs.Turns.{answer_is_return}

@@ -13,7 +13,8 @@ use Rattle.event_records.specs.Turns.{is_call}
 use Rattle.history_merge.specs.Complete.{called_value}
 use Rattle.history_merge.specs.Faults.{was_called}
 use Rattle.history_merge.specs.Operations.{enqueued_value}
-use Rattle.history_merge.specs.Forming.{begun, answered, operation_so_far, operations_so_far, waiting, is_called_in}
+use Rattle.history_merge.specs.Forming.{begun, answered, operation_so_far, operations_so_far, waiting}
+use Rattle.history_merge.specs.Inner.Forming.{is_called_in}
 
 -- the next event of the thread
 abbrev pub next_of : ℕ → List Event → Option Event

@@ -14,7 +14,8 @@ use Rattle.event_records.specs.Turns.{is_call}
 use Rattle.event_records.specs.Projection.{projection}
 use Rattle.history_merge.specs.declared.progress.Progress.{Progress}
 use Rattle.history_merge.specs.Progress.{HasTracked}
-use Rattle.history_merge.specs.Faults.{NothingPending, IsLeastPending, pending_call}
+use Rattle.history_merge.specs.Faults.{IsLeastPending, pending_call}
+use Rattle.history_merge.specs.Inner.Faults.{NothingPending}
 
 -- the pending call of a list of events of one thread
 abbrev pub pending_in : List Event → Option Event

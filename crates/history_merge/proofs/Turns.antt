@@ -6,7 +6,7 @@ use Rattle.event_records.specs.declared.event.Event.{Event}
 use Rattle.event_records.specs.declared.event.What.{What}
 use Rattle.event_records.specs.declared.event.What.TheVariants.{CallEnq, RetEnq, RetNot, CallDeq, RetDeq, RetEmpty}
 use Rattle.event_records.specs.Turns.{TakesTurns, is_call, answers}
-use Rattle.history_merge.specs.Forming.{FitsTurn}
+use Rattle.history_merge.specs.Inner.Forming.{FitsTurn}
 use Rattle.history_merge.proofs.Tracking.{pending_in, pending_in-push}
 
 -- what is answered is a call

@@ -1,6 +1,6 @@
 -- The first fault of a list of events that is no complete history.
 use Rattle.std.specs.Prelude.{◌≡◌, ℕ, ◌<◌, ◌≤◌, Bool, false, ◌||◌, ◌&&◌, not, nat_le, nat_lt, nat_eq, List, length, take, slice_get, Option, Some}
-use Rattle.std.specs.Prelude.{None, is_some, is_none, if◌then◌else◌, ⊤, true, option_and_then}
+use Rattle.std.specs.Prelude.{None, is_some, is_none, if◌then◌else◌, ⊤, option_and_then}
 use Rattle.std.specs.Bool.{then_some}
 use Rattle.std.specs.Option.{option_map_or}
 use Rattle.std.specs.List.{last_or, list_any}
@@ -53,10 +53,6 @@ NoFaultBefore events n = (i : ℕ) (e : Event) → i < n → slice_get events i 
 abbrev pub IsFirstFaultAt : List Event → ℕ → HistoryFault → Type 0
 IsFirstFaultAt events i fault = NoFaultBefore events i × ((e : Event) × (slice_get events i ≡ Some e) × (fault_at (take i events) i e ≡ Some fault))
 
--- no call of any thread is without return
-abbrev pub NothingPending : List Event → Type 0
-NothingPending events = (thread : ℕ) → pending_call thread events ≡ None
-
 -- this is the least ticket of a call without return
 abbrev pub IsLeastPending : List Event → ℕ → Type 0
 IsLeastPending events ticket =
@@ -73,12 +69,3 @@ IsFirstFault events (WrongReturn i) = IsFirstFaultAt events i (WrongReturn i)
 IsFirstFault events (DuplicateValue i) = IsFirstFaultAt events i (DuplicateValue i)
 IsFirstFault events (Pending ticket) = NoFaultBefore events (length events) × IsLeastPending events ticket
 IsFirstFault events Memory = ⊤
-
--- the calls before place n enqueue different values
-abbrev pub NoRepeatBefore : List Event → ℕ → Type 0
-NoRepeatBefore events n = (i : ℕ) (e : Event) → i < n → slice_get events i ≡ Some e → repeats_value (take i events) e ≡ false
-
--- the place is that of the first call with a value that was called before, if there is one
-abbrev pub IsFirstRepeat : List Event → Option ℕ → Type 0
-IsFirstRepeat events None = NoRepeatBefore events (length events)
-IsFirstRepeat events (Some i) = NoRepeatBefore events i × ((e : Event) × (slice_get events i ≡ Some e) × (repeats_value (take i events) e ≡ true))

@@ -1,19 +1,12 @@
 -- Operations of events behind which more may come.
-use Rattle.std.specs.Prelude.{◌≡◌, ℕ, suc, Bool, true, false, MatchOption, List, [], ◌∷◌, Option, Some, None, find, nat_eq, if◌then◌else◌}
-use Rattle.std.specs.Option.{option_map_or}
-use Rattle.std.specs.List.{list_any}
+use Rattle.std.specs.Prelude.{ℕ, suc, List, [], ◌∷◌, Option, Some, None, find, nat_eq, if◌then◌else◌}
 use Rattle.event_records.specs.declared.event.Event.{Event}
 use Rattle.event_records.specs.declared.event.What.{What}
 use Rattle.event_records.specs.declared.event.What.TheVariants.{CallEnq, RetNot, RetDeq}
-use Rattle.event_records.specs.Turns.{is_call, answers}
+use Rattle.event_records.specs.Turns.{is_call}
 use Rattle.history_merge.specs.declared.operation.Operation.{Operation}
 use Rattle.history_merge.specs.declared.operation.OpKind.{OpKind}
 use Rattle.history_merge.specs.declared.operation.OpKind.TheVariants.{Enq, Deq, Empty, Not}
-use Rattle.history_merge.specs.Operations.{enqueued_value}
-
--- the event may come next in its thread: a call where none is pending, else the answer of the pending one
-abbrev pub FitsTurn : Option Event → Event → Type 0
-FitsTurn pending e = MatchOption pending (is_call e.what ≡ true) (λ call. answers call.what e.what ≡ true)
 
 -- what an operation counts as while it is pending: an enqueue as accepted, a dequeue as empty
 abbrev pub begun : What → OpKind
@@ -47,7 +40,3 @@ waiting thread (e ∷ later) = elim (waiting thread later) [
     | None ↦ (if nat_eq e.thread thread then (if is_call e.what then Some (0, e) else None) else None)
   ]
 ]
-
--- whether one of the operations called to enqueue this value
-abbrev pub is_called_in : List Operation → ℕ → Bool
-is_called_in operations v = list_any (λ o. option_map_or (λ w. nat_eq w v) (enqueued_value o.kind) false) operations

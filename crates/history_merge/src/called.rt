@@ -6,7 +6,8 @@ ghost use Rattle.event_records.specs.declared.event.Event.{Event};
 ghost use Rattle.event_records.specs.declared.limits.TheConstants.{MAX_THREADS, NAMES_OF_A_THREAD};
 ghost use Rattle.history_merge.specs.Complete.{called_value};
 ghost use Rattle.history_merge.specs.Faults.{repeats_value, was_called};
-ghost use Rattle.history_merge.specs.Forming.{is_called_in, operations_so_far};
+ghost use Rattle.history_merge.specs.Forming.{operations_so_far};
+ghost use Rattle.history_merge.specs.Inner.Forming.{is_called_in};
 ghost use Rattle.history_merge.specs.Gathering.{KnowsCalled};
 
 use crate::operation::Operation;

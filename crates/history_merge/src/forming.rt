@@ -4,7 +4,8 @@ ghost use Rattle.event_records.specs.declared.event.Event.{Event};
 ghost use Rattle.event_records.specs.Turns.{is_call};
 ghost use Rattle.history_merge.specs.Faults.{pending_call};
 ghost use Rattle.history_merge.specs.Forming as judged;
-ghost use Rattle.history_merge.specs.Forming.{FitsTurn, operations_so_far};
+ghost use Rattle.history_merge.specs.Forming.{operations_so_far};
+ghost use Rattle.history_merge.specs.Inner.Forming.{FitsTurn};
 ghost use Rattle.history_merge.specs.Gathering.{HasFormed};
 
 use crate::matching::is_call;

@@ -1,6 +1,7 @@
 ghost use Rattle.std.specs.Prelude.{◌≡◌, ◌++◌, ◌∷◌, ◌≤◌, List, [], IfNone, MatchOption};
 ghost use Rattle.event_records.specs.declared.event.Event.{Event};
-ghost use Rattle.history_merge.specs.Faults.{IsLeastPending, NothingPending, fault_at, repeats_value};
+ghost use Rattle.history_merge.specs.Faults.{IsLeastPending, fault_at, repeats_value};
+ghost use Rattle.history_merge.specs.Inner.Faults.{NothingPending};
 ghost use Rattle.history_merge.specs.Progress.{HasTracked};
 
 use crate::fault::HistoryFault;

@@ -7,8 +7,8 @@ use Rattle.text_lines.specs.declared.fault.TextFault.TheVariants.{Read, Cut}
 use Rattle.text_lines.specs.Lines.{line, end_line, front_of, Front, Whole, TooLong, Unfinished, Nothing, is_line_feed, longest_line}
 use Rattle.history_text.specs.Items.{Kind, item_at_front, item_in, item_at_nothing}
 use Rattle.text_lines.specs.Input.{Ahead, Ending, EndOfInput, Failure, Takes, IsOver}
-use Rattle.text_lines.specs.Lines.{IsPartOfLine}
-use Rattle.history_text.specs.Taking.{HasItemFault, TakesItem, TakesEnd, IsItemLine}
+use Rattle.text_lines.specs.Inner.Lines.{IsPartOfLine}
+use Rattle.history_text.specs.Inner.Taking.{HasItemFault, TakesItem, TakesEnd, IsItemLine}
 use Rattle.text_lines.proofs.Consuming.{before, before_end}
 use Rattle.text_lines.proofs.Fronts.{whole, front_unfinished, front_too_long}
 

@@ -12,7 +12,7 @@ use Rattle.text_lines.specs.Lines.{front_of}
 use Rattle.history_text.specs.Items.{Kind, line_of, lines_of, HaveLines, ItemFault, NoRoom, item_at_front}
 use Rattle.text_lines.specs.Input.{Ahead, Ending, Takes}
 use Rattle.history_text.specs.Reading.{HasFirstFault}
-use Rattle.history_text.specs.Taking.{HasItemFault, HasItemsFault, IsOfInput}
+use Rattle.history_text.specs.Inner.Taking.{HasItemFault, HasItemsFault, IsOfInput}
 use Rattle.text_lines.proofs.Consuming.{Takes-append}
 use Rattle.text_lines.proofs.MemoryOrNot.{is_memory, known_fault, follows}
 

@@ -8,8 +8,8 @@ use Rattle.history_text.specs.Items.{ItemFault, NoRoom}
 use Rattle.history_text.specs.Claims.{first_line, IsNoFirstLine, FirstLineFault, operation_kind, IsVerdictTextFault, NoRoomForVerdict}
 use Rattle.text_lines.specs.Input.{Ahead, Ending, Takes}
 use Rattle.history_text.specs.Reading.{HasVerdictTextFault}
-use Rattle.text_lines.specs.Lines.{IsPartOfLine}
-use Rattle.history_text.specs.Taking.{NoLineFault, HasNoLine, HasFirstLineFault, HasItemsFault, IsOfInput}
+use Rattle.text_lines.specs.Inner.Lines.{IsPartOfLine}
+use Rattle.history_text.specs.Inner.Taking.{NoLineFault, HasNoLine, HasFirstLineFault, HasItemsFault, IsOfInput}
 use Rattle.history_text.proofs.Faults.{at_line}
 use Rattle.history_text.proofs.FirstFaults.{first_is, later_fault}
 

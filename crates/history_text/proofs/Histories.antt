@@ -6,7 +6,7 @@ use Rattle.history_text.specs.Items.{ItemFault, NoRoom}
 use Rattle.history_text.specs.Histories.{header, event_kind, IsHistoryTextFault, NoRoomFor}
 use Rattle.text_lines.specs.Input.{Ahead, Takes}
 use Rattle.history_text.specs.Reading.{HasHistoryTextFault}
-use Rattle.history_text.specs.Taking.{HasHeaderFault, HasItemsFault, IsOfInput}
+use Rattle.history_text.specs.Inner.Taking.{HasHeaderFault, HasItemsFault, IsOfInput}
 use Rattle.history_text.proofs.FirstFaults.{first_is, later_fault}
 
 -- the first line has the fault

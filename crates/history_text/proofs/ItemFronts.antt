@@ -6,7 +6,7 @@ use Rattle.std.proofs.lemmas.Bool.Decides.{nat_tests}
 use Rattle.std.proofs.lemmas.Fmt.{length-decimal-le}
 use Rattle.text_lines.specs.Lines.{line, spaced, end_line, begins_as_end, front_of, header_fault}
 use Rattle.text_lines.specs.Input.{Ending}
-use Rattle.text_lines.specs.Lines.{IsPartOfLine}
+use Rattle.text_lines.specs.Inner.Lines.{IsPartOfLine}
 use Rattle.text_lines.proofs.Fronts.{whole}
 use Rattle.text_lines.proofs.WrittenLines.{IsLineOf, number_is_field, field_is_clean, end_read}
 use Rattle.history_text.specs.Items.{Kind, line_of, item_at_front}

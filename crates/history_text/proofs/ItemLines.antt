@@ -8,7 +8,7 @@ use Rattle.text_lines.specs.declared.fault.TextFault.{TextFault}
 use Rattle.text_lines.specs.Lines.{line, spaced, fields_of, begins_as_end, end_in, end_word}
 use Rattle.text_lines.proofs.Numbers.{both, text_is, end_ok}
 use Rattle.history_text.specs.Items.{Kind, item_in}
-use Rattle.history_text.specs.Taking.{IsSpelled, IsItemLine}
+use Rattle.history_text.specs.Inner.Taking.{IsSpelled, IsItemLine}
 
 -- the last line counts the items before it
 pub last_line_ok : {A : Type 0} (kind : Kind A) (n k : ℕ) (bytes field : List ℕ) → k < 2 ^ 64 → (kind.is_counted && begins_as_end bytes) ≡ true

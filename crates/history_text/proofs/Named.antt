@@ -8,7 +8,8 @@ use Rattle.std.proofs.lemmas.List.Elements.{filter_map-append, All-take, All-dro
 use Rattle.std.proofs.Math.Seq.{take-append_seam, drop-append_seam}
 use Rattle.std.proofs.lemmas.Option.{slice_get-get_or}
 use Rattle.history_merge.specs.declared.operation.Operation.{Operation}
-use Rattle.history_text.specs.Verdicts.{operation_line, lines_at}
+use Rattle.history_text.specs.Verdicts.{operation_line}
+use Rattle.history_text.specs.Inner.Verdicts.{lines_at}
 use Rattle.text_lines.specs.Writing.{AppendsFront, Puts}
 use Rattle.text_lines.proofs.Appending.{Puts-append, Puts-last, front_first, front_of_kept, front_next}
 

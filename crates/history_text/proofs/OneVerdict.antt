@@ -16,7 +16,7 @@ use Rattle.history_text.specs.Verdicts.{verdict_text}
 use Rattle.history_text.specs.Claims.{first_line, FirstLineFault, operation_kind, operations_in, HasVerdictText, IsVerdictTextFault, NoRoomForVerdict}
 use Rattle.text_lines.specs.Input.{Ahead, Ending, EndOfInput, Takes, IsOver}
 use Rattle.history_text.specs.Reading.{HasVerdictTextFault, IsAll}
-use Rattle.text_lines.specs.Lines.{IsPartOfLine}
+use Rattle.text_lines.specs.Inner.Lines.{IsPartOfLine}
 use Rattle.text_lines.proofs.Fronts.{whole}
 use Rattle.history_text.proofs.FirstFaults.{is_read}
 use Rattle.history_text.proofs.ReadOperations.{operation_front}

@@ -10,8 +10,8 @@ use Rattle.history_text.specs.Schedules.{setting_fields, setting_in, setting_at_
 use Rattle.history_text.specs.Schedules.{SettingFault, IsScheduleTextFault, NoRoomForSchedule}
 use Rattle.text_lines.specs.Input.{Ahead, Ending, Takes}
 use Rattle.history_text.specs.Reading.{HasScheduleTextFault}
-use Rattle.text_lines.specs.Lines.{IsPartOfLine}
-use Rattle.history_text.specs.Taking.{NoLineFault, HasNoLine, HasHeaderFault, HasSettingFault, HasItemsFault, IsOfInput}
+use Rattle.text_lines.specs.Inner.Lines.{IsPartOfLine}
+use Rattle.history_text.specs.Inner.Taking.{NoLineFault, HasNoLine, HasHeaderFault, HasSettingFault, HasItemsFault, IsOfInput}
 use Rattle.text_lines.proofs.Consuming.{Takes-append}
 use Rattle.history_text.proofs.Faults.{at_line}
 use Rattle.history_text.proofs.FirstFaults.{first_is, line_fault, later_fault}

@@ -9,7 +9,7 @@ use Rattle.event_records.specs.declared.limits.TheConstants.{MAX_TICKET, MAX_THR
 use Rattle.text_lines.specs.Lines.{greatest_value, number_in}
 use Rattle.history_text.specs.Histories.{what_fields, HasValueInRange, plain_what, has_value, what_of, plain_event, event_with_value, stamped_event}
 use Rattle.history_text.specs.Histories.{numbered_event, event_in, event_kind}
-use Rattle.history_text.specs.Taking.{IsSpelled}
+use Rattle.history_text.specs.Inner.Taking.{IsSpelled}
 use Rattle.text_lines.proofs.Numbers.{chosen, bind_ok, text_is, number_ok}
 
 -- ---- words

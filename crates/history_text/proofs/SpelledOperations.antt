@@ -9,7 +9,7 @@ use Rattle.history_merge.specs.declared.operation.OpKind.TheVariants.{Empty}
 use Rattle.text_lines.specs.Lines.{greatest_value, number_in}
 use Rattle.history_text.specs.Verdicts.{kind_fields}
 use Rattle.history_text.specs.Claims.{IsKindInRange, has_value, kind_of_value, empty_operation, numbered_operation, operation_in, operation_kind}
-use Rattle.history_text.specs.Taking.{IsSpelled}
+use Rattle.history_text.specs.Inner.Taking.{IsSpelled}
 use Rattle.text_lines.proofs.Numbers.{chosen, by_test, other_true, bind_ok, text_is, number_ok}
 
 -- a kind that is written with these fields

@@ -13,7 +13,7 @@ use Rattle.text_lines.specs.Lines.{greatest_value, number_in, number_between}
 use Rattle.history_text.specs.Schedules.{answer_fields, step_fields, setting_fields, IsAnswerInRange, HasStepLine, is_plain, plain_step, plain_answer}
 use Rattle.history_text.specs.Schedules.{step_of_two, plain_saying, draining, step_of_three, numbered_saying, step_of_four, step_in, numbered_setting}
 use Rattle.history_text.specs.Schedules.{setting_in, step_kind, IsSetting}
-use Rattle.history_text.specs.Taking.{IsSpelled}
+use Rattle.history_text.specs.Inner.Taking.{IsSpelled}
 use Rattle.text_lines.proofs.Numbers.{chosen, both, by_test, other_true, bind_ok, text_is, number_ok, between_ok}
 
 -- ---- words

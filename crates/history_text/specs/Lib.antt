@@ -4,4 +4,4 @@ pub mod Schedules
 pub mod Verdicts
 pub mod Claims
 pub mod Reading
-pub mod Taking
+pub mod Inner

@@ -9,6 +9,7 @@ use Rattle.verdicts.specs.declared.verifying.ViolationKind.TheVariants.{VFresh, 
 use Rattle.verdicts.specs.declared.verifying.Claimed.{Claimed}
 use Rattle.verdicts.specs.declared.verifying.Claimed.TheVariants as claimed
 use Rattle.text_lines.specs.Lines.{line, spaced}
+
 -- the places of a violation's operations, and of a value's in its cover, in the order in which they are shown
 pub use Rattle.verdicts.specs.Shown.{places_of_step, places_of as places_of_violation}
 -- the places of a verdict's operations, and what it claims
@@ -40,7 +41,3 @@ kind_name VWit = codes "VWit"
 abbrev pub verdict_text : Claimed → List ℕ
 verdict_text (claimed.Yes operations) = line (codes "YES") ++ flat_map operation_line operations
 verdict_text (claimed.No kind operations) = line (codes "NO " ++ kind_name kind) ++ flat_map operation_line operations
-
--- the lines of the operations at these places
-abbrev pub lines_at : List Operation → List ℕ → List ℕ
-lines_at operations places = flat_map operation_line (operations_at operations places)

@@ -4,7 +4,7 @@ ghost use Rattle.event_records.specs.declared.limits.TheConstants.{MAX_EVENTS};
 ghost use Rattle.text_lines.specs.Lines.{IsLineFault, fields_of, begins_as_end};
 ghost use Rattle.history_text.specs.Items as judged;
 ghost use Rattle.history_text.specs.Items.{Kind, line_of};
-ghost use Rattle.history_text.specs.Taking.{IsSpelled, IsItemLine};
+ghost use Rattle.history_text.specs.Inner.Taking.{IsSpelled, IsItemLine};
 
 use text_lines::{TextFault, end_in};
 

@@ -12,8 +12,8 @@ ghost use Rattle.history_text.specs.Schedules.{schedule_text, setting_fields, Ha
 ghost use Rattle.history_text.specs.Verdicts.{verdict_text};
 ghost use Rattle.history_text.specs.Claims.{operations_in, HasVerdictText, first_line};
 ghost use Rattle.history_text.specs.Reading.{HasHistoryTextFault, HasScheduleTextFault, HasVerdictTextFault, HasEndFault, BeginsWith, IsAll};
-ghost use Rattle.history_text.specs.Taking.{TakesLine, StopsInLine, TakesItem, TakesItems, HasNoLine, HasHeaderFault, HasSettingFault, HasFirstLineFault, HasItemFault, HasItemsFault, IsOfInput};
-ghost use Rattle.text_lines.specs.Lines.{IsPartOfLine};
+ghost use Rattle.history_text.specs.Inner.Taking.{TakesLine, StopsInLine, TakesItem, TakesItems, HasNoLine, HasHeaderFault, HasSettingFault, HasFirstLineFault, HasItemFault, HasItemsFault, IsOfInput};
+ghost use Rattle.text_lines.specs.Inner.Lines.{IsPartOfLine};
 
 use crate::collecting::Collects;
 use crate::item::{Item, item_in};

@@ -5,7 +5,8 @@ ghost use Rattle.std.specs.Io.KnownBytes.{Appends};
 ghost use Rattle.std.specs.Option.{option_to_list};
 ghost use Rattle.history_merge.specs.Operations.{operations_of};
 ghost use Rattle.text_lines.specs.Lines.{line, spaced};
-ghost use Rattle.history_text.specs.Verdicts.{kind_fields, kind_name, operation_line, verdict_text, lines_at, places_of, places_of_violation, places_of_step, violation_kind, claim_of};
+ghost use Rattle.history_text.specs.Verdicts.{kind_fields, kind_name, operation_line, verdict_text, places_of, places_of_violation, places_of_step, violation_kind, claim_of};
+ghost use Rattle.history_text.specs.Inner.Verdicts.{lines_at};
 ghost use Rattle.text_lines.specs.Writing.{AppendsFront, Puts, IsWritten, IsRefused};
 
 use history_merge::{History, OpId, OpKind, Operation};

@@ -16,7 +16,7 @@ use Rattle.value_match.specs.declared.life.Life.{Life}
 use Rattle.value_match.specs.Lives.{IsLeastFreeGap, is_empty_answer, is_empty_kind, is_refused, is_refused_kind}
 use Rattle.linearizer.specs.declared.position.Placed.{Placed}
 use Rattle.linearizer.specs.Order.{IsPositionFor, idle_answers, idle_position}
-use Rattle.linearizer.specs.Placement.{Adds, IsPlaced, position_of}
+use Rattle.linearizer.specs.Inner.Placement.{Adds, IsPlaced, position_of}
 use Rattle.linearizer.proofs.Positions.{beside}
 
 -- nothing is added at first

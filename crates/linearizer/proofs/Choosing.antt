@@ -13,8 +13,8 @@ use Rattle.value_match.specs.declared.life.MatchedValue.{MatchedValue}
 use Rattle.value_match.specs.Lives.{HoldsLives, lives_of}
 use Rattle.linearizer.specs.declared.timed.Timed.{Timed}
 use Rattle.linearizer.specs.Values.{EachIsChoice, IsChoice}
-use Rattle.linearizer.specs.Placement.{IsOrderOfPlaces, elements_at, lives_in}
-use Rattle.linearizer.specs.Sweep.{AreByTime, IsFirstLeft, IsLeft, IsTaken, IsTimeOf}
+use Rattle.linearizer.specs.Inner.Placement.{IsOrderOfPlaces, elements_at, lives_in}
+use Rattle.linearizer.specs.Inner.Sweep.{AreByTime, IsFirstLeft, IsLeft, IsTaken, IsTimeOf}
 use Rattle.linearizer.proofs.OrderedPlaces.{elements_long, elements_push, lives_are}
 use Rattle.linearizer.proofs.Sweeping.{IsNext, all_left, flag_stays, left_of, one_taken, place_left}
 use Rattle.linearizer.proofs.ValueOrder.{choice_in_other_order}

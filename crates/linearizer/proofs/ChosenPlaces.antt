@@ -15,8 +15,8 @@ use Rattle.value_match.specs.Violations.{IsClear, NoOrderViolation}
 use Rattle.linearizer.specs.declared.position.Class.TheVariants.{Idle}
 use Rattle.linearizer.specs.declared.position.Placed.{Placed}
 use Rattle.linearizer.specs.Order.{StandsBefore, IsPositionOf, AreChosenAndLegal}
-use Rattle.linearizer.specs.Placement.{Adds, AreByPosition, HoldsIdles, HoldsValues, IsPlaced, NeverFall, dequeues_of, enqueues_of, position_of}
-use Rattle.linearizer.specs.Merging.{IsMerge}
+use Rattle.linearizer.specs.Inner.Placement.{Adds, AreByPosition, HoldsIdles, HoldsValues, IsPlaced, NeverFall, dequeues_of, enqueues_of, position_of}
+use Rattle.linearizer.specs.Inner.Merging.{IsMerge}
 use Rattle.linearizer.proofs.LegalOrder.{chosen_order_is_legal}
 use Rattle.linearizer.proofs.OneOrder.{operations_rise, sorted_is_chosen}
 use Rattle.linearizer.proofs.Partition.{each_once}

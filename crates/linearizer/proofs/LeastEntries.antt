@@ -8,7 +8,7 @@ use Rattle.value_match.specs.declared.life.Life.{Life}
 use Rattle.value_match.specs.declared.life.TheConstants.{NEVER}
 use Rattle.value_match.specs.Lives.{entered_by}
 use Rattle.linearizer.specs.Values.{enqueue_gap, least_entered_by}
-use Rattle.linearizer.specs.Placement.{AreEnqueueGaps}
+use Rattle.linearizer.specs.Inner.Placement.{AreEnqueueGaps}
 
 fold_min : (a b : ℕ) (xs : List ℕ) → fold min (min a b) xs ≡ min (fold min a xs) b
 fold_min a b [] = refl

@@ -14,8 +14,8 @@ use Rattle.linearizer.specs.declared.position.Position.{Position as Stored}
 use Rattle.linearizer.specs.declared.position.Placed.{Placed}
 use Rattle.linearizer.specs.Values.{dequeue_gap, enqueue_gap}
 use Rattle.linearizer.specs.Order.{Position, StandsBefore, dequeue_position, enqueue_position}
-use Rattle.linearizer.specs.Placement.{HoldsUpTo, IsOrderOfPlaces, NeverFall, lives_at, position_of}
-use Rattle.linearizer.specs.Merging.{IsAhead, IsDequeueFrom, IsEnqueueFrom, IsIdleFrom, IsMerge, IsMergedUpTo, IsValueFrom, NoneBelow}
+use Rattle.linearizer.specs.Inner.Placement.{HoldsUpTo, IsOrderOfPlaces, NeverFall, lives_at, position_of}
+use Rattle.linearizer.specs.Inner.Merging.{IsAhead, IsDequeueFrom, IsEnqueueFrom, IsIdleFrom, IsMerge, IsMergedUpTo, IsValueFrom, NoneBelow}
 use Rattle.linearizer.proofs.OrderedPlaces.{lives_long}
 use Rattle.linearizer.proofs.PlacedValues.{all_placed, nothing_placed, one_more_among}
 use Rattle.linearizer.proofs.Positions.{are_gaps}

@@ -10,7 +10,7 @@ use Rattle.history_merge.specs.declared.operation.Operation.{Operation}
 use Rattle.history_merge.proofs.Distinct.{contains_at}
 use Rattle.value_match.specs.declared.life.MatchedValue.{MatchedValue}
 use Rattle.value_match.specs.Lives.{HoldsLives, lives_of, HasPlaces}
-use Rattle.linearizer.specs.Placement.{IsOrderOfPlaces, elements_at, lives_at, lives_in}
+use Rattle.linearizer.specs.Inner.Placement.{IsOrderOfPlaces, elements_at, lives_at, lives_in}
 
 -- the elements at one place more
 pub elements_push : {X : Type 0} (xs : List X) (places : List ℕ) (p : ℕ) (x : X) → slice_get xs p ≡ Some x

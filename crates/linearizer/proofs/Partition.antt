@@ -13,7 +13,7 @@ use Rattle.value_match.specs.declared.life.Life.{Life}
 use Rattle.value_match.specs.Lives.{IsLife, is_empty_answer, is_empty_kind, is_refused, is_refused_kind, dequeue_of, enqueue_of, operations_of_life}
 use Rattle.value_match.specs.Violations.{IsClear}
 use Rattle.linearizer.specs.Values.{IsValueOrder}
-use Rattle.linearizer.specs.Placement.{dequeues_of, enqueues_of}
+use Rattle.linearizer.specs.Inner.Placement.{dequeues_of, enqueues_of}
 use Rattle.linearizer.proofs.Keys.{one_place}
 use Rattle.linearizer.proofs.Opposites.{is_life, one_deeper, stands_in_order}
 use Rattle.linearizer.proofs.DifferentTimes.{IsOf, not_both_kinds, one_life_of_operation, one_place_of_life}

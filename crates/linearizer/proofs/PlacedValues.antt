@@ -18,7 +18,7 @@ use Rattle.value_match.specs.Lives.{HoldsLives, IsLife, IsMaybeAt, leaves_from, 
 use Rattle.linearizer.specs.declared.position.Placed.{Placed}
 use Rattle.linearizer.specs.Values.{IsValueOrder, dequeue_gap, enqueue_gap, greatest_leaves_from}
 use Rattle.linearizer.specs.Order.{IsPositionFor, dequeue_position, earlier_dequeues, enqueues, other_dequeues}
-use Rattle.linearizer.specs.Placement.{AreEnqueueGaps, HoldsUpTo, HoldsValues, IsOrderOfPlaces, IsPlaced, dequeues_of, enqueues_of, lives_at, position_of}
+use Rattle.linearizer.specs.Inner.Placement.{AreEnqueueGaps, HoldsUpTo, HoldsValues, IsOrderOfPlaces, IsPlaced, dequeues_of, enqueues_of, lives_at, position_of}
 use Rattle.linearizer.proofs.OrderedPlaces.{IsValueAt, lives_long, value_at}
 use Rattle.linearizer.proofs.Opposites.{is_life}
 

@@ -12,7 +12,7 @@ use Rattle.linearizer.specs.contracts.position.ClassOrd.TheImpl as classes
 use Rattle.linearizer.specs.contracts.position.PositionOrd.TheImpl as positions
 use Rattle.linearizer.specs.contracts.position.PositionOrd.TheImpl.Laws.{total-law}
 use Rattle.linearizer.specs.Order.{Position, StandsBefore}
-use Rattle.linearizer.specs.Placement.{class_number, position_of}
+use Rattle.linearizer.specs.Inner.Placement.{class_number, position_of}
 
 -- the code compares classes as their numbers, and positions by gap, class and rank
 class_order : (c d : Class) → classes.cmp-value.it c d ≡ nat_cmp (class_number c) (class_number d)

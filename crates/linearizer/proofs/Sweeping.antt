@@ -15,8 +15,8 @@ use Rattle.value_match.specs.Lives.{dequeue_return, entered_by, leaves_from}
 use Rattle.value_match.proofs.Lists.{mapped_to, one_deeper}
 use Rattle.linearizer.specs.declared.timed.Timed.{Timed}
 use Rattle.linearizer.specs.Values.{IsChoice, IsLeastBy}
-use Rattle.linearizer.specs.Placement.{lives_in}
-use Rattle.linearizer.specs.Sweep.{AreByTime, IsFirstLeft, IsLeft, IsTaken, IsTimeOf, TakesOneOf}
+use Rattle.linearizer.specs.Inner.Placement.{lives_in}
+use Rattle.linearizer.specs.Inner.Sweep.{AreByTime, IsFirstLeft, IsLeft, IsTaken, IsTimeOf, TakesOneOf}
 
 -- the elements whose flag is not set
 abbrev pub left_of : {X : Type 0} → List X → List Bool → List X

@@ -1,5 +1,3 @@
 pub mod Values
 pub mod Order
-pub mod Placement
-pub mod Sweep
-pub mod Merging
+pub mod Inner

@@ -1,8 +1,8 @@
 ghost use Rattle.std.specs.Prelude.{◌<◌, All, IfOk, IsPermutation, length};
 ghost use Rattle.value_match.specs.Violations.{IsClear};
 ghost use Rattle.linearizer.specs.Values.{EachIsChoice};
-ghost use Rattle.linearizer.specs.Placement.{IsOrderOfPlaces, elements_at, lives_in};
-ghost use Rattle.linearizer.specs.Sweep.{TakesOneOf};
+ghost use Rattle.linearizer.specs.Inner.Placement.{IsOrderOfPlaces, elements_at, lives_in};
+ghost use Rattle.linearizer.specs.Inner.Sweep.{TakesOneOf};
 
 use crate::timed::{Timed, by_dequeue, by_entry, first_left};
 use std::alloc::{AllocError, Global};

@@ -4,8 +4,8 @@ ghost use Rattle.value_match.specs.declared.life.Life.{Life};
 ghost use Rattle.value_match.specs.Lives.{AreLeastFreeGaps, is_empty_answer, is_refused};
 ghost use Rattle.value_match.specs.Violations.{IsClear};
 ghost use Rattle.linearizer.specs.Order.{StandsBefore};
-ghost use Rattle.linearizer.specs.Placement.{Adds, AreEnqueueGaps, HoldsIdles, IsOrderOfPlaces, NeverFall, lives_at, position_of};
-ghost use Rattle.linearizer.specs.Merging.{IsDequeueFrom, IsEnqueueFrom, IsIdleFrom, IsMerge, IsMergedUpTo, IsValueFrom, NoneBelow};
+ghost use Rattle.linearizer.specs.Inner.Placement.{Adds, AreEnqueueGaps, HoldsIdles, IsOrderOfPlaces, NeverFall, lives_at, position_of};
+ghost use Rattle.linearizer.specs.Inner.Merging.{IsDequeueFrom, IsEnqueueFrom, IsIdleFrom, IsMerge, IsMergedUpTo, IsValueFrom, NoneBelow};
 
 use crate::choice::ordered_places;
 use crate::position::{Placed, Position};

@@ -32,7 +32,7 @@ pub(crate) struct Placed {
 }
 
 impl Placed {
-    ghost use Rattle.linearizer.specs.Placement.{position_of};
+    ghost use Rattle.linearizer.specs.Inner.Placement.{position_of};
 
     /// The enqueue of the value at this place of the order of values.
     pub(crate) fn enqueue(operation: OpId, gap: u64, place: usize) -> Placed

@@ -1,6 +1,6 @@
 ghost use Rattle.std.specs.Prelude.{◌<◌, All, Contains, IfOk, length, take};
 ghost use Rattle.value_match.specs.Lives.{dequeue_return, entered_by};
-ghost use Rattle.linearizer.specs.Sweep.{AreByTime, IsFirstLeft, IsLeft, IsTaken};
+ghost use Rattle.linearizer.specs.Inner.Sweep.{AreByTime, IsFirstLeft, IsLeft, IsTaken};
 
 use std::alloc::{AllocError, Global};
 use value_match::{Values, settle};

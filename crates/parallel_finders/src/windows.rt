@@ -4,7 +4,7 @@ ghost use Rattle.empty_witness.specs.Answers.{IsEmptyAnswerAt};
 ghost use Rattle.empty_witness.specs.Covered.{AreWindowsAt};
 ghost use Rattle.empty_witness.specs.Spans.{AreSpansOf};
 ghost use Rattle.empty_witness.specs.declared.search.Windows.TheVariants.{Free, Covered};
-ghost use Rattle.parallel_finders.specs.Together.{AreTogether};
+ghost use Rattle.parallel_finders.specs.Inner.Together.{AreTogether};
 
 use empty_witness::{EmptyAnswer, Span, Windows, sooner_of, windows_at};
 use history_merge::OpId;

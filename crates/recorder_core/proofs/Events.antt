@@ -20,7 +20,7 @@ use Rattle.recorder_core.specs.declared.step.Answer.{Answer}
 use Rattle.recorder_core.specs.declared.step.Answer.TheVariants.{Taken, Not, Got, Empty}
 use Rattle.recorder_core.specs.declared.pending.Question.{Question}
 use Rattle.recorder_core.specs.declared.pending.Question.TheVariants.{Enqueue, Dequeue}
-use Rattle.recorder_core.specs.Asked.{asked_for, call_of}
+use Rattle.recorder_core.specs.Inner.Asked.{asked_for, call_of}
 use Rattle.recorder_core.specs.Setting.{Setting}
 use Rattle.recorder_core.specs.Schedule.{Attempt, refusal, accepted, asks, answers, returns, tickets, question, answered, events, return_of, is_wrong}
 use Rattle.recorder_core.specs.Schedule.{queue_answer, effect_answer, queue, thread_of}

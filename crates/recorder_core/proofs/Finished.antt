@@ -4,7 +4,7 @@ use Rattle.std.proofs.lemmas.Bool.{and_parts, and_from, eqb-true, eq-eqb}
 use Rattle.std.specs.List.{slice_get, list_all}
 use Rattle.recorder_core.specs.Setting.{Setting}
 use Rattle.recorder_core.specs.View.{MachineView}
-use Rattle.recorder_core.specs.Seen.{is_thread_done}
+use Rattle.recorder_core.specs.Inner.Seen.{is_thread_done}
 use Rattle.recorder_core.specs.Schedule.{Attempt, accepted, in_ring}
 use Rattle.recorder_core.specs.After.{IsAfter, thread_after}
 use Rattle.recorder_core.specs.Laws.{IsDone}

@@ -9,7 +9,7 @@ use Rattle.event_records.specs.declared.limits.TheConstants.{MAX_THREAD_OPERATIO
 use Rattle.recorder_core.specs.declared.step.Step.{Step}
 use Rattle.recorder_core.specs.declared.step.Step.TheVariants.{Push, Say, Ret, Drain, Close}
 use Rattle.recorder_core.specs.declared.step.Answer.{Answer}
-use Rattle.recorder_core.specs.Asked.{ask_of}
+use Rattle.recorder_core.specs.Inner.Asked.{ask_of}
 use Rattle.recorder_core.specs.Setting.{Setting}
 use Rattle.recorder_core.specs.Schedule.{Attempt, refusal, accepted, asks, all_asks, answers, returns, pushes, drained, events, question, is_closed, is_wrong}
 use Rattle.recorder_core.proofs.Runs.{same_number, MayAsk, MayPush, MayAnswer, MayReturn, MayClose}

@@ -20,7 +20,7 @@ use Rattle.recorder_core.specs.declared.step.Answer.{Answer}
 use Rattle.recorder_core.specs.declared.step.Answer.TheVariants.{Taken, Not, Got, Empty}
 use Rattle.recorder_core.specs.declared.pending.Question.{Question}
 use Rattle.recorder_core.specs.declared.pending.Question.TheVariants.{Enqueue, Dequeue}
-use Rattle.recorder_core.specs.Asked.{call_of}
+use Rattle.recorder_core.specs.Inner.Asked.{call_of}
 use Rattle.recorder_core.specs.Setting.{Setting}
 use Rattle.recorder_core.specs.Schedule.{Attempt, refusal, accepted, answers, returns, tickets, question, answered, effect_answer, events, is_wrong}
 use Rattle.recorder_core.specs.Schedule.{queue, queue_answer, return_of, with_last}

@@ -17,7 +17,7 @@ use Rattle.event_records.specs.Turns.{TakesTurns, TicketsRise}
 use Rattle.recorder_core.specs.declared.step.Step.{Step}
 use Rattle.recorder_core.specs.declared.step.Step.TheVariants.{Say, Ret}
 use Rattle.recorder_core.specs.declared.step.Answer.{Answer}
-use Rattle.recorder_core.specs.Asked.{ask_of, asked_for, call_of}
+use Rattle.recorder_core.specs.Inner.Asked.{ask_of, asked_for, call_of}
 use Rattle.recorder_core.specs.Setting.{Setting}
 use Rattle.recorder_core.specs.Schedule.{asks, answers, returns, tickets, question, events, is_wrong, return_of}
 use Rattle.recorder_core.specs.Replay.{is_effect}

@@ -21,11 +21,12 @@ use Rattle.recorder_core.specs.declared.step.StepRefused.TheVariants.{NoThread, 
 use Rattle.recorder_core.specs.declared.step.StepRefused.TheVariants.{NotPending, NoAnswer, AnswerTaken, WrongAnswer, Limit, Memory}
 use Rattle.recorder_core.specs.Setting.{Setting}
 use Rattle.recorder_core.specs.View.{ThreadView, MachineView}
-use Rattle.recorder_core.specs.Seen.{seen, none_other, when_pushing, given_answer}
-use Rattle.recorder_core.specs.Asked.{ask_of, asked_for, call_of, is_limited}
+use Rattle.recorder_core.specs.Inner.Seen.{seen, none_other, when_pushing, given_answer}
+use Rattle.recorder_core.specs.Inner.Asked.{ask_of, asked_for, call_of, is_limited}
 use Rattle.recorder_core.specs.Schedule.{refusal, accepted, done_of, asks, all_asks, answers, returns, pushes, in_ring, tickets, with_last, question}
 use Rattle.recorder_core.specs.Schedule.{answered, effect_answer, queue, queue_answer, queue_after, is_closed, is_wrong, return_of, thread_of}
-use Rattle.recorder_core.specs.After.{thread_after, IsLeftBy, IsReachable, TakesStep, attempt_at, is_memory}
+use Rattle.recorder_core.specs.After.{thread_after, IsLeftBy, IsReachable, attempt_at, is_memory}
+use Rattle.recorder_core.specs.Inner.After.{TakesStep}
 use Rattle.recorder_core.proofs.Runs.{MayAsk, may_ask, may_push, may_effect, may_say, may_return}
 use Rattle.recorder_core.proofs.Counts.{Counted, counted}
 use Rattle.recorder_core.proofs.Threads.{with_answer, other_thread, own_ask, own_push, own_effect, own_say, own_return, own_drain, own_close}

@@ -17,11 +17,11 @@ use Rattle.recorder_core.specs.declared.pending.Question.TheVariants.{Enqueue, D
 use Rattle.recorder_core.specs.declared.pending.Pending.{Pending}
 use Rattle.recorder_core.specs.Setting.{Setting}
 use Rattle.recorder_core.specs.View.{ThreadView}
-use Rattle.recorder_core.specs.Seen.{given_answer}
+use Rattle.recorder_core.specs.Inner.Seen.{given_answer}
 use Rattle.event_records.specs.Question.{value_name}
 use Rattle.event_records.specs.declared.kind.Kind.{Kind}
 use Rattle.event_records.specs.declared.kind.Kind.TheVariants.{Enq, Deq}
-use Rattle.recorder_core.specs.Asked.{ask_of, asked_for, call_of}
+use Rattle.recorder_core.specs.Inner.Asked.{ask_of, asked_for, call_of}
 use Rattle.recorder_core.specs.Schedule.{asks, answers, returns, pushes, drained, in_ring, tickets, events, with_last, question, answered}
 use Rattle.recorder_core.specs.Schedule.{effect_answer, return_of, thread_of}
 use Rattle.recorder_core.specs.After.{pending, thread_after}

@@ -8,7 +8,7 @@ use Rattle.recorder_core.specs.declared.step.Answer.{Answer}
 use Rattle.recorder_core.specs.declared.step.Answer.TheVariants.{Taken, Not, Got, Empty}
 use Rattle.recorder_core.specs.declared.pending.Question.{Question}
 use Rattle.recorder_core.specs.declared.pending.Question.TheVariants.{Enqueue, Dequeue}
-use Rattle.recorder_core.specs.Asked.{call_of}
+use Rattle.recorder_core.specs.Inner.Asked.{call_of}
 use Rattle.recorder_core.specs.Schedule.{is_wrong, return_of}
 
 -- what follows whole operations takes turns too

@@ -1,14 +1,13 @@
 -- What a machine holds after a schedule.
-use Rattle.std.specs.Prelude.{◌≡◌, ℕ, ◌<◌, Bool, true, false, nat_lt, if◌then◌else◌, List, ◌∷◌, length, take, drop, Option, None, Some, Result, Ok}
-use Rattle.std.specs.Prelude.{Err, OnErr, slice_get}
+use Rattle.std.specs.Prelude.{◌≡◌, ℕ, ◌<◌, Bool, true, false, nat_lt, if◌then◌else◌, List, length, take, drop, Option, None, Some, Result, Ok}
+use Rattle.std.specs.Prelude.{Err, slice_get}
 use Rattle.std.specs.Option.{option_map}
 use Rattle.recorder_core.specs.declared.step.Step.{Step}
 use Rattle.recorder_core.specs.declared.pending.Pending.{Pending}
-use Rattle.recorder_core.specs.declared.step.Done.{Done}
 use Rattle.recorder_core.specs.declared.step.StepRefused.{StepRefused}
 use Rattle.recorder_core.specs.declared.step.StepRefused.TheVariants.{Memory}
 use Rattle.recorder_core.specs.Setting.{Setting}
-use Rattle.recorder_core.specs.Schedule.{Attempt, accepted, answer_to, asks, all_asks, answers, returns, pushes, drained, tickets, events, question}
+use Rattle.recorder_core.specs.Schedule.{Attempt, accepted, asks, all_asks, answers, returns, pushes, drained, tickets, events, question}
 use Rattle.recorder_core.specs.Schedule.{answered, is_closed, queue}
 use Rattle.recorder_core.specs.View.{ThreadView, MachineView}
 
@@ -65,11 +64,3 @@ is_out_of_memory (Err refused) = is_memory refused
 -- the attempt at a step, by its answer: growth was refused where the answer says so
 abbrev pub attempt_at : {A : Type 0} → Step → Result A StepRefused → Attempt
 attempt_at step result = record { step = step; starved = is_out_of_memory result }
-
--- what it means that a machine takes a step: it answers what the schedule says, whichever schedule left it,
--- and is then what that schedule leaves with this attempt added
-pub record TakesStep (old : MachineView) (step : Step) (result : Result Done StepRefused) (new : MachineView) : Type 0 where
-  pub answered : (setting : Setting) (schedule : List Attempt) → IsAfter setting old schedule → result ≡ answer_to setting schedule (attempt_at step result)
-  pub goes_on : (setting : Setting) (schedule : List Attempt) → IsAfter setting old schedule → IsAfter setting new (attempt_at step result ∷ schedule)
-  pub unchanged : OnErr result (new ≡ old)
-  pub threads : length new.threads ≡ length old.threads

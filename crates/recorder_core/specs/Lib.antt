@@ -4,6 +4,5 @@ pub mod Schedule
 pub mod After
 pub mod Laws
 pub mod Replay
-pub mod Seen
-pub mod Asked
 pub mod Names
+pub mod Inner

@@ -3,8 +3,8 @@ ghost use Rattle.std.specs.Prelude.{◌≡◌, ℕ, ◌+◌, ◌≤◌, ◌<◌,
 ghost use Rattle.std.specs.List.{list_all};
 ghost use Rattle.recorder_core.specs.declared.step.Step.TheVariants.{Push, Effect, Say, Ret, Drain, Close};
 ghost use Rattle.recorder_core.specs.Setting.{Setting};
-ghost use Rattle.recorder_core.specs.Asked.{ask_of, asked_for, call_of, is_limited};
-ghost use Rattle.recorder_core.specs.Seen.{is_thread_done};
+ghost use Rattle.recorder_core.specs.Inner.Asked.{ask_of, asked_for, call_of, is_limited};
+ghost use Rattle.recorder_core.specs.Inner.Seen.{is_thread_done};
 ghost use Rattle.recorder_core.specs.Schedule.{Attempt, answer_to, queue_answer, queue_after, is_wrong, return_of};
 
 use crate::pending::Question;
@@ -56,7 +56,8 @@ impl Model for Machine {
 }
 
 impl Machine {
-    ghost use Rattle.recorder_core.specs.After.{IsAfter, TakesStep, attempt_at};
+    ghost use Rattle.recorder_core.specs.After.{IsAfter, attempt_at};
+    ghost use Rattle.recorder_core.specs.Inner.After.{TakesStep};
     ghost use Rattle.recorder_core.specs.Laws.{collected_in, IsDone};
 
     /// A machine that nothing has happened to, with threads 0, 1, 2 and so on, each with a ring of this capacity.

@@ -10,7 +10,8 @@ use Rattle.std.proofs.lemmas.Grind.{flat_map-append}
 use Rattle.tickets.specs.Views.{PassView}
 use Rattle.event_rings.specs.Ring.{TokenView}
 use Rattle.stress_run.specs.Workers.{WorkerView}
-use Rattle.stress_run.specs.Crew.{AreClosed, IsFaultOfWorker, IsNotAfterStall, Stands, token_of}
+use Rattle.stress_run.specs.Crew.{IsFaultOfWorker, IsNotAfterStall, token_of}
+use Rattle.stress_run.specs.Inner.Crew.{AreClosed, Stands}
 use Rattle.stress_run.specs.Faults.{IsNotAfter}
 use Rattle.stress_run.specs.declared.faults.RunFault.{RunFault}
 use Rattle.stress_run.specs.declared.faults.RunFault.TheVariants.{Memory, Stalled}

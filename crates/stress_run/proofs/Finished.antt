@@ -18,14 +18,17 @@ use Rattle.event_records.specs.declared.event.Event.{Event}
 use Rattle.event_rings.specs.Ring.{TokenView}
 use Rattle.workloads.specs.Plans.{IsPlan}
 use Rattle.stress_run.specs.Operations.{Operates, IsRun, ticket_of}
-use Rattle.stress_run.specs.Workers.{WorkerView, Works, WorksIn, IsReadyIn, row_of}
-use Rattle.stress_run.specs.Crew.{SizesView, IsNew, IsCrew, AreClosed, IsNotAfterStall, IsFaultOfWorker, Stands, end_of, token_of}
+use Rattle.stress_run.specs.Workers.{WorkerView, Works, WorksIn, row_of}
+use Rattle.stress_run.specs.Inner.Workers.{IsReadyIn}
+use Rattle.stress_run.specs.Crew.{SizesView, IsNew, IsCrew, IsNotAfterStall, IsFaultOfWorker, token_of}
+use Rattle.stress_run.specs.Inner.Crew.{AreClosed, Stands, end_of}
 use Rattle.stress_run.specs.Failed.{IsFaultAfter, IsFaultOfRun, Overflows}
 use Rattle.stress_run.specs.Faults.{IsWithinLimits}
 use Rattle.stress_run.specs.declared.faults.RunFault.{RunFault}
 use Rattle.stress_run.specs.declared.faults.RunFault.TheVariants.{Limit, Memory, Stalled, CloseLost, Uncertified}
 use Rattle.stress_run.proofs.Composed.{stays, runs, overflows}
-use Rattle.collector.specs.Ends.{rings_of, rings_of_tokens}
+use Rattle.collector.specs.Ends.{rings_of}
+use Rattle.collector.specs.Inner.Ends.{rings_of_tokens}
 use Rattle.stress_run.proofs.Places.{IsAt, zip_at, zip_of, map_at, numbered_at}
 
 -- a worker that has made all operations of its row

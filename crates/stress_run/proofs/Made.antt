@@ -9,7 +9,8 @@ use Rattle.tickets.specs.Views.{PassView, numbers_below}
 use Rattle.event_records.specs.declared.kind.Kind.{Kind}
 use Rattle.event_rings.specs.Ring.{DrainView}
 use Rattle.stress_run.specs.Workers.{WorkerView}
-use Rattle.stress_run.specs.Crew.{SizesView, IsNew, IsCrew, end_of}
+use Rattle.stress_run.specs.Crew.{SizesView, IsNew, IsCrew}
+use Rattle.stress_run.specs.Inner.Crew.{end_of}
 use Rattle.recorder_core.proofs.Blocks.{range_more}
 use Rattle.stress_run.proofs.Places.{zip_push}
 

@@ -1,14 +1,14 @@
 -- The workers of a run: as they are made, and as they are closed.
-use Rattle.std.specs.Prelude.{◌≡◌, ℕ, ◌+◌, ◌*◌, List, [], ◌++◌, length, map, All, sum_by, flat_map, IsPermutation, Contains, ◌⊎◌, Option, Some, true, false}
+use Rattle.std.specs.Prelude.{◌≡◌, ℕ, ◌*◌, List, [], length, map, true, false}
 use Rattle.std.specs.List.{AllZip}
 use Rattle.atomic_table.specs.Seated.{TableId}
-use Rattle.tickets.specs.Views.{PassView, numbers_below}
+use Rattle.tickets.specs.Views.{numbers_below}
 use Rattle.event_records.specs.declared.kind.Kind.{Kind}
-use Rattle.event_rings.specs.Ring.{DrainView, TokenView}
+use Rattle.event_rings.specs.Ring.{TokenView}
 use Rattle.stress_run.specs.Workers.{WorkerView}
 use Rattle.stress_run.specs.Faults.{IsNotAfter}
 use Rattle.stress_run.specs.declared.faults.RunFault.{RunFault}
-use Rattle.stress_run.specs.declared.faults.RunFault.TheVariants.{Memory, Stalled, CloseLost}
+use Rattle.stress_run.specs.declared.faults.RunFault.TheVariants.{Stalled, CloseLost}
 
 -- for how many events each ring of a run has room, and how often each push is tried
 pub record SizesView : Type 0 where
@@ -29,21 +29,9 @@ pub record IsCrew (key : TableId) (sizes : SizesView) (rows : List (List Kind)) 
   pub threads : map (λ w. w.thread) workers ≡ numbers_below (length rows)
   pub each : AllZip (IsNew key sizes) rows workers
 
--- the end of a worker's ring that nothing was drained from
-abbrev pub end_of : WorkerView → DrainView
-end_of w = record { ring = w.ring; thread = w.thread; received = [] }
-
 -- the close token of a worker's ring
 abbrev pub token_of : WorkerView → TokenView
 token_of w = record { ring = w.ring; thread = w.thread; sent = w.sent }
-
--- none of these workers is stopped, their rings are closed, and their passes are joined
-pub record AreClosed (rest : PassView) (workers : List WorkerView) (tokens : List TokenView) (pass : PassView) : Type 0 where
-  pub running : All (λ w. w.stopped ≡ false) workers
-  pub tokens_are : tokens ≡ map token_of workers
-  pub key : pass.key ≡ rest.key
-  pub left : pass.left ≡ rest.left + sum_by (λ w. w.pass.left) workers
-  pub drawn : IsPermutation (rest.drawn ++ flat_map (λ w. w.pass.drawn) workers) pass.drawn
 
 -- where the worker is stopped, the fault that is answered is its stall or one before that
 abbrev pub IsNotAfterStall : RunFault → WorkerView → Type 0
@@ -54,7 +42,3 @@ abbrev pub IsFaultOfWorker : RunFault → WorkerView → Type 0
 IsFaultOfWorker (Stalled t) w = (w.stopped ≡ true) × (t ≡ w.thread)
 IsFaultOfWorker (CloseLost t) w = t ≡ w.thread
 IsFaultOfWorker _ w = ⊥
-
--- this fault stood before, or memory ran out, or it is one of these workers'
-abbrev pub Stands : Option RunFault → List WorkerView → RunFault → Type 0
-Stands standing workers f = (standing ≡ Some f) ⊎ ((f ≡ Memory) ⊎ ((w : WorkerView) × Contains workers w × IsFaultOfWorker f w))

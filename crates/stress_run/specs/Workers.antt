@@ -1,13 +1,11 @@
 -- What contracts see of a worker, and what its calls do.
 use Rattle.std.specs.Prelude.{◌≡◌, ℕ, ◌+◌, ◌*◌, ◌≤◌, ◌<◌, List, [], ◌∷◌, ◌++◌, length, All, slice_index_or, Bool, true, ◌⊎◌}
 use Rattle.std.specs.List.Sorted.{IsStrictlyIncreasing}
-use Rattle.atomic_table.specs.Seated.{TableId}
 use Rattle.tickets.specs.Views.{PassView, share_of}
 use Rattle.event_records.specs.Question.{Question, call_event}
 use Rattle.event_records.specs.declared.kind.Kind.{Kind}
 use Rattle.event_records.specs.declared.kind.Answer.{Answer}
 use Rattle.event_records.specs.declared.event.Event.{Event}
-use Rattle.event_records.specs.declared.limits.TheConstants.{NAMES_OF_A_THREAD}
 use Rattle.event_rings.specs.Ring.{RingName}
 use Rattle.stress_run.specs.Operations.{Operates, tickets_of}
 
@@ -75,20 +73,9 @@ pub record StallsIn (may : Question → Answer → Type 0) (kinds : List Kind) (
 abbrev pub WorksOrStalls : (Question → Answer → Type 0) → List Kind → WorkerView → WorkerView → Type 0
 WorksOrStalls may kinds w w' = Works may kinds w w' ⊎ StallsIn may kinds w w'
 
--- the worker draws from this word, and may make operations of these kinds
-pub record IsReady (key : TableId) (kinds : List Kind) (w : WorkerView) : Type 0 where
-  pub of_key : w.pass.key ≡ key
-  pub enough : 2 * length kinds ≤ w.pass.left
-  pub room : w.asked + length kinds ≤ NAMES_OF_A_THREAD
-
 -- a worker's row of a plan
 abbrev pub row_of : List (List Kind) → WorkerView → List Kind
 row_of rows w = slice_index_or rows w.thread []
-
--- the same for the kinds of its row
-pub record IsReadyIn (key : TableId) (rows : List (List Kind)) (w : WorkerView) : Type 0 where
-  pub has_row : w.thread < length rows
-  pub ready : IsReady key (row_of rows w) w
 
 -- the worker made the operations of its row, or stalled in one of them
 abbrev pub WorksIn : (Question → Answer → Type 0) → List (List Kind) → WorkerView → WorkerView → Type 0

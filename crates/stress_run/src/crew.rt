@@ -1,7 +1,8 @@
 // Workers at work, each on its row of a plan.
 ghost use Rattle.std.specs.Prelude.{OnOk, All, IfOk};
 ghost use Rattle.std.specs.List.{AllZip};
-ghost use Rattle.stress_run.specs.Workers.{Works, WorksOrStalls, WorksIn, IsReady, IsReadyIn};
+ghost use Rattle.stress_run.specs.Workers.{Works, WorksOrStalls, WorksIn};
+ghost use Rattle.stress_run.specs.Inner.Workers.{IsReady, IsReadyIn};
 
 use crate::start::Start;
 use crate::worker::{Worker, WorkerFault, one_call};

@@ -2,7 +2,8 @@
 ghost use Rattle.std.specs.Prelude.{◌≡◌, ◌-◌, ◌*◌, ◌≤◌, ◌<◌, ◌↔◌, [], length, map, sum_by, IfOk, IsSome, IfSome};
 ghost use Rattle.workloads.specs.Plans.{IsPlan};
 ghost use Rattle.event_records.specs.declared.limits.TheConstants.{MAX_RING, MAX_THREAD_OPERATIONS, MAX_THREADS};
-ghost use Rattle.stress_run.specs.Crew.{IsNew, IsCrew, end_of};
+ghost use Rattle.stress_run.specs.Crew.{IsNew, IsCrew};
+ghost use Rattle.stress_run.specs.Inner.Crew.{end_of};
 ghost use Rattle.stress_run.specs.Faults.{IsWithinLimits};
 
 use crate::MAX_TRIES;

@@ -1,12 +1,14 @@
 // A whole run, from a plan to the recorded lists.
 ghost use Rattle.std.specs.Prelude.{◌≡◌, ◌↔◌, All, Err, None, Some, length, map, IfOk, IfErr, IfSome, true, false};
 ghost use Rattle.std.specs.List.{AllZip};
-ghost use Rattle.collector.specs.Ends.{rings_of, rings_of_tokens, threads_of_tokens};
+ghost use Rattle.collector.specs.Ends.{rings_of, threads_of_tokens};
+ghost use Rattle.collector.specs.Inner.Ends.{rings_of_tokens};
 ghost use Rattle.recorder_core.specs.Replay.{AreRecorded, Replays};
 ghost use Rattle.stress_run.specs.Failed.{IsFaultOfRun};
 ghost use Rattle.stress_run.specs.Faults.{IsWithinLimits};
 ghost use Rattle.stress_run.specs.Operations.{IsRun};
-ghost use Rattle.stress_run.specs.Workers.{IsReadyIn, WorksIn};
+ghost use Rattle.stress_run.specs.Workers.{WorksIn};
+ghost use Rattle.stress_run.specs.Inner.Workers.{IsReadyIn};
 ghost use Rattle.stress_run.specs.declared.faults.RunFault.TheVariants.{Limit, Memory};
 ghost use Rattle.tickets.specs.Views.{numbers_below};
 

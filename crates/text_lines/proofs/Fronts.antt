@@ -7,7 +7,7 @@ use Rattle.std.proofs.Math.Seq.{take-append_seam, drop-append-add}
 use Rattle.std.proofs.lemmas.List.Folds.{list_all-append}
 use Rattle.std.proofs.lemmas.Bool.Decides.{nat_tests}
 use Rattle.text_lines.specs.Lines.{Whole, TooLong, Unfinished, Nothing, line, front_of, is_line_feed, longest_line}
-use Rattle.text_lines.specs.Lines.{has_no_line_feed, IsPartOfLine}
+use Rattle.text_lines.specs.Inner.Lines.{has_no_line_feed, IsPartOfLine}
 
 -- the first line feed stands after the bytes that have none
 place_after : (xs ys : List ℕ) → has_no_line_feed xs ≡ true → position_or_len is_line_feed (xs ++ ys) ≡ length xs + position_or_len is_line_feed ys

@@ -13,7 +13,7 @@ use Rattle.std.proofs.lemmas.List.Splits.{slice_split_at, slice_split_none}
 use Rattle.std.proofs.lemmas.Str.Parse.{numerals_by_value}
 use Rattle.std.proofs.lemmas.Fmt.{decimal_digit, digits_decimal, digits_value-decimal, decimal_nonempty, first_decimal, length-decimal-le}
 use Rattle.text_lines.specs.Lines.{spaced, greatest_value, is_number, number_in, number_between, fields_of, begins_as_end, end_in, is_line_feed}
-use Rattle.text_lines.specs.Lines.{has_no_line_feed, IsPartOfLine}
+use Rattle.text_lines.specs.Inner.Lines.{has_no_line_feed, IsPartOfLine}
 use Rattle.text_lines.proofs.Numbers.{tells, both}
 
 -- ---- fields

@@ -5,3 +5,4 @@ pub mod Writing
 pub mod Watching
 pub mod Holding
 pub mod Faults
+pub mod Inner

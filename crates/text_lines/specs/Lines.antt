@@ -1,5 +1,5 @@
 -- Lines, fields and numbers, of which all texts are made.
-use Rattle.std.specs.Prelude.{◌≡◌, ℕ, ◌+◌, ◌-◌, ◌^◌, ◌≤◌, ◌==◌, ◌&&◌, ◌||◌, nat_lt, nat_le, nat_eq, not, Bool, true, if◌then◌else◌}
+use Rattle.std.specs.Prelude.{◌≡◌, ℕ, ◌+◌, ◌-◌, ◌^◌, ◌==◌, ◌&&◌, ◌||◌, nat_lt, nat_le, nat_eq, not, Bool, if◌then◌else◌}
 use Rattle.std.specs.Prelude.{List, [], ◌∷◌, ◌++◌, length, take, drop, codes, decimal, Option, Some, None, Ok, Err, slice_index}
 use Rattle.std.specs.declared.result.Result.{Result}
 use Rattle.std.specs.List.{slice_split, join_with_byte, position_or_len, list_all, starts_with}
@@ -37,15 +37,6 @@ longest_line = 80
 -- the byte that ends a line
 abbrev pub is_line_feed : ℕ → Bool
 is_line_feed b = b == 10
-
--- no byte ends the line
-abbrev pub has_no_line_feed : List ℕ → Bool
-has_no_line_feed bytes = list_all (λ b. not (is_line_feed b)) bytes
-
--- bytes with no line feed, few enough for a line
-pub record IsPartOfLine (bytes : List ℕ) : Type 0 where
-  pub one : has_no_line_feed bytes ≡ true
-  pub short : length bytes ≤ longest_line
 
 -- The front of the input: a whole line and the bytes after its line feed, a line that is too long, less than a line, or no byte.
 pub data Front : Type 0 where

@@ -15,7 +15,8 @@ use Rattle.std.proofs.lemmas.List.Sorted.{IsPermutation-cons, length_permutation
 use Rattle.atomic_table.specs.Table.{Me, keeps, stepped, Allows, Splits, Joins, Seen, Final}
 use Rattle.atomic_table.proofs.Lists.{set_again, set_else}
 use Rattle.tickets.specs.declared.account.Holding.{Holding}
-use Rattle.tickets.specs.Account.{holding, whole_of, IsAccount, KeepsAccount, DrawsNext, LooksAtShare, merged, put_together}
+use Rattle.tickets.specs.Account.{whole_of, IsAccount}
+use Rattle.tickets.specs.Inner.Account.{holding, KeepsAccount, DrawsNext, LooksAtShare, merged, put_together}
 use Rattle.tickets.specs.Views.{numbers_below}
 use Rattle.tickets.proofs.Rising.{times, times-append, times-permutation, times-range, range-push, range-below, rises, increasing, RisesFrom-push}
 use Rattle.tickets.proofs.Rising.{all_below, IsPermutation-merged, RisesFrom-merged}

@@ -1,6 +1,6 @@
 // The right of one thread to draw.
 ghost use Rattle.std.specs.Prelude.{◌≡◌, ◌-◌, ◌≤◌, []};
-ghost use Rattle.tickets.specs.Account.{holding};
+ghost use Rattle.tickets.specs.Inner.Account.{holding};
 
 use crate::account::{Draws, Holding, Looks, Together};
 use crate::drawn::Drawn;
@@ -54,7 +54,7 @@ impl Pass {
     ghost use Rattle.std.specs.Prelude.{◌≡◌, ◌+◌, ◌-◌, ◌<◌, ◌≤◌, [], ◌++◌, IsPermutation};
     ghost use Rattle.std.specs.List.Sorted.{IsStrictlyIncreasing};
     ghost use Rattle.tickets.specs.Views.{share_of, DrawsOne};
-    ghost use Rattle.tickets.specs.Account.{holding};
+    ghost use Rattle.tickets.specs.Inner.Account.{holding};
 
     // The seat that the pass steps with, its share, and what is left of the share.
     pub(crate) fn into_parts(self) -> (Seat<(), Holding>, u64, u64)

@@ -18,10 +18,10 @@ use Rattle.history_merge.proofs.Distinct.{place_of}
 use Rattle.history_merge.proofs.DistinctValues.{each_more}
 use Rattle.value_match.specs.declared.names.Names.{Names}
 use Rattle.value_match.specs.declared.others.Call.{Call}
-use Rattle.value_match.specs.Named as named
-use Rattle.value_match.specs.Named.{IsNamed}
-use Rattle.value_match.specs.Others.{IsCall, NoneOf, HoldsOthers, IsNearSource, HoldsNear}
-use Rattle.value_match.specs.Sources.{IsCallPlace, IsSourceOf, HoldsSources}
+use Rattle.value_match.specs.Inner.Named as named
+use Rattle.value_match.specs.Inner.Named.{IsNamed}
+use Rattle.value_match.specs.Inner.Others.{IsCall, NoneOf, HoldsOthers, IsNearSource, HoldsNear}
+use Rattle.value_match.specs.Inner.Sources.{IsCallPlace, IsSourceOf, HoldsSources}
 
 -- the place of the call for a value among the first n operations
 abbrev pub MetCall : List Operation → ℕ → ℕ → Option ℕ → Type 0

@@ -15,7 +15,7 @@ use Rattle.value_match.specs.Lives.{IsMaybeAt, is_refused}
 use Rattle.value_match.specs.Violations.{IsFreshViolation, IsEnqueuedTooLate, NoFreshViolation}
 use Rattle.value_match.specs.declared.violation.Violation.TheVariants.{Fresh}
 use Rattle.value_match.specs.Outcome.{NamesChosenFresh}
-use Rattle.value_match.specs.Sources.{IsCallPlace, IsSourceOf, HoldsSources, IsFreshFrom}
+use Rattle.value_match.specs.Inner.Sources.{IsCallPlace, IsSourceOf, HoldsSources, IsFreshFrom}
 
 -- an operation that called to enqueue a value was accepted or refused
 pub calls_for : (kind : OpKind) (v : ℕ) → enqueued_value kind ≡ Some v → (kind ≡ Enq v) ⊎ (kind ≡ Not v)

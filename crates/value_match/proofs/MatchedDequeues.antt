@@ -9,7 +9,7 @@ use Rattle.history_merge.specs.Operations.{Did, NoneDid, IsAt}
 use Rattle.history_merge.proofs.Distinct.{contains_at, place_of, one_at}
 use Rattle.value_match.specs.Lives.{is_dequeue_of, IsMaybeAt}
 use Rattle.value_match.specs.Violations.{IsClear, NoFreshViolation, NoRepeatViolation}
-use Rattle.value_match.specs.Sources.{HoldsSources, HoldsTakers, HoldsDequeues, IsDequeuePlace, TakesFrom}
+use Rattle.value_match.specs.Inner.Sources.{HoldsSources, HoldsTakers, HoldsDequeues, IsDequeuePlace, TakesFrom}
 use Rattle.value_match.proofs.Lives.{found_dequeue, same_found}
 use Rattle.value_match.proofs.RepeatedDequeues.{taken_from, takes_from_enqueue}
 

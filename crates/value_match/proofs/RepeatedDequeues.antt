@@ -15,7 +15,7 @@ use Rattle.value_match.specs.declared.violation.Violation.TheVariants.{Repeat}
 use Rattle.value_match.specs.Violations.{NoFreshViolation, IsRepeatViolation}
 use Rattle.value_match.specs.Choice.{IsChosenRepeat}
 use Rattle.value_match.specs.Outcome.{NamesChosenRepeat}
-use Rattle.value_match.specs.Sources.{IsCallPlace, IsSourceOf, HoldsSources, TakesFrom, IsTakenTwice, IsByReturn}
+use Rattle.value_match.specs.Inner.Sources.{IsCallPlace, IsSourceOf, HoldsSources, TakesFrom, IsTakenTwice, IsByReturn}
 use Rattle.value_match.proofs.FreshDequeues.{calls_for}
 use Rattle.value_match.proofs.TakenPlaces.{HasTaken, SeesOneMore}
 

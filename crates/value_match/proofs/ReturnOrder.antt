@@ -12,7 +12,7 @@ use Rattle.std.proofs.lemmas.Option.{slice_get_within}
 use Rattle.history_merge.specs.declared.operation.Operation.{Operation}
 use Rattle.history_merge.specs.Operations.{IsAt}
 use Rattle.history_merge.proofs.DistinctValues.{each_more}
-use Rattle.value_match.specs.Sources.{IsByReturn, TakesFrom}
+use Rattle.value_match.specs.Inner.Sources.{IsByReturn, TakesFrom}
 
 -- the returns and places of those of the first n operations that have a source
 pub record ListsReturns (operations : List Operation) (sources : List (Option ℕ)) (n : ℕ) (order : List (ℕ × ℕ)) : Type 0 where

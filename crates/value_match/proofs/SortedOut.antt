@@ -17,7 +17,7 @@ use Rattle.value_match.specs.Lives.{HasPlaces}
 use Rattle.value_match.specs.Accepted.{value_at, operation_at, maybe_operation_at}
 use Rattle.value_match.specs.declared.accepted.Pair.{Pair}
 use Rattle.value_match.specs.Violations.{IsClear}
-use Rattle.value_match.specs.Sources.{IsDequeuePlace}
+use Rattle.value_match.specs.Inner.Sources.{IsDequeuePlace}
 use Rattle.value_match.proofs.MatchedDequeues.{found_at_place}
 
 -- what the first n operations did

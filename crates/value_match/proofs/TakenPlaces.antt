@@ -5,7 +5,7 @@ use Rattle.std.specs.Prelude.{slice_get, is_some}
 use Rattle.std.proofs.lemmas.Bool.{false≢true, cases_eq}
 use Rattle.std.proofs.lemmas.List.{get_or_read}
 use Rattle.std.proofs.lemmas.Option.{slice_get_within, slice_get-get_or}
-use Rattle.value_match.specs.Sources.{TakesFrom, IsTakenTwice, HoldsTakers}
+use Rattle.value_match.specs.Inner.Sources.{TakesFrom, IsTakenTwice, HoldsTakers}
 
 -- what the operations at the places seen so far have taken, no two from one source
 pub record HasTaken (seen : ℕ → Type 0) (sources takers : List (Option ℕ)) : Type 0 where

@@ -3,9 +3,6 @@ pub mod Violations
 pub mod Choice
 pub mod Accepted
 pub mod Outcome
-pub mod Sources
-pub mod Named
-pub mod MaybePlaces
-pub mod Others
 pub mod Longest
 pub mod Fronts
+pub mod Inner

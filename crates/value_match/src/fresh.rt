@@ -4,7 +4,7 @@ ghost use Rattle.history_merge.specs.Complete.{AreComplete};
 ghost use Rattle.history_merge.specs.Operations.{IsAt};
 ghost use Rattle.value_match.specs.Lives.{is_refused};
 ghost use Rattle.value_match.specs.Outcome.{NamesChosenFresh};
-ghost use Rattle.value_match.specs.Sources.{HoldsSources, IsFreshFrom};
+ghost use Rattle.value_match.specs.Inner.Sources.{HoldsSources, IsFreshFrom};
 ghost use Rattle.value_match.specs.Violations.{NoFreshViolation};
 
 use crate::maybe_place::MaybePlace;

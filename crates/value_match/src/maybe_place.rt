@@ -14,7 +14,7 @@ impl Model for MaybePlace {
 
     ghost Value = { Option ℕ };
 
-    ghost use Rattle.value_match.specs.MaybePlaces.{one_above, place_below, above_place};
+    ghost use Rattle.value_match.specs.Inner.MaybePlaces.{one_above, place_below, above_place};
 
     ghost view = { λ a. place_below a.above };
 

@@ -1,5 +1,5 @@
 ghost use Rattle.std.specs.Prelude.{◌≡◌, ◌≤◌, length};
-ghost use Rattle.value_match.specs.Named as named;
+ghost use Rattle.value_match.specs.Inner.Named as named;
 
 use event_records::{MAX_EVENTS, MAX_THREADS, NAMES_OF_A_THREAD};
 use history_merge::Operation;

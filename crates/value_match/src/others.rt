@@ -1,8 +1,8 @@
 ghost use Rattle.std.specs.Prelude.{◌≡◌, ◌↔◌, Contains, IfOk, IsTrue, MatchOption, Some};
 ghost use Rattle.std.specs.List.Sorted.{IsNonDecreasingBy};
-ghost use Rattle.value_match.specs.Named.{IsNamed, place_of};
-ghost use Rattle.value_match.specs.Others.{HoldsOthers, NoneOf};
-ghost use Rattle.value_match.specs.Sources.{IsCallPlace};
+ghost use Rattle.value_match.specs.Inner.Named.{IsNamed, place_of};
+ghost use Rattle.value_match.specs.Inner.Others.{HoldsOthers, NoneOf};
+ghost use Rattle.value_match.specs.Inner.Sources.{IsCallPlace};
 
 use crate::names::Names;
 use history_merge::Operation;

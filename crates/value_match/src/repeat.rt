@@ -1,7 +1,7 @@
 ghost use Rattle.std.specs.Prelude.{◌≡◌, ◌<◌, ◌≤◌, IfOk, None, length, slice_index_or};
 ghost use Rattle.history_merge.specs.Complete.{AreComplete};
 ghost use Rattle.value_match.specs.Outcome.{NamesChosenRepeat};
-ghost use Rattle.value_match.specs.Sources.{HoldsSources, IsByReturn, IsTakenTwice};
+ghost use Rattle.value_match.specs.Inner.Sources.{HoldsSources, IsByReturn, IsTakenTwice};
 ghost use Rattle.value_match.specs.Violations.{NoFreshViolation};
 
 use crate::maybe_place::MaybePlace;

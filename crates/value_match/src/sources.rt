@@ -1,6 +1,6 @@
 ghost use Rattle.std.specs.Prelude.{◌≤◌, IfOk, IfSome, IsTrue, Some, length};
-ghost use Rattle.value_match.specs.Others.{HoldsNear, HoldsOthers};
-ghost use Rattle.value_match.specs.Sources.{HoldsSources, IsCallPlace, IsSourceOf};
+ghost use Rattle.value_match.specs.Inner.Others.{HoldsNear, HoldsOthers};
+ghost use Rattle.value_match.specs.Inner.Sources.{HoldsSources, IsCallPlace, IsSourceOf};
 
 use crate::maybe_place::MaybePlace;
 use crate::names::Names;

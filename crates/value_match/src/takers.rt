@@ -1,5 +1,5 @@
 ghost use Rattle.std.specs.Prelude.{ℕ, ◌<◌, ◌≤◌, IfOk, MatchOption, length};
-ghost use Rattle.value_match.specs.Sources.{HoldsTakers, IsTakenTwice, TakesFrom};
+ghost use Rattle.value_match.specs.Inner.Sources.{HoldsTakers, IsTakenTwice, TakesFrom};
 
 use crate::maybe_place::MaybePlace;
 use event_records::MAX_EVENTS;

@@ -16,7 +16,7 @@ use Rattle.value_match.specs.Outcome.{Names, NamesCover, IsChosenViolation}
 use Rattle.value_match.proofs.Lists.{one_deeper}
 use Rattle.empty_witness.proofs.Covers.{violation_covers, chosen_cover_is_shortest}
 use Rattle.verdicts.specs.Selection.{selects, IsShortestCover, HasShortestCover}
-use Rattle.verdicts.specs.Selecting.{SelectsNamed}
+use Rattle.verdicts.specs.Inner.Selecting.{SelectsNamed}
 use Rattle.verdicts.proofs.CoverGaps.{chosen_are_lives}
 use Rattle.verdicts.proofs.KeptTickets.{selected_are_complete}
 use Rattle.verdicts.proofs.NamedLines.{lines_are_selected}

@@ -7,7 +7,8 @@ use Rattle.history_merge.specs.Operations.{Did, NoneDid, Precedes}
 use Rattle.value_match.specs.Lives.{IsLife, operations_of_life}
 use Rattle.value_match.specs.Violations.{fresh, repeat, order, witness, IsNeverEnqueued, IsEnqueuedTooLate, IsRepeatViolation, IsOrderViolation, CoversFrom}
 use Rattle.verdicts.specs.declared.verifying.ViolationKind.TheVariants.{VFresh, VRepeat, VOrd, VWit}
-use Rattle.verdicts.specs.Claims.{ShowsViolation, ShowsCover}
+use Rattle.verdicts.specs.Claims.{ShowsViolation}
+use Rattle.verdicts.specs.Inner.Claims.{ShowsCover}
 
 -- two equivalences, one after the other
 pub through : {P Q R : Type 0} → P ↔ Q → Q ↔ R → P ↔ R

@@ -6,7 +6,7 @@ use Rattle.history_merge.specs.Operations.{Precedes}
 use Rattle.value_match.specs.declared.life.Life.{Life}
 use Rattle.value_match.specs.Lives.{IsLife, dequeue_of, enqueue_of, operations_of_life}
 use Rattle.value_match.specs.Violations.{CoversFrom}
-use Rattle.verdicts.specs.Claims.{ShowsCover}
+use Rattle.verdicts.specs.Inner.Claims.{ShowsCover}
 
 abbrev life_of : Operation → Option Operation → Life
 life_of enqueue dequeue = record { enqueue = enqueue; dequeue = dequeue }

@@ -9,7 +9,7 @@ use Rattle.history_merge.specs.Operations.{operations_of}
 use Rattle.history_merge.specs.Complete.{AreComplete, IsCompleteHistory}
 use Rattle.history_merge.proofs.Distinct.{same_call, same_return, return_differs_from_call}
 use Rattle.value_match.proofs.Lists.{passes_filter, passed_filter}
-use Rattle.verdicts.specs.Selecting.{holds_ticket}
+use Rattle.verdicts.specs.Inner.Selecting.{holds_ticket}
 use Rattle.verdicts.proofs.KeptEvents.{KeepsBoth, kept_is_complete, operations_of_kept}
 
 either_true : (a b : Bool) → (a ≡ true) ⊎ (b ≡ true) → (a || b) ≡ true

@@ -13,7 +13,7 @@ use Rattle.history_merge.specs.declared.operation.Operation.{Operation}
 use Rattle.history_merge.specs.contracts.operation.OperationPartialEq.TheImpl.{ghosts}
 use Rattle.history_merge.specs.declared.operation.OpKind.{OpKind}
 use Rattle.history_merge.specs.Operations.{NoneDid}
-use Rattle.verdicts.specs.Claims.{CallsRise}
+use Rattle.verdicts.specs.Inner.Claims.{CallsRise}
 
 -- `==` says whether two operations are the same
 pub eq-Decides : (x y : Operation) → Decides (ghosts.eq x y) (x ≡ y)

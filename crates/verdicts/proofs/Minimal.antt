@@ -15,7 +15,7 @@ use Rattle.value_match.proofs.Lists.{one_deeper, passed_filter}
 use Rattle.value_match.proofs.Lives.{one_life_of_enqueue}
 use Rattle.empty_witness.proofs.Covers.{violation_covers}
 use Rattle.verdicts.specs.Selection.{value_of, selects, IsMinimal}
-use Rattle.verdicts.specs.Selecting.{SelectsNamed}
+use Rattle.verdicts.specs.Inner.Selecting.{SelectsNamed}
 use Rattle.verdicts.proofs.Chosen.{chosen_is_breach}
 use Rattle.verdicts.proofs.CoverGaps.{gap_without, chosen_are_lives}
 use Rattle.verdicts.proofs.Exactly.{linearizable_exactly}

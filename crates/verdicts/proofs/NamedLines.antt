@@ -15,7 +15,7 @@ use Rattle.value_match.specs.Choice.{IsChosenBreach}
 use Rattle.value_match.proofs.Lists.{kept, keeps, mapped_from, mapped_to, passed_filter}
 use Rattle.linearizer.proofs.NoneTwice.{from_flat_map}
 use Rattle.verdicts.specs.Selection.{value_of, selects}
-use Rattle.verdicts.specs.Selecting.{SelectsNamed}
+use Rattle.verdicts.specs.Inner.Selecting.{SelectsNamed}
 use Rattle.verdicts.proofs.CoverGaps.{chosen_are_lives}
 
 -- the operation has this value

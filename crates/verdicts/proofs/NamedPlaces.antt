@@ -13,7 +13,8 @@ use Rattle.value_match.specs.Lives.{IsMaybeAt, dequeue_of, enqueue_of, operation
 use Rattle.value_match.specs.Outcome.{Names, NamesCover}
 use Rattle.value_match.specs.Violations.{Breach, fresh, repeat, order, witness, lines_of}
 use Rattle.value_match.proofs.Lists.{one_more}
-use Rattle.verdicts.specs.Shown.{places_of, places_of_step, AreLinesOf}
+use Rattle.verdicts.specs.Shown.{places_of, places_of_step}
+use Rattle.verdicts.specs.Inner.Shown.{AreLinesOf}
 
 maybe_places : (operations : List Operation) (place : Option ℕ) (o : Option Operation) → IsMaybeAt operations place o
     → ArePlacesOf operations (option_to_list place) (option_to_list o)

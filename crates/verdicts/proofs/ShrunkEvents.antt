@@ -12,8 +12,8 @@ use Rattle.value_match.specs.Outcome.{Names, IsChosenViolation}
 use Rattle.value_match.specs.Violations.{IsBreachOf}
 use Rattle.value_match.specs.Choice.{IsChosenBreach}
 use Rattle.verdicts.specs.Selection.{selects, KeepsViolation, StaysChosen, IsMinimal, ArePartOf}
-use Rattle.verdicts.specs.Selecting.{holds_ticket, SelectsNamed, AreSelectedEvents}
-use Rattle.verdicts.specs.Shown.{AreLinesOf}
+use Rattle.verdicts.specs.Inner.Selecting.{holds_ticket, SelectsNamed, AreSelectedEvents}
+use Rattle.verdicts.specs.Inner.Shown.{AreLinesOf}
 use Rattle.verdicts.proofs.ChosenSelections.{stays_chosen, names_one}
 use Rattle.verdicts.proofs.KeptTickets.{selected_events_are_complete, operations_of_selected}
 use Rattle.verdicts.proofs.Minimal.{stays_violation, selection_is_minimal}

@@ -1,14 +1,12 @@
 -- What is claimed of a history, and when that is so.
-use Rattle.std.specs.Prelude.{◌≡◌, ◌<◌, List, AllPairs, flat_map}
+use Rattle.std.specs.Prelude.{◌≡◌, List}
 use Rattle.history_merge.specs.declared.operation.Operation.{Operation}
 use Rattle.history_merge.specs.Legal.{IsLegalOrder}
-use Rattle.value_match.specs.declared.life.Life.{Life}
-use Rattle.value_match.specs.Violations.{Breach, fresh, repeat, order, witness, CoversFrom, IsBreachOf, lines_of}
+use Rattle.value_match.specs.Violations.{Breach, fresh, repeat, order, witness, IsBreachOf, lines_of}
 use Rattle.verdicts.specs.declared.verifying.Claimed.{Claimed}
 use Rattle.verdicts.specs.declared.verifying.Claimed.TheVariants.{Yes, No}
 use Rattle.verdicts.specs.declared.verifying.ViolationKind.{ViolationKind}
 use Rattle.verdicts.specs.declared.verifying.ViolationKind.TheVariants.{VFresh, VRepeat, VOrd, VWit}
-use Rattle.value_match.specs.Lives.{operations_of_life}
 
 -- the kind of a violation
 abbrev pub kind_of : Breach → ViolationKind
@@ -25,12 +23,3 @@ ShowsViolation operations kind lines = (breach : Breach) × (kind_of breach ≡ 
 abbrev pub IsTrueClaim : List Operation → Claimed → Type 0
 IsTrueClaim operations (Yes lines) = IsLegalOrder operations lines
 IsTrueClaim operations (No kind lines) = ShowsViolation operations kind lines
-
--- the lines are those of values, of which one or another was in the queue all the time from the operation given to the empty answer
-abbrev pub ShowsCover : List Operation → Operation → Operation → List Operation → Type 0
-ShowsCover operations empty before lines =
-    (cover : List Life) × (flat_map operations_of_life cover ≡ lines) × CoversFrom operations empty before cover
-
--- each operation is called before the later ones
-abbrev pub CallsRise : List Operation → Type 0
-CallsRise operations = AllPairs (λ earlier later. earlier.call < later.call) operations

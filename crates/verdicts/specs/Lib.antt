@@ -2,6 +2,6 @@ pub mod Verdicts
 pub mod Claims
 pub mod Laws
 pub mod Selection
-pub mod Selecting
 pub mod Shown
 pub mod Claiming
+pub mod Inner

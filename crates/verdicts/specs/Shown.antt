@@ -1,11 +1,8 @@
 -- The operations that a violation names, as they are shown.
-use Rattle.std.specs.Prelude.{◌≡◌, ℕ, List, [], ◌∷◌, flat_map, option_to_list}
-use Rattle.history_merge.specs.declared.operation.Operation.{Operation}
+use Rattle.std.specs.Prelude.{ℕ, List, [], ◌∷◌, flat_map, option_to_list}
 use Rattle.value_match.specs.declared.violation.CoverStep.{CoverStep}
 use Rattle.value_match.specs.declared.violation.Violation.{Violation}
 use Rattle.value_match.specs.declared.violation.Violation.TheVariants.{Fresh, Repeat, Order, Witness}
-use Rattle.value_match.specs.Outcome.{Names}
-use Rattle.value_match.specs.Violations.{Breach, lines_of}
 
 -- the places of a value of a cover
 abbrev pub places_of_step : CoverStep → List ℕ
@@ -17,7 +14,3 @@ places_of (Fresh deq enq) = deq ∷ option_to_list enq
 places_of (Repeat enq first second) = enq ∷ first ∷ second ∷ []
 places_of (Order enq_a enq_b deq_b deq_a) = enq_a ∷ enq_b ∷ deq_b ∷ option_to_list deq_a
 places_of (Witness empty cover) = empty ∷ flat_map places_of_step cover
-
--- the lines of the violation that the places name
-abbrev pub AreLinesOf : List Operation → Violation → List Operation → Type 0
-AreLinesOf operations violation lines = (breach : Breach) → Names operations violation breach → lines ≡ lines_of breach

@@ -2,7 +2,8 @@ ghost use Rattle.std.specs.Prelude.{◌↔◌, IsTrue, MatchOption};
 ghost use Rattle.history_merge.specs.Operations.{Did, NoneDid, Precedes};
 ghost use Rattle.value_match.specs.Lives.{IsLife};
 ghost use Rattle.value_match.specs.Violations.{IsNeverEnqueued, IsEnqueuedTooLate, IsRepeatViolation, IsOrderViolation};
-ghost use Rattle.verdicts.specs.Claims.{CallsRise, ShowsViolation, ShowsCover};
+ghost use Rattle.verdicts.specs.Claims.{ShowsViolation};
+ghost use Rattle.verdicts.specs.Inner.Claims.{CallsRise, ShowsCover};
 
 use crate::lookup::{did, none_did};
 use crate::verifying::ViolationKind;

@@ -2,7 +2,7 @@ ghost use Rattle.std.specs.Prelude.{◌≡◌, ◌↔◌, [], IsTrue, IfOk, IsPe
 ghost use Rattle.history_merge.specs.Operations.{Precedes};
 ghost use Rattle.history_merge.specs.Queue.{IsAccepted, accept};
 ghost use Rattle.history_merge.specs.Legal.{IsLegalOrder};
-ghost use Rattle.verdicts.specs.Claims.{CallsRise};
+ghost use Rattle.verdicts.specs.Inner.Claims.{CallsRise};
 
 use history_merge::{OpKind, Operation};
 use std::alloc::{AllocError, Global};

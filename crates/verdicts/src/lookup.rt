@@ -1,6 +1,6 @@
 ghost use Rattle.std.specs.Prelude.{◌↔◌, IsTrue, Contains};
 ghost use Rattle.history_merge.specs.Operations.{Did, NoneDid};
-ghost use Rattle.verdicts.specs.Claims.{CallsRise};
+ghost use Rattle.verdicts.specs.Inner.Claims.{CallsRise};
 
 use history_merge::{OpKind, Operation};
 

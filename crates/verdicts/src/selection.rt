@@ -2,7 +2,7 @@ ghost use Rattle.std.specs.Prelude.{◌≡◌, ◌↔◌, ℕ, Contains, IsTrue,
 ghost use Rattle.std.specs.Ordering.{nat_cmp};
 ghost use Rattle.std.specs.BTreeSet.{contains};
 ghost use Rattle.verdicts.specs.Selection.{value_of, selects};
-ghost use Rattle.verdicts.specs.Selecting.{holds_ticket, SelectsNamed};
+ghost use Rattle.verdicts.specs.Inner.Selecting.{holds_ticket, SelectsNamed};
 
 use event_records::Event;
 use history_merge::{OpKind, Operation};

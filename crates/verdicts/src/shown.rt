@@ -2,7 +2,8 @@ ghost use Rattle.std.specs.Prelude.{◌≡◌, ◌<◌, ◌++◌, All, IfOk, OnO
 ghost use Rattle.history_merge.specs.Legal.{ArePlacesOf};
 ghost use Rattle.value_match.specs.Outcome.{Names};
 ghost use Rattle.value_match.specs.Violations.{Breach};
-ghost use Rattle.verdicts.specs.Shown.{AreLinesOf, places_of, places_of_step};
+ghost use Rattle.verdicts.specs.Shown.{places_of, places_of_step};
+ghost use Rattle.verdicts.specs.Inner.Shown.{AreLinesOf};
 
 use history_merge::{OpId, Operation};
 use std::alloc::{AllocError, Global};

@@ -3,7 +3,7 @@ ghost use Rattle.history_merge.specs.Complete.{IsCompleteHistory};
 ghost use Rattle.history_merge.specs.Operations.{operations_of};
 ghost use Rattle.value_match.specs.Outcome.{IsChosenViolation};
 ghost use Rattle.verdicts.specs.Selection.{KeepsViolation, StaysChosen, IsMinimal, HasShortestCover, ArePartOf};
-ghost use Rattle.verdicts.specs.Selecting.{AreSelectedEvents};
+ghost use Rattle.verdicts.specs.Inner.Selecting.{AreSelectedEvents};
 
 use crate::selection::{Selection, events_at};
 use crate::shown::shown;

@@ -11,7 +11,8 @@ use Rattle.event_records.specs.declared.kind.Kind.{Kind}
 use Rattle.event_records.specs.declared.limits.TheConstants.{MAX_OPERATIONS, MAX_THREAD_OPERATIONS}
 use Rattle.event_records.specs.declared.limits.TheConstants.{MAX_WORKERS}
 use Rattle.workloads.specs.Plans.{IsPlan}
-use Rattle.workloads.specs.Seeds.{kind_of_word, kinds_of_words, generator_of, GivesKinds, IsSeeded}
+use Rattle.workloads.specs.Seeds.{kind_of_word, kinds_of_words, generator_of, IsSeeded}
+use Rattle.workloads.specs.Inner.Seeds.{GivesKinds}
 
 -- no draw gives no kind
 pub gives_none : (percent : ℕ) (generator : Lcg) → GivesKinds percent generator [] generator

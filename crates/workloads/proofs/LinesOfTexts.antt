@@ -13,7 +13,8 @@ use Rattle.event_records.specs.declared.kind.Kind.TheVariants.{Enq, Deq}
 use Rattle.workloads.specs.declared.texts.TheConstants.{ENQUEUE, LINE_FEED}
 use Rattle.event_records.specs.declared.limits.TheConstants.{MAX_THREAD_OPERATIONS}
 use Rattle.workloads.specs.Plans.{AreShort}
-use Rattle.workloads.specs.Texts.{letter, line_of, text_of, ends_line, is_short_line, IsCut, HasLines, HasStray}
+use Rattle.workloads.specs.Texts.{letter, line_of, text_of, IsCut, HasLines, HasStray}
+use Rattle.workloads.specs.Inner.Texts.{ends_line, is_short_line}
 
 -- letters end no line
 letter_goes_on : (kind : Kind) → ends_line (letter kind) ≡ false

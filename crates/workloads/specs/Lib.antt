@@ -1,3 +1,4 @@
 pub mod Plans
 pub mod Seeds
 pub mod Texts
+pub mod Inner

@@ -1,5 +1,5 @@
 -- Plans of a seed: the kinds are read off the words of a generator.
-use Rattle.std.specs.Prelude.{◌≡◌, ℕ, ◌+◌, ◌*◌, ◌%◌, nat_lt, List, ◌++◌, length, map, flat_map, All, if◌then◌else◌}
+use Rattle.std.specs.Prelude.{◌≡◌, ℕ, ◌*◌, ◌%◌, nat_lt, List, length, map, flat_map, All, if◌then◌else◌}
 use Rattle.rand_core.specs.Pcg32Seed.{pcg32_seed}
 use Rattle.rand_core.specs.Steps.{first_words}
 use Rattle.rand_pcg.specs.Lcg.{Lcg}
@@ -18,10 +18,6 @@ kind_of_word percent word = if nat_lt (word % 100) percent then Enq else Deq
 -- the kinds of the next n words
 abbrev pub kinds_of_words : ℕ → ℕ → Lcg → List Kind
 kinds_of_words percent n generator = map (kind_of_word percent) (first_words pcg64 n generator)
-
--- the words from `before` on give these kinds first, and after them the generator goes on from `after`
-pub record GivesKinds (percent : ℕ) (before : Lcg) (kinds : List Kind) (after : Lcg) : Type 0 where
-  pub begins : (more : ℕ) → kinds_of_words percent (length kinds + more) before ≡ kinds ++ kinds_of_words percent more after
 
 -- so many workers with so many operations each, whose kinds, one worker after another, are those of the seed's first words
 pub record IsSeeded (seed workers operations percent : ℕ) (rows : List (List Kind)) : Type 0 where

@@ -1,11 +1,10 @@
 -- The text of a plan: one line for each worker, of one letter for each of its operations.
-use Rattle.std.specs.Prelude.{◌≡◌, ◌≢◌, ℕ, Bool, ◌==◌, nat_le, List, [], ◌∷◌, ◌++◌, length, map, flat_map}
+use Rattle.std.specs.Prelude.{◌≡◌, ◌≢◌, ℕ, List, [], ◌∷◌, ◌++◌, length, map, flat_map}
 use Rattle.event_records.specs.declared.kind.Kind.{Kind}
 use Rattle.event_records.specs.declared.kind.Kind.TheVariants.{Enq, Deq}
 use Rattle.workloads.specs.declared.texts.PlanFault.{PlanFault}
 use Rattle.workloads.specs.declared.texts.PlanFault.TheVariants.{Cut, Letter, Limit, Memory}
 use Rattle.workloads.specs.declared.texts.TheConstants.{ENQUEUE, DEQUEUE, LINE_FEED}
-use Rattle.event_records.specs.declared.limits.TheConstants.{MAX_THREAD_OPERATIONS}
 use Rattle.workloads.specs.Plans.{IsPlan}
 
 -- the letter of an operation
@@ -20,10 +19,6 @@ line_of row = map letter row ++ LINE_FEED ∷ []
 -- the lines of all workers, one after another
 abbrev pub text_of : List (List Kind) → List ℕ
 text_of rows = flat_map line_of rows
-
--- whether this byte ends a line
-abbrev pub ends_line : ℕ → Bool
-ends_line byte = byte == LINE_FEED
 
 -- the text has a last byte, and it ends no line
 pub record IsCut (text : List ℕ) : Type 0 where
@@ -67,7 +62,3 @@ IsFaultOf text Cut = IsCut text
 IsFaultOf text (Letter worker) = (¬ IsCut text) × HasStray text worker
 IsFaultOf text Limit = IsBeyondLimits text
 IsFaultOf text Memory = IsPlanText text
-
--- whether one worker may have a line of these bytes
-abbrev pub is_short_line : List ℕ → Bool
-is_short_line line = nat_le (length line) MAX_THREAD_OPERATIONS

@@ -2,7 +2,8 @@
 ghost use Rattle.std.specs.Prelude.{◌≡◌, ◌*◌, ◌≤◌, length, IfOk};
 ghost use Rattle.event_records.specs.declared.limits.TheConstants.{MAX_OPERATIONS, MAX_THREAD_OPERATIONS};
 ghost use Rattle.event_records.specs.declared.limits.TheConstants.{MAX_WORKERS};
-ghost use Rattle.workloads.specs.Seeds.{GivesKinds, IsSeeded, kind_of_word};
+ghost use Rattle.workloads.specs.Seeds.{IsSeeded, kind_of_word};
+ghost use Rattle.workloads.specs.Inner.Seeds.{GivesKinds};
 
 use crate::plans::{Plan, Row};
 use event_records::Kind;

@@ -3,7 +3,8 @@ ghost use Rattle.std.specs.Prelude.{◌≡◌, ◌≢◌, ℕ, ◌≤◌, ◌↔
 ghost use Rattle.std.specs.List.{list_all, slice_split};
 ghost use Rattle.event_records.specs.declared.kind.Kind.{Kind};
 ghost use Rattle.workloads.specs.Plans.{IsPlan};
-ghost use Rattle.workloads.specs.Texts.{letter, text_of, ends_line, is_short_line, IsCut, HasLines, HasStray, IsPlanText, IsFaultOf};
+ghost use Rattle.workloads.specs.Texts.{letter, text_of, IsCut, HasLines, HasStray, IsPlanText, IsFaultOf};
+ghost use Rattle.workloads.specs.Inner.Texts.{ends_line, is_short_line};
 
 use crate::plans::{Plan, Row};
 use event_records::{Kind, MAX_OPERATIONS, MAX_THREAD_OPERATIONS, MAX_WORKERS};

@@ -2,7 +2,8 @@ use Rattle.std.proofs.Common.{◌≡◌, ◌∙◌, ap, sym, subst, map, [], ref
 use Rattle.clap.specs.Faults.{fault_of, is_simple_and_free}
 use Rattle.clap.specs.Kinds.{HasKind}
 use Rattle.clap.specs.Simple.{App}
-use Rattle.command_words.specs.Commands.{IsAnswerable, request_of_subcommand}
+use Rattle.command_words.specs.Commands.{request_of_subcommand}
+use Rattle.command_words.specs.Inner.Commands.{IsAnswerable}
 use Rattle.command_words.proofs.Answerable.{answerable}
 use Rattle.command_words.proofs.Parses.{met_in, of_program}
 use Rattle.command_words.proofs.tasks.task_in.Goals as goal

@@ -1,7 +1,7 @@
 use Rattle.std.proofs.Common.{◌<◌, arith, sym, subst}
 use Rattle.value_match.specs.Lives.{dequeue_call}
 use Rattle.value_match.specs.Longest.{EntersBefore, FindsLongest}
-use Rattle.empty_witness.specs.Covered.{NamesChosenCover}
+use Rattle.empty_witness.specs.Inner.Covered.{NamesChosenCover}
 use Rattle.empty_witness.proofs.Walks.{no_steps_yet, next_is_found, found_longest, frontier_rises, one_more_step, cover_is_whole}
 use Rattle.empty_witness.proofs.cover.cover_of.Goals as goal
 

@@ -1,6 +1,7 @@
 use Rattle.std.proofs.Common.{◌≡◌, take}
 use Rattle.std.specs.List.{flat_map}
-use Rattle.history_text.specs.Verdicts.{lines_at, places_of_step}
+use Rattle.history_text.specs.Verdicts.{places_of_step}
+use Rattle.history_text.specs.Inner.Verdicts.{lines_at}
 use Rattle.text_lines.specs.Writing.{Puts, IsWritten}
 use Rattle.history_text.proofs.verdict_writer.put_cover.Given as goal
 

@@ -1,5 +1,5 @@
 use Rattle.std.proofs.Common.{◌≡◌, take}
-use Rattle.history_text.specs.Verdicts.{lines_at}
+use Rattle.history_text.specs.Inner.Verdicts.{lines_at}
 use Rattle.text_lines.specs.Writing.{Puts, IsWritten}
 use Rattle.history_text.proofs.verdict_writer.put_places.Given as goal
 

@@ -1,7 +1,7 @@
 use Rattle.std.proofs.Common.{◌≡◌, ◌<◌, false, length, replicate, rules}
 use Rattle.std.proofs.lemmas.Option.{slice_get_within}
 use Rattle.value_match.specs.Lives.{dequeue_return, entered_by}
-use Rattle.linearizer.specs.Sweep.{IsFirstLeft}
+use Rattle.linearizer.specs.Inner.Sweep.{IsFirstLeft}
 use Rattle.linearizer.proofs.Sweeping.{IsNext, next_at, place_within}
 use Rattle.linearizer.proofs.Choosing.{all_swept, flags_within, nothing_swept, some_left, swept_more}
 use Rattle.linearizer.proofs.choice.put_in_order.Goals as goal

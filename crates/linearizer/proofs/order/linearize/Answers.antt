@@ -1,8 +1,8 @@
 use Rattle.std.proofs.Common.{subst, sym}
 use Rattle.std.proofs.lemmas.Result.{IfOk-weaker}
 use Rattle.linearizer.specs.Order.{AreChosenAndLegal}
-use Rattle.linearizer.specs.Placement.{HoldsIdles}
-use Rattle.linearizer.specs.Merging.{IsMerge}
+use Rattle.linearizer.specs.Inner.Placement.{HoldsIdles}
+use Rattle.linearizer.specs.Inner.Merging.{IsMerge}
 use Rattle.linearizer.proofs.ChosenPlaces.{chosen_and_legal}
 use Rattle.linearizer.proofs.order.linearize.Goals as goal
 

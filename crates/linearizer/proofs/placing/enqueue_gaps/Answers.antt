@@ -1,7 +1,7 @@
 use Rattle.std.proofs.Common.{◌≡◌, ◌-◌, get_or, length, replicate, arith, rules}
 use Rattle.std.proofs.lemmas.Option.{slice_get-get_or}
 use Rattle.value_match.specs.Lives.{entered_by}
-use Rattle.linearizer.specs.Placement.{lives_at}
+use Rattle.linearizer.specs.Inner.Placement.{lives_at}
 use Rattle.linearizer.proofs.LeastEntries.{gaps_from_before, no_gaps}
 use Rattle.linearizer.proofs.OrderedPlaces.{life_read, lives_long}
 use Rattle.linearizer.proofs.placing.enqueue_gaps.Goals as goal

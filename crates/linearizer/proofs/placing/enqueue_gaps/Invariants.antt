@@ -1,4 +1,4 @@
-use Rattle.linearizer.specs.Placement.{lives_at}
+use Rattle.linearizer.specs.Inner.Placement.{lives_at}
 use Rattle.linearizer.proofs.LeastEntries.{AreGapsFrom}
 use Rattle.linearizer.proofs.placing.enqueue_gaps.Given as goal
 

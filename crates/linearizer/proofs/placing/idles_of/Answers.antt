@@ -2,7 +2,7 @@ use Rattle.std.proofs.Common.{rules, subst}
 use Rattle.std.specs.Prelude.{filter}
 use Rattle.std.proofs.lemmas.List.Sorted.{answers_always}
 use Rattle.value_match.specs.Lives.{is_empty_answer}
-use Rattle.linearizer.specs.Placement.{Adds}
+use Rattle.linearizer.specs.Inner.Placement.{Adds}
 use Rattle.linearizer.proofs.ChosenPlaces.{idles_held}
 use Rattle.linearizer.proofs.Sorting.{sorted_never_falls}
 use Rattle.linearizer.proofs.placing.idles_of.Goals as goal

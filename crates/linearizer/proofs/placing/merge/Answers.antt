@@ -1,6 +1,6 @@
 use Rattle.std.proofs.Common.{◌∙◌, arith, inl, inr, length, None, subst, sym}
-use Rattle.linearizer.specs.Merging.{IsMergedUpTo}
-use Rattle.linearizer.specs.Placement.{IsOrderOfPlaces, lives_at}
+use Rattle.linearizer.specs.Inner.Merging.{IsMergedUpTo}
+use Rattle.linearizer.specs.Inner.Placement.{IsOrderOfPlaces, lives_at}
 use Rattle.linearizer.proofs.Merging.{all_merged, no_enqueue}
 use Rattle.linearizer.proofs.OrderedPlaces.{lives_long}
 use Rattle.linearizer.proofs.placing.merge.Goals as goal

@@ -3,8 +3,8 @@ use Rattle.std.proofs.lemmas.Option.{slice_get-get_or, slice_get_within}
 use Rattle.value_match.specs.Lives.{leaves_from}
 use Rattle.linearizer.specs.Values.{greatest_leaves_from}
 use Rattle.linearizer.specs.Order.{StandsBefore}
-use Rattle.linearizer.specs.Placement.{lives_at, position_of}
-use Rattle.linearizer.specs.Merging.{IsDequeueFrom, IsMergedUpTo}
+use Rattle.linearizer.specs.Inner.Placement.{lives_at, position_of}
+use Rattle.linearizer.specs.Inner.Merging.{IsDequeueFrom, IsMergedUpTo}
 use Rattle.linearizer.proofs.Merging.{below_limit, below_next, dequeue_added, next_dequeue, no_dequeue, none_of_values, passed, stands_after, stands_not_after}
 use Rattle.linearizer.proofs.OrderedPlaces.{lives_long}
 use Rattle.linearizer.proofs.PlacedValues.{IsTurn, dequeue_stands, gap_within, left_more, turn_alone, turn_is, turn_with_dequeue}

@@ -1,6 +1,6 @@
 use Rattle.std.proofs.Common.{ℕ, ◌-◌, length}
-use Rattle.linearizer.specs.Merging.{IsEnqueueFrom, IsMergedUpTo, NoneBelow}
-use Rattle.linearizer.specs.Placement.{lives_at}
+use Rattle.linearizer.specs.Inner.Merging.{IsEnqueueFrom, IsMergedUpTo, NoneBelow}
+use Rattle.linearizer.specs.Inner.Placement.{lives_at}
 use Rattle.linearizer.proofs.placing.place_dequeues.Given as goal
 
 abbrev pub invariant-loop-so_far : goal.invariant-loop-so_far

@@ -1,7 +1,7 @@
 use Rattle.std.proofs.Common.{length, take}
 use Rattle.std.specs.Prelude.{filter}
 use Rattle.value_match.specs.Lives.{is_empty_answer}
-use Rattle.linearizer.specs.Placement.{Adds}
+use Rattle.linearizer.specs.Inner.Placement.{Adds}
 use Rattle.linearizer.proofs.placing.place_empties.Given as goal
 
 abbrev pub invariant-loop-id : goal.invariant-loop-id

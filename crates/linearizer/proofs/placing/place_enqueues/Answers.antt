@@ -1,8 +1,8 @@
 use Rattle.std.proofs.Common.{◌≡◌, ◌∙◌, ap, get_or, inl, inr, refl, arith, rules, subst, sym, length, Some}
 use Rattle.std.proofs.lemmas.Option.{slice_get-get_or, slice_get_within}
 use Rattle.linearizer.specs.Order.{StandsBefore, enqueue_position, enqueues}
-use Rattle.linearizer.specs.Placement.{lives_at, position_of}
-use Rattle.linearizer.specs.Merging.{IsEnqueueFrom, IsMergedUpTo, IsValueFrom, NoneBelow}
+use Rattle.linearizer.specs.Inner.Placement.{lives_at, position_of}
+use Rattle.linearizer.specs.Inner.Merging.{IsEnqueueFrom, IsMergedUpTo, IsValueFrom, NoneBelow}
 use Rattle.linearizer.proofs.Merging.{enqueue_added, next_enqueue, nothing_merged}
 use Rattle.linearizer.proofs.PlacedValues.{enqueue_more, gap_within, turn_is}
 use Rattle.linearizer.proofs.placing.place_enqueues.Goals as goal

@@ -1,5 +1,5 @@
-use Rattle.linearizer.specs.Merging.{IsMergedUpTo}
-use Rattle.linearizer.specs.Placement.{lives_at}
+use Rattle.linearizer.specs.Inner.Merging.{IsMergedUpTo}
+use Rattle.linearizer.specs.Inner.Placement.{lives_at}
 use Rattle.linearizer.proofs.placing.place_enqueues.Given as goal
 
 abbrev pub invariant-loop-rank : goal.invariant-loop-rank

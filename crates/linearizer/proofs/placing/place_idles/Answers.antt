@@ -1,7 +1,7 @@
 use Rattle.std.proofs.Common.{refl, arith}
 use Rattle.std.proofs.lemmas.Option.{slice_get_read}
-use Rattle.linearizer.specs.Merging.{IsIdleFrom, IsValueFrom}
-use Rattle.linearizer.specs.Placement.{position_of}
+use Rattle.linearizer.specs.Inner.Merging.{IsIdleFrom, IsValueFrom}
+use Rattle.linearizer.specs.Inner.Placement.{position_of}
 use Rattle.linearizer.proofs.Merging.{below_limit, below_next, idle_added, next_idle, no_idle, stands_after, stands_not_after}
 use Rattle.linearizer.proofs.placing.place_idles.Goals as goal
 

@@ -1,7 +1,7 @@
 use Rattle.std.proofs.Common.{ℕ, List, length, ◌-◌}
 use Rattle.history_merge.specs.declared.operation.Operation.{Operation}
 use Rattle.value_match.specs.declared.life.Life.{Life}
-use Rattle.linearizer.specs.Merging.{IsMergedUpTo, IsValueFrom, NoneBelow}
+use Rattle.linearizer.specs.Inner.Merging.{IsMergedUpTo, IsValueFrom, NoneBelow}
 use Rattle.linearizer.proofs.placing.place_idles.Given as goal
 
 abbrev pub invariant-loop-count : goal.invariant-loop-count

@@ -1,7 +1,7 @@
 use Rattle.std.proofs.Common.{take}
 use Rattle.std.specs.Prelude.{filter}
 use Rattle.value_match.specs.Lives.{is_refused}
-use Rattle.linearizer.specs.Placement.{Adds}
+use Rattle.linearizer.specs.Inner.Placement.{Adds}
 use Rattle.linearizer.proofs.placing.place_refused.Given as goal
 
 abbrev pub invariant-loop-id : goal.invariant-loop-id

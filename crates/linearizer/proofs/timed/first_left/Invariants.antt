@@ -1,6 +1,6 @@
 use Rattle.std.proofs.Common.{◌-◌, length, take}
 use Rattle.std.specs.Prelude.{All}
-use Rattle.linearizer.specs.Sweep.{IsTaken}
+use Rattle.linearizer.specs.Inner.Sweep.{IsTaken}
 use Rattle.linearizer.proofs.timed.first_left.Given as goal
 
 abbrev pub invariant-loop-first : goal.invariant-loop-first

@@ -1,10 +1,11 @@
 use Rattle.std.proofs.Common.{rules, arith, ◌*◌, ℕ, List, length, sum_by, ap, sym, subst, ◌∙◌}
 use Rattle.tickets.specs.Views.{PassView}
 use Rattle.event_records.specs.declared.kind.Kind.{Kind}
-use Rattle.collector.specs.Ends.{AreInOrder, AreFresh, rings_of, rings_of_tokens}
+use Rattle.collector.specs.Ends.{AreInOrder, AreFresh, rings_of}
+use Rattle.collector.specs.Inner.Ends.{rings_of_tokens}
 use Rattle.workloads.specs.Plans.{IsPlan}
 use Rattle.stress_run.specs.Operations.{IsRun}
-use Rattle.stress_run.specs.Crew.{AreClosed}
+use Rattle.stress_run.specs.Inner.Crew.{AreClosed}
 use Rattle.stress_run.specs.Failed.{IsFaultOfRun}
 use Rattle.stress_run.proofs.Finished.{stands_in_run, tokens_own, in_order, ends_fresh, ready, keys, rings, whole, is_run}
 use Rattle.stress_run.proofs.Recording.{are_recorded}

@@ -1,5 +1,5 @@
 use Rattle.std.proofs.Common.{sym, subst, ◌∙◌, arith}
-use Rattle.value_match.specs.Sources.{IsByReturn}
+use Rattle.value_match.specs.Inner.Sources.{IsByReturn}
 use Rattle.value_match.proofs.TakenPlaces.{taken_skip, taken_more, source_read}
 use Rattle.value_match.proofs.RepeatedDequeues.{sees_more, entry_in_range, source_inside, repeat_chosen, none_twice}
 use Rattle.value_match.proofs.repeat.find_repeat.Goals as goal

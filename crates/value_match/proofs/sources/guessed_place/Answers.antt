@@ -1,5 +1,5 @@
 use Rattle.std.proofs.Common.{sym, subst, Some}
-use Rattle.value_match.specs.Sources.{IsCallPlace}
+use Rattle.value_match.specs.Inner.Sources.{IsCallPlace}
 use Rattle.value_match.proofs.sources.guessed_place.Goals as goal
 
 pub returns-in-Some : goal.returns-in-Some

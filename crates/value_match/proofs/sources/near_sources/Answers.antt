@@ -1,8 +1,8 @@
 use Rattle.std.proofs.Common.{arith, subst, sym, Some}
 use Rattle.std.proofs.lemmas.Option.{slice_get-get_or}
 use Rattle.history_merge.specs.declared.operation.OpKind.TheVariants.{Enq}
-use Rattle.value_match.specs.Others.{IsNearSource}
-use Rattle.value_match.specs.Sources.{IsSourceOf}
+use Rattle.value_match.specs.Inner.Others.{IsNearSource}
+use Rattle.value_match.specs.Inner.Sources.{IsSourceOf}
 use Rattle.value_match.proofs.CallPlaces.{call_within, near_push, sources_push, sources_all}
 use Rattle.value_match.proofs.sources.near_sources.Goals as goal
 

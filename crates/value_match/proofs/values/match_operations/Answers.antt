@@ -1,6 +1,6 @@
 use Rattle.std.proofs.Common.{sym, subst}
 use Rattle.std.proofs.lemmas.Option.{MatchOption-at_some}
-use Rattle.value_match.specs.Sources.{HoldsSources, HoldsTakers, IsTakenTwice}
+use Rattle.value_match.specs.Inner.Sources.{HoldsSources, HoldsTakers, IsTakenTwice}
 use Rattle.value_match.proofs.MatchedDequeues.{clear_from_takers, dequeues_by_enqueues, sources_in_range}
 use Rattle.value_match.proofs.values.match_operations.Goals as goal
 

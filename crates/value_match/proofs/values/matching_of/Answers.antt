@@ -2,7 +2,7 @@ use Rattle.std.proofs.Common.{arith, sym, subst, None, [], ◌∷◌}
 use Rattle.std.proofs.lemmas.List.{get_or_read, map-append}
 use Rattle.std.proofs.lemmas.Option.{slice_get-get_or}
 use Rattle.value_match.specs.Accepted.{value_at}
-use Rattle.value_match.specs.Sources.{IsDequeuePlace}
+use Rattle.value_match.specs.Inner.Sources.{IsDequeuePlace}
 use Rattle.history_merge.specs.declared.operation.Operation.{Operation}
 use Rattle.history_merge.specs.declared.operation.OpKind.TheVariants.{Enq}
 use Rattle.value_match.proofs.SortedOut.{pair_enqueue, pair_dequeue, sorted_enqueue, sorted_empty, sorted_refused, sorted_dequeue}

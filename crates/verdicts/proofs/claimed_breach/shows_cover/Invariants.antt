@@ -1,5 +1,5 @@
 use Rattle.std.proofs.Common.{◌↔◌, length}
-use Rattle.verdicts.specs.Claims.{ShowsCover}
+use Rattle.verdicts.specs.Inner.Claims.{ShowsCover}
 use Rattle.verdicts.proofs.claimed_breach.shows_cover.Given as goal
 
 abbrev pub invariant-loop-rest : goal.invariant-loop-rest

@@ -1,5 +1,5 @@
 use Rattle.std.proofs.Common.{◌≡◌, length}
-use Rattle.workloads.specs.Seeds.{GivesKinds}
+use Rattle.workloads.specs.Inner.Seeds.{GivesKinds}
 use Rattle.workloads.proofs.seeds.next_row.Given as goal
 
 abbrev pub invariant-loop : goal.invariant-loop

@@ -2,7 +2,7 @@ use Rattle.std.proofs.Common.{rules}
 use Rattle.std.proofs.lemmas.Iterator.Search.{all_from_yields_List}
 use Rattle.std.proofs.lemmas.Iterator.Splits.{YieldsList-from_slice_split}
 use borrow.Author.Tests.{tests}
-use Rattle.workloads.specs.Texts.{ends_line, is_short_line}
+use Rattle.workloads.specs.Inner.Texts.{ends_line, is_short_line}
 use Rattle.workloads.proofs.texts.has_short_lines.Goals as goal
 
 pub returns : goal.returns

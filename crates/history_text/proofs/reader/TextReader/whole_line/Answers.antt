@@ -1,7 +1,7 @@
 use Rattle.std.proofs.Common.{◌≡◌, ◌+◌, ap, ◌∙◌, refl}
 use Rattle.text_lines.specs.declared.fault.TextFault.TheVariants.{Read, Cut, Line}
 use Rattle.history_text.specs.Reading.{Input}
-use Rattle.history_text.specs.Taking.{NoLineFault}
+use Rattle.history_text.specs.Inner.Taking.{NoLineFault}
 use Rattle.history_text.proofs.Faults.{at_failure, at_cut, at_nothing, at_long}
 use Rattle.history_text.proofs.reader.TextReader.whole_line.Goals as goal
 

@@ -1,7 +1,8 @@
 use Rattle.std.proofs.Common.{rules, arith, ◌≡◌, ◌+◌, ◌++◌, List, ℕ, IsPermutation, ap, ◌∙◌, subst, sym}
 use Rattle.tickets.specs.declared.account.Holding.{Holding}
 use Rattle.tickets.specs.Views.{share_of}
-use Rattle.tickets.specs.Account.{whole_of, holding, put_together}
+use Rattle.tickets.specs.Account.{whole_of}
+use Rattle.tickets.specs.Inner.Account.{holding, put_together}
 use Rattle.tickets.proofs.Rising.{IsPermutation-merged}
 use Rattle.tickets.proofs.Steps.{joins, looks, whole_of-put_together}
 use Rattle.tickets.proofs.pass.Pass.join.Goals as goal

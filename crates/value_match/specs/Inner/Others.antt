@@ -7,8 +7,8 @@ use Rattle.history_merge.specs.declared.operation.OpKind.TheVariants.{Deq}
 use Rattle.history_merge.specs.Operations.{IsAt}
 use Rattle.value_match.specs.declared.names.Names.{Names}
 use Rattle.value_match.specs.declared.others.Call.{Call}
-use Rattle.value_match.specs.Named.{IsNamed}
-use Rattle.value_match.specs.Sources.{IsCallPlace, IsSourceOf}
+use Rattle.value_match.specs.Inner.Named.{IsNamed}
+use Rattle.value_match.specs.Inner.Sources.{IsCallPlace, IsSourceOf}
 
 -- the call is one to enqueue its value, at its place
 abbrev pub IsCall : List Operation → Call → Type 0

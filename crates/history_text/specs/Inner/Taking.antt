@@ -5,7 +5,8 @@ use Rattle.text_lines.specs.declared.fault.TextFault.TheVariants.{Line, Memory}
 use Rattle.history_text.specs.declared.reader.FrontLine.{FrontLine}
 use Rattle.history_text.specs.declared.reader.FrontLine.TheVariants as at_front
 use Rattle.text_lines.specs.Input.{Ahead, Ending, EndOfInput, Failure, Takes, IsOver}
-use Rattle.text_lines.specs.Lines.{line, end_line, longest_line, is_line_feed, IsPartOfLine, front_of, header_fault, Front, Whole, TooLong}
+use Rattle.text_lines.specs.Lines.{line, end_line, longest_line, is_line_feed, front_of, header_fault, Front, Whole, TooLong}
+use Rattle.text_lines.specs.Inner.Lines.{IsPartOfLine}
 use Rattle.text_lines.specs.Lines.{Unfinished, Nothing, fault_at}
 use Rattle.history_text.specs.Items.{Kind, line_of, lines_of, item_at_front, ItemFault, NoRoom}
 use Rattle.history_text.specs.Schedules.{SettingFault}

@@ -5,7 +5,7 @@ use Rattle.value_match.specs.declared.life.Life.{Life}
 use Rattle.linearizer.specs.declared.position.Position.{Position as Stored}
 use Rattle.linearizer.specs.declared.position.Placed.{Placed}
 use Rattle.linearizer.specs.Order.{Position, StandsBefore, dequeue_position, enqueue_position}
-use Rattle.linearizer.specs.Placement.{AreByPosition, HoldsUpTo, HoldsValues, NeverFall, position_of}
+use Rattle.linearizer.specs.Inner.Placement.{AreByPosition, HoldsUpTo, HoldsValues, NeverFall, position_of}
 
 -- where the enqueue of the i-th value or of a later one stands
 abbrev pub IsEnqueueFrom : List Life → ℕ → Position → Type 0

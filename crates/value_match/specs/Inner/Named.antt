@@ -3,7 +3,7 @@ use Rattle.std.specs.Prelude.{ℕ, ◌+◌, ◌/◌, ◌%◌, List, Some, slice_
 use Rattle.event_records.specs.declared.limits.TheConstants.{MAX_THREADS, NAMES_OF_A_THREAD}
 use Rattle.history_merge.specs.declared.operation.Operation.{Operation}
 use Rattle.value_match.specs.declared.names.Names.{Names}
-use Rattle.value_match.specs.Sources.{IsCallPlace}
+use Rattle.value_match.specs.Inner.Sources.{IsCallPlace}
 
 -- the place of the operation of this number in this thread
 abbrev pub place_of : Names → ℕ → ℕ

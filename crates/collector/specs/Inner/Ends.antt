@@ -1,0 +1,7 @@
+-- The rings of a run that stand behind tokens.
+use Rattle.std.specs.Prelude.{ℕ, List, map}
+use Rattle.event_rings.specs.Ring.{RingName, TokenView}
+
+-- which rings these tokens close, and of which threads
+abbrev pub rings_of_tokens : List TokenView → List (RingName × ℕ)
+rings_of_tokens tokens = map (λ t. (t.ring, t.thread)) tokens

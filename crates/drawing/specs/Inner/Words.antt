@@ -1,0 +1,9 @@
+-- The text of one piece of a line.
+use Rattle.std.specs.Prelude.{ℕ, List, decimal}
+use Rattle.drawing.specs.declared.line.Piece.{Piece}
+use Rattle.drawing.specs.declared.line.Piece.TheVariants.{Words, Number}
+
+-- the bytes of a piece
+abbrev pub piece_text : Piece → List ℕ
+piece_text (Words bytes) = bytes.now
+piece_text (Number n) = decimal n

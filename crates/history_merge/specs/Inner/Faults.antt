@@ -1,0 +1,18 @@
+-- What a walk over the events finds of their faults.
+use Rattle.std.specs.Prelude.{◌≡◌, ℕ, ◌<◌, false, List, length, take, slice_get, Option, Some}
+use Rattle.std.specs.Prelude.{None, true}
+use Rattle.event_records.specs.declared.event.Event.{Event}
+use Rattle.history_merge.specs.Faults.{pending_call, repeats_value}
+
+-- no call of any thread is without return
+abbrev pub NothingPending : List Event → Type 0
+NothingPending events = (thread : ℕ) → pending_call thread events ≡ None
+
+-- the calls before place n enqueue different values
+abbrev pub NoRepeatBefore : List Event → ℕ → Type 0
+NoRepeatBefore events n = (i : ℕ) (e : Event) → i < n → slice_get events i ≡ Some e → repeats_value (take i events) e ≡ false
+
+-- the place is that of the first call with a value that was called before, if there is one
+abbrev pub IsFirstRepeat : List Event → Option ℕ → Type 0
+IsFirstRepeat events None = NoRepeatBefore events (length events)
+IsFirstRepeat events (Some i) = NoRepeatBefore events i × ((e : Event) × (slice_get events i ≡ Some e) × (repeats_value (take i events) e ≡ true))

@@ -1,0 +1,24 @@
+-- The ends of a crew.
+use Rattle.std.specs.Prelude.{◌≡◌, ◌+◌, List, [], ◌++◌, map, All, sum_by, flat_map, IsPermutation, Contains, ◌⊎◌, Option, Some, false}
+use Rattle.tickets.specs.Views.{PassView}
+use Rattle.event_rings.specs.Ring.{DrainView, TokenView}
+use Rattle.stress_run.specs.Workers.{WorkerView}
+use Rattle.stress_run.specs.declared.faults.RunFault.{RunFault}
+use Rattle.stress_run.specs.declared.faults.RunFault.TheVariants.{Memory}
+use Rattle.stress_run.specs.Crew.{token_of, IsFaultOfWorker}
+
+-- the end of a worker's ring that nothing was drained from
+abbrev pub end_of : WorkerView → DrainView
+end_of w = record { ring = w.ring; thread = w.thread; received = [] }
+
+-- none of these workers is stopped, their rings are closed, and their passes are joined
+pub record AreClosed (rest : PassView) (workers : List WorkerView) (tokens : List TokenView) (pass : PassView) : Type 0 where
+  pub running : All (λ w. w.stopped ≡ false) workers
+  pub tokens_are : tokens ≡ map token_of workers
+  pub key : pass.key ≡ rest.key
+  pub left : pass.left ≡ rest.left + sum_by (λ w. w.pass.left) workers
+  pub drawn : IsPermutation (rest.drawn ++ flat_map (λ w. w.pass.drawn) workers) pass.drawn
+
+-- this fault stood before, or memory ran out, or it is one of these workers'
+abbrev pub Stands : Option RunFault → List WorkerView → RunFault → Type 0
+Stands standing workers f = (standing ≡ Some f) ⊎ ((f ≡ Memory) ⊎ ((w : WorkerView) × Contains workers w × IsFaultOfWorker f w))
