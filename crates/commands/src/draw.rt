@@ -29,12 +29,7 @@ where
 }
 
 /// The picture of this history with the claim, where both are small and the claim is evidence.
-fn draw_history(
-    alloc: Global,
-    history: &History,
-    claimed: &Claimed,
-    form: PictureForm,
-) -> Outcome
+fn draw_history(alloc: Global, history: &History, claimed: &Claimed, form: PictureForm) -> Outcome
     ensures found { AnswersOrNoMemory (Draws form) (record { events = history.now; claimed = claimed.now }) (answer_of result) }
     ensures places { NamesPlaces result }
 {

@@ -9,7 +9,6 @@ use Rattle.verdicts.specs.declared.verifying.ViolationKind.TheVariants.{VFresh, 
 use Rattle.verdicts.specs.declared.verifying.Claimed.{Claimed}
 use Rattle.verdicts.specs.declared.verifying.Claimed.TheVariants as claimed
 use Rattle.text_lines.specs.Lines.{line, spaced}
-
 -- the places of a violation's operations, and of a value's in its cover, in the order in which they are shown
 pub use Rattle.verdicts.specs.Shown.{places_of_step, places_of as places_of_violation}
 -- the places of a verdict's operations, and what it claims
