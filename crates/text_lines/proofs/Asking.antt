@@ -1,7 +1,8 @@
 -- What a sink was asked, one call after another.
 use Rattle.std.proofs.Common.{◌≡◌, ℕ, zero, suc, ◌&&◌, not, Bool, List, length, refl, sym, subst, inl, inr}
-use Rattle.std.specs.Prelude.{◌==◌, if◌then◌else◌}
+use Rattle.std.specs.Prelude.{◌==◌, if◌then◌else◌, OnErr, OnOk, Result}
 use Rattle.std.proofs.lemmas.Bool.Decides.{eqb_tells}
+use Rattle.std.proofs.lemmas.Result.{on_err_weaker, on_ok_weaker}
 use Rattle.text_lines.specs.Writing.{Asked, Took, Refused, TakesTimes, IsWritten, IsRefused}
 
 module _ {S : Type 0} (goes : S → Asked → S → Type 0) where
@@ -45,3 +46,11 @@ module _ {S : Type 0} (goes : S → Asked → S → Type 0) where
   -- a body that only writes, and then one that is refused
   pub refused_then : (a b c : S) → IsWritten goes a b → IsRefused goes b c → IsRefused goes a c
   refused_then a b c before after = record { before = after.before; written = written_then a b after.before before after.written; refused = after.refused }
+
+  -- where the first of two bodies only writes, and the second did so where it is well, both did
+  pub both_written : {T E : Type 0} {a b : S} (result : Result T E) (c : S) → IsWritten goes a b → OnOk result (IsWritten goes b c) → OnOk result (IsWritten goes a c)
+  both_written result c before after = on_ok_weaker result (written_then _ _ _ before) after
+
+  -- and where the second was refused, both were
+  pub second_refused : {T E : Type 0} {a b : S} (result : Result T E) (c : S) → IsWritten goes a b → OnErr result (IsRefused goes b c) → OnErr result (IsRefused goes a c)
+  second_refused result c before after = on_err_weaker result (refused_then _ _ _ before) after

@@ -1,10 +1,10 @@
 use Rattle.std.proofs.Common.{codes}
-use Rattle.std.proofs.lemmas.Result.{on_ok_weaker, on_err_weaker}
+use Rattle.std.proofs.lemmas.Result.{on_err_weaker}
 use Rattle.text_lines.specs.Lines.{line}
 use Rattle.text_lines.proofs.Appending.{on_err, front_first}
 use Rattle.commands.specs.Answers.{rejection_lines}
 use Rattle.commands.proofs.Fronts.{front_next}
-use Rattle.text_lines.proofs.Asking.{written_then, refused_then}
+use Rattle.text_lines.proofs.Asking.{both_written, second_refused}
 use Rattle.commands.proofs.show.write_left_open.Goals as goal
 
 pub returns-in_err-write_rejections-clause-err : goal.returns-in_err-write_rejections-clause-err
@@ -18,9 +18,7 @@ returns-clause-err g c =
     on_err_weaker c.write_piece.result (front_next _ _ _ (rejection_lines c.args.rejections.now) (line (codes "OPEN")) first) c.write_piece.ensures.err
 
 pub returns-clause-written : goal.returns-clause-written
-returns-clause-written g c = on_ok_weaker c.write_piece.result
-    (written_then g.W.TextSink.goes _ _ _ c.in_ok-write_rejections.ensures.written) c.write_piece.ensures.written
+returns-clause-written g c = both_written g.W.TextSink.goes c.write_piece.result _ c.in_ok-write_rejections.ensures.written c.write_piece.ensures.written
 
 pub returns-clause-stopped : goal.returns-clause-stopped
-returns-clause-stopped g c = on_err_weaker c.write_piece.result
-    (refused_then g.W.TextSink.goes _ _ _ c.in_ok-write_rejections.ensures.written) c.write_piece.ensures.stopped
+returns-clause-stopped g c = second_refused g.W.TextSink.goes c.write_piece.result _ c.in_ok-write_rejections.ensures.written c.write_piece.ensures.stopped

@@ -1,12 +1,12 @@
 use Rattle.std.proofs.Common.{◌++◌}
-use Rattle.std.proofs.lemmas.Result.{on_ok_weaker, on_err_weaker}
+use Rattle.std.proofs.lemmas.Result.{on_err_weaker}
 use Rattle.history_merge.specs.Operations.{operations_of}
 use Rattle.history_text.specs.Histories.{history_text}
 use Rattle.history_text.specs.Verdicts.{claim_of, verdict_text}
 use Rattle.text_lines.proofs.Appending.{on_err, front_first}
 use Rattle.commands.specs.Answers.{rejection_lines}
 use Rattle.commands.proofs.Fronts.{front_next}
-use Rattle.text_lines.proofs.Asking.{written_then, refused_then}
+use Rattle.text_lines.proofs.Asking.{both_written, second_refused}
 use Rattle.commands.proofs.show.write_played.Goals as goal
 
 pub returns-in_err-write_rejections-clause-err : goal.returns-in_err-write_rejections-clause-err
@@ -25,9 +25,7 @@ returns-clause-err g c =
     c.write_shown.ensures.err
 
 pub returns-clause-written : goal.returns-clause-written
-returns-clause-written g c = on_ok_weaker c.write_shown.result
-    (written_then g.W.TextSink.goes _ _ _ c.in_ok-write_rejections.ensures.written) c.write_shown.ensures.written
+returns-clause-written g c = both_written g.W.TextSink.goes c.write_shown.result _ c.in_ok-write_rejections.ensures.written c.write_shown.ensures.written
 
 pub returns-clause-stopped : goal.returns-clause-stopped
-returns-clause-stopped g c = on_err_weaker c.write_shown.result
-    (refused_then g.W.TextSink.goes _ _ _ c.in_ok-write_rejections.ensures.written) c.write_shown.ensures.stopped
+returns-clause-stopped g c = second_refused g.W.TextSink.goes c.write_shown.result _ c.in_ok-write_rejections.ensures.written c.write_shown.ensures.stopped

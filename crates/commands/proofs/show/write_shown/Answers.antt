@@ -1,10 +1,10 @@
 use Rattle.history_merge.specs.Operations.{operations_of}
 use Rattle.history_text.specs.Histories.{history_text}
 use Rattle.history_text.specs.Verdicts.{claim_of, verdict_text}
-use Rattle.std.proofs.lemmas.Result.{on_ok_weaker, on_err_weaker}
+use Rattle.std.proofs.lemmas.Result.{on_err_weaker}
 use Rattle.text_lines.proofs.Appending.{front_first, on_err}
 use Rattle.commands.proofs.Fronts.{front_next}
-use Rattle.text_lines.proofs.Asking.{written_then, refused_then}
+use Rattle.text_lines.proofs.Asking.{both_written, second_refused}
 use Rattle.commands.proofs.show.write_shown.Goals as goal
 
 pub returns-in_err-write_history-clause-err : goal.returns-in_err-write_history-clause-err
@@ -18,9 +18,7 @@ returns-clause-err g c =
     (verdict_text (claim_of (operations_of c.args.history.now) c.args.verdict.now)) c.in_ok-write_history.ensures.ok h) c.write_verdict.ensures.err
 
 pub returns-clause-written : goal.returns-clause-written
-returns-clause-written g c = on_ok_weaker c.write_verdict.result
-    (written_then g.W.TextSink.goes _ _ _ c.in_ok-write_history.ensures.written) c.write_verdict.ensures.written
+returns-clause-written g c = both_written g.W.TextSink.goes c.write_verdict.result _ c.in_ok-write_history.ensures.written c.write_verdict.ensures.written
 
 pub returns-clause-stopped : goal.returns-clause-stopped
-returns-clause-stopped g c = on_err_weaker c.write_verdict.result
-    (refused_then g.W.TextSink.goes _ _ _ c.in_ok-write_history.ensures.written) c.write_verdict.ensures.stopped
+returns-clause-stopped g c = second_refused g.W.TextSink.goes c.write_verdict.result _ c.in_ok-write_history.ensures.written c.write_verdict.ensures.stopped

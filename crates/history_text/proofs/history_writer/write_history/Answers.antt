@@ -1,7 +1,7 @@
 use Rattle.std.proofs.lemmas.Result.{on_ok_weaker, on_err_weaker}
 use Rattle.text_lines.proofs.Appending.{on_ok, puts_all, puts_front}
 use Rattle.history_text.proofs.Written.{complete_has_text}
-use Rattle.text_lines.proofs.Asking.{written_then, refused_then}
+use Rattle.text_lines.proofs.Asking.{both_written, second_refused}
 use Rattle.history_text.proofs.history_writer.write_history.Goals as goal
 
 pub returns-clause-ok : goal.returns-clause-ok
@@ -20,9 +20,7 @@ returns-clause-readable g c =
     (rw c.events.ensures.events at c.in_ok-put_history.ensures.fits) c.events.ensures.few)
 
 pub returns-clause-written : goal.returns-clause-written
-returns-clause-written g c = on_ok_weaker c.write_piece.result
-    (written_then g.W.TextSink.goes _ _ _ c.in_ok-put_history.ensures.written) c.write_piece.ensures.written
+returns-clause-written g c = both_written g.W.TextSink.goes c.write_piece.result _ c.in_ok-put_history.ensures.written c.write_piece.ensures.written
 
 pub returns-clause-stopped : goal.returns-clause-stopped
-returns-clause-stopped g c = on_err_weaker c.write_piece.result
-    (refused_then g.W.TextSink.goes _ _ _ c.in_ok-put_history.ensures.written) c.write_piece.ensures.stopped
+returns-clause-stopped g c = second_refused g.W.TextSink.goes c.write_piece.result _ c.in_ok-put_history.ensures.written c.write_piece.ensures.stopped

@@ -3,7 +3,7 @@ use Rattle.std.specs.Option.{option_to_list}
 use Rattle.std.proofs.lemmas.Result.{on_ok_weaker, on_err_weaker}
 use Rattle.text_lines.proofs.Appending.{on_err}
 use Rattle.history_text.proofs.Named.{first_stops, next_stops, both_put, All-last}
-use Rattle.text_lines.proofs.Asking.{written_then, refused_then}
+use Rattle.text_lines.proofs.Asking.{both_written, second_refused}
 use Rattle.history_text.proofs.verdict_writer.put_with_last.Goals as goal
 
 pub returns-in_err-put_places-clause-err : goal.returns-in_err-put_places-clause-err
@@ -22,9 +22,7 @@ returns-clause-err g c = on_err_weaker c.put_maybe.result (next_stops c.args.ope
     (option_to_list c.args.last) _ _ _ _ _ c.in_ok-put_places.ensures.ok) c.put_maybe.ensures.err
 
 pub returns-clause-written : goal.returns-clause-written
-returns-clause-written g c = on_ok_weaker c.put_maybe.result (written_then g.W.TextSink.goes _ _ _ c.in_ok-put_places.ensures.written)
-    c.put_maybe.ensures.written
+returns-clause-written g c = both_written g.W.TextSink.goes c.put_maybe.result _ c.in_ok-put_places.ensures.written c.put_maybe.ensures.written
 
 pub returns-clause-stopped : goal.returns-clause-stopped
-returns-clause-stopped g c = on_err_weaker c.put_maybe.result
-    (refused_then g.W.TextSink.goes _ _ _ c.in_ok-put_places.ensures.written) c.put_maybe.ensures.stopped
+returns-clause-stopped g c = second_refused g.W.TextSink.goes c.put_maybe.result _ c.in_ok-put_places.ensures.written c.put_maybe.ensures.stopped
