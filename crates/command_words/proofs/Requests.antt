@@ -1,5 +1,5 @@
 -- What can be answered is a request, with its numbers in their ranges.
-use Rattle.std.proofs.Common.{◌≤◌, arith, inl, inr, ℕ, List, Option, Some, None, codes, unwrap_or, []}
+use Rattle.std.proofs.Common.{◌≤◌, inl, inr, ℕ, List, Option, Some, None, codes, unwrap_or, []}
 use Rattle.std.specs.Prelude.{IsSomeAnd}
 use Rattle.std.specs.Str.Parse.{digits_value, without_leading_plus}
 use Rattle.clap.specs.Values.{IsUnsignedIn}

@@ -76,15 +76,21 @@ turns_push [] call answer turns fit = (fit, tt)
 turns_push (e ∷ []) call answer turns fit = absurd turns
 turns_push (e ∷ f ∷ rest) call answer turns fit = (turns.0, turns_push rest call answer turns.1 fit)
 
+-- what holds of each answer of an operation's kind holds of each answer that isn't wrong
+pub of_right_answers : (P : Question → Answer → Type 0) → ((v : ℕ) → P (Enqueue v) Taken) → ((v : ℕ) → P (Enqueue v) Not)
+    → ((w : ℕ) → P Dequeue (Got w)) → P Dequeue Empty → (asked : Question) (answer : Answer) → is_wrong answer (Some asked) ≡ false → P asked answer
+of_right_answers P taken refused got empty (Enqueue v) Taken right = taken v
+of_right_answers P taken refused got empty (Enqueue v) Not right = refused v
+of_right_answers P taken refused got empty (Enqueue v) (Got w) right = cc
+of_right_answers P taken refused got empty (Enqueue v) Empty right = cc
+of_right_answers P taken refused got empty Dequeue Taken right = cc
+of_right_answers P taken refused got empty Dequeue Not right = cc
+of_right_answers P taken refused got empty Dequeue (Got w) right = got w
+of_right_answers P taken refused got empty Dequeue Empty right = empty
+
 answer_fits : (asked : Question) (answer : Answer) → is_wrong answer (Some asked) ≡ false → answers_call (call_of asked) (return_of answer) ≡ true
-answer_fits (Enqueue v) Taken right = refl
-answer_fits (Enqueue v) Not right = refl
-answer_fits (Enqueue v) (Got w) right = cc
-answer_fits (Enqueue v) Empty right = cc
-answer_fits Dequeue Taken right = cc
-answer_fits Dequeue Not right = cc
-answer_fits Dequeue (Got w) right = refl
-answer_fits Dequeue Empty right = refl
+answer_fits =
+    of_right_answers (λ asked answer. answers_call (call_of asked) (return_of answer) ≡ true) (λ v. refl) (λ v. refl) (λ w. refl) refl
 
 -- the queue's own answer is never wrong
 pub queue_is_right : (asked : Question) (items : List ℕ) → is_wrong (queue_answer asked items) (Some asked) ≡ false

@@ -26,7 +26,7 @@ use Rattle.recorder_core.specs.Schedule.{Attempt, refusal, accepted, answers, re
 use Rattle.recorder_core.specs.Schedule.{queue, queue_answer, return_of, with_last}
 use Rattle.recorder_core.specs.Replay.{is_say, effected, effect_kinds, kind_told}
 use Rattle.recorder_core.proofs.Runs.{same_number, after_each, MayAsk, may_ask, MayAnswer, may_effect, MayReturn, may_return}
-use Rattle.recorder_core.proofs.Events.{CountedAndRecorded, recorded, recorded_goes_on, told_last, asked_last, with_one_more, queue_is_right}
+use Rattle.recorder_core.proofs.Events.{CountedAndRecorded, recorded, recorded_goes_on, told_last, asked_last, with_one_more, of_right_answers, queue_is_right}
 use Rattle.recorder_core.proofs.Starting.{slice_get_front}
 use Rattle.recorder_core.proofs.Threads.{slice_get_at}
 
@@ -137,14 +137,8 @@ module _ (next n r : ℕ) (told : Option Answer) (list : List Event) (number tim
 
 told_kind : (asked : Question) (answer : Answer) → is_wrong answer (Some asked) ≡ false
     → kind_of (call_of asked) (return_of answer) ≡ Some (kind_told asked answer)
-told_kind (Enqueue v) Taken right = refl
-told_kind (Enqueue v) Not right = refl
-told_kind (Enqueue v) (Got w) right = cc
-told_kind (Enqueue v) Empty right = cc
-told_kind Dequeue Taken right = cc
-told_kind Dequeue Not right = cc
-told_kind Dequeue (Got w) right = refl
-told_kind Dequeue Empty right = refl
+told_kind =
+    of_right_answers (λ asked answer. kind_of (call_of asked) (return_of answer) ≡ Some (kind_told asked answer)) (λ v. refl) (λ v. refl) (λ w. refl) refl
 
 taken_now : (setting : Setting) (u : ℕ) (before : List Step) → CountedAndRecorded setting u before → MayAnswer setting u before →
     IsTaken (tickets before) (suc (answers u before)) (returns u before) (Some (effect_answer setting u before)) (events setting u before)
