@@ -1,5 +1,5 @@
 -- What is written of an operation is read back.
-use Rattle.std.proofs.Common.{◌≡◌, ℕ, ◌^◌, ◌<◌, ◌≤◌, List, [], ◌∷◌, ◌++◌, arith, sym, subst, refl, Some, Ok, codes, length-append}
+use Rattle.std.proofs.Common.{◌≡◌, ℕ, ◌^◌, ◌<◌, ◌≤◌, List, [], ◌∷◌, ◌++◌, arith, sym, subst, refl, true, Some, Ok, codes, length-append}
 use Rattle.std.specs.Prelude.{decimal}
 use Rattle.std.specs.List.{AllByRecursion}
 use Rattle.std.proofs.lemmas.Fmt.{decimal_nonempty, length-decimal-le}
@@ -10,41 +10,36 @@ use Rattle.history_merge.specs.declared.operation.OpKind.TheVariants.{Enq, Deq, 
 use Rattle.text_lines.specs.Lines.{spaced, greatest_value, front_of}
 use Rattle.history_text.specs.Items.{line_of, item_at_front}
 use Rattle.history_text.specs.Verdicts.{kind_fields, operation_fields}
-use Rattle.history_text.specs.Claims.{IsKindInRange, HasOperationLine, operation_in, empty_operation, numbered_operation, operation_kind}
+use Rattle.history_text.specs.Claims.{IsKindInRange, HasOperationLine, has_value, kind_of_value, operation_in, empty_operation, numbered_operation, operation_kind}
 use Rattle.text_lines.specs.Input.{Ending}
 use Rattle.text_lines.proofs.WrittenLines.{IsField, number_is_field, all_digits, number_read, IsLineOf, line_of_fields, digits_begin_other, HasFields}
 use Rattle.text_lines.proofs.WrittenLines.{with_value}
 use Rattle.history_text.proofs.ItemFronts.{item_front}
 
+-- with a word that has a value
+numbered_read : (n call ret thread : ℕ) (word : List ℕ) (v : ℕ) → has_value word ≡ true → call ≤ MAX_TICKET → ret ≤ MAX_TICKET → thread ≤ MAX_THREAD
+    → v ≤ greatest_value
+    → operation_in n (decimal call ∷ decimal ret ∷ decimal thread ∷ word ∷ decimal v ∷ [])
+    ≡ Ok (record { call = call; ret = ret; thread = thread; kind = kind_of_value word v })
+unfolding numbered_operation
+numbered_read n call ret thread word v is c r t range = rw (
+  is,
+  number_read n MAX_TICKET call c (omega arith),
+  number_read n MAX_TICKET ret r (omega arith),
+  number_read n MAX_THREAD thread t (omega arith),
+  number_read n greatest_value v range (omega arith),
+) refl
+
 operation_read_by : (n call ret thread : ℕ) (kind : OpKind) → call ≤ MAX_TICKET → ret ≤ MAX_TICKET → thread ≤ MAX_THREAD → IsKindInRange kind
     → operation_in n (decimal call ∷ decimal ret ∷ decimal thread ∷ kind_fields kind) ≡ Ok (record { call = call; ret = ret; thread = thread; kind = kind })
-unfolding empty_operation numbered_operation
-operation_read_by n call ret thread (Enq v) c r t range = rw (
-  number_read n MAX_TICKET call c (omega arith),
-  number_read n MAX_TICKET ret r
-      (omega arith),
-  number_read n MAX_THREAD thread t (omega arith),
-  number_read n greatest_value v range (omega arith),
-) refl
-operation_read_by n call ret thread (Deq v) c r t range = rw (
-  number_read n MAX_TICKET call c (omega arith),
-  number_read n MAX_TICKET ret r
-      (omega arith),
-  number_read n MAX_THREAD thread t (omega arith),
-  number_read n greatest_value v range (omega arith),
-) refl
+unfolding empty_operation
+operation_read_by n call ret thread (Enq v) c r t range = numbered_read n call ret thread (codes "enq") v refl c r t range
+operation_read_by n call ret thread (Deq v) c r t range = numbered_read n call ret thread (codes "deq") v refl c r t range
+operation_read_by n call ret thread (Not v) c r t range = numbered_read n call ret thread (codes "not") v refl c r t range
 operation_read_by n call ret thread Empty c r t range = rw (
   number_read n MAX_TICKET call c (omega arith),
-  number_read n MAX_TICKET ret r
-      (omega arith),
+  number_read n MAX_TICKET ret r (omega arith),
   number_read n MAX_THREAD thread t (omega arith),
-) refl
-operation_read_by n call ret thread (Not v) c r t range = rw (
-  number_read n MAX_TICKET call c (omega arith),
-  number_read n MAX_TICKET ret r
-      (omega arith),
-  number_read n MAX_THREAD thread t (omega arith),
-  number_read n greatest_value v range (omega arith),
 ) refl
 
 operation_read : (n : ℕ) (o : Operation) → HasOperationLine o → operation_in n (operation_fields o) ≡ Ok o

@@ -1,13 +1,16 @@
 //! What stands at the front of some bytes, found in one pass.
-ghost use Rattle.std.specs.Prelude.{◌≡◌, ◌+◌, ◌*◌, ◌^◌, ◌<◌, ◌++◌, IfSome, decimal};
+ghost use Rattle.std.specs.Prelude.{◌≡◌, ◌+◌, ◌*◌, ◌^◌, ◌<◌, ◌≤◌, ◌++◌, IfSome, IfNone, List, ℕ, decimal, true, false};
+ghost use Rattle.text_lines.specs.Lines.{begins_with_digit};
 
 /// The least number of 19 digits. With one digit more, a lesser one is in range.
 const LEAST_LONG: u64 = 1_000_000_000_000_000_000;
 
-/// The number at the front, and the bytes after it.
+/// The number at the front with all its digits, and the bytes after it; none where none of 64 bits stands there.
 #[inline(always)]
 pub fn number_front(bytes: &[u8]) -> Option<(u64, &[u8])>
-    ensures { IfSome result (λ p. bytes.now ≡ decimal p.0 ++ p.1.now) }
+    ensures number { IfSome result (λ p. bytes.now ≡ decimal p.0 ++ p.1.now) }
+    ensures whole { IfSome result (λ p. begins_with_digit p.1.now ≡ false) }
+    ensures none { IfNone result ((value : ℕ) (rest : List ℕ) → value < 2 ^ 64 → bytes.now ≡ decimal value ++ rest → begins_with_digit rest ≡ true) }
 {
     let mut value = 0u64;
     let mut count = 0;
@@ -34,7 +37,9 @@ pub fn number_front(bytes: &[u8]) -> Option<(u64, &[u8])>
 /// The same of a number that may have 20 digits; none where it is out of range.
 #[inline(never)]
 fn long_number_front(bytes: &[u8]) -> Option<(u64, &[u8])>
-    ensures { IfSome result (λ p. bytes.now ≡ decimal p.0 ++ p.1.now) }
+    ensures number { IfSome result (λ p. bytes.now ≡ decimal p.0 ++ p.1.now) }
+    ensures whole { IfSome result (λ p. begins_with_digit p.1.now ≡ false) }
+    ensures none { IfNone result ((value : ℕ) (rest : List ℕ) → value < 2 ^ 64 → bytes.now ≡ decimal value ++ rest → begins_with_digit rest ≡ true) }
 {
     let mut value = 0u64;
     let mut count = 0;
@@ -60,6 +65,7 @@ fn long_number_front(bytes: &[u8]) -> Option<(u64, &[u8])>
 fn one_digit_more(value: u64, digit: u64) -> Option<u64>
     ensures number { IfSome result (λ more. more ≡ value * 10 + digit) }
     ensures in_range { IfSome result (λ more. more < 2 ^ 64) }
+    ensures beyond { IfNone result (2 ^ 64 ≤ value * 10 + digit) }
 {
     value.checked_mul(10)?.checked_add(digit)
 }
@@ -67,7 +73,8 @@ fn one_digit_more(value: u64, digit: u64) -> Option<u64>
 /// The bytes after the word that they begin with.
 #[inline(always)]
 pub fn after_word<'a>(bytes: &'a [u8], word: &[u8]) -> Option<&'a [u8]>
-    ensures { IfSome result (λ rest. bytes.now ≡ word.now ++ rest.now) }
+    ensures rest { IfSome result (λ rest. bytes.now ≡ word.now ++ rest.now) }
+    ensures none { IfNone result ((rest : List ℕ) → bytes.now ≡ word.now ++ rest → ⊥) }
 {
     if bytes.len() < word.len() {
         return None;
