@@ -30,12 +30,7 @@ where
 }
 
 /// The picture of these events with the claim, where they are a small history and the claim is evidence in it.
-fn draw_claim(
-    alloc: Global,
-    events: Vec<Event>,
-    claimed: &Claimed,
-    form: PictureForm,
-) -> Outcome
+fn draw_claim(alloc: Global, events: Vec<Event>, claimed: &Claimed, form: PictureForm) -> Outcome
     requires { vec_len events ≤ MAX_EVENTS }
     ensures found { AnswersOrNoMemory (Draws form) (record { events = events.items; claimed = claimed.now }) (answer_of result) }
     ensures places { NamesPlaces result }
@@ -48,12 +43,7 @@ fn draw_claim(
 }
 
 /// The picture of this history with the claim, where both are small and the claim is evidence.
-fn draw_history(
-    alloc: Global,
-    history: &History,
-    claimed: &Claimed,
-    form: PictureForm,
-) -> Outcome
+fn draw_history(alloc: Global, history: &History, claimed: &Claimed, form: PictureForm) -> Outcome
     ensures found { AnswersOrNoMemory (Draws form) (record { events = history.now; claimed = claimed.now }) (answer_of result) }
     ensures places { NamesPlaces result }
 {
