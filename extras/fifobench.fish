@@ -11,7 +11,7 @@ complete -c fifobench -n __fish_use_subcommand -a sim -d 'Play a schedule of the
 complete -c fifobench -n __fish_use_subcommand -a stress -d 'Run threads on a built-in queue'
 complete -c fifobench -n __fish_use_subcommand -a help -d 'Print a help'
 complete -c fifobench -n '__fish_seen_subcommand_from help' -a 'check shrink verify draw sim stress help'
-complete -c fifobench -n '__fish_seen_subcommand_from draw' -l text -d 'Draw in lines of characters'
+complete -c fifobench -n '__fish_seen_subcommand_from draw' -l text -d 'Draw in lines of characters, and not as SVG'
 complete -c fifobench -n '__fish_seen_subcommand_from stress' -l queue -x -d 'Name of the queue' \
     -a 'locked two-lock array seg lifo doubling inventing shy losing'
 complete -c fifobench -n '__fish_seen_subcommand_from stress' -l threads -x -d 'Workers, 1 to 16'

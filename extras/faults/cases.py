@@ -128,6 +128,7 @@ def cases():
         Case(["check"], many_windows(), kinds=("growth", "thread")),
         Case(["shrink"], violated),
         Case(["verify"], violated + claim),
+        Case(["draw"], violated + claim),
         Case(["draw", "--text"], violated + claim),
         Case(["sim"], example("full-ring.schedule")),
         Case(["stress", "--queue", "locked", "--threads", "3", "--ops", "20", "--ring", "2"], is_run=True),

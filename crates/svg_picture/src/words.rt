@@ -109,8 +109,8 @@ fn light() -> &'static [u8]
     ensures { result.now ≡ light }
 {
     b"svg{background:#ffffff}\n\
-text{font-family:DejaVu Sans Mono,Menlo,Consolas,monospace;font-size:12px;fill:#1a1a1a}\n\
-.page{fill:#ffffff}.row{fill:#f2f4f7}.rows{fill:url(#rows)}.head{font-size:17px;font-weight:bold}.say{font-size:13px}\n\
+text{font-family:DejaVu Sans Mono,Menlo,Consolas,monospace;font-size:11.6px;fill:#1a1a1a}\n\
+.page{fill:#ffffff}.row{fill:#f2f4f7}.rows{fill:url(#rows)}.head{font-size:15px;font-weight:bold}.say{font-size:13px}\n\
 .dim{fill:#5c6470}.lead{stroke:#5c6470}\n\
 .enq{fill:#cfe3ff;stroke:#1f5fbf}.deq{fill:#ffe2bf;stroke:#b35c00}\n\
 .not{fill:#ffffff;stroke:#1f5fbf;stroke-dasharray:5 3}.empty{fill:#ffffff;stroke:#b35c00;stroke-dasharray:5 3}\n\

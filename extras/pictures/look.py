@@ -1,0 +1,145 @@
+"""Draws seeded histories with the program and looks at the places of all texts, pills and bars.
+
+A text of n characters takes its `textLength` from its x on, and from 10 pixels above its y to 3 below.
+"""
+
+import random
+import subprocess
+import sys
+import xml.etree.ElementTree as tree
+
+NAME = "{http://www.w3.org/2000/svg}"
+
+
+def history(rng):
+    """The text of a history of some threads, whose answers are mostly a queue's."""
+    threads, operations = rng.randint(1, 8), rng.randint(1, 24)
+    digits = rng.choice([1, 2, 5, 11, 20])
+    wrong = rng.choice([0.0, 0.0, 0.1, 0.3])
+    names = [rng.randrange(64) for _ in range(threads)] if rng.random() < 0.3 else list(range(threads))
+    threads = sorted(set(names))
+    values = rng.sample(range(10 ** (digits - 1), min(10 ** digits, 2 ** 64)), min(9, operations)) if digits == 1 else None
+    lines, pending, queue, given, ticket, left = [], {}, [], [], rng.choice([0, 999_999_990_000]), operations
+    while left or pending:
+        thread = rng.choice(threads)
+        ticket += rng.choice([1, 1, 1, 7])
+        if thread not in pending:
+            if not left:
+                continue
+            left -= 1
+            if rng.random() < 0.5:
+                value = values.pop() if values else rng.randrange(10 ** (digits - 1), min(10 ** digits, 2 ** 64))
+                if value in given or (values is not None and not values):
+                    pending[thread] = None
+                    lines.append(f"{ticket} {thread} call-deq")
+                    continue
+                given.append(value)
+                pending[thread] = value
+                lines.append(f"{ticket} {thread} call-enq {value}")
+            else:
+                pending[thread] = None
+                lines.append(f"{ticket} {thread} call-deq")
+            continue
+        value = pending.pop(thread)
+        if value is not None:
+            taken = rng.random() > 0.1
+            if taken:
+                queue.append(value)
+            lines.append(f"{ticket} {thread} {'ret-enq' if taken else 'ret-not'}")
+        elif rng.random() < wrong:
+            lines.append(f"{ticket} {thread} {mistake(rng, queue, given, digits)}")
+        elif queue:
+            lines.append(f"{ticket} {thread} ret-deq {queue.pop(0)}")
+        else:
+            lines.append(f"{ticket} {thread} ret-empty")
+    return "\n".join(["fifo-history 1"] + lines + [f"end {len(lines)}", ""])
+
+
+def mistake(rng, queue, given, digits):
+    """An answer to a dequeue that a queue may not give."""
+    which = rng.random()
+    if which < 0.2 and given:
+        return f"ret-deq {rng.choice(given)}"
+    if which < 0.6 and len(queue) > 1:
+        return f"ret-deq {queue.pop(rng.randrange(1, len(queue)))}"
+    if which < 0.7:
+        return f"ret-deq {rng.randrange(10 ** (digits - 1), min(10 ** digits, 2 ** 64))}"
+    return "ret-empty"
+
+
+def run(program, word, text):
+    done = subprocess.run([program, word], input=text.encode(), stdout=subprocess.PIPE, check=False)
+    return done.stdout.decode("ascii"), done.returncode
+
+
+def box(element):
+    """The left, upper, right and lower edge of a text or a rectangle."""
+    x, y = int(element.get("x")), int(element.get("y"))
+    if element.tag == NAME + "text":
+        return x, y - 10, x + int(element.get("textLength")), y + 3
+    return x, y, x + int(element.get("width")), y + int(element.get("height"))
+
+
+def meet(a, b):
+    return a[0] < b[2] and b[0] < a[2] and a[1] < b[3] and b[1] < a[3]
+
+
+def within(a, b):
+    return b[0] <= a[0] and b[1] <= a[1] and a[2] <= b[2] and a[3] <= b[3]
+
+
+def faults(picture, operations):
+    """What is wrong with a picture."""
+    root = tree.fromstring(picture)
+    whole = (0, 0, int(root.get("width")), int(root.get("height")))
+    found = []
+    texts = [t for t in root.iter(NAME + "text")]
+    boxes = [(box(t), t.text) for t in texts]
+    for place, words in boxes:
+        if not within(place, whole):
+            found.append(f"outside: {words}")
+    for i, (place, words) in enumerate(boxes):
+        for other, more in boxes[i + 1:]:
+            if meet(place, other):
+                found.append(f"meet: {words} and {more}")
+    bars = [g for g in root.iter(NAME + "g")]
+    if len(bars) != operations:
+        found.append(f"{len(bars)} bars of {operations} operations")
+    for group in bars:
+        bar, *pill = [box(r) for r in group.iter(NAME + "rect")]
+        label, *number = [(box(t), t.text) for t in group.iter(NAME + "text")]
+        if not within(label[0], bar) or not all(within(p, bar) for p in pill):
+            found.append(f"not in its bar: {label[1]}")
+        if pill and not within(number[0][0], pill[0]):
+            found.append(f"not in its pill: {number[0][1]}")
+        for place, words in boxes:
+            if pill and (place, words) != number[0] and meet(place, pill[0]):
+                found.append(f"under a pill: {words}")
+            if (place, words) not in (label, *number) and meet(place, bar):
+                found.append(f"under a bar: {words}")
+        if not all(within(r, whole) for r in [bar] + pill):
+            found.append("a bar outside")
+    return found
+
+
+def main():
+    program, looked, wrong, answers = sys.argv[1], 0, 0, {}
+    for seed in range(400):
+        text = history(random.Random(seed))
+        answer, status = run(program, "check", text)
+        if status > 1:
+            answers["refused"] = answers.get("refused", 0) + 1
+            continue
+        kind = answer.splitlines()[0].strip()
+        answers[kind] = answers.get(kind, 0) + 1
+        picture, status = run(program, "draw", text + answer)
+        found = faults(picture, text.count(" call-")) if status == 0 else [f"status {status}"]
+        looked += 1
+        if found:
+            wrong += 1
+            print(f"pictures: seed {seed}, {kind}: " + "; ".join(found[:4]))
+    print(f"pictures: {looked} looked at ({', '.join(f'{n} {k}' for k, n in sorted(answers.items()))}), {wrong} wrong")
+    return 1 if wrong or not looked else 0
+
+
+sys.exit(main())
