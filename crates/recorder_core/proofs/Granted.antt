@@ -98,6 +98,21 @@ pub record IsOnTurn (setting : Setting) (n t held : ℕ) (list : List Event) (st
   pub list_is : list ≡ events setting t steps ++ rest
   pub later : All (λ e. n ≤ e.ticket) rest
 
+-- a thread stays on turn through steps that leave what it did
+on_turn_still : (setting : Setting) (n t held : ℕ) (list : List Event) (before after : List Step) → is_closed t after ≡ is_closed t before
+    → pushes t after ≡ pushes t before → asks t after ≡ asks t before → returns t after ≡ returns t before → drained t after ≡ drained t before
+    → answers t after ≡ answers t before → events setting t after ≡ events setting t before
+    → IsOnTurn setting n t held list before → IsOnTurn setting n t held list after
+on_turn_still setting n t held list before after closed pushed asked returned drains answered happened k = record {
+  still_open = closed ∙ k.still_open;
+  pushed = rw (pushed, asked, returned) k.pushed;
+  all_drained = rw (drains, pushed) k.all_drained;
+  answered = rw (answered, returned) k.answered;
+  rest = k.rest;
+  list_is = rw happened k.list_is;
+  later = k.later;
+}
+
 -- a push and a drain of one event
 abbrev pub collect_one : ℕ → List Step → List Step
 collect_one u before = Drain u 1 ∷ Push u ∷ before
@@ -118,15 +133,8 @@ collected_own setting n u list before h = record {
 -- so nothing of another thread changes
 pub collected_other : (setting : Setting) (n t u : ℕ) (list : List Event) (before : List Step) → (u ≡ t → ⊥) → IsOnTurn setting n t 0 list before
     → IsOnTurn setting n t 0 list (collect_one u before)
-collected_other setting n t u list before other k = record {
-  still_open = k.still_open;
-  pushed = rw (ne_eqb u t other) k.pushed;
-  all_drained = rw (ne_eqb u t other) k.all_drained;
-  answered = k.answered;
-  rest = k.rest;
-  list_is = k.list_is;
-  later = k.later;
-}
+collected_other setting n t u list before other k =
+    on_turn_still _ _ _ _ _ before _ refl (rw (ne_eqb u t other) refl) refl refl (rw (ne_eqb u t other) refl) refl refl k
 
 -- these two steps are accepted
 pub collected_granted : (setting : Setting) (n u : ℕ) (list : List Event) (before : List Step) → u < setting.threads → 1 ≤ setting.ring
@@ -146,36 +154,13 @@ collected_granted setting n u list before known room h all =
 -- an ask of another thread changes nothing
 pub ask_other : (setting : Setting) (n t u : ℕ) (list : List Event) (before : List Step) (kind : Kind) → (u ≡ t → ⊥)
     → IsOnTurn setting n t 0 list before → IsOnTurn setting n t 0 list (ask_of kind u ∷ before)
-ask_other setting n t u list before Enq other k = record {
-  still_open = k.still_open;
-  pushed = rw (ne_eqb u t other) k.pushed;
-  all_drained =
-      k.all_drained;
-  answered = k.answered;
-  rest = k.rest;
-  list_is = rw (ne_eqb u t other) k.list_is;
-  later = k.later;
-}
-ask_other setting n t u list before Deq other k = record {
-  still_open = k.still_open;
-  pushed = rw (ne_eqb u t other) k.pushed;
-  all_drained =
-      k.all_drained;
-  answered = k.answered;
-  rest = k.rest;
-  list_is = rw (ne_eqb u t other) k.list_is;
-  later = k.later;
-}
+ask_other setting n t u list before Enq other k =
+    on_turn_still _ _ _ _ _ before _ refl refl (rw (ne_eqb u t other) refl) refl refl refl (rw (ne_eqb u t other) refl) k
+ask_other setting n t u list before Deq other k =
+    on_turn_still _ _ _ _ _ before _ refl refl (rw (ne_eqb u t other) refl) refl refl refl (rw (ne_eqb u t other) refl) k
 
 -- an answer of another thread changes nothing
 pub answer_other : (setting : Setting) (n t u : ℕ) (list : List Event) (before : List Step) (answer : Answer) → (u ≡ t → ⊥)
     → IsOnTurn setting n t 0 list before → IsOnTurn setting n t 0 list (Ret u ∷ Say u answer ∷ before)
-answer_other setting n t u list before answer other k = record {
-  still_open = k.still_open;
-  pushed = rw (ne_eqb u t other) k.pushed;
-  all_drained = k.all_drained;
-  answered = rw (ne_eqb u t other) k.answered;
-  rest = k.rest;
-  list_is = rw (ne_eqb u t other) k.list_is;
-  later = k.later;
-}
+answer_other setting n t u list before answer other k =
+    on_turn_still _ _ _ _ _ before _ refl refl refl (rw (ne_eqb u t other) refl) refl (rw (ne_eqb u t other) refl) (rw (ne_eqb u t other) refl) k

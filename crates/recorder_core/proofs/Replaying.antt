@@ -19,7 +19,7 @@ use Rattle.recorder_core.specs.declared.step.Step.TheVariants.{Say, Ret}
 use Rattle.recorder_core.specs.declared.step.Answer.{Answer}
 use Rattle.recorder_core.specs.Inner.Asked.{ask_of, asked_for, call_of}
 use Rattle.recorder_core.specs.Setting.{Setting}
-use Rattle.recorder_core.specs.Schedule.{asks, answers, returns, tickets, question, events, is_wrong, return_of}
+use Rattle.recorder_core.specs.Schedule.{asks, answers, returns, pushes, drained, tickets, question, events, is_closed, is_wrong, return_of}
 use Rattle.recorder_core.specs.Replay.{is_effect}
 use Rattle.recorder_core.proofs.Runs.{same_number, MayAsk}
 use Rattle.recorder_core.proofs.Totals.{total, total_doubled_less}
@@ -82,25 +82,27 @@ module _ (setting : Setting) (n u : ℕ) (list : List Event) (steps : List Step)
   one_more x is = next.list_is ∙ ap (λ (z : Event). events setting u steps ++ z ∷ next.rest) (sym is)
       ∙ sym (append_assoc (events setting u steps) (x ∷ []) next.rest)
 
+  -- the event of an ask of this kind
+  abbrev asked_event : Kind → Event
+  asked_event kind = record { ticket = tickets steps; thread = u; what = call_of (asked_for kind u (asks u steps)) }
+
+  asked_own : (kind : Kind) (after : List Step) → e.what ≡ call_of (asked_for kind u (asks u steps)) → is_closed u after ≡ is_closed u steps
+      → pushes u after ≡ pushes u steps → asks u after ≡ suc (asks u steps) → returns u after ≡ returns u steps → drained u after ≡ drained u steps
+      → answers u after ≡ answers u steps → events setting u after ≡ events setting u steps ++ asked_event kind ∷ []
+      → IsOnTurn setting (suc n) u 1 list after
+  asked_own kind after what closed pushed asked returned drains answered happened = record {
+    still_open = closed ∙ k.still_open;
+    pushed = rw (pushed, asked, returned) (omega (arith, k.pushed));
+    all_drained = rw (drains, pushed) k.all_drained;
+    answered = rw (answered, returned) k.answered;
+    rest = next.rest;
+    list_is = rw happened (one_more _ (event_is _ counted refl (sym what)));
+    later = next.later;
+  }
+
   ask_own : (kind : Kind) → e.what ≡ call_of (asked_for kind u (asks u steps)) → IsOnTurn setting (suc n) u 1 list (ask_of kind u ∷ steps)
-  ask_own Enq what = record {
-    still_open = k.still_open;
-    pushed = rw (same_number u) (omega (arith, k.pushed));
-    all_drained = k.all_drained;
-    answered = k.answered;
-    rest = next.rest;
-    list_is = rw (same_number u) (one_more _ (event_is _ counted refl (sym what)));
-    later = next.later;
-  }
-  ask_own Deq what = record {
-    still_open = k.still_open;
-    pushed = rw (same_number u) (omega (arith, k.pushed));
-    all_drained = k.all_drained;
-    answered = k.answered;
-    rest = next.rest;
-    list_is = rw (same_number u) (one_more _ (event_is _ counted refl (sym what)));
-    later = next.later;
-  }
+  ask_own Enq what = asked_own Enq _ what refl refl (rw (same_number u) refl) refl refl refl (rw (same_number u) refl)
+  ask_own Deq what = asked_own Deq _ what refl refl (rw (same_number u) refl) refl refl refl (rw (same_number u) refl)
 
   answer_own : (answer : Answer) → e.what ≡ return_of answer → IsOnTurn setting (suc n) u 1 list (Ret u ∷ Say u answer ∷ steps)
   answer_own answer what = record {
