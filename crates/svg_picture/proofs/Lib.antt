@@ -2,5 +2,6 @@ pub mod Chains
 pub mod Each
 pub mod Cuts
 pub mod Rising
+pub mod Timing
 pub mod Plain
 pub mod Documents

@@ -1,15 +1,17 @@
 -- What holds of SVG pictures.
-use Rattle.std.specs.Prelude.{◌≡◌, ℕ, ◌+◌, ◌<◌, ◌≤◌, ◌↔◌, ◌&&◌, ◌||◌, ◌==◌, not, nat_le, ⊤, Bool, true, List, [], ◌∷◌, ◌++◌, map, codes, Contains}
+use Rattle.std.specs.Prelude.{◌≡◌, ℕ, ◌+◌, ◌<◌, ◌≤◌, ◌↔◌, ◌&&◌, ◌||◌, ◌==◌, not, nat_le, ⊤, Bool, true, List, [], ◌∷◌, ◌++◌, map, length, codes, Some, slice_get, Contains}
 use Rattle.std.specs.List.{list_all, list_any}
 use Rattle.std.specs.Str.{bytes_eq}
 use Rattle.event_records.specs.declared.event.Event.{Event}
 use Rattle.history_merge.specs.declared.operation.Operation.{Operation}
 use Rattle.history_merge.specs.Complete.{IsCompleteHistory}
 use Rattle.history_merge.specs.Operations.{Precedes, operations_of}
+use Rattle.history_merge.specs.Legal.{IsLegalOrder}
 use Rattle.verdicts.specs.declared.verifying.Claimed.{Claimed}
+use Rattle.verdicts.specs.declared.verifying.Claimed.TheVariants.{Yes}
 use Rattle.svg_picture.specs.Markup.{Named, declaration, start_tag, end_tag}
 use Rattle.svg_picture.specs.Layout.{Page, lane_width, thread_x, row, call_y, ret_y}
-use Rattle.svg_picture.specs.Picture.{page_of, svg_picture}
+use Rattle.svg_picture.specs.Picture.{page_of, row_of_effect, svg_picture}
 
 -- ---- well-formed text
 
@@ -81,6 +83,19 @@ abbrev pub BarsOverlapInTime : Type 0
 BarsOverlapInTime =
     (events : List Event) (claimed : Claimed) (x y : Operation) → IsCompleteHistory events → Contains (operations_of events) x
     → Contains (operations_of events) y → Precedes x y ↔ (ret_y (page_of events claimed) x.ret < call_y (page_of events claimed) y.call)
+
+-- of a yes an operation takes effect in a row between those of its call and of its return
+abbrev pub EffectsAreInBars : Type 0
+EffectsAreInBars =
+    (events : List Event) (order : List Operation) (i : ℕ) (o : Operation) → IsCompleteHistory events → IsLegalOrder (operations_of events) order
+    → slice_get order i ≡ Some o → (row (page_of events (Yes order)) o.call < row_of_effect (page_of events (Yes order)) i)
+    × (row_of_effect (page_of events (Yes order)) i < row (page_of events (Yes order)) o.ret)
+
+-- the rows of effects rise in the order of a yes
+abbrev pub EffectsRise : Type 0
+EffectsRise =
+    (events : List Event) (order : List Operation) (i j : ℕ) → i < j → j < length order
+    → row_of_effect (page_of events (Yes order)) i < row_of_effect (page_of events (Yes order)) j
 
 -- ---- lanes
 

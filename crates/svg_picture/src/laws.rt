@@ -1,4 +1,4 @@
-ghost use Rattle.svg_picture.specs.Laws.{PicturesAreWellFormed, RowsRise, BarsOverlapInTime, LanesAreApart};
+ghost use Rattle.svg_picture.specs.Laws.{PicturesAreWellFormed, RowsRise, BarsOverlapInTime, EffectsAreInBars, EffectsRise, LanesAreApart};
 
 /// A picture is a well-formed document: each element is closed, and no value or words have a byte that means markup. The law is
 /// the contract; the body is empty.
@@ -11,6 +11,13 @@ pub fn pictures_are_well_formed()
 pub fn bars_overlap_as_operations_do()
     ensures rise { RowsRise }
     ensures overlap { BarsOverlapInTime }
+{}
+
+/// The operations of a yes take effect in rows of their bars, from top to bottom in its order. The laws are the contract; the body
+/// is empty.
+pub fn effect_rows_rise_within_bars()
+    ensures within { EffectsAreInBars }
+    ensures rise { EffectsRise }
 {}
 
 /// The lane of a thread ends before that of a higher one begins. The law is the contract; the body is empty.

@@ -13,6 +13,9 @@ mod rows;
 mod words;
 mod writing;
 
-pub use laws::{bars_overlap_as_operations_do, pictures_are_well_formed, svg_lanes_stand_apart};
+pub use laws::{
+    bars_overlap_as_operations_do, effect_rows_rise_within_bars, pictures_are_well_formed,
+    svg_lanes_stand_apart,
+};
 pub use picture::svg_picture;
 pub use writing::write_svg_picture;
