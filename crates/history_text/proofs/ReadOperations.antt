@@ -10,7 +10,8 @@ use Rattle.history_merge.specs.declared.operation.OpKind.TheVariants.{Enq, Deq, 
 use Rattle.text_lines.specs.Lines.{spaced, greatest_value, front_of}
 use Rattle.history_text.specs.Items.{line_of, item_at_front}
 use Rattle.history_text.specs.Verdicts.{kind_fields, operation_fields}
-use Rattle.history_text.specs.Claims.{IsKindInRange, HasOperationLine, has_value, kind_of_value, operation_in, empty_operation, numbered_operation, operation_kind}
+use Rattle.history_text.specs.Claims.{IsKindInRange, HasOperationLine, has_value, kind_of_value, operation_in, empty_operation, numbered_operation}
+use Rattle.history_text.specs.Claims.{operation_kind}
 use Rattle.text_lines.specs.Input.{Ending}
 use Rattle.text_lines.proofs.WrittenLines.{IsField, number_is_field, all_digits, number_read, IsLineOf, line_of_fields, digits_begin_other, HasFields}
 use Rattle.text_lines.proofs.WrittenLines.{with_value}

@@ -18,7 +18,8 @@ returns-then-count-eq0-clause-none c = λ value rest small is. none_at_first c.a
 
 pub returns-then-bytes-eq48-clause-none : goal.returns-then-bytes-eq48-clause-none
 returns-then-bytes-eq48-clause-none c = λ value rest small is.
-    none_after_zero c.args.bytes.now value rest small is c.loop-count.count c.loop-count.value c.loop-count.invariant c.if-count-gt1.true c.if-bytes-eq48.true
+    none_after_zero c.args.bytes.now value rest small is c.loop-count.count c.loop-count.value c.loop-count.invariant
+    c.if-count-gt1.true c.if-bytes-eq48.true
 
 pub returns-clause-number : goal.returns-clause-number
 returns-clause-number c =
