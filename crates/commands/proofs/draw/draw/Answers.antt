@@ -7,5 +7,5 @@ use Rattle.commands.proofs.draw.draw.Goals as goal
 
 pub returns-in-Err-clause-found : goal.returns-in-Err-clause-found
 returns-in-Err-clause-found g c =
-    answers_more IsClaimOf IsFaultOfClaimInput (λ claim. IsFaulty claim.events) Draws (g.S.TextSource.ahead c.args.reader)
+    answers_more IsClaimOf IsFaultOfClaimInput (λ claim. IsFaulty claim.events) (Draws c.args.form) (g.S.TextSource.ahead c.args.reader)
     (answer_of c.in-Err.outcome) (λ claim faulty. inl faulty) c.in-Err.ensures.found
