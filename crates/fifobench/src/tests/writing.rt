@@ -79,13 +79,13 @@ fn a_refused_verdict_is_the_last_call(rt: HostRuntime) {
 fn a_refused_line_is_the_last_call(rt: HostRuntime) {
     let claimed = "fifo-history 1\nend 0\nYES\n";
     assert_refusals(&rt, &["fifobench", "verify"], claimed, 2, 0);
-    assert_refusals(&rt, &["fifobench", "check"], "fifo-history 1\n\n", 4, 2);
+    assert_refusals(&rt, &["fifobench", "check"], "fifo-history 1\n\n", 2, 2);
 }
 
 #[test]
 fn a_refused_rejection_is_the_last_call(rt: HostRuntime) {
     let schedule = "fifo-schedule 1\nthreads 1 ring 2\npush 0\nend 1\n";
-    assert_refusals(&rt, &["fifobench", "sim"], schedule, 5, 0);
+    assert_refusals(&rt, &["fifobench", "sim"], schedule, 3, 0);
 }
 
 #[test]
