@@ -51,7 +51,8 @@ impl Forming {
     #[inline(always)]
     pub fn add(&mut self, event: Event) -> Result<(), AllocError>
         requires { event.thread ≤ MAX_THREAD }
-        ensures { (events : List Event) → FitsTurn (pending_call event.thread events) event → HasFormed events self.old → IfOk result (λ _. HasFormed (events ++ event ∷ []) self.new) }
+        ensures { (events : List Event) → FitsTurn (pending_call event.thread events) event → HasFormed events self.old
+            → IfOk result (λ _. HasFormed (events ++ event ∷ []) self.new) }
     {
         if is_call(event.what) {
             self.call(event)
@@ -65,7 +66,8 @@ impl Forming {
     #[inline(always)]
     fn call(&mut self, event: Event) -> Result<(), AllocError>
         requires { event.thread ≤ MAX_THREAD }
-        ensures { (events : List Event) → is_call event.what ≡ true → pending_call event.thread events ≡ None → HasFormed events self.old → IfOk result (λ _. HasFormed (events ++ event ∷ []) self.new) }
+        ensures { (events : List Event) → is_call event.what ≡ true → pending_call event.thread events ≡ None → HasFormed events self.old
+            → IfOk result (λ _. HasFormed (events ++ event ∷ []) self.new) }
     {
         let place = self.operations.len();
         self.operations.push(Operation {
@@ -82,7 +84,8 @@ impl Forming {
     #[inline(always)]
     fn answer(&mut self, event: Event)
         requires { event.thread ≤ MAX_THREAD }
-        ensures { (events : List Event) (call : Event) → is_call event.what ≡ false → pending_call event.thread events ≡ Some call → HasFormed events self.old → HasFormed (events ++ event ∷ []) self.new }
+        ensures { (events : List Event) (call : Event) → is_call event.what ≡ false → pending_call event.thread events ≡ Some call
+            → HasFormed events self.old → HasFormed (events ++ event ∷ []) self.new }
     {
         let place = self.places[usize::from(event.thread)];
         if place >= self.operations.len() {
