@@ -19,11 +19,23 @@ pub const NAMES_OF_A_THREAD: u64 = 1 << 32;
 /// The most operations of one thread or worker.
 pub const MAX_THREAD_OPERATIONS: u64 = 100_000;
 
-/// The most operations of a run or of a machine, over all threads, and of a claimed verdict.
+/// The most operations of a run or of a machine, over all threads.
 pub const MAX_OPERATIONS: u64 = 1_000_000;
 
 /// The most events of a history.
 pub const MAX_EVENTS: usize = 2_000_000;
+
+/// The most initial values of a history: what its queue holds before the first event.
+pub const MAX_INITIAL: usize = 100_000;
+
+/// The least name of an initial value of a run: above the names of each thread's values.
+pub const LEAST_INITIAL_NAME: u64 = MAX_THREADS as u64 * NAMES_OF_A_THREAD;
+
+/// The greatest clock of an event. A clock counts two for each initial value of the history, and then the tickets.
+pub const MAX_CLOCK: u64 = MAX_TICKET + 2 * MAX_INITIAL as u64;
+
+/// The most lines of a claimed verdict: one for each operation or initial value.
+pub const MAX_CLAIM_LINES: u64 = MAX_OPERATIONS + MAX_INITIAL as u64;
 
 /// The greatest seed of a plan, as the command line takes it.
 pub const MAX_SEED: u64 = u32::MAX as u64;

@@ -15,7 +15,7 @@ use Rattle.history_merge.specs.declared.operation.OpKind.{OpKind}
 use Rattle.history_merge.specs.declared.operation.OpKind.TheVariants.{Enq, Not}
 use Rattle.history_merge.specs.Operations.{Did, operations_of, operation_of, kind_of}
 use Rattle.history_merge.specs.Complete.{AreComplete}
-use Rattle.event_records.specs.declared.limits.TheConstants.{MAX_TICKET}
+use Rattle.event_records.specs.declared.limits.TheConstants.{MAX_CLOCK}
 use Rattle.history_merge.proofs.Completeness.{IsMadeOf, made_of, called_once}
 use Rattle.history_merge.proofs.Places.{calls_of_kind, same_place}
 
@@ -251,11 +251,11 @@ same_return operations x y complete in_x in_y same =
     (same_return_same_call complete.0 complete.1.tickets_rise x y (trace_of operations x complete in_x) (trace_of operations y complete in_y) same)
 
 -- returns have tickets in their range
-pub return_in_range : (operations : List Operation) (o : Operation) → AreComplete operations → Contains operations o → o.ret ≤ MAX_TICKET
+pub return_in_range : (operations : List Operation) (o : Operation) → AreComplete operations → Contains operations o → o.ret ≤ MAX_CLOCK
 return_in_range operations o complete among =
     let t = trace_of operations o complete among in
     let bound = complete.1.tickets_in_range t.returned_at t.answer (slice_get_within complete.0 t.returned_at t.answer t.at_return) in
-    let here : t.answer.ticket ≤ MAX_TICKET = subst (λ e. e.ticket ≤ MAX_TICKET)
+    let here : t.answer.ticket ≤ MAX_CLOCK = subst (λ e. e.ticket ≤ MAX_CLOCK)
     (get_or_from_slice_get complete.0 t.returned_at t.answer t.answer t.at_return) bound in
     omega (arith, t.made.returned)
 

@@ -3,11 +3,11 @@ ghost use Rattle.value_match.specs.Choice.{StaysAtLeast};
 ghost use Rattle.value_match.specs.Lives.{enqueue_call, enqueue_return, dequeue_call, dequeue_return, entered_by, leaves_from};
 ghost use Rattle.value_match.specs.Longest.{IsLongerOf};
 
-use event_records::MAX_TICKET;
+use event_records::MAX_CLOCK;
 use history_merge::{OpId, Operation};
 
-/// One above the greatest ticket: the call and the return of the dequeue that a value never gets.
-pub const NEVER: u64 = MAX_TICKET + 1;
+/// One above the greatest clock: the call and the return of the dequeue that a value never gets.
+pub const NEVER: u64 = MAX_CLOCK + 1;
 
 /// The life of a value in the queue: its accepted enqueue, and its dequeue if there is one.
 #[derive(Clone, Copy, Debug, PartialEq, Eq)]

@@ -1,0 +1,43 @@
+-- Histories of a queue that holds some values first: its initial values, front first, which no operation enqueues.
+use Rattle.std.specs.Prelude.{◌≢◌, ℕ, ◌+◌, ◌*◌, List, [], ◌∷◌, ◌++◌, AllPairs, length, map}
+use Rattle.event_records.specs.declared.event.Event.{Event}
+use Rattle.event_records.specs.declared.event.What.TheVariants.{CallEnq, RetEnq}
+use Rattle.history_merge.specs.declared.operation.Operation.{Operation}
+use Rattle.history_merge.specs.declared.operation.OpKind.TheVariants.{Enq}
+use Rattle.history_merge.specs.Complete.{IsCompleteHistory, called_values}
+
+-- a complete history, and initial values that are distinct and that no call enqueues
+pub record IsCompleteFrom (initial : List ℕ) (events : List Event) : Type 0 where
+  pub complete : IsCompleteHistory events
+  pub values_are_distinct : AllPairs (λ v w. v ≢ w) (initial ++ called_values events)
+
+-- ---- the filled history: the queue is empty first, and the initial values are enqueued before all else
+
+-- from this clock on the values are enqueued, one after another
+abbrev pub filling_from : ℕ → List ℕ → List Operation
+filling_from clock [] = []
+filling_from clock (v ∷ rest) = record { call = clock; ret = clock + 1; thread = 0; kind = Enq v } ∷ filling_from (clock + 2) rest
+
+-- the same operation, so much later
+abbrev pub later_by : ℕ → Operation → Operation
+later_by n o = record { call = o.call + n; ret = o.ret + n; thread = o.thread; kind = o.kind }
+
+-- the initial values are enqueued one after another, and then come the operations
+abbrev pub filled : List ℕ → List Operation → List Operation
+filled initial operations = filling_from 0 initial ++ map (later_by (2 * length initial)) operations
+
+-- ---- the same of events
+
+-- the calls and returns of these enqueues
+abbrev pub filling_events_from : ℕ → List ℕ → List Event
+filling_events_from clock [] = []
+filling_events_from clock (v ∷ rest) =
+    record { ticket = clock; thread = 0; what = CallEnq v } ∷ record { ticket = clock + 1; thread = 0; what = RetEnq } ∷ filling_events_from (clock + 2) rest
+
+-- the same event, so much later
+abbrev pub event_later_by : ℕ → Event → Event
+event_later_by n e = record { ticket = e.ticket + n; thread = e.thread; what = e.what }
+
+-- the events of the filled history
+abbrev pub filled_events : List ℕ → List Event → List Event
+filled_events initial events = filling_events_from 0 initial ++ map (event_later_by (2 * length initial)) events
