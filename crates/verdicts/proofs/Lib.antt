@@ -14,6 +14,8 @@ pub mod Exactly
 pub mod Chosen
 pub mod Decided
 pub mod Lookups
+pub mod FilledLines
+pub mod ClaimedLines
 pub mod ClaimedBreaches
 pub mod ClaimedCovers
 pub mod ClaimedOrders

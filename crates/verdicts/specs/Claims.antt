@@ -1,8 +1,13 @@
 -- What is claimed of a history, and when that is so.
-use Rattle.std.specs.Prelude.{◌≡◌, List}
+use Rattle.std.specs.Prelude.{◌≡◌, ℕ, ◌+◌, ◌*◌, ◌&&◌, nat_le, nat_eq, List, length, map, position, Option, Some, None, option_map, if◌then◌else◌}
+use Rattle.event_records.specs.declared.limits.TheConstants.{MAX_TICKET}
 use Rattle.history_merge.specs.declared.operation.Operation.{Operation}
-use Rattle.history_merge.specs.Legal.{IsLegalOrder}
+use Rattle.history_merge.specs.declared.operation.OpKind.TheVariants.{Enq}
+use Rattle.history_merge.specs.Initial.{filled, later_by}
+use Rattle.history_merge.specs.Legal.{IsLegalOrderFrom}
 use Rattle.value_match.specs.Violations.{Breach, fresh, repeat, order, witness, IsBreachOf, lines_of}
+use Rattle.verdicts.specs.declared.verifying.ClaimLine.{ClaimLine}
+use Rattle.verdicts.specs.declared.verifying.ClaimLine.TheVariants.{Op, Initial}
 use Rattle.verdicts.specs.declared.verifying.Claimed.{Claimed}
 use Rattle.verdicts.specs.declared.verifying.Claimed.TheVariants.{Yes, No}
 use Rattle.verdicts.specs.declared.verifying.ViolationKind.{ViolationKind}
@@ -15,11 +20,36 @@ kind_of (repeat enq first second) = VRepeat
 kind_of (order enq_a enq_b deq_b deq_a) = VOrd
 kind_of (witness empty cover) = VWit
 
--- the lines are those of a violation of this kind
+-- the operations are those of a violation of this kind
 abbrev pub ShowsViolation : List Operation → ViolationKind → List Operation → Type 0
-ShowsViolation operations kind lines = (breach : Breach) × (kind_of breach ≡ kind) × (lines_of breach ≡ lines) × IsBreachOf operations breach
+ShowsViolation operations kind shown = (breach : Breach) × (kind_of breach ≡ kind) × (lines_of breach ≡ shown) × IsBreachOf operations breach
 
--- the lines are a legal order, or those of a violation of this kind
-abbrev pub IsTrueClaim : List Operation → Claimed → Type 0
-IsTrueClaim operations (Yes lines) = IsLegalOrder operations lines
-IsTrueClaim operations (No kind lines) = ShowsViolation operations kind lines
+-- in the filled history, the enqueue of the initial value v at place j
+abbrev pub filling_at : ℕ → ℕ → Operation
+filling_at j v = record { call = 2 * j; ret = 2 * j + 1; thread = 0; kind = Enq v }
+
+-- in the filled history, the enqueue of this value where it is an initial one
+abbrev pub filling_of : List ℕ → ℕ → Option Operation
+filling_of initial v = option_map (λ j. filling_at j v) (position (λ w. nat_eq w v) initial)
+
+-- the operation in the filled history, where its tickets are in their range
+abbrev pub in_filled : ℕ → Operation → Option Operation
+in_filled initial_count o = if nat_le o.call MAX_TICKET && nat_le o.ret MAX_TICKET then Some (later_by (2 * initial_count) o) else None
+
+-- what a line of a claim stands for in the filled history: an operation, or the enqueue of an initial value
+abbrev pub stands_for : List ℕ → ClaimLine → Option Operation
+stands_for initial (Op o) = in_filled (length initial) o
+stands_for initial (Initial v) = filling_of initial v
+
+-- the lines stand for these operations, one by one
+abbrev pub StandFor : List ℕ → List ClaimLine → List Operation → Type 0
+StandFor initial lines shown = map (stands_for initial) lines ≡ map Some shown
+
+-- the lines are those of a violation of this kind in the filled history
+abbrev pub ShowsInFilled : List ℕ → List Operation → ViolationKind → List ClaimLine → Type 0
+ShowsInFilled initial operations kind lines = (shown : List Operation) × StandFor initial lines shown × ShowsViolation (filled initial operations) kind shown
+
+-- the lines are a legal order of the operations, or those of a violation of this kind
+abbrev pub IsTrueClaim : List ℕ → List Operation → Claimed → Type 0
+IsTrueClaim initial operations (Yes lines) = IsLegalOrderFrom initial operations lines
+IsTrueClaim initial operations (No kind lines) = ShowsInFilled initial operations kind lines

@@ -1,29 +1,30 @@
-ghost use Rattle.std.specs.Prelude.{◌≡◌, ◌↔◌, [], IsTrue, IfOk, IsPermutation, AllPairs, map, MatchBool, Some, None};
+ghost use Rattle.std.specs.Prelude.{◌≡◌, ◌↔◌, IsTrue, IfOk, IsPermutation, AllPairs, map, MatchBool, Some, None};
 ghost use Rattle.history_merge.specs.Operations.{Precedes};
 ghost use Rattle.history_merge.specs.Queue.{IsAccepted, accept};
-ghost use Rattle.history_merge.specs.Legal.{IsLegalOrder};
-ghost use Rattle.verdicts.specs.Inner.Claims.{CallsRise};
+ghost use Rattle.history_merge.specs.Legal.{IsLegalOrderFrom};
+ghost use Rattle.verdicts.specs.Inner.Claims.{CallsRise, IsLookedUp};
 
+use crate::lookup::Filled;
 use history_merge::{OpKind, Operation};
 use std::alloc::{AllocError, Global};
 use std::collections::VecDeque;
 
-/// Whether the lines are a legal order of the operations.
+/// Whether the lines are a legal order of the operations, for a queue that holds the initial values first.
 pub fn is_legal_order(
     alloc: Global,
-    operations: &[Operation],
+    filled: &Filled,
     lines: &[Operation],
 ) -> Result<bool, AllocError>
-    requires { CallsRise operations.now }
-    ensures { IfOk result (λ legal. IsTrue legal ↔ IsLegalOrder operations.now lines.now) }
+    requires { IsLookedUp filled.now }
+    ensures { IfOk result (λ legal. IsTrue legal ↔ IsLegalOrderFrom filled.now.initial.now filled.now.operations.now lines.now) }
 {
     if !extends_precedence(lines) {
         return Ok(false);
     }
-    if !holds_each_once(alloc, operations, lines)? {
+    if !holds_each_once(alloc, filled.operations, lines)? {
         return Ok(false);
     }
-    is_accepted(alloc, lines)
+    is_accepted(alloc, filled.initial, lines)
 }
 
 /// Whether the lines are the operations, each once: sorted by call, they are the same list.
@@ -57,11 +58,11 @@ fn extends_precedence(lines: &[Operation]) -> bool
     true
 }
 
-/// Whether the sequential queue, empty at first, accepts the lines in turn.
-fn is_accepted(alloc: Global, lines: &[Operation]) -> Result<bool, AllocError>
-    ensures { IfOk result (λ accepted. IsTrue accepted ↔ IsAccepted [] (map (λ o. o.kind) lines.now)) }
+/// Whether the sequential queue, which holds these values first, accepts the lines in turn.
+fn is_accepted(alloc: Global, first_held: &[u64], lines: &[Operation]) -> Result<bool, AllocError>
+    ensures { IfOk result (λ accepted. IsTrue accepted ↔ IsAccepted first_held.now (map (λ o. o.kind) lines.now)) }
 {
-    let mut queue = VecDeque::new(alloc);
+    let mut queue = VecDeque::from(Vec::from_slice(alloc, first_held)?);
     for line in lines {
         if !takes(&mut queue, line.kind)? {
             return Ok(false);

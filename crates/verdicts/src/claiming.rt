@@ -1,34 +1,87 @@
-ghost use Rattle.std.specs.Prelude.{◌≡◌, IfOk};
+ghost use Rattle.std.specs.Prelude.{◌≡◌, IfOk, slice_get};
 ghost use Rattle.history_merge.specs.Operations.{operations_of};
-ghost use Rattle.verdicts.specs.Claiming.{IsWithin, claim_of, violation_kind};
+ghost use Rattle.verdicts.specs.Claiming.{IsWithin, claim_of, lines_at, lines_of_history, operation_behind, operations_at, violation_kind};
 
-use crate::shown::{operations_at, places_of};
+use crate::shown::places_of;
 use crate::verdict::Verdict;
-use crate::verifying::{Claimed, Lines, ViolationKind};
-use history_merge::History;
+use crate::verifying::{ClaimLine, ClaimLines, Claimed, Lines, ViolationKind};
+use history_merge::{History, OpId, Operation};
 use std::alloc::{AllocError, Global};
 use value_match::Violation;
 
-/// What a verdict claims: its operations themselves, in the order in which its text lists them.
+/// What a verdict claims: its operations and initial values themselves, in the order in which its text lists them.
 ///
 /// The claim needs no places of this history any more, so it can be verified by itself, or against another history.
 /// Time and memory linear in the verdict. `AllocError` comes only where a growth was refused.
 pub fn claim(alloc: Global, history: &History, verdict: &Verdict) -> Result<Claimed, AllocError>
     // The verdict's operations are places of this history.
-    requires places { IsWithin (operations_of history.now.events) verdict.now }
-    ensures claim { IfOk result (λ claimed. claimed ≡ claim_of (operations_of history.now.events) verdict.now) }
+    requires places { IsWithin history.now.initial (operations_of history.now.events) verdict.now }
+    ensures claim { IfOk result (λ claimed. claimed ≡ claim_of history.now.initial (operations_of history.now.events) verdict.now) }
 {
+    let initial = history.initial();
     let operations = history.operations();
     match verdict {
         Verdict::Yes(order) => {
-            let lines = operations_at(alloc, operations, order.as_slice())?;
+            let lines = operations_at(alloc, initial, operations, order.as_slice())?;
             Ok(Claimed::Yes(Lines::from_vec(lines)))
         }
         Verdict::No(violation) => {
             let places = places_of(alloc, violation)?;
-            let lines = operations_at(alloc, operations, places.as_slice())?;
-            Ok(Claimed::No(kind_of(violation), Lines::from_vec(lines)))
+            let lines = lines_at(alloc, initial, operations, places.as_slice())?;
+            Ok(Claimed::No(kind_of(violation), ClaimLines::from_vec(lines)))
         }
+    }
+}
+
+/// The operations at these places, without the initial values.
+fn operations_at(
+    alloc: Global,
+    initial: &[u64],
+    operations: &[Operation],
+    places: &[OpId],
+) -> Result<Vec<Operation>, AllocError>
+    ensures { IfOk result (λ listed. listed.items ≡ operations_at initial.now operations.now places.now) }
+{
+    places
+        .iter()
+        .filter_map(|place| operation_behind(initial.len(), operations, *place))
+        .collect(alloc)
+}
+
+/// The operation at the place; the first places are those of the initial values.
+fn operation_behind(
+    initial_count: usize,
+    operations: &[Operation],
+    place: OpId,
+) -> Option<Operation>
+    ensures { result ≡ operation_behind initial_count operations.now place }
+{
+    let behind = place.place().checked_sub(initial_count)?;
+    operations.get(behind).copied()
+}
+
+/// The lines at these places.
+fn lines_at(
+    alloc: Global,
+    initial: &[u64],
+    operations: &[Operation],
+    places: &[OpId],
+) -> Result<Vec<ClaimLine>, AllocError>
+    ensures { IfOk result (λ listed. listed.items ≡ lines_at initial.now operations.now places.now) }
+{
+    places
+        .iter()
+        .filter_map(|place| line_at(initial, operations, *place))
+        .collect(alloc)
+}
+
+/// The line at this place.
+fn line_at(initial: &[u64], operations: &[Operation], place: OpId) -> Option<ClaimLine>
+    ensures { result ≡ slice_get (lines_of_history initial.now operations.now) place }
+{
+    match initial.get(place.place()) {
+        Some(value) => Some(ClaimLine::Initial(*value)),
+        None => operation_behind(initial.len(), operations, place).map(ClaimLine::Op),
     }
 }
 

@@ -1,4 +1,4 @@
-ghost use Rattle.std.specs.Prelude.{◌≡◌, ◌≤◌, IfOk, length};
+ghost use Rattle.std.specs.Prelude.{◌≡◌, ◌≤◌, [], IfOk, length};
 ghost use Rattle.history_merge.specs.Complete.{AreComplete};
 ghost use Rattle.history_merge.specs.Operations.{operations_of};
 ghost use Rattle.value_match.specs.Violations.{IsClear, NoOrderViolation};
@@ -27,7 +27,7 @@ pub fn decide(alloc: Global, history: &History) -> Result<Verdict, AllocError>
     ensures chosen { IfOk result (λ verdict. IsVerdictOf (operations_of history.now.events) verdict) }
     ensures evidence { IfOk result (λ verdict. IsEvidence (operations_of history.now.events) verdict) }
     ensures exact { IfOk result (λ verdict. IsExact (operations_of history.now.events) verdict) }
-    ensures places { IfOk result (λ verdict. IsWithin (operations_of history.now.events) verdict) }
+    ensures places { IfOk result (λ verdict. IsWithin [] (operations_of history.now.events) verdict) }
 {
     decide_operations(alloc, history.operations())
 }
@@ -39,7 +39,7 @@ pub fn decide_operations(alloc: Global, operations: &[Operation]) -> Result<Verd
     ensures chosen { IfOk result (λ verdict. IsVerdictOf operations.now verdict) }
     ensures evidence { IfOk result (λ verdict. IsEvidence operations.now verdict) }
     ensures exact { IfOk result (λ verdict. IsExact operations.now verdict) }
-    ensures places { IfOk result (λ verdict. IsWithin operations.now verdict) }
+    ensures places { IfOk result (λ verdict. IsWithin [] operations.now verdict) }
 {
     match match_operations(alloc, operations)? {
         Matched::Clear(matching) => decide_matching(alloc, &matching),
@@ -63,7 +63,7 @@ pub fn decide_par<R: Threads + Sync>(
     ensures chosen { IfOk result (λ verdict. IsVerdictOf (operations_of history.now.events) verdict) }
     ensures evidence { IfOk result (λ verdict. IsEvidence (operations_of history.now.events) verdict) }
     ensures exact { IfOk result (λ verdict. IsExact (operations_of history.now.events) verdict) }
-    ensures places { IfOk result (λ verdict. IsWithin (operations_of history.now.events) verdict) }
+    ensures places { IfOk result (λ verdict. IsWithin [] (operations_of history.now.events) verdict) }
 {
     decide_operations_par(rt, alloc, history.operations(), pieces)
 }
@@ -81,7 +81,7 @@ pub fn decide_operations_par<R: Threads + Sync>(
     ensures chosen { IfOk result (λ verdict. IsVerdictOf operations.now verdict) }
     ensures evidence { IfOk result (λ verdict. IsEvidence operations.now verdict) }
     ensures exact { IfOk result (λ verdict. IsExact operations.now verdict) }
-    ensures places { IfOk result (λ verdict. IsWithin operations.now verdict) }
+    ensures places { IfOk result (λ verdict. IsWithin [] operations.now verdict) }
 {
     match match_operations(alloc, operations)? {
         Matched::Clear(matching) => decide_matching_par(rt, alloc, &matching, pieces),

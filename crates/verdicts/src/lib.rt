@@ -22,4 +22,4 @@ pub use laws::{
 };
 pub use shrinking::shrink;
 pub use verdict::{Order, Verdict};
-pub use verifying::{Claimed, Lines, ViolationKind, verify};
+pub use verifying::{ClaimLine, ClaimLines, Claimed, Lines, ViolationKind, verify};

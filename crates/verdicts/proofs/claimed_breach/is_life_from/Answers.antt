@@ -1,11 +1,12 @@
 use Rattle.std.proofs.Common.{◌∙◌}
 use Rattle.verdicts.proofs.ClaimedBreaches.{is_life}
+use Rattle.verdicts.specs.Inner.Claims.{all_of}
 use Rattle.verdicts.proofs.claimed_breach.is_life_from.Goals as goal
 use Rattle.verdicts.proofs.claimed_breach.is_life_from.Goals.{then-did, else-did}
 
 pub returns-else-has_dequeue : goal.returns-else-has_dequeue
 returns-else-has_dequeue c =
-    let is = is_life c.args.operations.now c.args.enqueue c.args.dequeue c.in-Enq.value c.in-Enq.is in (
+    let is = is_life (all_of c.args.operations.now) c.args.enqueue c.args.dequeue c.in-Enq.value c.in-Enq.is in (
       λ t. cc,
       λ life.
           elim c.if-did.branch [

@@ -3,12 +3,13 @@ use Rattle.std.proofs.lemmas.Bool.{ltb-true}
 use Rattle.history_merge.specs.declared.operation.OpKind.TheVariants.{Enq, Deq}
 use Rattle.history_merge.specs.Operations.{Did, Precedes}
 use Rattle.verdicts.proofs.ClaimedBreaches.{is_order}
+use Rattle.verdicts.specs.Inner.Claims.{all_of}
 use Rattle.verdicts.proofs.claimed_breach.is_order.Goals as goal
 use Rattle.verdicts.proofs.claimed_breach.is_order.Goals.{then-did, else-did, then-did-2, else-did-2, then-did-3, else-did-3}
 
 pub returns-then-enq_a-enq_b : goal.returns-then-enq_a-enq_b
 returns-then-enq_a-enq_b c =
-    let operations = c.args.operations.now in
+    let operations = all_of c.args.operations.now in
     let is = is_order operations c.args.enq_a c.args.enq_b c.args.deq_b c.args.deq_a c.in-Enq-Enq.a c.in-Enq-Enq.b c.in-Enq-Enq.is-0 c.in-Enq-Enq.is-1 in
     let precedes : (c.if-did-2.value ≡ true) × Precedes c.args.enq_a c.args.enq_b =
     elim c.if-did-3.branch [ then-did-3 w ↦ (w.if-did-3.true, ltb-true _ _ (sym w.value-is ∙ c.if-enq_a-enq_b.true)) | else-did-3 w ↦ cc ] in

@@ -1,0 +1,253 @@
+-- The lines of a claim by the operations that they stand for.
+use Rattle.std.proofs.Common.{◌≡◌, ℕ, zero, suc, ◌-◌, ◌<◌, ◌≤◌, ◌↔◌, List, [], ◌∷◌, length, map, get_or, drop, Option, Some, None, refl, sym, ◌∙◌, ap, subst, arith}
+use Rattle.std.proofs.Common.{length-drop}
+use Rattle.history_merge.specs.declared.operation.Operation.{Operation}
+use Rattle.history_merge.specs.declared.operation.OpKind.TheVariants.{Empty}
+use Rattle.history_merge.specs.Operations.{Did, Precedes}
+use Rattle.value_match.specs.Lives.{IsLife}
+use Rattle.value_match.specs.Violations.{Breach, fresh, repeat, order, witness, lines_of}
+use Rattle.value_match.specs.Violations.{IsNeverEnqueued, IsEnqueuedTooLate, IsRepeatViolation, IsOrderViolation}
+use Rattle.verdicts.specs.declared.verifying.ViolationKind.TheVariants.{VFresh, VRepeat, VOrd, VWit}
+use Rattle.verdicts.specs.declared.verifying.ClaimLine.{ClaimLine}
+use Rattle.verdicts.specs.declared.verifying.ViolationKind.{ViolationKind}
+use Rattle.verdicts.specs.declared.lookup.Filled.{Filled}
+use Rattle.verdicts.specs.Claims.{ShowsViolation, StandFor, kind_of, stands_for}
+use Rattle.verdicts.specs.Inner.Claims.{ShowsKind, StandForCover, StandForLife, ShowsCover, all_of}
+use Rattle.verdicts.proofs.ClaimedBreaches.{through, one_line_fresh, two_lines_fresh, three_lines_repeat, three_lines_order, four_lines_order}
+use Rattle.verdicts.proofs.ClaimedBreaches.{lines_of_witness_at}
+use Rattle.verdicts.proofs.ClaimedCovers.{none_shown, shown_by_one, shown_by_two, shown_by_more}
+
+-- lists of operations are one where their somes are
+same_shown : (xs ys : List Operation) → map (λ o. Some o) xs ≡ map (λ o. Some o) ys → xs ≡ ys
+same_shown [] [] same = refl
+same_shown [] (y ∷ ys) same = cc
+same_shown (x ∷ xs) [] same = cc
+same_shown (x ∷ xs) (y ∷ ys) same =
+    let first : x ≡ y = cc in
+    let later : map (λ o. Some o) xs ≡ map (λ o. Some o) ys = cc in
+    ap (λ o. o ∷ xs) first ∙ ap (λ os. y ∷ os) (same_shown xs ys later)
+
+module _ (f : Filled) where
+  -- what a line stands for
+  abbrev pub stands : ClaimLine → Option Operation
+  stands line = stands_for f.initial.now line
+
+  none_stands : (lines : List ClaimLine) (shown : List Operation) (i : ℕ) (d : ClaimLine) → i < length lines → stands (get_or lines i d) ≡ None
+      → ¬ (StandFor f.initial.now lines shown)
+  none_stands [] shown i d within none are = absurd (omega arith)
+  none_stands (l ∷ lines) [] i d within none are = cc
+  none_stands (l ∷ lines) (o ∷ shown) zero d within none are = let first : stands l ≡ Some o = cc in let clash : None ≡ Some o = sym none ∙ first in cc
+  none_stands (l ∷ lines) (o ∷ shown) (suc i) d within none are =
+      let later : map stands lines ≡ map (λ x. Some x) shown = cc in none_stands lines shown i d (omega arith) none later
+
+  -- the lines of a no stand for some operations: these show the violation
+  pub shown_by_all : (kind : ViolationKind) (lines : List ClaimLine) (shown : List Operation) → StandFor f.initial.now lines shown
+      → ShowsViolation (all_of f) kind shown ↔ ShowsKind f kind lines
+  shown_by_all kind lines shown are = (
+    λ shows. (shown, are, shows),
+    λ shows. subst (ShowsViolation (all_of f) kind) (same_shown shows.0 shown (sym shows.1 ∙ are)) shows.2,
+  )
+
+  -- a line that stands for nothing shows nothing
+  pub shown_by_none : (kind : ViolationKind) (lines : List ClaimLine) (i : ℕ) (d : ClaimLine) → i < length lines → stands (get_or lines i d) ≡ None
+      → ¬ (ShowsKind f kind lines)
+  shown_by_none kind lines i d within none shows = none_stands lines shows.0 i d within none shows.1
+
+  -- ---- lines of a length
+
+  pub one_stands : (lines : List ClaimLine) (d : ClaimLine) (x : Operation) → 1 ≤ length lines → length lines < 2 → stands (get_or lines 0 d) ≡ Some x
+      → StandFor f.initial.now lines (x ∷ [])
+  one_stands [] d x long short at = absurd (omega arith)
+  one_stands (l ∷ []) d x long short at = ap (λ o. o ∷ []) at
+  one_stands (l ∷ m ∷ lines) d x long short at = absurd (omega arith)
+
+  pub more_stand : (lines : List ClaimLine) (d : ClaimLine) (x : Operation) (later : List Operation) → 1 ≤ length lines → stands (get_or lines 0 d) ≡ Some x
+      → StandFor f.initial.now (drop 1 lines) later → StandFor f.initial.now lines (x ∷ later)
+  more_stand [] d x later long at rest = absurd (omega arith)
+  more_stand (l ∷ lines) d x later long at rest = ap (λ o. o ∷ map stands lines) at ∙ ap (λ os. Some x ∷ os) rest
+
+  pub none_left : (lines : List ClaimLine) → length lines < 1 → StandFor f.initial.now lines []
+  none_left [] short = refl
+  none_left (l ∷ lines) short = absurd (omega arith)
+
+  pub three_stand : (lines : List ClaimLine) (d : ClaimLine) (x y z : Operation) (later : List Operation) → 3 ≤ length lines
+      → stands (get_or lines 0 d) ≡ Some x → stands (get_or lines 1 d) ≡ Some y → stands (get_or lines 2 d) ≡ Some z
+      → StandFor f.initial.now (drop 3 lines) later → StandFor f.initial.now lines (x ∷ y ∷ z ∷ later)
+  three_stand [] d x y z later long a b c rest = absurd (omega arith)
+  three_stand (l ∷ []) d x y z later long a b c rest = absurd (omega arith)
+  three_stand (l ∷ m ∷ []) d x y z later long a b c rest = absurd (omega arith)
+  three_stand (l ∷ m ∷ n ∷ lines) d x y z later long a b c rest =
+      more_stand (l ∷ m ∷ n ∷ lines) d x (y ∷ z ∷ later) (omega arith) a
+      (more_stand (m ∷ n ∷ lines) d y (z ∷ later) (omega arith) b (more_stand (n ∷ lines) d z later (omega arith) c rest))
+
+  pub two_stand : (lines : List ClaimLine) (d : ClaimLine) (x y : Operation) (later : List Operation) → 2 ≤ length lines
+      → stands (get_or lines 0 d) ≡ Some x → stands (get_or lines 1 d) ≡ Some y → StandFor f.initial.now (drop 2 lines) later
+      → StandFor f.initial.now lines (x ∷ y ∷ later)
+  two_stand [] d x y later long a b rest = absurd (omega arith)
+  two_stand (l ∷ []) d x y later long a b rest = absurd (omega arith)
+  two_stand (l ∷ m ∷ lines) d x y later long a b rest =
+      more_stand (l ∷ m ∷ lines) d x (y ∷ later) (omega arith) a (more_stand (m ∷ lines) d y later (omega arith) b rest)
+
+  none_after : (n : ℕ) (lines : List ClaimLine) → length lines ≤ n → length (drop n lines) < 1
+  none_after n lines short = rw length-drop (omega arith)
+
+  -- ---- lines that show a violation, by what they stand for
+
+  pub one_line_fresh_is : (lines : List ClaimLine) (d : ClaimLine) (x : Operation) → 1 ≤ length lines → length lines < 2
+      → stands (get_or lines 0 d) ≡ Some x → IsNeverEnqueued (all_of f) x ↔ ShowsKind f VFresh lines
+  one_line_fresh_is lines d x long short at =
+      through (one_line_fresh (all_of f) (x ∷ []) x (omega arith) (omega arith))
+      (shown_by_all VFresh lines (x ∷ []) (more_stand lines d x [] long at (none_left (drop 1 lines) (none_after 1 lines (omega arith)))))
+
+  pub two_lines_fresh_are : (lines : List ClaimLine) (d : ClaimLine) (x y : Operation) → 2 ≤ length lines → length lines < 3
+      → stands (get_or lines 0 d) ≡ Some x → stands (get_or lines 1 d) ≡ Some y → IsEnqueuedTooLate (all_of f) x y ↔ ShowsKind f VFresh lines
+  two_lines_fresh_are lines d x y long short a b =
+      through (two_lines_fresh (all_of f) (x ∷ y ∷ []) x (omega arith) (omega arith))
+      (shown_by_all VFresh lines (x ∷ y ∷ []) (two_stand lines d x y [] long a b (none_left (drop 2 lines) (none_after 2 lines (omega arith)))))
+
+  pub three_lines_repeat_are : (lines : List ClaimLine) (d : ClaimLine) (x y z : Operation) → 3 ≤ length lines → length lines < 4
+      → stands (get_or lines 0 d) ≡ Some x → stands (get_or lines 1 d) ≡ Some y → stands (get_or lines 2 d) ≡ Some z
+      → IsRepeatViolation (all_of f) x y z ↔ ShowsKind f VRepeat lines
+  three_lines_repeat_are lines d x y z long short a b c =
+      through (three_lines_repeat (all_of f) (x ∷ y ∷ z ∷ []) x (omega arith) (omega arith))
+      (shown_by_all VRepeat lines (x ∷ y ∷ z ∷ [])
+      (three_stand lines d x y z [] long a b c (none_left (drop 3 lines) (none_after 3 lines (omega arith)))))
+
+  pub three_lines_order_are : (lines : List ClaimLine) (d : ClaimLine) (x y z : Operation) → 3 ≤ length lines → length (drop 3 lines) < 1
+      → stands (get_or lines 0 d) ≡ Some x → stands (get_or lines 1 d) ≡ Some y → stands (get_or lines 2 d) ≡ Some z
+      → IsOrderViolation (all_of f) x y z None ↔ ShowsKind f VOrd lines
+  three_lines_order_are lines d x y z long short a b c =
+      through (three_lines_order (all_of f) (x ∷ y ∷ z ∷ []) x (omega arith) (omega arith))
+      (shown_by_all VOrd lines (x ∷ y ∷ z ∷ []) (three_stand lines d x y z [] long a b c (none_left (drop 3 lines) short)))
+
+  pub four_lines_order_are : (lines : List ClaimLine) (d e : ClaimLine) (x y z v : Operation) → 3 ≤ length lines → 1 ≤ length (drop 3 lines)
+      → length (drop 3 lines) < 2
+      → stands (get_or lines 0 d) ≡ Some x → stands (get_or lines 1 d) ≡ Some y → stands (get_or lines 2 d) ≡ Some z
+      → stands (get_or (drop 3 lines) 0 e) ≡ Some v → IsOrderViolation (all_of f) x y z (Some v) ↔ ShowsKind f VOrd lines
+  four_lines_order_are lines d e x y z v long more short a b c last =
+      through (four_lines_order (all_of f) (x ∷ y ∷ z ∷ v ∷ []) x (omega arith) (omega arith))
+      (shown_by_all VOrd lines (x ∷ y ∷ z ∷ v ∷ []) (three_stand lines d x y z (v ∷ []) long a b c (one_stands (drop 3 lines) e v more short last)))
+
+  -- as many lines as what they stand for
+  as_many : (lines : List ClaimLine) (shown : List Operation) → StandFor f.initial.now lines shown → length lines ≡ length shown
+  as_many [] [] are = refl
+  as_many [] (o ∷ shown) are = cc
+  as_many (l ∷ lines) [] are = cc
+  as_many (l ∷ lines) (o ∷ shown) are = let later : map stands lines ≡ map (λ y. Some y) shown = cc in ap suc (as_many lines shown later)
+
+  -- no order violation has five lines
+  pub five_lines_show_no_order : (lines : List ClaimLine) → 2 ≤ length (drop 3 lines) → ¬ (ShowsKind f VOrd lines)
+  five_lines_show_no_order lines long shows = few shows.2.0 shows.2.1 (ap length shows.2.2)
+    where
+      long' : 5 ≤ length shows.0
+      long' = let same = as_many lines shows.0 shows.1 in let rest : length (drop 3 lines) ≡ length lines - 3 = length-drop 3 lines in omega arith
+
+      few : (breach : Breach) → kind_of breach ≡ VOrd → length (lines_of breach) ≡ length shows.0 → ⊥
+      few (fresh o e) kind many = cc
+      few (repeat e a b) kind many = cc
+      few (order a b o None) kind many = let l = long' in omega arith
+      few (order a b o (Some d)) kind many = let l = long' in omega arith
+      few (witness o cover) kind many = cc
+
+  -- the first line is the empty answer, the others stand for its cover
+  pub witness_lines_are : (lines : List ClaimLine) (d : ClaimLine) (x : Operation) → 1 ≤ length lines → stands (get_or lines 0 d) ≡ Some x
+      → (Did (all_of f) x Empty × StandForCover f x x (drop 1 lines)) ↔ ShowsKind f VWit lines
+  witness_lines_are [] d x long at = absurd (omega arith)
+  witness_lines_are (l ∷ lines) d x long at = (
+    λ (did, (shown, are, covers)).
+        (x ∷ shown, more_stand (l ∷ lines) d x shown long at are, (lines_of_witness_at (all_of f) (x ∷ shown) x (omega arith)).0 (did, covers)),
+    λ (shown, are, shows). back shown are shows,
+  )
+    where
+      back : (shown : List Operation) → StandFor f.initial.now (l ∷ lines) shown → ShowsViolation (all_of f) VWit shown
+          → Did (all_of f) x Empty × StandForCover f x x lines
+      back [] are shows = cc
+      back (o ∷ shown) are shows =
+          let first : Some x ≡ Some o = sym at ∙ (cc) in
+          let same : o ≡ x = cc in
+          let later : map stands lines ≡ map (λ y. Some y) shown = cc in
+          let parts = (lines_of_witness_at (all_of f) (o ∷ shown) x (omega arith)).1 shows in
+          (subst (λ y. Did (all_of f) y Empty) same parts.0, (shown, later, subst (λ y. ShowsCover (all_of f) y y shown) same parts.1))
+
+  -- ---- lines of a cover
+
+  cover_by_all : (empty before : Operation) (lines : List ClaimLine) (shown : List Operation) → StandFor f.initial.now lines shown
+      → ShowsCover (all_of f) empty before shown ↔ StandForCover f empty before lines
+  cover_by_all empty before lines shown are = (
+    λ shows. (shown, are, shows),
+    λ shows. subst (ShowsCover (all_of f) empty before) (same_shown shows.0 shown (sym shows.1 ∙ are)) shows.2,
+  )
+
+  pub no_lines_cover : (empty before : Operation) (lines : List ClaimLine) → length lines < 1 → ¬ (StandForCover f empty before lines)
+  no_lines_cover empty before lines short covers =
+      let same = as_many lines covers.0 covers.1 in none_shown (all_of f) empty before covers.0 (omega arith) covers.2
+
+  pub one_line_covers : (empty before : Operation) (lines : List ClaimLine) (d : ClaimLine) (x : Operation) → 1 ≤ length lines → length lines < 2
+      → stands (get_or lines 0 d) ≡ Some x
+      → (IsLife (all_of f) (record { enqueue = x; dequeue = None }) × Precedes x before) ↔ StandForCover f empty before lines
+  one_line_covers empty before lines d x long short at =
+      let are = one_stands lines d x long short at in
+      through (shown_by_one (all_of f) empty before (x ∷ []) x (omega arith) (omega arith)) (cover_by_all empty before lines (x ∷ []) are)
+
+  pub none_stands_for_cover : (empty before : Operation) (lines : List ClaimLine) (d : ClaimLine) → 1 ≤ length lines → stands (get_or lines 0 d) ≡ None
+      → ¬ (StandForCover f empty before lines)
+  none_stands_for_cover empty before lines d long none covers = none_stands lines covers.0 0 d long none covers.1
+
+  -- the first two lines stand for no life, so the lines stand for no cover
+  pub no_life_covers : (empty before : Operation) (lines : List ClaimLine) (d : ClaimLine) → 2 ≤ length lines
+      → ((e x : Operation) → ¬ (StandForLife f before (get_or lines 0 d) (get_or lines 1 d) e x)) → ¬ (StandForCover f empty before lines)
+  no_life_covers empty before [] d long none covers = absurd (omega arith)
+  no_life_covers empty before (l ∷ []) d long none covers = absurd (omega arith)
+  no_life_covers empty before (l ∷ m ∷ lines) d long none covers = go covers.0 covers.1 covers.2
+    where
+      go : (shown : List Operation) → StandFor f.initial.now (l ∷ m ∷ lines) shown → ShowsCover (all_of f) empty before shown → ⊥
+      go [] are shows = cc
+      go (e ∷ []) are shows = cc
+      go (e ∷ x ∷ []) are shows =
+          let begins = ((shown_by_two (all_of f) empty before (e ∷ x ∷ []) e (omega arith) (omega arith)).1 shows).0 in
+          let first : stands l ≡ Some e = cc in
+          let second : stands m ≡ Some x = cc in
+          none e x (first, second, begins.0, begins.1)
+      go (e ∷ x ∷ y ∷ shown) are shows =
+          let begins = ((shown_by_more (all_of f) empty before (e ∷ x ∷ y ∷ shown) e (omega arith)).1 shows).0 in
+          let first : stands l ≡ Some e = cc in
+          let second : stands m ≡ Some x = cc in
+          none e x (first, second, begins.0, begins.1)
+
+  -- two lines that stand for a life stand for a cover where the empty answer precedes its dequeue
+  pub two_lines_cover : (empty before : Operation) (lines : List ClaimLine) (d : ClaimLine) (e x : Operation) → 2 ≤ length lines → length lines < 3
+      → StandForLife f before (get_or lines 0 d) (get_or lines 1 d) e x → Precedes empty x ↔ StandForCover f empty before lines
+  two_lines_cover empty before lines d e x long short life =
+      let are = two_stand lines d e x [] long life.0 life.1 (none_left (drop 2 lines) (none_after 2 lines (omega arith))) in
+      let two = shown_by_two (all_of f) empty before (e ∷ x ∷ []) e (omega arith) (omega arith) in
+      through (λ past. two.0 ((life.2, life.3), past), λ shows. (two.1 shows).1) (cover_by_all empty before lines (e ∷ x ∷ []) are)
+
+  -- more lines that begin with a life stand for a cover where the later ones do, from its dequeue on
+  pub more_lines_cover : (empty before : Operation) (lines : List ClaimLine) (d : ClaimLine) (e x : Operation) → 3 ≤ length lines
+      → StandForLife f before (get_or lines 0 d) (get_or lines 1 d) e x → StandForCover f empty x (drop 2 lines) ↔ StandForCover f empty before lines
+  more_lines_cover empty before [] d e x long life = absurd (omega arith)
+  more_lines_cover empty before (l ∷ []) d e x long life = absurd (omega arith)
+  more_lines_cover empty before (l ∷ m ∷ []) d e x long life = absurd (omega arith)
+  more_lines_cover empty before (l ∷ m ∷ n ∷ lines) d e x long life = (λ covers. forth covers.0 covers.1 covers.2, λ covers. back covers.0 covers.1 covers.2)
+    where
+      forth : (shown : List Operation) → StandFor f.initial.now (n ∷ lines) shown → ShowsCover (all_of f) empty x shown
+          → StandForCover f empty before (l ∷ m ∷ n ∷ lines)
+      forth [] are shows = cc
+      forth (o ∷ shown) are shows = (
+        e ∷ x ∷ o ∷ shown,
+        two_stand (l ∷ m ∷ n ∷ lines) d e x (o ∷ shown) (omega arith) life.0 life.1 are,
+        (shown_by_more (all_of f) empty before (e ∷ x ∷ o ∷ shown) e (omega arith)).0 ((life.2, life.3), shows),
+      )
+
+      back : (shown : List Operation) → StandFor f.initial.now (l ∷ m ∷ n ∷ lines) shown → ShowsCover (all_of f) empty before shown
+          → StandForCover f empty x (n ∷ lines)
+      back [] are shows = cc
+      back (e' ∷ []) are shows = cc
+      back (e' ∷ x' ∷ []) are shows = cc
+      back (e' ∷ x' ∷ o ∷ shown) are shows =
+          let second : stands m ≡ Some x' = cc in
+          let both : Some x ≡ Some x' = sym life.1 ∙ second in
+          let same : x' ≡ x = cc in
+          let later : map stands (n ∷ lines) ≡ map (λ y. Some y) (o ∷ shown) = cc in
+          let covers = ((shown_by_more (all_of f) empty before (e' ∷ x' ∷ o ∷ shown) e' (omega arith)).1 shows).1 in
+          (o ∷ shown, later, subst (λ y. ShowsCover (all_of f) empty y (o ∷ shown)) same covers)
