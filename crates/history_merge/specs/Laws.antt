@@ -1,0 +1,52 @@
+-- Laws of histories whose queue holds some values first.
+use Rattle.std.specs.Prelude.{◌≡◌, ℕ, ◌≤◌, ◌↔◌, List, [], length}
+use Rattle.event_records.specs.declared.event.Event.{Event}
+use Rattle.event_records.specs.declared.limits.TheConstants.{MAX_CLOCK, MAX_INITIAL}
+use Rattle.history_merge.specs.declared.fault.HistoryFault.{HistoryFault}
+use Rattle.history_merge.specs.declared.operation.Operation.{Operation}
+use Rattle.history_merge.specs.Complete.{AreComplete, IsCompleteHistory, IsCompleteUpTo}
+use Rattle.history_merge.specs.Faults.{IsFirstFault, IsFirstFaultFrom}
+use Rattle.history_merge.specs.Initial.{IsCompleteFrom, filled, filled_events}
+use Rattle.history_merge.specs.Legal.{IsLegalOrder, IsLegalOrderFrom, IsLinearizable, IsLinearizableFrom}
+use Rattle.history_merge.specs.Operations.{operations_of}
+
+-- the filled history of a history that is complete from its initial values is complete, by clock
+abbrev pub FilledIsComplete : Type 0
+FilledIsComplete = (initial : List ℕ) (events : List Event) → IsCompleteFrom initial events → length initial ≤ MAX_INITIAL
+    → IsCompleteUpTo MAX_CLOCK (filled_events initial events)
+
+-- its operations are the enqueues of the initial values and then the operations, later
+abbrev pub FilledOperations : Type 0
+FilledOperations = (initial : List ℕ) (events : List Event) → operations_of (filled_events initial events) ≡ filled initial (operations_of events)
+
+-- so these are the operations of events that are complete
+abbrev pub FilledAreComplete : Type 0
+FilledAreComplete = (initial : List ℕ) (events : List Event) → IsCompleteFrom initial events → length initial ≤ MAX_INITIAL
+    → AreComplete (filled initial (operations_of events))
+
+-- an order is legal from the initial values exactly where, behind their enqueues, it is one of the filled history
+abbrev pub FilledOrders : Type 0
+FilledOrders = (initial : List ℕ) (operations order : List Operation)
+    → IsLegalOrderFrom initial operations order ↔ IsLegalOrder (filled initial operations) (filled initial order)
+
+-- the filled history has no other legal orders
+abbrev pub FilledOrdersAreAll : Type 0
+FilledOrdersAreAll = (initial : List ℕ) (operations found : List Operation) → IsLegalOrder (filled initial operations) found
+    → (order : List Operation) × (found ≡ filled initial order) × IsLegalOrderFrom initial operations order
+
+-- a legal order from the initial values exists exactly where the filled history has one
+abbrev pub LinearizableFromExactly : Type 0
+LinearizableFromExactly = (initial : List ℕ) (operations : List Operation)
+    → IsLinearizableFrom initial operations ↔ IsLinearizable (filled initial operations)
+
+-- with no initial values the filled history is the history
+abbrev pub FilledWithNone : Type 0
+FilledWithNone = (operations : List Operation) → filled [] operations ≡ operations
+
+-- a history is complete from no initial values exactly where it is complete
+abbrev pub CompleteFromNone : Type 0
+CompleteFromNone = (events : List Event) → IsCompleteFrom [] events ↔ IsCompleteHistory events
+
+-- with no initial values the first fault is that of the events
+abbrev pub FirstFaultFromNone : Type 0
+FirstFaultFromNone = (events : List Event) (fault : HistoryFault) → IsFirstFaultFrom [] events fault ↔ IsFirstFault events fault
