@@ -14,7 +14,7 @@ use Rattle.history_merge.specs.declared.operation.Operation.{Operation}
 use Rattle.history_merge.specs.declared.operation.OpKind.{OpKind}
 use Rattle.history_merge.specs.declared.operation.OpKind.TheVariants.{Enq, Not}
 use Rattle.history_merge.specs.Operations.{Did, operations_of, operation_of, kind_of}
-use Rattle.history_merge.specs.Complete.{AreComplete}
+use Rattle.history_merge.specs.Complete.{IsCompleteUpTo, AreComplete}
 use Rattle.event_records.specs.declared.limits.TheConstants.{MAX_CLOCK}
 use Rattle.history_merge.proofs.Completeness.{IsMadeOf, made_of, called_once}
 use Rattle.history_merge.proofs.Places.{calls_of_kind, same_place}
@@ -250,14 +250,26 @@ same_return operations x y complete in_x in_y same =
     same_call operations x y complete in_x in_y
     (same_return_same_call complete.0 complete.1.tickets_rise x y (trace_of operations x complete in_x) (trace_of operations y complete in_y) same)
 
+-- returns have tickets in the range of the events'
+pub return_within : {n : ℕ} (events : List Event) (o : Operation) → IsCompleteUpTo n events → Contains (operations_of events) o → o.ret ≤ n
+return_within {n} events o complete among =
+    let t = traced events o among in
+    let bound = complete.tickets_in_range t.returned_at t.answer (slice_get_within events t.returned_at t.answer t.at_return) in
+    let here : t.answer.ticket ≤ n = subst (λ e. e.ticket ≤ n) (get_or_from_slice_get events t.returned_at t.answer t.answer t.at_return) bound in
+    omega (arith, t.made.returned)
+
+-- operations are called before the tickets' end
+pub call_within : {n : ℕ} (events : List Event) (o : Operation) → IsCompleteUpTo n events → Contains (operations_of events) o → o.call ≤ n
+call_within {n} events o complete among =
+    let t = traced events o among in
+    let bound = complete.tickets_in_range t.called_at t.call (slice_get_within events t.called_at t.call t.at_call) in
+    let here : t.call.ticket ≤ n = subst (λ e. e.ticket ≤ n) (get_or_from_slice_get events t.called_at t.call t.call t.at_call) bound in
+    omega (arith, t.made.called)
+
 -- returns have tickets in their range
 pub return_in_range : (operations : List Operation) (o : Operation) → AreComplete operations → Contains operations o → o.ret ≤ MAX_CLOCK
 return_in_range operations o complete among =
-    let t = trace_of operations o complete among in
-    let bound = complete.1.tickets_in_range t.returned_at t.answer (slice_get_within complete.0 t.returned_at t.answer t.at_return) in
-    let here : t.answer.ticket ≤ MAX_CLOCK = subst (λ e. e.ticket ≤ MAX_CLOCK)
-    (get_or_from_slice_get complete.0 t.returned_at t.answer t.answer t.at_return) bound in
-    omega (arith, t.made.returned)
+    return_within complete.0 o complete.1 (subst (λ os. Contains os o) complete.2 among)
 
 -- an operation is called before it returns
 pub call_before_return : (operations : List Operation) (o : Operation) → AreComplete operations → Contains operations o → o.call < o.ret

@@ -1,5 +1,5 @@
 -- A verdict shows each operation once, so it has at most half as many lines as the history has events.
-use Rattle.std.proofs.Common.{◌≡◌, ℕ, zero, suc, ◌+◌, ◌<◌, ◌≤◌, ◌⊎◌, Bool, true, false, List, [], ◌∷◌, ◌++◌, length, map, Option, Some, None, refl}
+use Rattle.std.proofs.Common.{◌*◌, ◌≡◌, ℕ, zero, suc, ◌+◌, ◌<◌, ◌≤◌, ◌⊎◌, Bool, true, false, List, [], ◌∷◌, ◌++◌, length, map, Option, Some, None, refl}
 use Rattle.std.proofs.Common.{sym, ◌∙◌, ap, subst, inl, inr, arith}
 use Rattle.std.specs.Prelude.{AllPairs, Contains, MatchOption, nat_eq, flat_map, option_to_list, ⊤}
 use Rattle.std.specs.List.{AllByRecursion, IsDistinct}
@@ -9,15 +9,17 @@ use Rattle.std.proofs.lemmas.Map.Made.{is_member-Decides, length-le_from_is_memb
 use Rattle.std.proofs.lemmas.List.{length-map}
 use Rattle.std.proofs.lemmas.List.Sorted.{length_permutation}
 use Rattle.event_records.specs.declared.event.Event.{Event}
-use Rattle.event_records.specs.declared.limits.TheConstants.{MAX_EVENTS, MAX_OPERATIONS}
+use Rattle.event_records.specs.declared.limits.TheConstants.{MAX_CLOCK, MAX_EVENTS, MAX_INITIAL, MAX_OPERATIONS}
 use Rattle.history_merge.specs.declared.operation.Operation.{Operation}
 use Rattle.history_merge.specs.declared.operation.OpKind.TheVariants.{Enq, Deq, Empty}
-use Rattle.history_merge.specs.Complete.{AreComplete, IsCompleteHistory}
+use Rattle.history_merge.specs.Complete.{AreComplete, IsCompleteUpTo}
 use Rattle.history_merge.specs.Legal.{ArePlacesOf}
 use Rattle.history_merge.specs.Operations.{Did, NoneDid, operations_of}
 use Rattle.history_merge.proofs.Distinct.{contains_cons, not_in_none, place_of, contains_at, pairs_at, traced, same_call, same_return}
 use Rattle.history_merge.proofs.Distinct.{return_differs_from_call, call_before_return}
-use Rattle.history_merge.proofs.Completeness.{operations_are_complete}
+use Rattle.history_merge.specs.Initial.{IsCompleteFrom, filled, filled_events, filling_events_from, event_later_by}
+use Rattle.history_merge.proofs.Filled.{filled_is_complete, filled_operations}
+use Rattle.verdicts.specs.Laws.{VerdictHasFewLines}
 use Rattle.value_match.specs.declared.life.Life.{Life}
 use Rattle.value_match.specs.Lives.{IsLife, IsCovered, dequeue_call, call_or_never, dequeue_of, enqueue_of, operations_of_life}
 use Rattle.value_match.specs.Violations.{Breach, fresh, repeat, order, witness, IsClear, lines_of}
@@ -101,12 +103,12 @@ module _ (operations : List Operation) (complete : AreComplete operations) where
       )
 
 -- operations of a history, each once, are at most half as many as its events
-few_apart : (events : List Event) (listed : List Operation) → IsCompleteHistory events
+few_apart : (events : List Event) (listed : List Operation) → IsCompleteUpTo MAX_CLOCK events
     → ((x : Operation) → Contains listed x → Contains (operations_of events) x) → Apart listed → length listed + length listed ≤ length events
 few_apart events listed complete among apart =
     let tickets : List ℕ = map (λ e. e.ticket) events in
     let few = length-le_from_is_member nat_eq_equiv (tickets_of listed) tickets
-    (distinct_tickets (operations_of events) (operations_are_complete events complete) listed among apart) member in
+    (distinct_tickets (operations_of events) (events, complete, refl) listed among apart) member in
     let twice = double listed in
     let each : length (map (λ e. e.ticket) events) ≡ length events = simp length-map in
     omega arith
@@ -229,12 +231,12 @@ module _ (operations : List Operation) (empty : Operation) (clear : IsClear oper
 
 -- ---- verdicts
 
-module _ (events : List Event) (complete : IsCompleteHistory events) where
+module _ (events : List Event) (complete : IsCompleteUpTo MAX_CLOCK events) (most : ℕ) (some : 4 ≤ most) (few : length events ≤ most + most) where
   witness_lines : (empty : Operation) (cover : List Life) → IsChosenBreach (operations_of events) (witness empty cover)
       → length (lines_of (witness empty cover)) + length (lines_of (witness empty cover)) ≤ length events
   witness_lines empty cover chosen =
       let operations = operations_of events in
-      let whole : AreComplete operations = operations_are_complete events complete in
+      let whole : AreComplete operations = (events, complete, refl) in
       let clear : IsClear operations = record { complete = whole; no_fresh = chosen.0; no_repeat = chosen.1 } in
       let did = chosen.3.answers_empty in
       let covered = chosen.3.is_covered in
@@ -248,30 +250,45 @@ module _ (events : List Event) (complete : IsCompleteHistory events) where
       [ inl same ↦ subst (Contains operations) same did.0 | inr later ↦ (lines o later).0 ])
       (λ among. (lines empty among).1 did.1, apart)
 
-  few_chosen : (breach : Breach) → length events ≤ MAX_EVENTS → IsChosenBreach (operations_of events) breach → length (lines_of breach) ≤ MAX_OPERATIONS
-  few_chosen (fresh deq None) few chosen = omega arith
-  few_chosen (fresh deq (Some enq)) few chosen = omega arith
-  few_chosen (repeat enq first second) few chosen = omega arith
-  few_chosen (order enq_a enq_b deq_b None) few chosen = omega arith
-  few_chosen (order enq_a enq_b deq_b (Some deq_a)) few chosen = omega arith
-  few_chosen (witness empty cover) few chosen = let half = witness_lines empty cover chosen in omega (arith, half, few)
+  few_chosen : (breach : Breach) → IsChosenBreach (operations_of events) breach → length (lines_of breach) ≤ most
+  few_chosen (fresh deq None) chosen = omega arith
+  few_chosen (fresh deq (Some enq)) chosen = omega arith
+  few_chosen (repeat enq first second) chosen = omega arith
+  few_chosen (order enq_a enq_b deq_b None) chosen = omega arith
+  few_chosen (order enq_a enq_b deq_b (Some deq_a)) chosen = omega arith
+  few_chosen (witness empty cover) chosen = let half = witness_lines empty cover chosen in omega (arith, half, few)
 
-  few_operations : length events ≤ MAX_EVENTS → length (operations_of events) ≤ MAX_OPERATIONS
-  few_operations few =
+  few_operations : length (operations_of events) ≤ most
+  few_operations =
       let half = few_apart events (operations_of events) complete (λ o among. among)
-      (apart_from_rise (operations_of events) (operations_rise (operations_of events) (operations_are_complete events complete))) in
+      (apart_from_rise (operations_of events) (operations_rise (operations_of events) (events, complete, refl))) in
       omega (arith, half, few)
 
   as_many : (places : List ℕ) (listed : List Operation) → ArePlacesOf (operations_of events) places listed → length places ≡ length listed
   as_many places listed at = simp length-map at (ap length at)
 
-  pub few_places : (verdict : Verdict) → length events ≤ MAX_EVENTS → IsVerdictOf (operations_of events) verdict → length (places_of verdict) ≤ MAX_OPERATIONS
-  few_places (Yes places) few chosen =
+  pub few_places : (verdict : Verdict) → IsVerdictOf (operations_of events) verdict → length (places_of verdict) ≤ most
+  few_places (Yes places) chosen =
       let many = as_many places chosen.0 chosen.1 in
       let moved = length_permutation (operations_of events) chosen.0 chosen.2.holds_each_once in
-      let all = few_operations few in
+      let all = few_operations in
       omega (arith, many, moved, all)
-  few_places (No violation) few chosen =
+  few_places (No violation) chosen =
       let many = as_many (places_of_violation violation) (lines_of chosen.0) (places_of_lines (operations_of events) violation chosen.0 chosen.1) in
-      let lines = few_chosen chosen.0 few chosen.2 in
+      let lines = few_chosen chosen.0 chosen.2 in
       omega (arith, many, lines)
+
+length_filling_events : (clock : ℕ) (values : List ℕ) (later : List Event)
+    → length (filling_events_from clock values ++ later) ≡ 2 * length values + length later
+length_filling_events clock [] later = omega arith
+length_filling_events clock (v ∷ values) later = let rest = length_filling_events (clock + 2) values later in omega arith
+
+-- the chosen verdict on a history has few lines
+pub verdict_has_few_lines : VerdictHasFewLines
+verdict_has_few_lines initial events verdict whole few_initial few_events chosen =
+    let n = 2 * length initial in
+    let all = filled_events initial events in
+    let many = length_filling_events 0 initial (map (event_later_by n) events) in
+    let same : length (map (event_later_by n) events) ≡ length events = simp length-map in
+    few_places all (filled_is_complete initial events whole few_initial) (MAX_OPERATIONS + length initial) (omega arith) (omega (arith, few_events)) verdict
+    (subst (λ os. IsVerdictOf os verdict) (sym (filled_operations initial events)) chosen)

@@ -18,9 +18,13 @@ abbrev pub places_of : Verdict → List ℕ
 places_of (Yes places) = places
 places_of (No violation) = places_of_violation violation
 
+-- the places of the verdict are below this number
+abbrev pub HasPlacesBelow : ℕ → Verdict → Type 0
+HasPlacesBelow count verdict = All (λ place. place < count) (places_of verdict)
+
 -- the places of the verdict are those of initial values and operations of the history
 abbrev pub IsWithin : List ℕ → List Operation → Verdict → Type 0
-IsWithin initial operations verdict = All (λ place. place < length initial + length operations) (places_of verdict)
+IsWithin initial operations verdict = HasPlacesBelow (length initial + length operations) verdict
 
 -- the kind of a violation
 abbrev pub violation_kind : Violation → ViolationKind

@@ -1,7 +1,9 @@
 -- What a verdict says of a history, and what is evidence for it.
-use Rattle.std.specs.Prelude.{List}
+use Rattle.std.specs.Prelude.{ℕ, List}
 use Rattle.history_merge.specs.declared.operation.Operation.{Operation}
-use Rattle.history_merge.specs.Legal.{IsLegalOrder, IsLinearizable, ArePlacesOf}
+use Rattle.history_merge.specs.Legal.{IsLegalOrder, IsLinearizable, IsLinearizableFrom, ArePlacesOf}
+use Rattle.history_merge.specs.Initial.{HistoryView, filled}
+use Rattle.history_merge.specs.Operations.{operations_of}
 use Rattle.value_match.specs.Violations.{Breach, IsBreachOf}
 use Rattle.value_match.specs.Outcome.{Names, IsChosenViolation}
 use Rattle.linearizer.specs.Order.{IsChosenOrder}
@@ -22,6 +24,15 @@ IsEvidence operations (No violation) = (breach : Breach) × Names operations vio
 abbrev pub IsExact : List Operation → Verdict → Type 0
 IsExact operations (Yes places) = IsLinearizable operations
 IsExact operations (No violation) = ¬ (IsLinearizable operations)
+
+-- yes where a legal order exists for a queue that holds these values first, no where none does
+abbrev pub IsExactFrom : List ℕ → List Operation → Verdict → Type 0
+IsExactFrom initial operations (Yes places) = IsLinearizableFrom initial operations
+IsExactFrom initial operations (No violation) = ¬ (IsLinearizableFrom initial operations)
+
+-- the operations of a history's filled history
+abbrev pub filled_of : HistoryView → List Operation
+filled_of history = filled history.initial (operations_of history.events)
 
 -- the chosen verdict, which is evidence and exact
 pub record IsDecided (operations : List Operation) (verdict : Verdict) : Type 0 where

@@ -4,7 +4,7 @@ ghost use Rattle.history_merge.specs.Operations.{operations_of};
 ghost use Rattle.value_match.specs.Violations.{IsClear, NoOrderViolation};
 ghost use Rattle.empty_witness.specs.Answers.{IsWitnessAnswer};
 ghost use Rattle.parallel_finders.specs.declared.TheConstants.{MAX_PIECES};
-ghost use Rattle.verdicts.specs.Claiming.{IsWithin};
+ghost use Rattle.verdicts.specs.Claiming.{HasPlacesBelow, IsWithin};
 ghost use Rattle.verdicts.specs.Verdicts.{IsVerdictOf, IsEvidence, IsExact, IsDecided};
 
 use crate::verdict::{Order, Verdict};
@@ -39,7 +39,7 @@ pub fn decide_operations(alloc: Global, operations: &[Operation]) -> Result<Verd
     ensures chosen { IfOk result (λ verdict. IsVerdictOf operations.now verdict) }
     ensures evidence { IfOk result (λ verdict. IsEvidence operations.now verdict) }
     ensures exact { IfOk result (λ verdict. IsExact operations.now verdict) }
-    ensures places { IfOk result (λ verdict. IsWithin [] operations.now verdict) }
+    ensures places { IfOk result (λ verdict. HasPlacesBelow (length operations.now) verdict) }
 {
     match match_operations(alloc, operations)? {
         Matched::Clear(matching) => decide_matching(alloc, &matching),
@@ -81,7 +81,7 @@ pub fn decide_operations_par<R: Threads + Sync>(
     ensures chosen { IfOk result (λ verdict. IsVerdictOf operations.now verdict) }
     ensures evidence { IfOk result (λ verdict. IsEvidence operations.now verdict) }
     ensures exact { IfOk result (λ verdict. IsExact operations.now verdict) }
-    ensures places { IfOk result (λ verdict. IsWithin [] operations.now verdict) }
+    ensures places { IfOk result (λ verdict. HasPlacesBelow (length operations.now) verdict) }
 {
     match match_operations(alloc, operations)? {
         Matched::Clear(matching) => decide_matching_par(rt, alloc, &matching, pieces),

@@ -2,7 +2,7 @@ use Rattle.std.proofs.Common.{inl, inr, rules}
 use Rattle.std.proofs.lemmas.Result.{IfOk-weaker}
 use Rattle.verdicts.proofs.Decided.{refused_is_decided}
 use Rattle.verdicts.specs.declared.verdict.Verdict.TheVariants.{No}
-use Rattle.verdicts.specs.Claiming.{IsWithin}
+use Rattle.verdicts.specs.Claiming.{HasPlacesBelow}
 use Rattle.verdicts.specs.Verdicts.{IsEvidence}
 use Rattle.verdicts.proofs.TrueClaims.{evidence_within}
 use Rattle.verdicts.proofs.decision.decide_operations.Goals as goal
@@ -30,4 +30,4 @@ returns-in-Repeat-clause-places c =
 pub returns-in-Clear-clause-places : goal.returns-in-Clear-clause-places
 returns-in-Clear-clause-places c =
     let operations = c.args.operations.now in
-    IfOk-weaker c.decide_matching.result (IsEvidence operations) (IsWithin operations) (λ verdict is. evidence_within operations verdict is) (search rules)
+    IfOk-weaker c.decide_matching.result (IsEvidence operations) (HasPlacesBelow (length operations)) (λ verdict is. evidence_within operations verdict is) (search rules)
