@@ -9,6 +9,8 @@ mod deciding;
 #[cfg(test)]
 mod histories;
 #[cfg(test)]
+mod initial;
+#[cfg(test)]
 mod matching;
 #[cfg(test)]
 mod pieces;

@@ -8,7 +8,7 @@
 -- OneFault: a list of events has one first fault.
 -- InitialValues, InitialFaults: the same of a queue that holds some values first.
 -- Cancelling, Leading: enqueues that precede all other operations stand first in each legal order.
--- Later, Filled: a history whose initial values are enqueued before all else is complete, and has the same legal orders.
+-- Later, Filled, Enqueued: a history whose initial values are enqueued before all else is complete, and has the same legal orders.
 -- Runs, Places: what a run of the sequential queue enqueued and dequeued, and where.
 -- DistinctValues: values that no two calls share.
 pub mod Gathered
@@ -32,3 +32,4 @@ pub mod Cancelling
 pub mod Leading
 pub mod Later
 pub mod Filled
+pub mod Enqueued

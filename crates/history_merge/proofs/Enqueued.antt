@@ -1,0 +1,65 @@
+-- The filled history, operation by operation.
+use Rattle.std.proofs.Common.{◌≡◌, ℕ, ◌+◌, ◌*◌, ◌<◌, ◌≤◌, List, [], ◌∷◌, ◌++◌, length, get_or, take, refl, sym, ◌∙◌, ap, arith, length-take-le}
+use Rattle.std.specs.Prelude.{All, map}
+use Rattle.std.proofs.lemmas.List.{append_assoc, take_more}
+use Rattle.std.proofs.lemmas.List.Elements.{Contains-get_or}
+use Rattle.event_records.specs.declared.event.Event.{Event}
+use Rattle.event_records.specs.declared.limits.TheConstants.{MAX_CLOCK}
+use Rattle.history_merge.specs.declared.operation.Operation.{Operation}
+use Rattle.history_merge.specs.declared.operation.OpKind.TheVariants.{Enq}
+use Rattle.history_merge.specs.Complete.{IsCompleteHistory, IsCompleteUpTo}
+use Rattle.history_merge.specs.Initial.{filled, filling_from, later_by}
+use Rattle.history_merge.specs.Operations.{operations_of}
+use Rattle.history_merge.proofs.Completeness.{calls_before_returns}
+use Rattle.history_merge.proofs.Distinct.{return_in_range}
+
+-- an enqueue that is called at this clock
+abbrev enqueue_at : ℕ → ℕ → Operation
+enqueue_at clock v = record { call = clock; ret = clock + 1; thread = 0; kind = Enq v }
+
+filling_push : (clock : ℕ) (values : List ℕ) (v : ℕ)
+    → filling_from clock (values ++ v ∷ []) ≡ filling_from clock values ++ enqueue_at (clock + 2 * length values) v ∷ []
+filling_push clock [] v = ap (λ n. enqueue_at n v ∷ []) (let same : clock ≡ clock + 2 * 0 = omega arith in same)
+filling_push clock (w ∷ values) v = ap (λ os. enqueue_at clock w ∷ os) (filling_push (clock + 2) values v ∙ ap (λ n. filling_from (clock + 2) values ++ enqueue_at n v ∷ [])
+    (let same : clock + 2 + 2 * length values ≡ clock + 2 * length (w ∷ values) = omega arith in same))
+
+-- one value more
+pub filling_more : (values : List ℕ) (i : ℕ) → i < length values
+    → filling_from 0 (take (i + 1) values) ≡ filling_from 0 (take i values) ++ enqueue_at (2 * i) (get_or values i 0) ∷ []
+filling_more values i below =
+    let long = length-take-le i values (omega arith) in
+    ap (filling_from 0) (take_more values i 0 below) ∙ filling_push 0 (take i values) (get_or values i 0)
+    ∙ ap (λ n. filling_from 0 (take i values) ++ enqueue_at n (get_or values i 0) ∷ []) (let same : 0 + 2 * length (take i values) ≡ 2 * i = omega (arith, long) in same)
+
+-- tickets of a complete history are clocks too
+pub complete_by_clock : (events : List Event) → IsCompleteHistory events → IsCompleteUpTo MAX_CLOCK events
+complete_by_clock events complete = record {
+  tickets_rise = complete.tickets_rise;
+  tickets_in_range = λ k d below. let low = complete.tickets_in_range k d below in omega (arith, low);
+  threads_in_range = complete.threads_in_range;
+  threads_take_turns = complete.threads_take_turns;
+  values_are_distinct = complete.values_are_distinct;
+}
+
+-- no operation of a complete history is called or returns above the greatest clock
+pub operations_in_range : (events : List Event) → IsCompleteHistory events → All (λ o. (o.call ≤ MAX_CLOCK) × (o.ret ≤ MAX_CLOCK)) (operations_of events)
+operations_in_range events complete k d below =
+    let low = return_in_range (operations_of events) (get_or (operations_of events) k d) (events, complete_by_clock events complete, refl)
+    (Contains-get_or (operations_of events) k d below) in
+    let called = calls_before_returns events complete.tickets_rise k d below in
+    (omega (arith, low, called), low)
+
+-- the same behind other operations
+pub enqueued_more : (now before start : List Operation) (values : List ℕ) (i : ℕ) → i < length values
+    → now ≡ before ++ enqueue_at (2 * i) (get_or values i 0) ∷ [] → before ≡ start ++ filling_from 0 (take i values)
+    → now ≡ start ++ filling_from 0 (take (i + 1) values)
+enqueued_more now before start values i below pushed is =
+    pushed ∙ ap (λ os. os ++ enqueue_at (2 * i) (get_or values i 0) ∷ []) is
+    ∙ append_assoc start (filling_from 0 (take i values)) (enqueue_at (2 * i) (get_or values i 0) ∷ [])
+    ∙ ap (λ os. start ++ os) (sym (filling_more values i below))
+
+-- the enqueues, and behind them the operations, later
+pub all_filled : (now mid start : List Operation) (initial : List ℕ) (operations : List Operation) → start ≡ [] → mid ≡ start ++ filling_from 0 initial
+    → now ≡ mid ++ map (later_by (2 * length initial)) operations → now ≡ filled initial operations
+all_filled now mid start initial operations none enqueued added =
+    added ∙ ap (λ os. os ++ map (later_by (2 * length initial)) operations) (enqueued ∙ ap (λ os. os ++ filling_from 0 initial) none)

@@ -1,0 +1,68 @@
+ghost use Rattle.std.specs.Prelude.{◌≡◌, ◌≤◌, ◌++◌, List, All, IfOk, OnOk, length, map};
+ghost use Rattle.event_records.specs.declared.event.Event.{Event};
+ghost use Rattle.event_records.specs.declared.limits.TheConstants.{MAX_CLOCK, MAX_INITIAL};
+ghost use Rattle.history_merge.specs.Complete.{AreComplete};
+ghost use Rattle.history_merge.specs.Initial.{IsCompleteFrom, filled, filling_from, later_by};
+ghost use Rattle.history_merge.specs.Operations.{operations_of};
+
+use crate::operation::{OpKind, Operation};
+use event_records::{MAX_CLOCK, MAX_INITIAL};
+use std::alloc::{AllocError, Global};
+
+/// The operations of the filled history: thread 0 enqueues the initial values alone, one after another, and then come the
+/// operations, all by two tickets later for each initial value.
+///
+/// The filled history is complete, and its legal orders are those of the history behind the enqueues. Time O(n), and the memory
+/// for the answer is taken at once.
+pub fn fill(
+    alloc: Global,
+    initial: &[u64],
+    operations: &[Operation],
+) -> Result<Vec<Operation>, AllocError>
+    requires history { (events : List Event) × IsCompleteFrom initial.now events × (operations.now ≡ operations_of events) }
+    requires few { length initial.now ≤ MAX_INITIAL }
+    ensures filled { IfOk result (λ v. v.items ≡ filled initial.now operations.now) }
+    ensures complete { IfOk result (λ v. AreComplete v.items) }
+{
+    let mut filled = Vec::with_capacity(alloc, initial.len() + operations.len())?;
+    add_enqueues(&mut filled, initial)?;
+    add_later(&mut filled, operations, 2 * initial.len() as u64)?;
+    Ok(filled)
+}
+
+/// Adds an enqueue of each value, one after another.
+fn add_enqueues(filled: &mut Vec<Operation>, values: &[u64]) -> Result<(), AllocError>
+    requires { length values.now ≤ MAX_INITIAL }
+    ensures { OnOk result (filled.new.items ≡ filled.old.items ++ filling_from 0 values.now) }
+{
+    for (place, value) in values.iter().enumerate() {
+        let call = 2 * place as u64;
+        filled.push(Operation {
+            call,
+            ret: call + 1,
+            thread: 0,
+            kind: OpKind::Enq(*value),
+        })?;
+    }
+    Ok(())
+}
+
+/// Adds the operations, so many tickets later.
+fn add_later(
+    filled: &mut Vec<Operation>,
+    operations: &[Operation],
+    ticks: u64,
+) -> Result<(), AllocError>
+    requires operations { All (λ o. (o.call ≤ MAX_CLOCK) × (o.ret ≤ MAX_CLOCK)) operations.now }
+    requires ticks { ticks ≤ MAX_CLOCK }
+    ensures { OnOk result (filled.new.items ≡ filled.old.items ++ map (later_by ticks) operations.now) }
+{
+    for operation in operations {
+        filled.push(Operation {
+            call: operation.call + ticks,
+            ret: operation.ret + ticks,
+            ..*operation
+        })?;
+    }
+    Ok(())
+}
