@@ -75,6 +75,7 @@ impl History {
         ensures complete { IsCompleteHistory self.now.events }
         ensures from { IsCompleteFrom self.now.initial self.now.events }
         ensures few { length result.now ≤ MAX_EVENTS }
+        ensures few_events { length self.now.events ≤ MAX_EVENTS }
     {
         self.operations.as_slice()
     }

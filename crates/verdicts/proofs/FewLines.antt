@@ -229,6 +229,11 @@ module _ (operations : List Operation) (empty : Operation) (clear : IsClear oper
           let dequeues = life_dequeues operations y o (are y in_cover) same in
           (dequeues.1.0, λ none. let kinds : Deq dequeues.0 ≡ Empty = sym dequeues.1.1 ∙ none in cc)
 
+-- a history has two events for each operation
+pub two_events_each : (events : List Event) → IsCompleteUpTo MAX_CLOCK events → length (operations_of events) + length (operations_of events) ≤ length events
+two_events_each events complete = few_apart events (operations_of events) complete (λ o among. among)
+    (apart_from_rise (operations_of events) (operations_rise (operations_of events) (events, complete, refl)))
+
 -- ---- verdicts
 
 module _ (events : List Event) (complete : IsCompleteUpTo MAX_CLOCK events) (most : ℕ) (some : 4 ≤ most) (few : length events ≤ most + most) where

@@ -13,6 +13,7 @@ pub mod Linearizable
 pub mod Exactly
 pub mod Chosen
 pub mod Decided
+pub mod DecidedFrom
 pub mod Lookups
 pub mod FilledLines
 pub mod ClaimedLines

@@ -171,7 +171,7 @@ place_of_value values j v apart at =
     skipped (w ∷ values) zero apart at = let same : w ≡ v = cc in rw (eq-eqb w v same) refl
     skipped (w ∷ values) (suc j) apart at =
         let differs : w ≢ v = pairs_at (λ v w. v ≢ w) (w ∷ values) 0 (suc j) w v apart (omega arith) refl at in
-        rw (ne_eqb w v differs) (ap suc (skipped values j (AllPairs-tail (λ v w. v ≢ w) w values apart) at))
+        let rest = skipped values j (AllPairs-tail (λ v w. v ≢ w) w values apart) at in rw (ne_eqb w v differs) (omega (arith, rest))
 
     pick : (n : ℕ) → n ≡ j → j < length values → cond (nat_lt n (length values)) (Some n) None ≡ Some j
     pick n same within = rw same (rw (lt-ltb j (length values) within) refl)
@@ -191,13 +191,18 @@ module _ (initial : List ℕ) (events : List Event) (whole : IsCompleteFrom init
         let operation = mapped_option (later_by (2 * length initial)) (slice_get (operations_of events) (p - length initial)) x (sym late.1 ∙ at) in
         let among = contains_at (operations_of events) (p - length initial) operation.0 operation.1 in (
           Op operation.0,
-          get_behind (map (λ v. Initial v) initial) (map (λ o. Op o) (operations_of events)) (length initial) p (sym (length-map (λ v. Initial v) initial)) late.0
+          get_behind (map (λ v. Initial v) initial) (map (λ o. Op o) (operations_of events)) (length initial) p as_many late.0
               ∙ slice_get-map (λ o. Op o) (operations_of events) (p - length initial) ∙ ap (option_map (λ o. Op o)) operation.1,
-          rw (le-leb operation.0.call MAX_TICKET (call_within events operation.0 whole.complete among),
-              le-leb operation.0.ret MAX_TICKET (return_within events operation.0 whole.complete among)) (ap (λ o. Some o) operation.2),
+          rw (
+            le-leb operation.0.call MAX_TICKET (call_within events operation.0 whole.complete among),
+            le-leb operation.0.ret MAX_TICKET (return_within events operation.0 whole.complete among),
+          ) (ap (λ o. Some o) operation.2),
         )
   ]
     where
+      as_many : length initial ≡ length (map (λ v. Initial v) initial)
+      as_many = simp length-map
+
       apart : AllPairs (λ v w. v ≢ w) initial
       apart i j d below within =
           let pair = whole.values_are_distinct i j d below (rw length-append (omega arith)) in

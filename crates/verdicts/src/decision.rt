@@ -1,16 +1,17 @@
-ghost use Rattle.std.specs.Prelude.{◌≡◌, ◌≤◌, [], IfOk, length};
+ghost use Rattle.std.specs.Prelude.{◌≡◌, ◌≤◌, IfOk, length};
 ghost use Rattle.history_merge.specs.Complete.{AreComplete};
+ghost use Rattle.history_merge.specs.Initial.{filled};
 ghost use Rattle.history_merge.specs.Operations.{operations_of};
 ghost use Rattle.value_match.specs.Violations.{IsClear, NoOrderViolation};
 ghost use Rattle.empty_witness.specs.Answers.{IsWitnessAnswer};
 ghost use Rattle.parallel_finders.specs.declared.TheConstants.{MAX_PIECES};
 ghost use Rattle.verdicts.specs.Claiming.{HasPlacesBelow, IsWithin};
-ghost use Rattle.verdicts.specs.Verdicts.{IsVerdictOf, IsEvidence, IsExact, IsDecided};
+ghost use Rattle.verdicts.specs.Verdicts.{HasOperationsFrom, IsVerdictOf, IsEvidence, IsExact, IsExactFrom, IsDecided, filled_of};
 
 use crate::verdict::{Order, Verdict};
 use empty_witness::{WitnessAnswer, find_witness};
 use event_records::MAX_EVENTS;
-use history_merge::{History, Operation};
+use history_merge::{History, Operation, fill};
 use linearizer::linearize;
 use order_violation::{OrderPair, find_order};
 use parallel_finders::{find_order_par, find_witness_par};
@@ -18,22 +19,41 @@ use std::alloc::{AllocError, Global};
 use std::thread::Threads;
 use value_match::{Matched, Matching, Violation, match_operations};
 
-/// Whether a history has a legal order (Herlihy and Wing 1990): yes with the chosen order, no with the chosen violation,
+/// Whether a history has a legal order (Herlihy and Wing 1990) for a queue that holds the initial values first: yes with the chosen order, no with the chosen violation,
 /// which is of the first kind that is present: a value that was not there, a value dequeued twice, values dequeued
 /// against the order of their enqueues, an empty answer while the queue was never empty.
 ///
 /// The four kinds are this project's own. `AllocError` comes only where a growth was refused.
 pub fn decide(alloc: Global, history: &History) -> Result<Verdict, AllocError>
-    ensures chosen { IfOk result (λ verdict. IsVerdictOf (operations_of history.now.events) verdict) }
-    ensures evidence { IfOk result (λ verdict. IsEvidence (operations_of history.now.events) verdict) }
-    ensures exact { IfOk result (λ verdict. IsExact (operations_of history.now.events) verdict) }
-    ensures places { IfOk result (λ verdict. IsWithin [] (operations_of history.now.events) verdict) }
+    ensures chosen { IfOk result (λ verdict. IsVerdictOf (filled_of history.now) verdict) }
+    ensures evidence { IfOk result (λ verdict. IsEvidence (filled_of history.now) verdict) }
+    ensures exact { IfOk result (λ verdict. IsExactFrom history.now.initial (operations_of history.now.events) verdict) }
+    ensures places { IfOk result (λ verdict. IsWithin history.now.initial (operations_of history.now.events) verdict) }
 {
-    decide_operations(alloc, history.operations())
+    decide_from(alloc, history.initial(), history.operations())
 }
 
-/// The same of the operations of a history, where its events aren't kept.
-pub fn decide_operations(alloc: Global, operations: &[Operation]) -> Result<Verdict, AllocError>
+/// The same of the initial values and the operations of a history, where its events aren't kept.
+pub fn decide_from(
+    alloc: Global,
+    initial: &[u64],
+    operations: &[Operation],
+) -> Result<Verdict, AllocError>
+    requires complete { HasOperationsFrom initial.now operations.now }
+    ensures chosen { IfOk result (λ verdict. IsVerdictOf (filled initial.now operations.now) verdict) }
+    ensures evidence { IfOk result (λ verdict. IsEvidence (filled initial.now operations.now) verdict) }
+    ensures exact { IfOk result (λ verdict. IsExactFrom initial.now operations.now verdict) }
+    ensures places { IfOk result (λ verdict. IsWithin initial.now operations.now verdict) }
+{
+    if initial.is_empty() {
+        return decide_operations(alloc, operations);
+    }
+    let filled = fill(alloc, initial, operations)?;
+    decide_operations(alloc, filled.as_slice())
+}
+
+/// The same of operations that are complete, by ticket or by clock, for a queue that is empty first.
+fn decide_operations(alloc: Global, operations: &[Operation]) -> Result<Verdict, AllocError>
     requires complete { AreComplete operations.now }
     requires few { length operations.now ≤ MAX_EVENTS }
     ensures chosen { IfOk result (λ verdict. IsVerdictOf operations.now verdict) }
@@ -60,16 +80,38 @@ pub fn decide_par<R: Threads + Sync>(
     pieces: usize,
 ) -> Result<Verdict, AllocError>
     requires { (1 ≤ pieces) × (pieces ≤ MAX_PIECES) }
-    ensures chosen { IfOk result (λ verdict. IsVerdictOf (operations_of history.now.events) verdict) }
-    ensures evidence { IfOk result (λ verdict. IsEvidence (operations_of history.now.events) verdict) }
-    ensures exact { IfOk result (λ verdict. IsExact (operations_of history.now.events) verdict) }
-    ensures places { IfOk result (λ verdict. IsWithin [] (operations_of history.now.events) verdict) }
+    ensures chosen { IfOk result (λ verdict. IsVerdictOf (filled_of history.now) verdict) }
+    ensures evidence { IfOk result (λ verdict. IsEvidence (filled_of history.now) verdict) }
+    ensures exact { IfOk result (λ verdict. IsExactFrom history.now.initial (operations_of history.now.events) verdict) }
+    ensures places { IfOk result (λ verdict. IsWithin history.now.initial (operations_of history.now.events) verdict) }
 {
-    decide_operations_par(rt, alloc, history.operations(), pieces)
+    decide_from_par(rt, alloc, history.initial(), history.operations(), pieces)
 }
 
-/// The same of the operations of a history, where its events aren't kept.
-pub fn decide_operations_par<R: Threads + Sync>(
+/// The same of the initial values and the operations of a history, where its events aren't kept.
+pub fn decide_from_par<R: Threads + Sync>(
+    rt: &R,
+    alloc: Global,
+    initial: &[u64],
+    operations: &[Operation],
+    pieces: usize,
+) -> Result<Verdict, AllocError>
+    requires complete { HasOperationsFrom initial.now operations.now }
+    requires pieces { (1 ≤ pieces) × (pieces ≤ MAX_PIECES) }
+    ensures chosen { IfOk result (λ verdict. IsVerdictOf (filled initial.now operations.now) verdict) }
+    ensures evidence { IfOk result (λ verdict. IsEvidence (filled initial.now operations.now) verdict) }
+    ensures exact { IfOk result (λ verdict. IsExactFrom initial.now operations.now verdict) }
+    ensures places { IfOk result (λ verdict. IsWithin initial.now operations.now verdict) }
+{
+    if initial.is_empty() {
+        return decide_operations_par(rt, alloc, operations, pieces);
+    }
+    let filled = fill(alloc, initial, operations)?;
+    decide_operations_par(rt, alloc, filled.as_slice(), pieces)
+}
+
+/// The same of operations that are complete, by ticket or by clock, for a queue that is empty first.
+fn decide_operations_par<R: Threads + Sync>(
     rt: &R,
     alloc: Global,
     operations: &[Operation],

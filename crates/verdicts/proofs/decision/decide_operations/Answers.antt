@@ -1,4 +1,4 @@
-use Rattle.std.proofs.Common.{inl, inr, rules}
+use Rattle.std.proofs.Common.{inl, inr, length, rules}
 use Rattle.std.proofs.lemmas.Result.{IfOk-weaker}
 use Rattle.verdicts.proofs.Decided.{refused_is_decided}
 use Rattle.verdicts.specs.declared.verdict.Verdict.TheVariants.{No}

@@ -5,9 +5,11 @@ use Rattle.verdicts.proofs.lookup.Filled.has_operation.Goals as goal
 
 pub returns-then-operation-start-2 : goal.returns-then-operation-start-2
 returns-then-operation-start-2 c =
-    let start = c.start-start.ensures in
-    (λ t. cc, λ among. absurd (returned_early c.args.self.now.initial.now c.args.self.now.operations.now c.args.operation
-        (omega (arith, c.if-operation-start.false)) (omega (arith, c.if-operation-start-2.true)) among))
+    let start = c.start-start.ensures in (
+      λ t. cc,
+      λ among. absurd (returned_early c.args.self.now.initial.now c.args.self.now.operations.now c.args.operation
+          (omega (arith, c.if-operation-start.false)) (omega (arith, c.if-operation-start-2.true)) among),
+    )
 
 pub returns : goal.returns
 returns c =
