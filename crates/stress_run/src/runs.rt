@@ -1,5 +1,5 @@
 // A whole run, from a plan to the recorded lists.
-ghost use Rattle.std.specs.Prelude.{◌≡◌, ◌↔◌, All, Err, None, Some, length, map, IfOk, IfErr, IfSome, true, false};
+ghost use Rattle.std.specs.Prelude.{◌≡◌, ◌↔◌, [], All, Err, None, Some, length, map, IfOk, IfErr, IfSome, true, false};
 ghost use Rattle.std.specs.List.{AllZip};
 ghost use Rattle.collector.specs.Ends.{rings_of, threads_of_tokens};
 ghost use Rattle.collector.specs.Inner.Ends.{rings_of_tokens};
@@ -116,7 +116,7 @@ pub fn run<R: Threads + Sync>(
 ) -> Result<Recorded, RunFault>
     ensures recorded { IfOk result (λ r. IsRun (may queue.now) plan.now r.lists r.total) }
     ensures lists { IfOk result (λ r. AreRecorded r.lists) }
-    ensures replays { IfOk result (λ r. Replays ring r.lists) }
+    ensures replays { IfOk result (λ r. Replays ring [] r.lists) }
     ensures limit { (result ≡ Err Limit) ↔ ¬ IsWithinLimits ring tries }
     ensures fault { IfErr result (IsFaultOfRun (may queue.now) plan.now (record { ring = ring; tries = tries })) }
 {
@@ -137,7 +137,7 @@ fn run_within<R: Threads + Sync>(
     requires { IsWithinLimits sizes.ring sizes.tries }
     ensures recorded { IfOk result (λ r. IsRun (may queue.now) plan.now r.lists r.total) }
     ensures lists { IfOk result (λ r. AreRecorded r.lists) }
-    ensures replays { IfOk result (λ r. Replays sizes.ring r.lists) }
+    ensures replays { IfOk result (λ r. Replays sizes.ring [] r.lists) }
     ensures fault { IfErr result (IsFaultOfRun (may queue.now) plan.now sizes) }
 {
     let rows = plan.rows();

@@ -76,7 +76,7 @@ returns-clause-lists g c = invariant_of-result g c
 pub returns-clause-replays : goal.returns-clause-replays
 returns-clause-replays g c =
     let within = c.requires in
-    lists_replay _ (recorded_is_fit _ (invariant_of-result g c)) _ (omega (arith, within.0))
+    lists_replay _ (recorded_is_fit _ (invariant_of-result g c)) _ _ (omega (arith, within.0))
 
 pub seal-requires-clause-order : goal.seal-requires-clause-order
 seal-requires-clause-order g c =
