@@ -9,6 +9,9 @@ use queue_interface::{
 use recorder_core::{Answer, Done, Machine, Step, are_initial_names};
 use std::alloc::Global;
 use std::test::Fail;
+use std::thread::Threads;
+use stress_run::{Recorded, RunFault, run_from};
+use workloads::Plan;
 
 // The least name that an initial value may have: 2^38.
 const FIRST: u64 = 274_877_906_944;
@@ -116,5 +119,54 @@ fn a_script_and_a_gate_ignore_initial_values(rt: HostRuntime) -> Result<(), Fail
     assert!(rt; gate.preload(FIRST));
     ask_first(alloc, &gate, 0)?;
     assert_eq!(rt; gate.passed(), 0);
+    Ok(())
+}
+
+// A run of one dequeue on a queue that is to hold these values first.
+fn run_one_dequeue<R: Threads + Sync>(
+    rt: &R,
+    alloc: Global,
+    queue: &dyn TestQueue,
+    initial: &[u64],
+) -> Result<Result<Recorded, RunFault>, Fail> {
+    let plan = Plan::from_text(alloc, "D\n")?;
+    Ok(run_from(rt, alloc, queue, initial, &plan, 2, 1_000_000))
+}
+
+#[test]
+fn a_run_begins_with_its_values(rt: HostRuntime) -> Result<(), Fail> {
+    let alloc = rt.alloc();
+    let values = [FIRST, FIRST + 1];
+    let queue = LockedQueue::new(alloc, rt);
+    let recorded = run_one_dequeue(&rt, alloc, &queue, &values)??;
+    assert_eq!(rt; recorded.initial(), values.as_slice());
+    let list = recorded.lists().as_slice()[0].as_slice();
+    let whats: Vec<What> = list.iter().map(|event| event.what).collect(alloc)?;
+    let want = [What::CallDeq, What::RetDeq(FIRST)];
+    assert_eq!(rt; whats.as_slice(), want.as_slice());
+    assert_eq!(rt; take(alloc, &queue)?, What::RetDeq(FIRST + 1));
+    Ok(())
+}
+
+#[test]
+fn the_value_that_a_queue_refuses_is_told(rt: HostRuntime) -> Result<(), Fail> {
+    let queue = ArrayBack::new(rt.alloc(), rt, 1)?;
+    let ended = run_one_dequeue(&rt, rt.alloc(), &queue, &[FIRST, FIRST + 1])?;
+    assert_eq!(rt; ended.err(), Some(RunFault::Preload(1)));
+    assert_eq!(rt; take(rt.alloc(), &queue)?, What::RetDeq(FIRST));
+    Ok(())
+}
+
+#[test]
+fn values_that_may_not_be_initial_are_refused(rt: HostRuntime) -> Result<(), Fail> {
+    let alloc = rt.alloc();
+    let queue = LockedQueue::new(alloc, rt);
+    let more: Vec<u64> = (FIRST..=FIRST + 100_000).collect(alloc)?;
+    let cases: [&[u64]; 3] = [&[FIRST, FIRST], &[FIRST - 1], &more];
+    for values in cases {
+        let ended = run_one_dequeue(&rt, alloc, &queue, values)?;
+        assert_eq!(rt; ended.err(), Some(RunFault::Limit));
+    }
+    assert_eq!(rt; take(alloc, &queue)?, What::RetEmpty);
     Ok(())
 }
