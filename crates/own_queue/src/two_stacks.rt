@@ -67,4 +67,8 @@ impl<R: Wait + Drop + Send + Sync> TestQueue for TwoStacks<R> {
             None => ask.empty(),
         }
     }
+
+    fn preload(&self, value: u64) -> bool {
+        self.stacks.lock(&self.rt).push(value)
+    }
 }

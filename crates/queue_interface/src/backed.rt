@@ -52,6 +52,10 @@ impl<R: Wait + Drop + Send + Sync> TestQueue for ArrayBack<R> {
         let got = self.queue.pop(&self.rt);
         dequeued(ask, got)
     }
+
+    fn preload(&self, value: u64) -> bool {
+        self.queue.push(&self.rt, value).is_ok()
+    }
 }
 
 /// An unbounded queue: a `SegQueue`. Without memory for a further block of values, it answers `not_taken`.
@@ -82,5 +86,9 @@ impl<R: Wait + Drop + Send + Sync> TestQueue for SegBack<R> {
     fn dequeue(&self, ask: AskDeq) -> AnsweredDeq {
         let got = self.queue.pop(&self.rt);
         dequeued(ask, got)
+    }
+
+    fn preload(&self, value: u64) -> bool {
+        self.queue.push(&self.rt, value).is_ok()
     }
 }

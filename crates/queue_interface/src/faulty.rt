@@ -191,6 +191,10 @@ impl ValueList for LosingList {
         self.calls.is_next_fourth() || self.fifo.put(value)
     }
 
+    fn preload(&mut self, value: u64) -> bool {
+        self.fifo.put(value)
+    }
+
     fn take(&mut self) -> Option<u64> {
         self.fifo.take()
     }

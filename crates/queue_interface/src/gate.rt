@@ -61,7 +61,7 @@ impl GateQueue {
 }
 
 impl TestQueue for GateQueue {
-    ghost use Rattle.std.specs.Prelude.{◌≡◌};
+    ghost use Rattle.std.specs.Prelude.{◌≡◌, true};
     ghost use Rattle.queue_interface.specs.Answers.{refusal};
 
     ghost may = { λ _ question answer. answer ≡ refusal question.kind };
@@ -74,5 +74,11 @@ impl TestQueue for GateQueue {
     fn dequeue(&self, ask: AskDeq) -> AnsweredDeq {
         self.pass(ask.number());
         ask.empty()
+    }
+
+    fn preload(&self, _value: u64) -> bool
+        ensures ignored { result ≡ true }
+    {
+        true
     }
 }

@@ -45,4 +45,11 @@ pub trait TestQueue: Drop + Send + Sync {
     fn dequeue(&self, ask: AskDeq) -> AnsweredDeq
         ensures question { result.question ≡ ask }
         ensures allowed { may self.now ask result.answer };
+
+    /// Puts a value last before a run, and tells whether it did: false where the queue is full or has no memory for it.
+    ///
+    /// It is no operation: it is asked by no question, recorded nowhere, and not counted among the calls by which some of the
+    /// built-in queues break the order. It may wait as `enqueue` may. That the value is there afterwards is the queue's own
+    /// affair, as everything that it holds; a queue that holds nothing answers true.
+    fn preload(&self, value: u64) -> bool;
 }

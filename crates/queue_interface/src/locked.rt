@@ -17,6 +17,11 @@ pub trait ValueList: Drop + Send {
     /// Takes a value in, and tells whether it did. False for want of memory.
     fn put(&mut self, value: u64) -> bool;
 
+    /// The same before a run, as no call that is counted.
+    fn preload(&mut self, value: u64) -> bool {
+        self.put(value)
+    }
+
     /// Gives a value out, or none.
     fn take(&mut self) -> Option<u64>;
 }
@@ -51,6 +56,10 @@ impl<L: ValueList, R: Wait + Drop + Send + Sync> TestQueue for Locked<L, R> {
     fn dequeue(&self, ask: AskDeq) -> AnsweredDeq {
         let got = self.list.lock(&self.rt).take();
         dequeued(ask, got)
+    }
+
+    fn preload(&self, value: u64) -> bool {
+        self.list.lock(&self.rt).preload(value)
     }
 }
 

@@ -54,7 +54,7 @@ impl ScriptQueue {
 }
 
 impl TestQueue for ScriptQueue {
-    ghost use Rattle.std.specs.Prelude.{◌≡◌};
+    ghost use Rattle.std.specs.Prelude.{◌≡◌, true};
     ghost use Rattle.queue_interface.specs.Answers.{scripted};
 
     ghost may = { λ script question answer. answer ≡ scripted script question };
@@ -71,5 +71,11 @@ impl TestQueue for ScriptQueue {
             Some(Entry::Got(value)) => ask.got(value),
             _ => ask.empty(),
         }
+    }
+
+    fn preload(&self, _value: u64) -> bool
+        ensures ignored { result ≡ true }
+    {
+        true
     }
 }

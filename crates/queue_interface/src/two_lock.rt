@@ -46,4 +46,8 @@ impl<R: Wait + Drop + Send + Sync> TestQueue for TwoLockQueue<R> {
         }
         dequeued(ask, outbox.pop_front())
     }
+
+    fn preload(&self, value: u64) -> bool {
+        self.inbox.lock(&self.rt).push_back(value).is_ok()
+    }
 }

@@ -24,6 +24,17 @@ impl<R: Wait + Drop> SizedApart<R> {
     }
 }
 
+impl<R: Wait + Drop> SizedApart<R> {
+    /// Puts a value last, and counts it where there was memory for it.
+    fn put(&self, value: u64) -> bool {
+        let taken = self.values.lock(&self.rt).push_back(value).is_ok();
+        if taken {
+            self.size.fetch_add(1, Ordering::SeqCst);
+        }
+        taken
+    }
+}
+
 impl<R: Wait + Drop + Send + Sync> TestQueue for SizedApart<R> {
     ghost use Rattle.queue_interface.specs.Answers.{AnswersInKind};
 
@@ -31,9 +42,7 @@ impl<R: Wait + Drop + Send + Sync> TestQueue for SizedApart<R> {
     ghost may = { λ _. AnswersInKind };
 
     fn enqueue(&self, ask: AskEnq) -> AnsweredEnq {
-        let taken = self.values.lock(&self.rt).push_back(ask.value()).is_ok();
-        if taken {
-            self.size.fetch_add(1, Ordering::SeqCst);
+        if self.put(ask.value()) {
             ask.taken()
         } else {
             ask.not_taken()
@@ -52,5 +61,9 @@ impl<R: Wait + Drop + Send + Sync> TestQueue for SizedApart<R> {
             }
             None => ask.empty(),
         }
+    }
+
+    fn preload(&self, value: u64) -> bool {
+        self.put(value)
     }
 }

@@ -32,16 +32,16 @@ accept_answer (Enqueue value) items = refl
 accept_answer Dequeue [] = refl
 accept_answer Dequeue (first ∷ rest) = rw (same_number first) refl
 
-one_effect : (setting : Setting) (o : Option Question) (steps : List Step) → accept_all [] (effect_kinds setting steps) ≡ Some (queue setting steps) →
-    accept_all [] (with_last (effect_kinds setting steps) (option_map
+one_effect : (setting : Setting) (o : Option Question) (steps : List Step) → accept_all setting.initial (effect_kinds setting steps) ≡ Some (queue setting steps) →
+    accept_all setting.initial (with_last (effect_kinds setting steps) (option_map
     (λ (asked : Question). kind_told asked (option_map_or (λ (a : Question). queue_answer a (queue setting steps)) o NoValue)) o)) ≡ Some
     (option_map_or (λ (asked : Question). queue_after asked (queue setting steps)) o (queue setting steps))
 one_effect setting None steps h = h
-one_effect setting (Some asked) steps h = accept_more [] (effect_kinds setting steps) _ (queue setting steps)
+one_effect setting (Some asked) steps h = accept_more setting.initial (effect_kinds setting steps) _ (queue setting steps)
     (queue_after asked (queue setting steps)) h (accept_answer asked (queue setting steps))
 
--- the effects are accepted from the empty queue, and leave the queue of the schedule
-pub effects_accepted : (setting : Setting) (steps : List Step) → accept_all [] (effect_kinds setting steps) ≡ Some (queue setting steps)
+-- the effects are accepted from the initial values on, and leave the queue of the schedule
+pub effects_accepted : (setting : Setting) (steps : List Step) → accept_all setting.initial (effect_kinds setting steps) ≡ Some (queue setting steps)
 effects_accepted setting [] = refl
 effects_accepted setting (Effect t ∷ before) = one_effect setting (question t before) before (effects_accepted setting before)
 effects_accepted setting (AskEnq t ∷ before) = effects_accepted setting before

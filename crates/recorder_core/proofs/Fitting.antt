@@ -10,16 +10,18 @@ use Rattle.std.proofs.lemmas.Option.{slice_get_within, slice_get_read, same_Some
 use Rattle.event_records.specs.declared.event.Event.{Event}
 use Rattle.event_records.specs.declared.event.What.{What}
 use Rattle.event_records.specs.declared.event.What.TheVariants.{CallEnq}
-use Rattle.event_records.specs.declared.limits.TheConstants.{MAX_EVENTS, MAX_OPERATIONS}
+use Rattle.event_records.specs.declared.limits.TheConstants.{MAX_EVENTS, MAX_OPERATIONS, LEAST_INITIAL_NAME}
 use Rattle.event_records.specs.Projection.{projection}
 use Rattle.event_records.specs.Question.{value_name}
 use Rattle.event_records.specs.Turns.{TakesTurns, TicketsRise, is_call}
-use Rattle.history_merge.specs.Complete.{IsCompleteHistory, called_value}
+use Rattle.history_merge.specs.Complete.{IsCompleteHistory, called_value, called_values}
+use Rattle.history_merge.specs.Initial.{IsCompleteFrom}
 use Rattle.history_merge.specs.Merge.{IsMerged}
 use Rattle.event_records.specs.declared.limits.TheConstants.{MAX_THREADS}
+use Rattle.recorder_core.specs.Initial.{AreInitialNames}
 use Rattle.recorder_core.specs.Replay.{IsListOf, AreRecorded}
 use Rattle.recorder_core.proofs.Members.{Below, contains_filter, filter_contains, contains_joined, joined_contains, contains_map, contains_range}
-use Rattle.recorder_core.proofs.Members.{nil_from_none, pairs_filter, pairs_filter_map, rising_unique}
+use Rattle.recorder_core.proofs.Members.{nil_from_none, pairs_append, pairs_filter, pairs_filter_map, filter_map_contains, rising_unique}
 use Rattle.recorder_core.proofs.Blocks.{Once, once_apart, once_permutation, once_map, once_range}
 use Rattle.history_merge.proofs.Turns.{answer_is_return}
 
@@ -152,6 +154,20 @@ module _ (lists : List (List Event)) (merged : List Event) (fit : AreFit lists) 
     threads_in_range = λ k d within. omega (arith, low_thread (get_or merged k d) (Contains-get_or merged k d within));
     threads_take_turns = λ t. takes_turns t (slice_get lists t) refl;
     values_are_distinct = pairs_filter_map Below (λ v w. v ≢ w) (λ e. called_value e.what) merged distinct rises;
+  }
+
+  -- the names of the threads' values lie below those of initial values
+  low_name : (v : ℕ) → Contains (called_values merged) v → v < LEAST_INITIAL_NAME
+  low_name v called =
+      let m = filter_map_contains (λ (e : Event). called_value e.what) merged v called in
+      let n = named m.0 v m.1 m.2 in
+      omega (arith, low_thread m.0 m.1, n.4, n.5)
+
+  pub merged_is_complete_from : (initial : List ℕ) → AreInitialNames initial → IsCompleteFrom initial merged
+  merged_is_complete_from initial names = record {
+    complete = merged_is_complete;
+    values_are_distinct = pairs_append (λ v w. v ≢ w) initial (called_values merged) names.are_distinct merged_is_complete.values_are_distinct
+        (λ v w first called same. omega (arith, All-contains (λ x. LEAST_INITIAL_NAME ≤ x) initial v names.above_names first, low_name w called, same));
   }
 
 -- what is merged of lists that fit is few

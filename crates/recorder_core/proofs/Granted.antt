@@ -1,5 +1,5 @@
 -- Steps that are accepted one after the other.
-use Rattle.std.proofs.Common.{◌≡◌, ℕ, ◌+◌, ◌-◌, ◌<◌, ◌≤◌, false, ◌||◌, List, ◌∷◌, ◌++◌, map, None, refl, ◌∙◌, ap, subst, arith, leb}
+use Rattle.std.proofs.Common.{◌≡◌, ℕ, ◌+◌, ◌<◌, ◌≤◌, false, ◌||◌, List, ◌∷◌, ◌++◌, map, None, refl, ◌∙◌, ap, subst, arith, leb}
 use Rattle.std.specs.Prelude.{All}
 use Rattle.std.proofs.lemmas.Bool.{ne_eqb, lt-leb, le-ltb}
 use Rattle.event_records.specs.declared.event.Event.{Event}

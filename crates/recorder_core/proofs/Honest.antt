@@ -17,9 +17,8 @@ use Rattle.history_merge.specs.Operations.{kind_of}
 use Rattle.recorder_core.specs.declared.step.Step.{Step}
 use Rattle.recorder_core.specs.declared.step.Step.TheVariants.{AskEnq, AskDeq, Push, Effect, Say, Ret, Drain, Close}
 use Rattle.recorder_core.specs.declared.step.Answer.{Answer}
-use Rattle.recorder_core.specs.declared.step.Answer.TheVariants.{Taken, Not, Got, Empty}
+use Rattle.recorder_core.specs.declared.step.Answer.TheVariants.{Empty}
 use Rattle.recorder_core.specs.declared.pending.Question.{Question}
-use Rattle.recorder_core.specs.declared.pending.Question.TheVariants.{Enqueue, Dequeue}
 use Rattle.recorder_core.specs.Inner.Asked.{call_of}
 use Rattle.recorder_core.specs.Setting.{Setting}
 use Rattle.recorder_core.specs.Schedule.{Attempt, refusal, accepted, answers, returns, tickets, question, answered, effect_answer, events, is_wrong}

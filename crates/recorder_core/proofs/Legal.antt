@@ -13,7 +13,7 @@ use Rattle.event_records.specs.declared.event.Event.{Event}
 use Rattle.event_records.specs.Projection.{projection}
 use Rattle.history_merge.specs.declared.operation.Operation.{Operation}
 use Rattle.history_merge.specs.declared.operation.OpKind.{OpKind}
-use Rattle.history_merge.specs.Legal.{IsLegalOrder}
+use Rattle.history_merge.specs.Legal.{IsLegalOrderFrom}
 use Rattle.history_merge.specs.Merge.{IsMerged}
 use Rattle.history_merge.specs.Operations.{Precedes, operations_of, operation_of, kind_of}
 use Rattle.history_merge.specs.Queue.{IsAccepted}
@@ -165,7 +165,7 @@ module _ (setting : Setting) (schedule : List Attempt) (merged : List Event) (fe
       ∙ kinds_kept did (taken setting steps) (λ x among. let e = effect_did x among in (e.0, e.1, e.2))
       ∙ (honestly_taken setting schedule honest).kinds_are
 
-  accepted_in_turn : IsAccepted [] (map (λ o. o.kind) (effects_order setting steps))
+  accepted_in_turn : IsAccepted setting.initial (map (λ o. o.kind) (effects_order setting steps))
   accepted_in_turn = rw (kinds, effects_accepted setting steps) refl
 
   -- the operations of each thread are those of its effects
@@ -196,5 +196,5 @@ module _ (setting : Setting) (schedule : List Attempt) (merged : List Event) (fe
       let c = IsPermutation-sym _ _ (effects_by_thread setting (operation_at setting steps) schedule honest) in
       IsPermutation-trans _ _ _ a (IsPermutation-trans _ _ _ b c)
 
-  pub effects_order_is_legal : IsLegalOrder (operations_of merged) (effects_order setting steps)
+  pub effects_order_is_legal : IsLegalOrderFrom setting.initial (operations_of merged) (effects_order setting steps)
   effects_order_is_legal = record { holds_each_once = each_once; extends_precedence = in_precedence; is_accepted = accepted_in_turn }

@@ -1,5 +1,5 @@
 -- The way of the argument, from steps to what is collected:
--- Members, Blocks: lists by what they contain, and lists made of one block for each thread.
+-- Members, Blocks, Naming: lists by what they contain, lists made of one block for each thread, and values that are distinct.
 -- Steps, Starting, Threads: what each step does to what a machine holds.
 -- Runs, Granted: induction over the accepted steps of a schedule.
 -- Counts, Totals, Events, Closing, Finished: what any schedule leaves: counts, events in order, closed threads, a machine that is done.
@@ -19,6 +19,7 @@ pub mod Finished
 pub mod Precedence
 pub mod Effects
 pub mod Members
+pub mod Naming
 pub mod Blocks
 pub mod Fitting
 pub mod Events

@@ -201,6 +201,19 @@ in_range a (suc n) v above below = elim (cases_eq a v) [
   | inr other ↦ contains_tail a (range_with_len (a + 1) n) v (in_range (a + 1) n v (omega arith) (omega arith))
 ]
 
+-- what holds of all pairs of each of two lists, and of one item of the first and one of the second, holds of all pairs of both
+pub pairs_append : {X : Type 0} (R : X → X → Type 0) (xs ys : List X) → AllPairs R xs → AllPairs R ys
+    → ((x y : X) → Contains xs x → Contains ys y → R x y) → AllPairs R (xs ++ ys)
+pairs_append R [] ys own more across = more
+pairs_append {X} R (x ∷ xs) ys own more across =
+    pairs_cons R x (xs ++ ys) first (pairs_append R xs ys (pairs_tail R x xs own) more (λ z y here. across z y (contains_tail x xs z here)))
+  where
+    first : (y : X) → Contains (xs ++ ys) y → R x y
+    first y among = elim (Contains-append_cases xs ys y among) [
+      | inl here ↦ pairs_first R x xs y own here
+      | inr there ↦ across x y (contains_head x xs) there
+    ]
+
 -- what holds of all pairs of two lists holds of all of the second
 pub pairs_suffix : {X : Type 0} (R : X → X → Type 0) (xs ys : List X) → AllPairs R (xs ++ ys) → AllPairs R ys
 pairs_suffix R [] ys pairs = pairs

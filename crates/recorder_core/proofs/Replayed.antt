@@ -16,7 +16,7 @@ use Rattle.recorder_core.specs.declared.step.Step.TheVariants.{Close}
 use Rattle.recorder_core.specs.Setting.{Setting}
 use Rattle.recorder_core.specs.Schedule.{Attempt, asks, returns, pushes, drained, events, is_closed}
 use Rattle.recorder_core.specs.Laws.{collected_in}
-use Rattle.recorder_core.specs.Replay.{Replays, is_effect}
+use Rattle.recorder_core.specs.Replay.{Replays, is_effect, setting_for}
 use Rattle.recorder_core.proofs.Members.{contains_joined, contains_map, contains_range, nil_from_none}
 use Rattle.recorder_core.proofs.Fitting.{AreFit}
 use Rattle.recorder_core.proofs.Granted.{AllGranted, granted_attempt, one_granted, granted_recorded, close_granted}
@@ -30,9 +30,9 @@ pub record IsCollected (setting : Setting) (t : ℕ) (list : List Event) (steps 
   pub none_pending : asks t steps ≤ returns t steps
   pub events_are : events setting t steps ≡ list
 
-module _ (lists : List (List Event)) (fit : AreFit lists) (ring : ℕ) (room : 1 ≤ ring) where
+module _ (lists : List (List Event)) (fit : AreFit lists) (ring : ℕ) (initial : List ℕ) (room : 1 ≤ ring) where
   abbrev on : Setting
-  on = record { threads = length lists; ring = ring }
+  on = setting_for ring initial lists
 
   abbrev all : List Event
   all = flat_map (λ (list : List Event). list) lists
@@ -45,8 +45,8 @@ module _ (lists : List (List Event)) (fit : AreFit lists) (ring : ℕ) (room : 1
     pub closed_are : (t : ℕ) → t < length lists → is_closed t steps ≡ ltb t j
     pub each : (t : ℕ) (list : List Event) → slice_get lists t ≡ Some list → IsCollected on t list steps
 
-  whole : IsReplayed lists fit ring room (length all)
-  whole = replayed lists fit ring room (length all) (omega arith)
+  whole : IsReplayed lists fit ring initial room (length all)
+  whole = replayed lists fit ring initial room (length all) (omega arith)
 
   low : (t : ℕ) (list : List Event) (e : Event) → slice_get lists t ≡ Some list → Contains list e → e.ticket < length all
   low t list e at among =
@@ -134,7 +134,7 @@ module _ (lists : List (List Event)) (fit : AreFit lists) (ring : ℕ) (room : 1
   silent_attempts [] = refl
   silent_attempts (step ∷ steps) = ap (λ (b : Bool). not (is_effect step) && b) (silent_attempts steps)
 
-  pub lists_replay : Replays ring lists
+  pub lists_replay : Replays ring initial lists
   lists_replay =
       let end = closed (length lists) (omega arith) in
       let schedule = map granted_attempt end.steps in

@@ -20,7 +20,7 @@ use Rattle.recorder_core.specs.declared.step.Answer.{Answer}
 use Rattle.recorder_core.specs.Inner.Asked.{ask_of, asked_for, call_of}
 use Rattle.recorder_core.specs.Setting.{Setting}
 use Rattle.recorder_core.specs.Schedule.{asks, answers, returns, pushes, drained, tickets, question, events, is_closed, is_wrong, return_of}
-use Rattle.recorder_core.specs.Replay.{is_effect}
+use Rattle.recorder_core.specs.Replay.{is_effect, setting_for}
 use Rattle.recorder_core.proofs.Runs.{same_number, MayAsk}
 use Rattle.recorder_core.proofs.Totals.{total, total_doubled_less}
 use Rattle.recorder_core.proofs.Members.{Below, pairs_first, pairs_suffix, contains_joined, joined_contains, map_contains, in_range, all_from_members}
@@ -117,9 +117,9 @@ module _ (setting : Setting) (n u : ℕ) (list : List Event) (steps : List Step)
 
 -- ---- the schedule, ticket by ticket
 
-module _ (lists : List (List Event)) (fit : AreFit lists) (ring : ℕ) (room : 1 ≤ ring) where
+module _ (lists : List (List Event)) (fit : AreFit lists) (ring : ℕ) (initial : List ℕ) (room : 1 ≤ ring) where
   abbrev on : Setting
-  on = record { threads = length lists; ring = ring }
+  on = setting_for ring initial lists
 
   abbrev all : List Event
   all = flat_map (λ (list : List Event). list) lists

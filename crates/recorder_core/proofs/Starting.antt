@@ -14,7 +14,7 @@ untouched = record { closed = false; asked = 0; pending = None; held = None; rin
 -- a machine of untouched threads is that of no step
 pub starts : (setting : Setting) (threads : List ThreadView) → length threads ≡ setting.threads
     → ((k : ℕ) → k < setting.threads → slice_get threads k ≡ Some untouched)
-    → IsLeftBy setting (record { capacity = setting.ring; threads = threads; asked = 0; next_ticket = 0; queue = [] }) []
+    → IsLeftBy setting (record { capacity = setting.ring; threads = threads; asked = 0; next_ticket = 0; queue = setting.initial }) []
 starts setting threads many each = record { threads = many; capacity = refl; each = each; asked = refl; next_ticket = refl; queue_is = refl }
 
 -- what stands in front stays there

@@ -1,4 +1,5 @@
 pub mod Setting
+pub mod Initial
 pub mod View
 pub mod Schedule
 pub mod After

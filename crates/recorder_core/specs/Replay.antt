@@ -58,13 +58,17 @@ pub record AreRecorded (lists : List (List Event)) : Type 0 where
   pub tickets : let all = flat_map (λ list. list) lists in IsPermutation (map (λ event. event.ticket) all) (range_with_len 0 (length all))
   pub not_too_long : length (flat_map (λ list. list) lists) ≤ 2 * MAX_OPERATIONS
 
--- some schedule without effects, each of whose steps is accepted, is done and collects these lists
-pub record Replays (ring : ℕ) (lists : List (List Event)) : Type 0 where
+-- one thread for each list, rings of this capacity, and a queue that holds these values first
+abbrev pub setting_for : ℕ → List ℕ → List (List Event) → Setting
+setting_for ring initial lists = record { threads = length lists; ring = ring; initial = initial }
+
+-- on this setting some schedule without effects, each of whose steps is accepted, is done and collects these lists
+pub record Replays (ring : ℕ) (initial : List ℕ) (lists : List (List Event)) : Type 0 where
   pub schedule : List Attempt
   pub without_effects : IsTrue (list_all (λ attempt. not (is_effect attempt.step)) schedule)
-  pub all_accepted : accepted (record { threads = length lists; ring = ring }) schedule ≡ map (λ attempt. attempt.step) schedule
-  pub is_done : IsDone (record { threads = length lists; ring = ring }) schedule
-  pub collects : collected_lists (record { threads = length lists; ring = ring }) schedule ≡ lists
+  pub all_accepted : accepted (setting_for ring initial lists) schedule ≡ map (λ attempt. attempt.step) schedule
+  pub is_done : IsDone (setting_for ring initial lists) schedule
+  pub collects : collected_lists (setting_for ring initial lists) schedule ≡ lists
 
 -- ---- effects
 

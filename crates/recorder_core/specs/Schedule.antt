@@ -134,9 +134,9 @@ abbrev pub queue_after : Question → List ℕ → List ℕ
 queue_after (Enqueue value) queue = queue ++ value ∷ []
 queue_after Dequeue queue = drop 1 queue
 
--- the sequential queue after the effects among these steps
+-- the sequential queue, which holds the initial values first, after the effects among these steps
 abbrev pub queue : Setting → List Step → List ℕ
-queue setting [] = []
+queue setting [] = setting.initial
 queue setting (Effect u ∷ before) =
     option_map_or (λ asked. queue_after asked (queue setting before)) (question u before) (queue setting before)
 queue setting (_ ∷ before) = queue setting before

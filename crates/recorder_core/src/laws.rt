@@ -4,11 +4,13 @@ ghost use Rattle.std.specs.Prelude.{◌≡◌, ℕ, ◌<◌, ◌≤◌, ◌++◌
 ghost use Rattle.event_records.specs.declared.limits.TheConstants.{MAX_EVENTS};
 ghost use Rattle.event_records.specs.declared.event.Event.{Event};
 ghost use Rattle.history_merge.specs.declared.operation.Operation.{Operation};
-ghost use Rattle.history_merge.specs.Legal.{IsLegalOrder};
+ghost use Rattle.history_merge.specs.Initial.{IsCompleteFrom};
+ghost use Rattle.history_merge.specs.Legal.{IsLegalOrderFrom};
 ghost use Rattle.history_merge.specs.Operations.{Precedes, operations_of};
 ghost use Rattle.history_merge.specs.Queue.{accept_all};
 ghost use Rattle.recorder_core.specs.declared.step.Step.TheVariants.{Close};
 ghost use Rattle.recorder_core.specs.declared.step.StepRefused.TheVariants.{Closed};
+ghost use Rattle.recorder_core.specs.Initial.{AreInitialNames};
 ghost use Rattle.recorder_core.specs.Setting.{Setting};
 ghost use Rattle.recorder_core.specs.Schedule.{Attempt, accepted, refusal, answer_to, thread_of, queue};
 ghost use Rattle.recorder_core.specs.Laws.{IsPrefix, events_in, collected_in, IsDone, NeedsOpenThread, ReturnsBeforeAsk, StandsBefore, collected_lists};
@@ -48,23 +50,25 @@ pub fn precedence_as_ticketed()
         → (first.ticket < second.ticket) ↔ StandsBefore setting schedule first second }
 {}
 
-/// The sequential queue accepts the effects in their order, from the empty queue on, and is then the schedule's.
+/// The sequential queue accepts the effects in their order, from the initial values on, and is then the schedule's.
 pub fn effects_are_accepted()
     ensures { (setting : Setting) (schedule : List Attempt)
-        → accept_all [] (effect_kinds setting (accepted setting schedule)) ≡ Some (queue setting (accepted setting schedule)) }
+        → accept_all setting.initial (effect_kinds setting (accepted setting schedule)) ≡ Some (queue setting (accepted setting schedule)) }
 {}
 
-/// Recorded lists replay: for every capacity of the rings, some schedule without effects, each of whose steps is accepted, is
-/// done and collects them.
+/// Recorded lists replay: for every capacity of the rings, and whatever the queue holds first, some schedule without effects,
+/// each of whose steps is accepted, is done and collects them.
 pub fn recorded_lists_replay()
-    ensures { (lists : List (List Event)) (ring : ℕ)
-        → AreRecorded lists → MIN_RING ≤ ring → ring ≤ MAX_RING → Replays ring lists }
+    ensures { (lists : List (List Event)) (ring : ℕ) (initial : List ℕ)
+        → AreRecorded lists → MIN_RING ≤ ring → ring ≤ MAX_RING → Replays ring initial lists }
 {}
 
-/// Recorded lists merge to a complete history, of no more events than a history may have.
+/// Recorded lists merge to a complete history, of no more events than a history may have. No call enqueues an initial value.
 pub fn recorded_lists_are_complete()
     ensures complete { (lists : List (List Event)) (merged : List Event)
         → AreRecorded lists → IsMerged lists merged → IsCompleteHistory merged }
+    ensures from_initial { (lists : List (List Event)) (merged : List Event) (initial : List ℕ)
+        → AreRecorded lists → IsMerged lists merged → AreInitialNames initial → IsCompleteFrom initial merged }
     ensures few { (lists : List (List Event)) (merged : List Event)
         → AreRecorded lists → IsMerged lists merged → length merged ≤ MAX_EVENTS }
 {}
@@ -74,16 +78,19 @@ pub fn done_schedules_are_complete()
     ensures complete { (setting : Setting) (schedule : List Attempt) (merged : List Event)
         → setting.threads ≤ MAX_THREADS → IsDone setting schedule → IsMerged (collected_lists setting schedule) merged
         → IsCompleteHistory merged }
+    ensures from_initial { (setting : Setting) (schedule : List Attempt) (merged : List Event)
+        → setting.threads ≤ MAX_THREADS → AreInitialNames setting.initial → IsDone setting schedule
+        → IsMerged (collected_lists setting schedule) merged → IsCompleteFrom setting.initial merged }
     ensures few { (setting : Setting) (schedule : List Attempt) (merged : List Event)
         → setting.threads ≤ MAX_THREADS → IsDone setting schedule → IsMerged (collected_lists setting schedule) merged
         → length merged ≤ MAX_EVENTS }
 {}
 
-/// The order of the effects of an honest schedule that is done is a legal order of the collected history, which is therefore
-/// linearizable.
+/// The order of the effects of an honest schedule that is done is a legal order of the collected history from the initial
+/// values, from which it is therefore linearizable.
 pub fn honest_schedules_are_legal()
     ensures { (setting : Setting) (schedule : List Attempt) (merged : List Event)
         → setting.threads ≤ MAX_THREADS → IsHonest setting schedule → IsDone setting schedule
         → IsMerged (collected_lists setting schedule) merged
-        → IsLegalOrder (operations_of merged) (effects_order setting (accepted setting schedule)) }
+        → IsLegalOrderFrom setting.initial (operations_of merged) (effects_order setting (accepted setting schedule)) }
 {}

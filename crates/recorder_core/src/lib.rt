@@ -5,13 +5,15 @@
 //! `specs/Schedule.antt`, without rings and without states, and the functions of `laws` say what holds of every list.
 #![tactic(auto)]
 
+mod initial;
 mod laws;
 mod machine;
 mod pending;
 mod step;
 mod thread;
 
-pub use event_records::{MAX_RING, MAX_THREADS, MIN_RING};
+pub use event_records::{LEAST_INITIAL_NAME, MAX_INITIAL, MAX_RING, MAX_THREADS, MIN_RING};
+pub use initial::are_initial_names;
 pub use laws::{
     collected_is_a_prefix, done_collects_all, done_schedules_are_complete, effects_are_accepted,
     honest_schedules_are_legal, nothing_after_close, precedence_as_ticketed,

@@ -57,16 +57,35 @@ impl Model for Machine {
 
 impl Machine {
     ghost use Rattle.recorder_core.specs.After.{IsAfter, attempt_at};
+    ghost use Rattle.recorder_core.specs.Initial.{AreInitialNames};
     ghost use Rattle.recorder_core.specs.Inner.After.{TakesStep};
     ghost use Rattle.recorder_core.specs.Laws.{collected_in, IsDone};
 
-    /// A machine that nothing has happened to, with threads 0, 1, 2 and so on, each with a ring of this capacity.
+    /// A machine that nothing has happened to, with threads 0, 1, 2 and so on, each with a ring of this capacity. Its
+    /// sequential queue is empty.
     ///
     /// Rings take memory as they are filled, and not here.
     pub fn new(alloc: Global, threads: usize, ring: usize) -> Result<Machine, AllocError>
         requires threads { (1 ≤ threads) × (threads ≤ MAX_THREADS) }
         requires ring { (MIN_RING ≤ ring) × (ring ≤ MAX_RING) }
-        ensures { IfOk result (λ machine. IsAfter (record { threads = threads; ring = ring }) machine []) }
+        ensures { IfOk result (λ machine. IsAfter (record { threads = threads; ring = ring; initial = [] }) machine []) }
+    {
+        Machine::with_initial(alloc, threads, ring, Vec::new(alloc))
+    }
+
+    /// The same with a sequential queue that holds these values first, the front one foremost. They lie above the names of the
+    /// threads' own values, so no operation enqueues one of them. [`are_initial_names`](crate::are_initial_names) tests whether
+    /// values may stand here.
+    pub fn with_initial(
+        alloc: Global,
+        threads: usize,
+        ring: usize,
+        initial: Vec<u64>,
+    ) -> Result<Machine, AllocError>
+        requires threads { (1 ≤ threads) × (threads ≤ MAX_THREADS) }
+        requires ring { (MIN_RING ≤ ring) × (ring ≤ MAX_RING) }
+        requires initial { AreInitialNames initial.items }
+        ensures { IfOk result (λ machine. IsAfter (record { threads = threads; ring = ring; initial = initial.items }) machine []) }
     {
         let mut list = Vec::with_capacity(alloc, threads)?;
         for _ in 0..threads {
@@ -77,7 +96,7 @@ impl Machine {
             threads: list,
             asked: 0,
             next_ticket: 0,
-            queue: VecDeque::new(alloc),
+            queue: VecDeque::from(initial),
         })
     }
 

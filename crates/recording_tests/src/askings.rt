@@ -55,6 +55,10 @@ impl TestQueue for CountingQueue {
         self.count(ask.number());
         ask.empty()
     }
+
+    fn preload(&self, _value: u64) -> bool {
+        true
+    }
 }
 
 // Whether the queue is asked once where the second operation of a worker, of this kind, finds no room for its call.

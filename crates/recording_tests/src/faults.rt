@@ -3,7 +3,7 @@ use stress_run::{RunFault, least_fault};
 
 #[test]
 fn the_least_fault_is_answered(rt: HostRuntime) -> Result<(), Fail> {
-    let cases: [(&[RunFault], Option<RunFault>); 4] = [
+    let cases: [(&[RunFault], Option<RunFault>); 6] = [
         (
             &[RunFault::CloseLost(0), RunFault::Stalled(1)],
             Some(RunFault::Stalled(1)),
@@ -16,6 +16,14 @@ fn the_least_fault_is_answered(rt: HostRuntime) -> Result<(), Fail> {
             &[RunFault::Stalled(3), RunFault::Stalled(1)],
             Some(RunFault::Stalled(1)),
         ),
+        (
+            &[RunFault::Preload(0), RunFault::Uncertified(1)],
+            Some(RunFault::Uncertified(1)),
+        ),
+        (
+            &[RunFault::Preload(2), RunFault::Preload(1)],
+            Some(RunFault::Preload(1)),
+        ),
         (&[], None),
     ];
     for (faults, least) in cases {
@@ -25,7 +33,7 @@ fn the_least_fault_is_answered(rt: HostRuntime) -> Result<(), Fail> {
 }
 
 #[test]
-fn a_fault_tells_its_thread(rt: HostRuntime) -> Result<(), Fail> {
+fn a_fault_tells_its_thread_or_place(rt: HostRuntime) -> Result<(), Fail> {
     let alloc = rt.alloc();
     assert_eq!(rt;
         format!(in alloc; "{}", RunFault::Memory)?.as_str(),
@@ -34,6 +42,10 @@ fn a_fault_tells_its_thread(rt: HostRuntime) -> Result<(), Fail> {
     assert_eq!(rt;
         format!(in alloc; "{}", RunFault::Stalled(3))?.as_str(),
         "Stalled 3"
+    );
+    assert_eq!(rt;
+        format!(in alloc; "{}", RunFault::Preload(7))?.as_str(),
+        "Preload 7"
     );
     Ok(())
 }

@@ -9,7 +9,7 @@ use tickets::Tickets;
 const MANY: u64 = 1_000_000;
 
 // Asks a queue to take the first value of this thread.
-fn put(alloc: Global, queue: &dyn TestQueue, thread: u8) -> Result<What, Fail> {
+pub(crate) fn put(alloc: Global, queue: &dyn TestQueue, thread: u8) -> Result<What, Fail> {
     let (tickets, mut pass) = Tickets::new(alloc, 2)?;
     let mut namer = Namer::new(ThreadNo::new(thread).ok_or("thread")?);
     let (ask, _) = namer.ask_enq(pass.draw(&tickets));
@@ -18,7 +18,7 @@ fn put(alloc: Global, queue: &dyn TestQueue, thread: u8) -> Result<What, Fail> {
 }
 
 // Asks a queue for a value.
-fn take(alloc: Global, queue: &dyn TestQueue) -> Result<What, Fail> {
+pub(crate) fn take(alloc: Global, queue: &dyn TestQueue) -> Result<What, Fail> {
     let (tickets, mut pass) = Tickets::new(alloc, 2)?;
     let mut namer = Namer::new(ThreadNo::new(0).ok_or("thread")?);
     let (ask, _) = namer.ask_deq(pass.draw(&tickets));

@@ -13,6 +13,8 @@ mod faults;
 #[cfg(test)]
 mod filled;
 #[cfg(test)]
+mod initial;
+#[cfg(test)]
 mod listed;
 #[cfg(test)]
 mod machine;

@@ -27,7 +27,7 @@ fn taken_out<L: ValueList>(
 }
 
 // Asks a queue to dequeue, as the first operation of this thread.
-fn ask_first(alloc: Global, queue: &dyn TestQueue, thread: u8) -> Result<(), Fail> {
+pub(crate) fn ask_first(alloc: Global, queue: &dyn TestQueue, thread: u8) -> Result<(), Fail> {
     let (tickets, mut pass) = Tickets::new(alloc, 1)?;
     let mut namer = Namer::new(ThreadNo::new(thread).ok_or("thread")?);
     let (ask, _) = namer.ask_deq(pass.draw(&tickets));

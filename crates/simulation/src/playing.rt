@@ -38,7 +38,8 @@ pub struct Simulation {
     pub ending: Ending,
 }
 
-/// Plays a schedule: its steps one after another, on a new machine with this many threads and rings of this capacity.
+/// Plays a schedule: its steps one after another, on a new machine with this many threads, rings of this capacity and an empty
+/// queue.
 ///
 /// A refused step changes nothing, and the next one is tried. Want of memory, also that of a step, is the one error; without
 /// it no growth was refused. Time and memory grow in proportion to the steps and to what they collect.
@@ -50,8 +51,8 @@ pub fn simulate(
 ) -> Result<Simulation, AllocError>
     requires threads { (1 ≤ threads) × (threads ≤ MAX_THREADS) }
     requires ring { (MIN_RING ≤ ring) × (ring ≤ MAX_RING) }
-    ensures rejections { IfOk result (λ played. played.rejections ≡ rejections (record { threads = threads; ring = ring }) (schedule_of steps.now)) }
-    ensures ending { IfOk result (λ played. EndsSo (record { threads = threads; ring = ring }) (schedule_of steps.now) played.ending) }
+    ensures rejections { IfOk result (λ played. played.rejections ≡ rejections (record { threads = threads; ring = ring; initial = [] }) (schedule_of steps.now)) }
+    ensures ending { IfOk result (λ played. EndsSo (record { threads = threads; ring = ring; initial = [] }) (schedule_of steps.now) played.ending) }
 {
     let mut machine = Machine::new(alloc, threads, ring)?;
     let rejections = take_all(alloc, &mut machine, steps)?;

@@ -25,7 +25,7 @@ use Rattle.stress_run.specs.Inner.Crew.{AreClosed, Stands, end_of}
 use Rattle.stress_run.specs.Failed.{IsFaultAfter, IsFaultOfRun, Overflows}
 use Rattle.stress_run.specs.Faults.{IsWithinLimits}
 use Rattle.stress_run.specs.declared.faults.RunFault.{RunFault}
-use Rattle.stress_run.specs.declared.faults.RunFault.TheVariants.{Limit, Memory, Stalled, CloseLost, Uncertified}
+use Rattle.stress_run.specs.declared.faults.RunFault.TheVariants.{Limit, Memory, Stalled, CloseLost, Uncertified, Preload}
 use Rattle.stress_run.proofs.Composed.{stays, runs, overflows}
 use Rattle.collector.specs.Ends.{rings_of}
 use Rattle.collector.specs.Inner.Ends.{rings_of_tokens}
@@ -195,21 +195,22 @@ module _ (key : TableId) (sizes : SizesView) (rows : List (List Kind)) (workers 
           let row = ap (λ (n : ℕ). length (get_or rows n [])) same in
           omega (arith, few, room, row)
 
-      pub fault_is : (g : RunFault) → f ≡ g → IsWithinLimits sizes.ring sizes.tries → IsFaultOfRun may rows sizes g
-      fault_is Limit e within = absurd (subst (λ (x : RunFault). IsFaultOfWorker x a) e is)
-      fault_is Memory e within = within
-      fault_is (Stalled t) e within =
+      pub fault_is : (initial : List ℕ) (g : RunFault) → f ≡ g → IsWithinLimits sizes.ring sizes.tries → IsFaultOfRun may initial rows sizes g
+      fault_is initial Limit e within = absurd (subst (λ (x : RunFault). IsFaultOfWorker x a) e is)
+      fault_is initial Memory e within = within
+      fault_is initial (Stalled t) e within =
           let own = subst (λ (x : RunFault). IsFaultOfWorker x a) e is in
           (in_plan t own.1, row_overflows t own.1 own.0, subst (IsFaultAfter may rows sizes) e fault_after)
-      fault_is (CloseLost t) e within =
+      fault_is initial (CloseLost t) e within =
           let own = subst (λ (x : RunFault). IsFaultOfWorker x a) e is in
           (in_plan t own, subst (IsFaultAfter may rows sizes) e fault_after)
-      fault_is (Uncertified t) e within = absurd (subst (λ (x : RunFault). IsFaultOfWorker x a) e is)
+      fault_is initial (Uncertified t) e within = absurd (subst (λ (x : RunFault). IsFaultOfWorker x a) e is)
+      fault_is initial (Preload place) e within = absurd (subst (λ (x : RunFault). IsFaultOfWorker x a) e is)
 
     -- what stands after the workers' rows is a fault of the run
-    pub stands_in_run : (standing : Option RunFault) (f : RunFault) → IsWithinLimits sizes.ring sizes.tries → IfSome standing (λ g. g ≡ Memory)
-        → Stands standing after f → All (IsNotAfterStall f) after → IsFaultOfRun may rows sizes f
-    stands_in_run standing f within memory (inl e) first = subst (IsFaultOfRun may rows sizes) (sym (was standing e memory)) within
+    pub stands_in_run : (initial : List ℕ) (standing : Option RunFault) (f : RunFault) → IsWithinLimits sizes.ring sizes.tries
+        → IfSome standing (λ g. g ≡ Memory) → Stands standing after f → All (IsNotAfterStall f) after → IsFaultOfRun may initial rows sizes f
+    stands_in_run initial standing f within memory (inl e) first = subst (IsFaultOfRun may initial rows sizes) (sym (was standing e memory)) within
       where
         was : (o : Option RunFault) → o ≡ Some f → IfSome o (λ g. g ≡ Memory) → f ≡ Memory
         was None e m = cc
@@ -217,8 +218,8 @@ module _ (key : TableId) (sizes : SizesView) (rows : List (List Kind)) (workers 
           where
             same : (x : RunFault) → Some x ≡ Some f → x ≡ f
             same x p = cc
-    stands_in_run standing f within memory (inr (inl e)) first = subst (IsFaultOfRun may rows sizes) (sym e) within
-    stands_in_run standing f within memory (inr (inr own)) first = fault_is f own.0 own.1 own.2 first f refl within
+    stands_in_run initial standing f within memory (inr (inl e)) first = subst (IsFaultOfRun may initial rows sizes) (sym e) within
+    stands_in_run initial standing f within memory (inr (inr own)) first = fault_is f own.0 own.1 own.2 first initial f refl within
 
     each_same : (ws vs : List WorkerView) → AllZip (WorksIn may rows) ws vs → AllZip (λ w a. (a.ring ≡ w.ring) × (a.thread ≡ w.thread)) ws vs
     each_same [] [] z = tt

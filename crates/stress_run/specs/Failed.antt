@@ -5,11 +5,12 @@ use Rattle.atomic_table.specs.Seated.{TableId}
 use Rattle.event_records.specs.Question.{Question}
 use Rattle.event_records.specs.declared.kind.Kind.{Kind}
 use Rattle.event_records.specs.declared.kind.Answer.{Answer}
+use Rattle.recorder_core.specs.Initial.{AreInitialNames}
 use Rattle.stress_run.specs.Crew.{SizesView, IsCrew, IsFaultOfWorker, IsNotAfterStall}
 use Rattle.stress_run.specs.Faults.{IsWithinLimits}
 use Rattle.stress_run.specs.Workers.{WorkerView, WorksIn}
 use Rattle.stress_run.specs.declared.faults.RunFault.{RunFault}
-use Rattle.stress_run.specs.declared.faults.RunFault.TheVariants.{Limit, Memory, Stalled, CloseLost, Uncertified}
+use Rattle.stress_run.specs.declared.faults.RunFault.TheVariants.{Limit, Memory, Stalled, CloseLost, Uncertified, Preload}
 
 -- new workers for these rows, each of which worked in its row; the fault is one of theirs, and no stall of theirs comes before it
 pub record IsFaultAfter (may : Question → Answer → Type 0) (rows : List (List Kind)) (sizes : SizesView) (fault : RunFault) : Type 0 where
@@ -27,11 +28,13 @@ pub record IsFaultAfter (may : Question → Answer → Type 0) (rows : List (Lis
 abbrev pub Overflows : List (List Kind) → SizesView → ℕ → Type 0
 Overflows rows sizes thread = sizes.ring < 2 * length (slice_index_or rows thread [])
 
--- the fault that a run may answer: `Limit` where its sizes are out of range, `Memory`, or a fault of a worker of the plan after its row; a
--- stall is of a row that has more events than its ring has room for
-abbrev pub IsFaultOfRun : (Question → Answer → Type 0) → List (List Kind) → SizesView → RunFault → Type 0
-IsFaultOfRun may rows sizes Limit = ¬ IsWithinLimits sizes.ring sizes.tries
-IsFaultOfRun may rows sizes Memory = IsWithinLimits sizes.ring sizes.tries
-IsFaultOfRun may rows sizes (Stalled t) = (t < length rows) × Overflows rows sizes t × IsFaultAfter may rows sizes (Stalled t)
-IsFaultOfRun may rows sizes (CloseLost t) = (t < length rows) × IsFaultAfter may rows sizes (CloseLost t)
-IsFaultOfRun may rows sizes (Uncertified t) = ⊥
+-- the fault that a run may answer on a queue that is to hold these values first: `Limit` where its sizes are out of range or the values may
+-- not be initial ones, `Memory`, a fault of a worker of the plan after its row, or the place of one of the values; a stall is of a row that
+-- has more events than its ring has room for
+abbrev pub IsFaultOfRun : (Question → Answer → Type 0) → List ℕ → List (List Kind) → SizesView → RunFault → Type 0
+IsFaultOfRun may initial rows sizes Limit = ¬ (IsWithinLimits sizes.ring sizes.tries × AreInitialNames initial)
+IsFaultOfRun may initial rows sizes Memory = IsWithinLimits sizes.ring sizes.tries
+IsFaultOfRun may initial rows sizes (Stalled t) = (t < length rows) × Overflows rows sizes t × IsFaultAfter may rows sizes (Stalled t)
+IsFaultOfRun may initial rows sizes (CloseLost t) = (t < length rows) × IsFaultAfter may rows sizes (CloseLost t)
+IsFaultOfRun may initial rows sizes (Uncertified t) = ⊥
+IsFaultOfRun may initial rows sizes (Preload place) = place < length initial

@@ -6,7 +6,7 @@ use Rattle.stress_run.specs.declared.TheConstants.{MAX_TRIES}
 use Rattle.collector.specs.declared.rounds.CollectError.{CollectError}
 use Rattle.collector.specs.declared.rounds.CollectError.TheVariants.{Memory as OfMemory, Uncertified as OfToken}
 use Rattle.stress_run.specs.declared.faults.RunFault.{RunFault}
-use Rattle.stress_run.specs.declared.faults.RunFault.TheVariants.{Limit, Memory, Stalled, CloseLost, Uncertified}
+use Rattle.stress_run.specs.declared.faults.RunFault.TheVariants.{Limit, Memory, Stalled, CloseLost, Uncertified, Preload}
 
 -- the name of a fault, as it is printed
 abbrev pub name_of : RunFault → List ℕ
@@ -15,6 +15,7 @@ name_of Memory = codes "Memory"
 name_of (Stalled t) = codes "Stalled"
 name_of (CloseLost t) = codes "CloseLost"
 name_of (Uncertified t) = codes "Uncertified"
+name_of (Preload place) = codes "Preload"
 
 -- the number of a fault
 abbrev pub number_of : RunFault → ℕ
@@ -23,22 +24,24 @@ number_of Memory = 2
 number_of (Stalled t) = 3
 number_of (CloseLost t) = 4
 number_of (Uncertified t) = 5
+number_of (Preload place) = 6
 
--- the thread that a fault names
-abbrev pub thread_in : RunFault → Option ℕ
-thread_in Limit = None
-thread_in Memory = None
-thread_in (Stalled t) = Some t
-thread_in (CloseLost t) = Some t
-thread_in (Uncertified t) = Some t
+-- the thread that a fault names, or the place of an initial value
+abbrev pub place_in : RunFault → Option ℕ
+place_in Limit = None
+place_in Memory = None
+place_in (Stalled t) = Some t
+place_in (CloseLost t) = Some t
+place_in (Uncertified t) = Some t
+place_in (Preload place) = Some place
 
--- the thread that a fault names, or 0
-abbrev pub thread_of : RunFault → ℕ
-thread_of fault = option_map_or (λ t. t) (thread_in fault) 0
+-- the thread or the place that a fault names, or 0
+abbrev pub place_of : RunFault → ℕ
+place_of fault = option_map_or (λ place. place) (place_in fault) 0
 
--- the lesser number, or the same number and no greater thread
+-- the lesser number, or the same number and no greater thread or place
 abbrev pub IsNotAfter : RunFault → RunFault → Type 0
-IsNotAfter f g = (number_of f < number_of g) ⊎ ((number_of f ≡ number_of g) × (thread_of f ≤ thread_of g))
+IsNotAfter f g = (number_of f < number_of g) ⊎ ((number_of f ≡ number_of g) × (place_of f ≤ place_of g))
 
 -- a push is tried as often as a worker may
 abbrev pub AreTries : ℕ → Type 0

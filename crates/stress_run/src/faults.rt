@@ -1,6 +1,6 @@
 // Why a run gave no history, and which of several faults is answered.
 ghost use Rattle.std.specs.Prelude.{◌≡◌, ◌≤◌, ◌⊎◌, ◌↔◌, [], length, All, Contains, IfSome, IsNone, true, false};
-ghost use Rattle.stress_run.specs.Faults.{number_of, thread_of, name_of, thread_in, IsNotAfter};
+ghost use Rattle.stress_run.specs.Faults.{number_of, place_of, name_of, place_in, IsNotAfter};
 
 use collector::CollectError;
 use std::alloc::AllocError;
@@ -11,7 +11,8 @@ use thiserror::Error;
 /// Of several faults the one that stands first here is answered, and of several threads with that fault the least.
 #[derive(Clone, Copy, Debug, PartialEq, Eq, Error)]
 pub enum RunFault {
-    /// The capacity of the rings or the number of tries is out of range. No thread was started.
+    /// The capacity of the rings or the number of tries is out of range, or the queue may not hold such values first. No thread
+    /// was started.
     #[error("{name}", name = self.name())]
     Limit,
     /// A growth was refused, also one of the collector while the workers ran.
@@ -26,10 +27,13 @@ pub enum RunFault {
     /// The ring of this thread was not certified by the token in its place.
     #[error("{name} {0}", name = self.name())]
     Uncertified(u8),
+    /// The queue did not take the initial value at this place, from 0: it was full or had no memory. No thread was started.
+    #[error("{name} {0}", name = self.name())]
+    Preload(usize),
 }
 
 impl RunFault {
-    /// Its name, as it is printed before its thread.
+    /// Its name, as it is printed before its thread or place.
     pub fn name(self) -> &'static str
         ensures name { result.now ≡ name_of self }
         ensures short { length result.now ≤ 20 }
@@ -40,18 +44,20 @@ impl RunFault {
             RunFault::Stalled(_) => "Stalled",
             RunFault::CloseLost(_) => "CloseLost",
             RunFault::Uncertified(_) => "Uncertified",
+            RunFault::Preload(_) => "Preload",
         }
     }
 
-    /// The thread that it names.
-    pub fn thread(self) -> Option<u8>
-        ensures { result ≡ thread_in self }
+    /// The thread that it names, or the place of an initial value.
+    pub fn place(self) -> Option<u64>
+        ensures { result ≡ place_in self }
     {
         match self {
             RunFault::Limit | RunFault::Memory => None,
             RunFault::Stalled(thread)
             | RunFault::CloseLost(thread)
-            | RunFault::Uncertified(thread) => Some(thread),
+            | RunFault::Uncertified(thread) => Some(u64::from(thread)),
+            RunFault::Preload(place) => Some(place as u64),
         }
     }
 
@@ -65,14 +71,15 @@ impl RunFault {
             RunFault::Stalled(_) => 3,
             RunFault::CloseLost(_) => 4,
             RunFault::Uncertified(_) => 5,
+            RunFault::Preload(_) => 6,
         }
     }
 
-    // The thread that it names, or 0.
-    fn thread_or_zero(self) -> u8
-        ensures { result ≡ thread_of self }
+    // The thread or place that it names, or 0.
+    fn place_or_zero(self) -> u64
+        ensures { result ≡ place_of self }
     {
-        self.thread().unwrap_or(0)
+        self.place().unwrap_or(0)
     }
 
     // Whether this fault is answered where `other` stands too.
@@ -81,7 +88,7 @@ impl RunFault {
         ensures no { result ≡ false → IsNotAfter other self }
     {
         let (number, others) = (self.number(), other.number());
-        number < others || (number == others && self.thread_or_zero() <= other.thread_or_zero())
+        number < others || (number == others && self.place_or_zero() <= other.place_or_zero())
     }
 }
 
@@ -118,8 +125,8 @@ fn earlier(one: RunFault, other: RunFault) -> RunFault
     if one.is_not_after(other) { one } else { other }
 }
 
-/// The fault that a run answers where these stand: that of the least number, and of these that of the least thread. None
-/// exactly of no faults.
+/// The fault that a run answers where these stand: that of the least number, and of these that of the least thread or place.
+/// None exactly of no faults.
 ///
 /// Takes no memory, and time in proportion to the faults.
 pub fn least_fault(faults: &[RunFault]) -> Option<RunFault>

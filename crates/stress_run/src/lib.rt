@@ -16,7 +16,7 @@ mod worker;
 
 pub use event_records::{MAX_OPERATIONS, MAX_THREAD_OPERATIONS};
 pub use faults::{RunFault, least_fault};
-pub use runs::{Recorded, run};
+pub use runs::{Recorded, run, run_from};
 pub use start::Start;
 pub use worker::{Worker, WorkerFault, one_call};
 pub use workloads::{MAX_WORKERS, Plan};

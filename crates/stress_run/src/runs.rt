@@ -1,15 +1,19 @@
 // A whole run, from a plan to the recorded lists.
-ghost use Rattle.std.specs.Prelude.{◌≡◌, ◌↔◌, All, Err, None, Some, length, map, IfOk, IfErr, IfSome, true, false};
+ghost use Rattle.std.specs.Prelude.{◌≡◌, ℕ, ◌<◌, ◌↔◌, ◌⊎◌, List, [], All, Err, None, Some, length, map, IfOk, IfErr, IfSome, true, false};
 ghost use Rattle.std.specs.List.{AllZip};
 ghost use Rattle.collector.specs.Ends.{rings_of, threads_of_tokens};
 ghost use Rattle.collector.specs.Inner.Ends.{rings_of_tokens};
+ghost use Rattle.event_records.specs.declared.event.Event.{Event};
+ghost use Rattle.history_merge.specs.Initial.{IsCompleteFrom};
+ghost use Rattle.history_merge.specs.Merge.{IsMerged};
+ghost use Rattle.recorder_core.specs.Initial.{AreInitialNames};
 ghost use Rattle.recorder_core.specs.Replay.{AreRecorded, Replays};
 ghost use Rattle.stress_run.specs.Failed.{IsFaultOfRun};
 ghost use Rattle.stress_run.specs.Faults.{IsWithinLimits};
 ghost use Rattle.stress_run.specs.Operations.{IsRun};
 ghost use Rattle.stress_run.specs.Workers.{WorksIn};
 ghost use Rattle.stress_run.specs.Inner.Workers.{IsReadyIn};
-ghost use Rattle.stress_run.specs.declared.faults.RunFault.TheVariants.{Limit, Memory};
+ghost use Rattle.stress_run.specs.declared.faults.RunFault.TheVariants.{Limit, Memory, Preload};
 ghost use Rattle.tickets.specs.Views.{numbers_below};
 
 use crate::closing::close_all;
@@ -22,6 +26,7 @@ use event_records::Lists;
 use event_rings::CloseToken;
 use history_merge::{History, merged_history};
 use queue_interface::TestQueue;
+use recorder_core::are_initial_names;
 use std::alloc::{AllocError, Global};
 use std::marker::Model;
 use std::sync::atomic::{AtomicBool, Ordering};
@@ -33,29 +38,40 @@ use workloads::{Plan, Row};
 // How often the collector yields at most between two rounds.
 const LONGEST_PAUSE: u32 = 64;
 
-/// The events of a run, one list for each worker, and how many tickets were drawn.
+/// The events of a run, one list for each worker, with what the queue held first and how many tickets were drawn.
 #[derive(Drop)]
 pub struct Recorded {
+    initial: Vec<u64>,
     lists: Lists,
     total: u64,
 }
 
 impl Model for Recorded {
+    ghost use Rattle.recorder_core.specs.Initial.{AreInitialNames};
     ghost use Rattle.recorder_core.specs.Replay.{AreRecorded};
     ghost use Rattle.stress_run.specs.Recorded.{RecordedView};
 
     ghost Value = { RecordedView };
 
-    ghost view = { λ r. record { lists = r.lists; total = r.total } };
+    ghost view = { λ r. record { initial = r.initial.items; lists = r.lists; total = r.total } };
 
-    ghost invariant = { λ r. AreRecorded r.lists };
+    ghost invariant = { λ r. AreRecorded r.lists × AreInitialNames r.initial.items };
 }
 
 impl Recorded {
     ghost use Rattle.std.specs.Prelude.{◌≡◌, IfOk};
     ghost use Rattle.history_merge.specs.Complete.{IsCompleteHistory};
     ghost use Rattle.history_merge.specs.Merge.{IsMerged};
+    ghost use Rattle.recorder_core.specs.Initial.{AreInitialNames};
     ghost use Rattle.recorder_core.specs.Replay.{AreRecorded};
+
+    /// What the queue held before the first operation, the front one first.
+    pub fn initial(&self) -> &[u64]
+        ensures values { result.now ≡ self.now.initial }
+        ensures names { AreInitialNames self.now.initial }
+    {
+        self.initial.as_slice()
+    }
 
     /// The lists of events, that of worker 0 first.
     pub fn lists(&self) -> &Lists
@@ -79,7 +95,11 @@ impl Recorded {
     pub fn into_lists(self) -> Lists
         ensures { result ≡ self.lists }
     {
-        let Recorded { lists, total: _ } = self;
+        let Recorded {
+            initial: _,
+            lists,
+            total: _,
+        } = self;
         lists
     }
 
@@ -91,21 +111,7 @@ impl Recorded {
     }
 }
 
-/// Runs a plan on a shared queue: each row by a worker in a thread of its own, whose ring has room for `ring` events and
-/// whose pushes are tried `tries` times, with a collector beside them that drains the rings. Each worker looks for the others
-/// before its first operation, for a bounded number of turns.
-///
-/// Where threads can't be started, the workers run one after another, under the same promise. Then nothing is drained
-/// while they run, and one with more events than its ring has room for stalls.
-///
-/// A fault gives no history, and names a thread of the plan. `Limit` is answered before any thread is started. `Memory` is
-/// answered where a growth was refused; where that was one of the collector's, the workers go on without it until they end
-/// or stall. `Stalled` is answered where a push found no room in all its tries, between which the thread yields: never of a
-/// row whose events all have room in its ring. `CloseLost` is answered where a worker's ring gave no token after its row,
-/// and `Uncertified` never. The rings are closed whatever fault stands, except where want of memory took the workers
-/// themselves.
-///
-/// It waits for its workers, and so for the queue. It takes memory for the rings and for all events.
+/// Runs a plan on a shared queue, which is taken as empty: [`run_from`] without initial values.
 pub fn run<R: Threads + Sync>(
     rt: &R,
     alloc: Global,
@@ -115,30 +121,91 @@ pub fn run<R: Threads + Sync>(
     tries: u32,
 ) -> Result<Recorded, RunFault>
     ensures recorded { IfOk result (λ r. IsRun (may queue.now) plan.now r.lists r.total) }
+    ensures initial { IfOk result (λ r. r.initial ≡ []) }
     ensures lists { IfOk result (λ r. AreRecorded r.lists) }
-    ensures replays { IfOk result (λ r. Replays ring r.lists) }
+    ensures replays { IfOk result (λ r. Replays ring [] r.lists) }
     ensures limit { (result ≡ Err Limit) ↔ ¬ IsWithinLimits ring tries }
-    ensures fault { IfErr result (IsFaultOfRun (may queue.now) plan.now (record { ring = ring; tries = tries })) }
+    ensures fault { IfErr result (IsFaultOfRun (may queue.now) [] plan.now (record { ring = ring; tries = tries })) }
+{
+    run_from(rt, alloc, queue, &[], plan, ring, tries)
+}
+
+/// Puts the initial values into a shared queue, which is taken as empty, the front one first, and runs a plan on it: each row
+/// by a worker in a thread of its own, whose ring has room for `ring` events and whose pushes are tried `tries` times, with a
+/// collector beside them that drains the rings. Each worker looks for the others before its first operation, for a bounded
+/// number of turns.
+///
+/// Where threads can't be started, the workers run one after another, under the same promise. Then nothing is drained
+/// while they run, and one with more events than its ring has room for stalls.
+///
+/// A fault gives no history, and names a thread of the plan or an initial value. `Limit` and `Preload` are answered before any
+/// thread is started: `Limit` where a size is out of range, or where the values aren't distinct, each 2^38 or greater and not
+/// more than 100,000, unless memory for this test is refused; `Preload` of the first value that the queue refuses. `Memory` is
+/// answered where a growth was refused; where that was one of the collector's, the workers go on without it until they end
+/// or stall. `Stalled` is answered where a push found no room in all its tries, between which the thread yields: never of a
+/// row whose events all have room in its ring. `CloseLost` is answered where a worker's ring gave no token after its row,
+/// and `Uncertified` never. The rings are closed whatever fault stands, except where want of memory took the workers
+/// themselves.
+///
+/// It waits for its workers, and so for the queue. It takes memory for the values, for the rings and for all events.
+pub fn run_from<R: Threads + Sync>(
+    rt: &R,
+    alloc: Global,
+    queue: &dyn TestQueue,
+    initial: &[u64],
+    plan: &Plan,
+    ring: usize,
+    tries: u32,
+) -> Result<Recorded, RunFault>
+    ensures recorded { IfOk result (λ r. IsRun (may queue.now) plan.now r.lists r.total) }
+    ensures initial { IfOk result (λ r. r.initial ≡ initial.now) }
+    ensures lists { IfOk result (λ r. AreRecorded r.lists) }
+    ensures replays { IfOk result (λ r. Replays ring initial.now r.lists) }
+    ensures fits { IfOk result (λ r. (merged : List Event) → IsMerged r.lists merged → IsCompleteFrom initial.now merged) }
+    ensures sizes { ¬ IsWithinLimits ring tries → result ≡ Err Limit }
+    ensures names { ¬ AreInitialNames initial.now → (result ≡ Err Limit) ⊎ (result ≡ Err Memory) }
+    ensures fault { IfErr result (IsFaultOfRun (may queue.now) initial.now plan.now (record { ring = ring; tries = tries })) }
 {
     let Some(sizes) = Sizes::new(ring, tries) else {
         return Err(RunFault::Limit);
     };
-    run_within(rt, alloc, queue, plan, sizes)
+    if !are_initial_names(alloc, initial)? {
+        return Err(RunFault::Limit);
+    }
+    let held = Vec::from_slice(alloc, initial)?;
+    preload_all(queue, initial)?;
+    run_within(rt, alloc, queue, held, plan, sizes)
 }
 
-// The run, where the sizes are in range.
+// Puts the values into the queue in turn, up to one that it refuses.
+fn preload_all(queue: &dyn TestQueue, initial: &[u64]) -> Result<(), RunFault>
+    ensures { IfErr result (λ fault. (place : ℕ) × (place < length initial.now) × (fault ≡ Preload place)) }
+{
+    for (place, value) in initial.iter().enumerate() {
+        if !queue.preload(*value) {
+            return Err(RunFault::Preload(place));
+        }
+    }
+    Ok(())
+}
+
+// The run on a queue that holds these values, where the sizes are in range.
 fn run_within<R: Threads + Sync>(
     rt: &R,
     alloc: Global,
     queue: &dyn TestQueue,
+    initial: Vec<u64>,
     plan: &Plan,
     sizes: Sizes,
 ) -> Result<Recorded, RunFault>
-    requires { IsWithinLimits sizes.ring sizes.tries }
+    requires sizes { IsWithinLimits sizes.ring sizes.tries }
+    requires names { AreInitialNames initial.items }
     ensures recorded { IfOk result (λ r. IsRun (may queue.now) plan.now r.lists r.total) }
+    ensures initial { IfOk result (λ r. r.initial ≡ initial.items) }
     ensures lists { IfOk result (λ r. AreRecorded r.lists) }
-    ensures replays { IfOk result (λ r. Replays sizes.ring r.lists) }
-    ensures fault { IfErr result (IsFaultOfRun (may queue.now) plan.now sizes) }
+    ensures replays { IfOk result (λ r. Replays sizes.ring initial.items r.lists) }
+    ensures fits { IfOk result (λ r. (merged : List Event) → IsMerged r.lists merged → IsCompleteFrom initial.items merged) }
+    ensures fault { IfErr result (IsFaultOfRun (may queue.now) initial.items plan.now sizes) }
 {
     let rows = plan.rows();
     let (tickets, pass) = Tickets::new(alloc, 2 * plan.operations())?;
@@ -155,7 +222,11 @@ fn run_within<R: Threads + Sync>(
     let (tokens, pass) = close_all(alloc, &tickets, rest, workers, standing)?;
     let lists = seal(collector, tokens)?;
     let total = tickets.close(pass);
-    Ok(Recorded { lists, total })
+    Ok(Recorded {
+        initial,
+        lists,
+        total,
+    })
 }
 
 // How many events a row gives at most: two for each operation.

@@ -6,7 +6,6 @@ use Rattle.recorder_core.specs.declared.step.Done.{Done}
 use Rattle.recorder_core.specs.declared.step.StepRefused.{StepRefused}
 use Rattle.recorder_core.specs.Setting.{Setting}
 use Rattle.recorder_core.specs.Schedule.{Attempt, answer_to}
-use Rattle.recorder_core.specs.Schedule.{answered}
 use Rattle.recorder_core.specs.View.{MachineView}
 use Rattle.recorder_core.specs.After.{IsAfter, attempt_at}
 

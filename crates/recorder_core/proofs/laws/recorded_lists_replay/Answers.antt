@@ -4,4 +4,4 @@ use Rattle.recorder_core.proofs.Replayed.{lists_replay}
 use Rattle.recorder_core.proofs.laws.recorded_lists_replay.Goals as goal
 
 pub returns : goal.returns
-returns c = λ lists ring recorded low high. lists_replay lists (recorded_is_fit lists recorded) ring (omega arith)
+returns c = λ lists ring initial recorded low high. lists_replay lists (recorded_is_fit lists recorded) ring initial (omega arith)

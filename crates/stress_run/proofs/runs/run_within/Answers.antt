@@ -9,7 +9,7 @@ use Rattle.stress_run.specs.Inner.Crew.{AreClosed}
 use Rattle.stress_run.specs.Failed.{IsFaultOfRun}
 use Rattle.stress_run.proofs.Finished.{stands_in_run, tokens_own, in_order, ends_fresh, ready, keys, rings, whole, is_run}
 use Rattle.stress_run.proofs.Recording.{are_recorded}
-use Rattle.recorder_core.proofs.Fitting.{recorded_is_fit}
+use Rattle.recorder_core.proofs.Fitting.{merged_is_complete_from, recorded_is_fit}
 use Rattle.recorder_core.proofs.Replayed.{lists_replay}
 use Rattle.stress_run.proofs.runs.run_within.Goals as goal
 
@@ -65,18 +65,21 @@ returns-clause-recorded g c =
     subst (λ (rows : List (List Kind)). IsRun ((goal.TestQueue-dyn g c.args.queue.now).may c.args.queue.now.1) rows c.in_ok-lists.lists
     c.close-total.result) r.rows done
 
-pub invariant_of-result : goal.invariant_of-result
-invariant_of-result g c =
+pub returns-clause-lists : goal.returns-clause-lists
+returns-clause-lists g c =
     let r = c.rows-rows.ensures in
     are_recorded _ c.args.plan.now _ c.close-total.result r.limits (returns-clause-recorded g c)
 
-pub returns-clause-lists : goal.returns-clause-lists
-returns-clause-lists g c = invariant_of-result g c
+pub invariant_of-result : goal.invariant_of-result
+invariant_of-result g c = (returns-clause-lists g c, c.requires.names)
 
 pub returns-clause-replays : goal.returns-clause-replays
 returns-clause-replays g c =
-    let within = c.requires in
-    lists_replay _ (recorded_is_fit _ (invariant_of-result g c)) _ (omega (arith, within.0))
+    let within = c.requires.sizes in
+    lists_replay _ (recorded_is_fit _ (returns-clause-lists g c)) _ _ (omega (arith, within.0))
+
+pub returns-clause-fits : goal.returns-clause-fits
+returns-clause-fits g c = λ merged is. merged_is_complete_from _ merged (recorded_is_fit _ (returns-clause-lists g c)) is _ c.requires.names
 
 pub seal-requires-clause-order : goal.seal-requires-clause-order
 seal-requires-clause-order g c =
@@ -88,7 +91,7 @@ returns-in_err-tokens-clause-fault g c =
     let k = c.in_ok-workers.ensures in
     let closed = c.in_err-tokens.ensures in
     let rows = c.rows-rows.ensures.rows in
-    let fault = subst (λ (rs : List (List Kind)). IsFaultOfRun ((goal.TestQueue-dyn g c.args.queue.now).may c.args.queue.now.1) rs c.args.sizes
+    let fault = subst (λ (rs : List (List Kind)). IsFaultOfRun ((goal.TestQueue-dyn g c.args.queue.now).may c.args.queue.now.1) c.args.initial.items rs c.args.sizes
     c.in_err-tokens.field-0.0) rows
-    (stands_in_run _ _ _ _ e.workers _ _ k.worked _ _ c.requires c.standing_fault-standing.ensures.memory closed.stands closed.stalls) in
+    (stands_in_run _ _ _ _ e.workers _ _ k.worked c.args.initial.items _ _ c.requires.sizes c.standing_fault-standing.ensures.memory closed.stands closed.stalls) in
     search rules

@@ -1,7 +1,7 @@
 use Rattle.std.proofs.Common.{◌≡◌, ℕ, ◌<◌, Some, vec_len}
 use Rattle.std.specs.List.{slice_get}
 use Rattle.recorder_core.proofs.Starting.{untouched}
-use Rattle.recorder_core.proofs.machine.Machine.new.Given as goal
+use Rattle.recorder_core.proofs.machine.Machine.with_initial.Given as goal
 
 abbrev pub invariant-loop : goal.invariant-loop
 invariant-loop l = record {

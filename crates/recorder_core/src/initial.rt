@@ -1,0 +1,41 @@
+//! Values that the sequential queue may hold first.
+ghost use Rattle.std.specs.Prelude.{◌≢◌, ◌≤◌, ◌↔◌, All, AllPairs, IfOk, IsTrue};
+ghost use Rattle.event_records.specs.declared.limits.TheConstants.{LEAST_INITIAL_NAME};
+ghost use Rattle.recorder_core.specs.Initial.{AreInitialNames};
+
+use event_records::{LEAST_INITIAL_NAME, MAX_INITIAL};
+use std::alloc::{AllocError, Global};
+use std::collections::BTreeSet;
+
+/// Whether a queue may hold these values before a run: they are distinct, not more than 100,000, and each is 2^38 or greater,
+/// above the names of the threads' own values.
+///
+/// Time O(n log n) for n values, and memory for them.
+pub fn are_initial_names(alloc: Global, values: &[u64]) -> Result<bool, AllocError>
+    ensures { IfOk result (λ yes. IsTrue yes ↔ AreInitialNames values.now) }
+{
+    if values.len() > MAX_INITIAL || !are_above_names(values) {
+        return Ok(false);
+    }
+    are_distinct(alloc, values)
+}
+
+/// Whether no value is the name of a thread's own.
+fn are_above_names(values: &[u64]) -> bool
+    ensures { IsTrue result ↔ All (λ v. LEAST_INITIAL_NAME ≤ v) values.now }
+{
+    values.iter().all(|value| *value >= LEAST_INITIAL_NAME)
+}
+
+/// Whether no two of the values are the same.
+fn are_distinct(alloc: Global, values: &[u64]) -> Result<bool, AllocError>
+    ensures { IfOk result (λ yes. IsTrue yes ↔ AllPairs (λ v w. v ≢ w) values.now) }
+{
+    let mut seen = BTreeSet::new(alloc);
+    for value in values {
+        if !seen.insert(*value)? {
+            return Ok(false);
+        }
+    }
+    Ok(true)
+}
