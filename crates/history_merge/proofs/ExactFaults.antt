@@ -18,7 +18,7 @@ use Rattle.event_records.specs.Turns.{TakesTurns, TicketsRise}
 use Rattle.event_records.specs.Projection.{projection}
 use Rattle.history_merge.specs.declared.fault.HistoryFault.{HistoryFault}
 use Rattle.history_merge.specs.declared.fault.HistoryFault.TheVariants.{TicketOrder, BadThread, CallWhilePending, ReturnWithoutCall, WrongReturn}
-use Rattle.history_merge.specs.declared.fault.HistoryFault.TheVariants.{DuplicateValue, Pending, Memory}
+use Rattle.history_merge.specs.declared.fault.HistoryFault.TheVariants.{DuplicateValue, Pending, Memory, InitialTwice}
 use Rattle.history_merge.specs.Complete.{IsCompleteHistory, called_values}
 use Rattle.history_merge.specs.Faults.{fault_at, NoFaultBefore, IsFirstFault, IsFirstFaultAt, repeats_value}
 use Rattle.history_merge.specs.Inner.Faults.{NothingPending, IsFirstRepeat}
@@ -192,3 +192,4 @@ complete_has_no_fault events (Pending ticket) found complete =
     let nothing = nothing_pending_in_complete events complete call.0 in
     let there = call.2 in cc
 complete_has_no_fault events Memory found complete = refl
+complete_has_no_fault events (InitialTwice j) found complete = absurd found

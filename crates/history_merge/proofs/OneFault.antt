@@ -5,7 +5,7 @@ use Rattle.std.proofs.lemmas.Option.{slice_get_within}
 use Rattle.event_records.specs.declared.event.Event.{Event}
 use Rattle.history_merge.specs.declared.fault.HistoryFault.{HistoryFault}
 use Rattle.history_merge.specs.declared.fault.HistoryFault.TheVariants.{TicketOrder, BadThread, CallWhilePending, ReturnWithoutCall, WrongReturn}
-use Rattle.history_merge.specs.declared.fault.HistoryFault.TheVariants.{DuplicateValue, Pending, Memory}
+use Rattle.history_merge.specs.declared.fault.HistoryFault.TheVariants.{DuplicateValue, Pending, Memory, InitialTwice}
 use Rattle.history_merge.specs.Faults.{fault_at, NoFaultBefore, IsFirstFault, IsFirstFaultAt, IsLeastPending}
 use Rattle.history_merge.proofs.Distinct.{one_at}
 
@@ -24,6 +24,7 @@ where_it_is events (WrongReturn i) first known = inl (i, first)
 where_it_is events (DuplicateValue i) first known = inl (i, first)
 where_it_is events (Pending ticket) first known = inr (ticket, refl, first.0, first.1)
 where_it_is events Memory first known = absurd (known refl)
+where_it_is events (InitialTwice j) first known = absurd first
 
 -- an event before which, and up to which, there is no fault has none
 not_before : (events : List Event) (i n : ℕ) (fault : HistoryFault) → IsFirstFaultAt events i fault → NoFaultBefore events n → i < n → ⊥

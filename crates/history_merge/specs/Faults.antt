@@ -9,7 +9,7 @@ use Rattle.event_records.specs.Turns.{is_call, answers}
 use Rattle.event_records.specs.Projection.{projection}
 use Rattle.history_merge.specs.declared.fault.HistoryFault.{HistoryFault}
 use Rattle.history_merge.specs.declared.fault.HistoryFault.TheVariants.{TicketOrder, BadThread, CallWhilePending, ReturnWithoutCall, WrongReturn}
-use Rattle.history_merge.specs.declared.fault.HistoryFault.TheVariants.{DuplicateValue, Pending, Memory}
+use Rattle.history_merge.specs.declared.fault.HistoryFault.TheVariants.{DuplicateValue, Pending, Memory, InitialTwice}
 use Rattle.event_records.specs.declared.limits.TheConstants.{MAX_TICKET, MAX_THREAD}
 use Rattle.history_merge.specs.Complete.{called_value}
 
@@ -69,3 +69,4 @@ IsFirstFault events (WrongReturn i) = IsFirstFaultAt events i (WrongReturn i)
 IsFirstFault events (DuplicateValue i) = IsFirstFaultAt events i (DuplicateValue i)
 IsFirstFault events (Pending ticket) = NoFaultBefore events (length events) × IsLeastPending events ticket
 IsFirstFault events Memory = ⊤
+IsFirstFault events (InitialTwice j) = ⊥

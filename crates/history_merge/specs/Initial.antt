@@ -11,6 +11,11 @@ pub record IsCompleteFrom (initial : List ℕ) (events : List Event) : Type 0 wh
   pub complete : IsCompleteHistory events
   pub values_are_distinct : AllPairs (λ v w. v ≢ w) (initial ++ called_values events)
 
+-- a history: what its queue holds first, and its events
+pub record HistoryView : Type 0 where
+  pub initial : List ℕ
+  pub events : List Event
+
 -- ---- the filled history: the queue is empty first, and the initial values are enqueued before all else
 
 -- from this clock on the values are enqueued, one after another

@@ -2,7 +2,7 @@
 use Rattle.std.specs.Prelude.{ℕ, List, codes, Option, Some, None}
 use Rattle.history_merge.specs.declared.fault.HistoryFault.{HistoryFault}
 use Rattle.history_merge.specs.declared.fault.HistoryFault.TheVariants.{TicketOrder, BadThread, CallWhilePending, ReturnWithoutCall, WrongReturn}
-use Rattle.history_merge.specs.declared.fault.HistoryFault.TheVariants.{DuplicateValue, Pending, Memory}
+use Rattle.history_merge.specs.declared.fault.HistoryFault.TheVariants.{DuplicateValue, Pending, Memory, InitialTwice}
 
 -- the name of a fault
 abbrev pub name_of : HistoryFault → List ℕ
@@ -14,6 +14,7 @@ name_of (WrongReturn i) = codes "WrongReturn"
 name_of (DuplicateValue i) = codes "DuplicateValue"
 name_of (Pending ticket) = codes "Pending"
 name_of Memory = codes "Memory"
+name_of (InitialTwice j) = codes "InitialTwice"
 
 -- the place of a fault from 0, or its ticket
 abbrev pub place_in : HistoryFault → Option ℕ
@@ -25,3 +26,4 @@ place_in (WrongReturn i) = Some i
 place_in (DuplicateValue i) = Some i
 place_in (Pending ticket) = Some ticket
 place_in Memory = None
+place_in (InitialTwice j) = Some j

@@ -1,4 +1,4 @@
-ghost use Rattle.std.specs.Prelude.{◌≤◌, ◌≡◌, MatchResult, IfOk, IfErr, vec_len};
+ghost use Rattle.std.specs.Prelude.{◌≤◌, ◌≡◌, [], MatchResult, IfOk, IfErr, vec_len};
 ghost use Rattle.history_merge.specs.Complete.{IsCompleteHistory};
 ghost use Rattle.history_merge.specs.Faults.{IsFirstFault};
 
@@ -8,7 +8,7 @@ use crate::fault::HistoryFault;
 use event_records::{Event, MAX_EVENTS};
 use std::alloc::Global;
 
-/// The complete history of these events (Herlihy and Wing 1990), or their first fault.
+/// The complete history of these events (Herlihy and Wing 1990) of a queue that is empty first, or their first fault.
 ///
 /// The events are judged one by one. The first faulty event decides, and of its faults the one that stands first in
 /// [`HistoryFault`]. Where no event has a fault, the least call ticket without return is `Pending`. `Memory` comes where
@@ -18,8 +18,9 @@ use std::alloc::Global;
 /// values have a recorder's names, else O(n log n) and memory for a set of the values.
 pub fn history(alloc: Global, events: Vec<Event>) -> Result<History, HistoryFault>
     requires { vec_len events ≤ MAX_EVENTS }
-    ensures outcome { MatchResult result (λ h. h ≡ events.items) (λ fault. IsFirstFault events.items fault) }
-    ensures complete { IfOk result (λ h. IsCompleteHistory h) }
+    ensures outcome { MatchResult result (λ h. h.events ≡ events.items) (λ fault. IsFirstFault events.items fault) }
+    ensures initial { IfOk result (λ h. h.initial ≡ []) }
+    ensures complete { IfOk result (λ h. IsCompleteHistory h.events) }
     ensures refused { IfErr result (λ fault. IsCompleteHistory events.items → fault ≡ HistoryFault.Memory) }
 {
     let mut builder = HistoryBuilder::new(alloc);
@@ -27,5 +28,5 @@ pub fn history(alloc: Global, events: Vec<Event>) -> Result<History, HistoryFaul
         builder.add(*event);
     }
     let operations = builder.finish()?;
-    Ok(History::new(events, operations))
+    Ok(History::new(Vec::new(alloc), events, operations))
 }

@@ -4,7 +4,7 @@ ghost use Rattle.history_merge.specs.Names.{name_of, place_in};
 use std::alloc::AllocError;
 use thiserror::Error;
 
-/// Why a list of events is no complete history. Places count from 0.
+/// Why initial values and a list of events are no complete history. Places count from 0.
 ///
 /// Of one event's faults the one that stands first here is answered.
 #[derive(Clone, Copy, Debug, PartialEq, Eq, Error)]
@@ -33,6 +33,9 @@ pub enum HistoryFault {
     /// A growth was refused for want of memory.
     #[error("{name}", name = self.name())]
     Memory,
+    /// The initial value at this place stands earlier among them too. It is looked for before the events.
+    #[error("{name} {0}", name = self.name())]
+    InitialTwice(usize),
 }
 
 impl From<AllocError> for HistoryFault {
@@ -61,10 +64,11 @@ impl HistoryFault {
             HistoryFault::DuplicateValue(_) => "DuplicateValue",
             HistoryFault::Pending(_) => "Pending",
             HistoryFault::Memory => "Memory",
+            HistoryFault::InitialTwice(_) => "InitialTwice",
         }
     }
 
-    /// The place of its event, or the ticket of a call without return.
+    /// The place of its event or of its initial value, or the ticket of a call without return.
     pub fn place(self) -> Option<u64>
         ensures { result ≡ place_in self }
     {
@@ -74,7 +78,8 @@ impl HistoryFault {
             | HistoryFault::CallWhilePending(place)
             | HistoryFault::ReturnWithoutCall(place)
             | HistoryFault::WrongReturn(place)
-            | HistoryFault::DuplicateValue(place) => Some(place as u64),
+            | HistoryFault::DuplicateValue(place)
+            | HistoryFault::InitialTwice(place) => Some(place as u64),
             HistoryFault::Pending(ticket) => Some(ticket),
             HistoryFault::Memory => None,
         }

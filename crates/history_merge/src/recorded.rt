@@ -1,4 +1,4 @@
-ghost use Rattle.std.specs.Prelude.{◌≡◌, ◌≤◌, List, IfOk, flat_map, length, vec_len};
+ghost use Rattle.std.specs.Prelude.{◌≡◌, ◌≤◌, List, [], IfOk, flat_map, length, vec_len};
 ghost use Rattle.event_records.specs.declared.event.Event.{Event};
 ghost use Rattle.history_merge.specs.Complete.{IsCompleteHistory};
 ghost use Rattle.history_merge.specs.Merge.{IsMerged};
@@ -10,27 +10,29 @@ use crate::merging::merge;
 use event_records::{Event, Lists, MAX_EVENTS};
 use std::alloc::{AllocError, Global};
 
-/// The history of lists that merge to a complete one, as those of a recorded run do.
+/// The history of lists that merge to a complete one, as those of a recorded run do, of a queue that is empty first.
 ///
 /// A complete history is refused for want of memory alone, so no other fault comes. Time O(n log n) for n events, memory for
 /// them and for the history.
 pub fn merged_history(alloc: Global, lists: &Lists) -> Result<History, AllocError>
     requires complete { (merged : List Event) → IsMerged lists.now merged → IsCompleteHistory merged }
     requires few { length (flat_map (λ list. list) lists.now) ≤ MAX_EVENTS }
-    ensures merged { IfOk result (IsMerged lists.now) }
-    ensures complete { IfOk result IsCompleteHistory }
+    ensures initial { IfOk result (λ whole. whole.initial ≡ []) }
+    ensures merged { IfOk result (λ whole. IsMerged lists.now whole.events) }
+    ensures complete { IfOk result (λ whole. IsCompleteHistory whole.events) }
 {
     complete_history(alloc, merge(alloc, lists)?)
 }
 
-/// The history of events that are known to be those of a complete one.
+/// The history of events that are known to be those of a complete one, of a queue that is empty first.
 ///
 /// Time and memory are those of [`history`]. `AllocError` comes only where a growth was refused.
 pub fn complete_history(alloc: Global, events: Vec<Event>) -> Result<History, AllocError>
     requires few { vec_len events ≤ MAX_EVENTS }
     requires complete { IsCompleteHistory events.items }
-    ensures events { IfOk result (λ whole. whole ≡ events.items) }
-    ensures complete { IfOk result IsCompleteHistory }
+    ensures initial { IfOk result (λ whole. whole.initial ≡ []) }
+    ensures events { IfOk result (λ whole. whole.events ≡ events.items) }
+    ensures complete { IfOk result (λ whole. IsCompleteHistory whole.events) }
 {
     match history(alloc, events) {
         Ok(whole) => Ok(whole),

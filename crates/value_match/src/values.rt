@@ -27,7 +27,7 @@ use std::alloc::{AllocError, Global};
 /// The answer borrows the operations and takes a word for each accepted value; beside it the work takes some two words for
 /// each operation, and two more for each call or dequeue that is sorted.
 pub fn match_values(alloc: Global, history: &History) -> Result<Matched<'_>, AllocError>
-    ensures { IfOk result (λ matched. IsMatchedOf (operations_of history.now) matched) }
+    ensures { IfOk result (λ matched. IsMatchedOf (operations_of history.now.events) matched) }
 {
     match_operations(alloc, history.operations())
 }

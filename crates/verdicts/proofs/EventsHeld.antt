@@ -8,7 +8,7 @@ use Rattle.event_records.specs.Turns.{TakesTurns}
 use Rattle.event_records.specs.Projection.{projection}
 use Rattle.history_merge.specs.declared.operation.Operation.{Operation}
 use Rattle.history_merge.specs.Operations.{operations_of, operation_of}
-use Rattle.history_merge.specs.Complete.{IsCompleteHistory}
+use Rattle.history_merge.specs.Complete.{IsCompleteHistory, IsCompleteUpTo}
 use Rattle.history_merge.proofs.Distinct.{IsTraced, contains_at, contains_cons, not_in_none, place_of, traced, same_event, one_at}
 use Rattle.value_match.proofs.Lists.{passed_filter}
 use Rattle.verdicts.specs.Selection.{ArePartOf}
@@ -99,7 +99,7 @@ held_or_answers thread (x ∷ later) pending e turns among own =
     ]
 
 -- each event of a complete history is held by one of its operations
-pub each_is_held : (events : List Event) (e : Event) → IsCompleteHistory events → Contains events e → IsHeld (operations_of events) e.ticket
+pub each_is_held : {n : ℕ} (events : List Event) (e : Event) → IsCompleteUpTo n events → Contains events e → IsHeld (operations_of events) e.ticket
 each_is_held events e complete among = elim (held_or_answers e.thread events None e (complete.threads_take_turns e.thread) among refl)
     [ inl none ↦ absurd none | inr held ↦ held ]
 
@@ -113,7 +113,7 @@ event_held events ticket held = by_ticket (traced events held.operation held.amo
     by_ticket trace (inr returned) = (trace.answer, contains_at events trace.returned_at trace.answer trace.at_return, sym trace.made.returned ∙ returned)
 
 -- events with one ticket are one
-one_event : (events : List Event) (e r : Event) → IsCompleteHistory events → Contains events e → Contains events r → e.ticket ≡ r.ticket → e ≡ r
+one_event : {n : ℕ} (events : List Event) (e r : Event) → IsCompleteUpTo n events → Contains events e → Contains events r → e.ticket ≡ r.ticket → e ≡ r
 one_event events e r complete in_e in_r same =
     let at_e = place_of events e in_e in
     let at_r = place_of events r in_r in

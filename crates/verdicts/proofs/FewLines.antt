@@ -17,6 +17,7 @@ use Rattle.history_merge.specs.Legal.{ArePlacesOf}
 use Rattle.history_merge.specs.Operations.{Did, NoneDid, operations_of}
 use Rattle.history_merge.proofs.Distinct.{contains_cons, not_in_none, place_of, contains_at, pairs_at, traced, same_call, same_return}
 use Rattle.history_merge.proofs.Distinct.{return_differs_from_call, call_before_return}
+use Rattle.history_merge.proofs.Completeness.{operations_are_complete}
 use Rattle.value_match.specs.declared.life.Life.{Life}
 use Rattle.value_match.specs.Lives.{IsLife, IsCovered, dequeue_call, call_or_never, dequeue_of, enqueue_of, operations_of_life}
 use Rattle.value_match.specs.Violations.{Breach, fresh, repeat, order, witness, IsClear, lines_of}
@@ -105,7 +106,7 @@ few_apart : (events : List Event) (listed : List Operation) → IsCompleteHistor
 few_apart events listed complete among apart =
     let tickets : List ℕ = map (λ e. e.ticket) events in
     let few = length-le_from_is_member nat_eq_equiv (tickets_of listed) tickets
-    (distinct_tickets (operations_of events) (events, complete, refl) listed among apart) member in
+    (distinct_tickets (operations_of events) (operations_are_complete events complete) listed among apart) member in
     let twice = double listed in
     let each : length (map (λ e. e.ticket) events) ≡ length events = simp length-map in
     omega arith
@@ -233,7 +234,7 @@ module _ (events : List Event) (complete : IsCompleteHistory events) where
       → length (lines_of (witness empty cover)) + length (lines_of (witness empty cover)) ≤ length events
   witness_lines empty cover chosen =
       let operations = operations_of events in
-      let whole : AreComplete operations = (events, complete, refl) in
+      let whole : AreComplete operations = operations_are_complete events complete in
       let clear : IsClear operations = record { complete = whole; no_fresh = chosen.0; no_repeat = chosen.1 } in
       let did = chosen.3.answers_empty in
       let covered = chosen.3.is_covered in
@@ -258,7 +259,7 @@ module _ (events : List Event) (complete : IsCompleteHistory events) where
   few_operations : length events ≤ MAX_EVENTS → length (operations_of events) ≤ MAX_OPERATIONS
   few_operations few =
       let half = few_apart events (operations_of events) complete (λ o among. among)
-      (apart_from_rise (operations_of events) (operations_rise (operations_of events) (events, complete, refl))) in
+      (apart_from_rise (operations_of events) (operations_rise (operations_of events) (operations_are_complete events complete))) in
       omega (arith, half, few)
 
   as_many : (places : List ℕ) (listed : List Operation) → ArePlacesOf (operations_of events) places listed → length places ≡ length listed

@@ -9,14 +9,14 @@ use Rattle.std.proofs.lemmas.List.Kept.{AllPairs-filter, AllPairs-cons}
 use Rattle.event_records.specs.declared.event.Event.{Event}
 use Rattle.event_records.specs.declared.event.What.{What}
 use Rattle.event_records.specs.declared.event.What.TheVariants.{CallEnq, RetEnq, RetNot, CallDeq, RetDeq, RetEmpty}
-use Rattle.event_records.specs.declared.limits.TheConstants.{MAX_TICKET, MAX_THREAD}
+use Rattle.event_records.specs.declared.limits.TheConstants.{MAX_THREAD}
 use Rattle.event_records.specs.Turns.{TakesTurns, is_call, answers}
 use Rattle.event_records.specs.Projection.{projection}
 use Rattle.history_merge.specs.declared.operation.Operation.{Operation}
 use Rattle.history_merge.specs.declared.operation.OpKind.{OpKind}
 use Rattle.history_merge.specs.declared.operation.OpKind.TheVariants.{Enq, Deq, Empty, Not}
 use Rattle.history_merge.specs.Operations.{operations_of, operation_of, kind_of}
-use Rattle.history_merge.specs.Complete.{IsCompleteHistory, called_value}
+use Rattle.history_merge.specs.Complete.{IsCompleteUpTo, called_value}
 use Rattle.history_merge.proofs.Completeness.{made_of}
 use Rattle.history_merge.proofs.Turns.{answer_is_return}
 use Rattle.value_match.proofs.Lists.{one_deeper}
@@ -239,7 +239,7 @@ module _ (keeps : ℕ → Bool) (test : Operation → Bool) where
           (TakesTurns (projection thread (cond (keeps e.ticket) (e ∷ kept_events later) (kept_events later))))) as_call
           (ends call (keeps e.ticket) test turns'.0 (rest None turns'.1 tt))
 
-each_turns : (events : List Event) → IsCompleteHistory events → EachTurns events
+each_turns : {n : ℕ} (events : List Event) → IsCompleteUpTo n events → EachTurns events
 each_turns events complete thread = (None, complete.threads_take_turns thread)
 
 -- what holds of all values of a list holds of those of its kept elements
@@ -275,18 +275,18 @@ AllPairs-kept {X} {Y} R f keeps (x ∷ xs) pairs = pick (f x) refl (keeps x) pai
         (rest (AllPairs-tail R y (filter_map f xs) pairs')))
 
 -- where both events of an operation are kept, or neither, the kept events are a complete history
-pub kept_is_complete : (keeps : ℕ → Bool) (test : Operation → Bool) (events : List Event) → IsCompleteHistory events
-    → KeepsBoth keeps test (operations_of events) → IsCompleteHistory (filter (λ e. keeps e.ticket) events)
-kept_is_complete keeps test events complete both = record {
+pub kept_is_complete : {n : ℕ} (keeps : ℕ → Bool) (test : Operation → Bool) (events : List Event) → IsCompleteUpTo n events
+    → KeepsBoth keeps test (operations_of events) → IsCompleteUpTo n (filter (λ e. keeps e.ticket) events)
+kept_is_complete {n} keeps test events complete both = record {
   tickets_rise = AllPairs-filter (λ x y. x.ticket < y.ticket) (λ e. keeps e.ticket) events complete.tickets_rise;
-  tickets_in_range = All-filter (λ e. keeps e.ticket) (λ e. e.ticket ≤ MAX_TICKET) events complete.tickets_in_range;
+  tickets_in_range = All-filter (λ e. keeps e.ticket) (λ e. e.ticket ≤ n) events complete.tickets_in_range;
   threads_in_range = All-filter (λ e. keeps e.ticket) (λ e. e.thread ≤ MAX_THREAD) events complete.threads_in_range;
   threads_take_turns = λ thread. kept_turns keeps test thread events None (complete.threads_take_turns thread) both tt;
   values_are_distinct = AllPairs-kept (λ v w. v ≢ w) (λ e. called_value e.what) (λ e. keeps e.ticket) events complete.values_are_distinct;
 }
 
 -- and its operations are those that are kept
-pub operations_of_kept : (keeps : ℕ → Bool) (test : Operation → Bool) (events : List Event) → IsCompleteHistory events
+pub operations_of_kept : {n : ℕ} (keeps : ℕ → Bool) (test : Operation → Bool) (events : List Event) → IsCompleteUpTo n events
     → KeepsBoth keeps test (operations_of events)
     → operations_of (filter (λ e. keeps e.ticket) events) ≡ filter test (operations_of events)
 operations_of_kept keeps test events complete both = kept_operations keeps test events (each_turns events complete) both

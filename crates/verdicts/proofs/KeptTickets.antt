@@ -1,13 +1,15 @@
 -- The tickets of some operations of a complete history keep both events of each of these, and no other event.
-use Rattle.std.proofs.Common.{◌≡◌, ℕ, ◌⊎◌, Bool, true, false, ◌||◌, List, refl, sym, ◌∙◌, ap, inl, inr, nat_eq}
+use Rattle.std.proofs.Common.{◌≤◌, arith, ◌≡◌, ℕ, ◌⊎◌, Bool, true, false, ◌||◌, List, refl, sym, ◌∙◌, ap, inl, inr, nat_eq}
 use Rattle.std.specs.Prelude.{Contains, filter}
 use Rattle.std.proofs.lemmas.Bool.{eqb-true, eq-eqb}
 use Rattle.std.proofs.lemmas.List.Folds.{Any-from_list_any, list_any-from_Any}
 use Rattle.event_records.specs.declared.event.Event.{Event}
+use Rattle.event_records.specs.declared.limits.TheConstants.{MAX_CLOCK}
 use Rattle.history_merge.specs.declared.operation.Operation.{Operation}
 use Rattle.history_merge.specs.Operations.{operations_of}
-use Rattle.history_merge.specs.Complete.{AreComplete, IsCompleteHistory}
+use Rattle.history_merge.specs.Complete.{AreComplete, IsCompleteUpTo}
 use Rattle.history_merge.proofs.Distinct.{same_call, same_return, return_differs_from_call}
+use Rattle.history_merge.proofs.Completeness.{up_to_more}
 use Rattle.value_match.proofs.Lists.{passes_filter, passed_filter}
 use Rattle.verdicts.specs.Inner.Selecting.{holds_ticket}
 use Rattle.verdicts.proofs.KeptEvents.{KeepsBoth, kept_is_complete, operations_of_kept}
@@ -73,23 +75,23 @@ abbrev pub events_at_tickets_of : List Operation → List Event → List Event
 events_at_tickets_of selected events = filter (λ e. holds_ticket selected e.ticket) events
 
 -- the events of selected operations are a complete history
-pub selected_events_are_complete : (test : Operation → Bool) (events : List Event) → IsCompleteHistory events
-    → IsCompleteHistory (events_at_tickets_of (filter test (operations_of events)) events)
-selected_events_are_complete test events complete =
+pub selected_events_are_complete : {n : ℕ} (test : Operation → Bool) (events : List Event) → n ≤ MAX_CLOCK → IsCompleteUpTo n events
+    → IsCompleteUpTo n (events_at_tickets_of (filter test (operations_of events)) events)
+selected_events_are_complete test events within complete =
     kept_is_complete (holds_ticket (filter test (operations_of events))) test events complete
-    (tickets_keep_both (operations_of events) (events, complete, refl) test)
+    (tickets_keep_both (operations_of events) (events, up_to_more events within complete, refl) test)
 
 -- the operations of these events are the selected ones
-pub operations_of_selected : (test : Operation → Bool) (events : List Event) → IsCompleteHistory events
+pub operations_of_selected : {n : ℕ} (test : Operation → Bool) (events : List Event) → n ≤ MAX_CLOCK → IsCompleteUpTo n events
     → operations_of (events_at_tickets_of (filter test (operations_of events)) events) ≡ filter test (operations_of events)
-operations_of_selected test events complete =
+operations_of_selected test events within complete =
     operations_of_kept (holds_ticket (filter test (operations_of events))) test events complete
-    (tickets_keep_both (operations_of events) (events, complete, refl) test)
+    (tickets_keep_both (operations_of events) (events, up_to_more events within complete, refl) test)
 
 -- some operations of a complete history are those of a complete history
 pub selected_are_complete : (test : Operation → Bool) (operations : List Operation) → AreComplete operations → AreComplete (filter test operations)
 selected_are_complete test operations complete = (
   events_at_tickets_of (filter test (operations_of complete.0)) complete.0,
-  selected_events_are_complete test complete.0 complete.1,
-  ap (filter test) complete.2 ∙ sym (operations_of_selected test complete.0 complete.1),
+  selected_events_are_complete test complete.0 (omega arith) complete.1,
+  ap (filter test) complete.2 ∙ sym (operations_of_selected test complete.0 (omega arith) complete.1),
 )

@@ -7,6 +7,7 @@ use Rattle.event_records.specs.declared.event.Event.{Event}
 use Rattle.history_merge.specs.declared.operation.Operation.{Operation}
 use Rattle.history_merge.specs.Operations.{operations_of}
 use Rattle.history_merge.specs.Complete.{IsCompleteHistory}
+use Rattle.history_merge.proofs.Completeness.{operations_are_complete}
 use Rattle.value_match.specs.declared.violation.Violation.{Violation}
 use Rattle.value_match.specs.Outcome.{Names, IsChosenViolation}
 use Rattle.value_match.specs.Violations.{IsBreachOf}
@@ -43,7 +44,7 @@ selected_by_lines events seen selected operations lines read violation values ca
 module _ (events : List Event) (violation : Violation) (selected : List Event) (complete : IsCompleteHistory events)
     (are : AreSelectedEvents events violation selected) where
   pub are_complete : IsCompleteHistory selected
-  are_complete = subst IsCompleteHistory (sym are.has_tickets) (selected_events_are_complete (selects are.values are.calls) events complete)
+  are_complete = subst IsCompleteHistory (sym are.has_tickets) (selected_events_are_complete (selects are.values are.calls) events (omega arith) complete)
 
   are_part : ArePartOf events selected
   are_part = ((λ e. holds_ticket (filter (selects are.values are.calls) (operations_of events)) e.ticket), are.has_tickets)
@@ -57,17 +58,17 @@ module _ (events : List Event) (violation : Violation) (selected : List Event) (
 
   -- their operations are the selected ones
   are_selected : operations_of selected ≡ filter (selects are.values are.calls) (operations_of events)
-  are_selected = ap operations_of are.has_tickets ∙ operations_of_selected (selects are.values are.calls) events complete
+  are_selected = ap operations_of are.has_tickets ∙ operations_of_selected (selects are.values are.calls) events (omega arith) complete
 
   stays_in_selected : IsBreachOf (operations_of selected) are.breach
   stays_in_selected = subst (λ os. IsBreachOf os are.breach) (sym are_selected)
-      (stays_violation (operations_of events) (events, complete, refl) are.breach are.is_chosen are.values are.calls are.named)
+      (stays_violation (operations_of events) (operations_are_complete events complete) are.breach are.is_chosen are.values are.calls are.named)
 
   chosen_in_selected : IsChosenBreach (operations_of selected) are.breach
   chosen_in_selected =
       subst (λ os. IsChosenBreach os are.breach) (sym are_selected)
-      (stays_chosen (operations_of events) (events, complete, refl) are.values are.calls are.breach are.is_chosen are.named
-      (stays_violation (operations_of events) (events, complete, refl) are.breach are.is_chosen are.values are.calls are.named))
+      (stays_chosen (operations_of events) (operations_are_complete events complete) are.values are.calls are.breach are.is_chosen are.named
+      (stays_violation (operations_of events) (operations_are_complete events complete) are.breach are.is_chosen are.values are.calls are.named))
 
   keeps_violation : KeepsViolation (operations_of events) violation (operations_of selected)
   keeps_violation = (
@@ -84,7 +85,7 @@ module _ (events : List Event) (violation : Violation) (selected : List Event) (
 
   are_minimal : IsMinimal (operations_of selected)
   are_minimal = subst IsMinimal (sym are_selected) (selection_is_minimal (operations_of events)
-      (events, complete, refl) are.breach are.is_chosen are.values are.calls are.named)
+      (operations_are_complete events complete) are.breach are.is_chosen are.values are.calls are.named)
 
 -- what is ensured of the small history
 pub record IsShrunk (events : List Event) (violation : Violation) (small : List Event) : Type 0 where

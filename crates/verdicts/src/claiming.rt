@@ -15,8 +15,8 @@ use value_match::Violation;
 /// Time and memory linear in the verdict. `AllocError` comes only where a growth was refused.
 pub fn claim(alloc: Global, history: &History, verdict: &Verdict) -> Result<Claimed, AllocError>
     // The verdict's operations are places of this history.
-    requires places { IsWithin (operations_of history.now) verdict.now }
-    ensures claim { IfOk result (λ claimed. claimed ≡ claim_of (operations_of history.now) verdict.now) }
+    requires places { IsWithin (operations_of history.now.events) verdict.now }
+    ensures claim { IfOk result (λ claimed. claimed ≡ claim_of (operations_of history.now.events) verdict.now) }
 {
     let operations = history.operations();
     match verdict {

@@ -24,10 +24,10 @@ use value_match::{Matched, Matching, Violation, match_operations};
 ///
 /// The four kinds are this project's own. `AllocError` comes only where a growth was refused.
 pub fn decide(alloc: Global, history: &History) -> Result<Verdict, AllocError>
-    ensures chosen { IfOk result (λ verdict. IsVerdictOf (operations_of history.now) verdict) }
-    ensures evidence { IfOk result (λ verdict. IsEvidence (operations_of history.now) verdict) }
-    ensures exact { IfOk result (λ verdict. IsExact (operations_of history.now) verdict) }
-    ensures places { IfOk result (λ verdict. IsWithin (operations_of history.now) verdict) }
+    ensures chosen { IfOk result (λ verdict. IsVerdictOf (operations_of history.now.events) verdict) }
+    ensures evidence { IfOk result (λ verdict. IsEvidence (operations_of history.now.events) verdict) }
+    ensures exact { IfOk result (λ verdict. IsExact (operations_of history.now.events) verdict) }
+    ensures places { IfOk result (λ verdict. IsWithin (operations_of history.now.events) verdict) }
 {
     decide_operations(alloc, history.operations())
 }
@@ -60,10 +60,10 @@ pub fn decide_par<R: Threads + Sync>(
     pieces: usize,
 ) -> Result<Verdict, AllocError>
     requires { (1 ≤ pieces) × (pieces ≤ MAX_PIECES) }
-    ensures chosen { IfOk result (λ verdict. IsVerdictOf (operations_of history.now) verdict) }
-    ensures evidence { IfOk result (λ verdict. IsEvidence (operations_of history.now) verdict) }
-    ensures exact { IfOk result (λ verdict. IsExact (operations_of history.now) verdict) }
-    ensures places { IfOk result (λ verdict. IsWithin (operations_of history.now) verdict) }
+    ensures chosen { IfOk result (λ verdict. IsVerdictOf (operations_of history.now.events) verdict) }
+    ensures evidence { IfOk result (λ verdict. IsEvidence (operations_of history.now.events) verdict) }
+    ensures exact { IfOk result (λ verdict. IsExact (operations_of history.now.events) verdict) }
+    ensures places { IfOk result (λ verdict. IsWithin (operations_of history.now.events) verdict) }
 {
     decide_operations_par(rt, alloc, history.operations(), pieces)
 }

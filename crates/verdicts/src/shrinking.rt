@@ -27,13 +27,13 @@ pub fn shrink(
     history: &History,
     violation: &Violation,
 ) -> Result<History, AllocError>
-    requires { IsChosenViolation (operations_of history.now) violation.now }
-    ensures kept { IfOk result (λ small. KeepsViolation (operations_of history.now) violation.now (operations_of small)) }
-    ensures same_violation { IfOk result (λ small. StaysChosen (operations_of history.now) violation.now (operations_of small)) }
-    ensures minimal { IfOk result (λ small. IsMinimal (operations_of small)) }
-    ensures shortest { IfOk result (λ _. HasShortestCover (operations_of history.now) violation.now) }
-    ensures events { IfOk result (λ small. ArePartOf history.now small) }
-    ensures complete { IfOk result IsCompleteHistory }
+    requires { IsChosenViolation (operations_of history.now.events) violation.now }
+    ensures kept { IfOk result (λ small. KeepsViolation (operations_of history.now.events) violation.now (operations_of small.events)) }
+    ensures same_violation { IfOk result (λ small. StaysChosen (operations_of history.now.events) violation.now (operations_of small.events)) }
+    ensures minimal { IfOk result (λ small. IsMinimal (operations_of small.events)) }
+    ensures shortest { IfOk result (λ _. HasShortestCover (operations_of history.now.events) violation.now) }
+    ensures events { IfOk result (λ small. ArePartOf history.now.events small.events) }
+    ensures complete { IfOk result (λ small. IsCompleteHistory small.events) }
 {
     // A history is complete, and has no more than `MAX_EVENTS`, as its accessor says.
     let _events = history.events();
@@ -47,8 +47,8 @@ fn selected_events(
     history: &History,
     violation: &Violation,
 ) -> Result<Vec<Event>, AllocError>
-    requires { IsChosenViolation (operations_of history.now) violation.now }
-    ensures { IfOk result (λ selected. AreSelectedEvents history.now violation.now selected.items) }
+    requires { IsChosenViolation (operations_of history.now.events) violation.now }
+    ensures { IfOk result (λ selected. AreSelectedEvents history.now.events violation.now selected.items) }
 {
     let operations = history.operations();
     let lines = shown(alloc, operations, violation)?;

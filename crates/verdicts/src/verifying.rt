@@ -46,7 +46,7 @@ pub enum Claimed {
 /// operations and a claim of m lines. Memory for a yes: a copy of its lines, and the values in the queue; for a no none, so
 /// a no is always answered.
 pub fn verify(alloc: Global, history: &History, claimed: &Claimed) -> Result<bool, AllocError>
-    ensures exact { IfOk result (λ valid. IsTrue valid ↔ IsTrueClaim (operations_of history.now) claimed.now) }
+    ensures exact { IfOk result (λ valid. IsTrue valid ↔ IsTrueClaim (operations_of history.now.events) claimed.now) }
     ensures no { (kind : ViolationKind) (lines : List Operation) → claimed.now ≡ Claimed.No kind lines → IsOk result }
 {
     let operations = history.operations();
