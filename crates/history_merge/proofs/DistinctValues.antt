@@ -2,7 +2,7 @@
 use Rattle.std.proofs.Common.{◌≡◌, ◌≢◌, ℕ, zero, suc, ◌+◌, ◌≤◌, ◌<◌, ◌||◌, ◌↔◌, Bool, true, false, cond, List, [], ◌∷◌, ◌++◌, length, get_or, take}
 use Rattle.std.proofs.Common.{drop, Option, Some, None, IsTrue, refl, sym, ◌∙◌, ap, subst, inl, inr, arith, nat_eq, nat_lt, length-append}
 use Rattle.std.proofs.Common.{get_or-set_other, get_or-set_same, length-set, set}
-use Rattle.std.specs.Prelude.{AllPairs, IsPermutation, slice_get}
+use Rattle.std.specs.Prelude.{IsPermutation, slice_get}
 use Rattle.std.specs.Option.{option_map_or}
 use Rattle.std.specs.Ordering.{nat_cmp}
 use Rattle.std.specs.List.{IsAllAdjacentAnswer, cons_option, list_any}
@@ -20,7 +20,7 @@ use Rattle.std.proofs.lemmas.Map.Keys.{IsDistinct-from_apart, IsDistinct-IsPermu
 use Rattle.event_records.specs.declared.limits.TheConstants.{MAX_THREADS}
 use Rattle.event_records.specs.declared.event.Event.{Event}
 use Rattle.history_merge.proofs.Distinct.{one_at}
-use Rattle.history_merge.specs.Complete.{called_value, called_values}
+use Rattle.history_merge.specs.Complete.{AreDistinct, called_value, called_values}
 use Rattle.history_merge.specs.Faults.{was_called, repeats_value}
 use Rattle.history_merge.specs.Inner.Faults.{NoRepeatBefore, IsFirstRepeat}
 
@@ -29,10 +29,6 @@ nat_eq_flips x y = elim (eqb_tells x y) [
   | inl h ↦ h.0 ∙ sym (eq-eqb y x (sym h.1))
   | inr h ↦ h.0 ∙ sym (ne_eqb y x (λ same. h.1 (sym same)))
 ]
-
--- each number stands once
-abbrev pub AreDistinct : List ℕ → Type 0
-AreDistinct xs = AllPairs (λ v w. v ≢ w) xs
 
 -- numbers that differ do so in every order
 distinct_moved : (xs ys : List ℕ) → IsPermutation xs ys → AreDistinct xs → AreDistinct ys

@@ -19,12 +19,12 @@ use Rattle.event_records.specs.Projection.{projection}
 use Rattle.history_merge.specs.declared.fault.HistoryFault.{HistoryFault}
 use Rattle.history_merge.specs.declared.fault.HistoryFault.TheVariants.{TicketOrder, BadThread, CallWhilePending, ReturnWithoutCall, WrongReturn}
 use Rattle.history_merge.specs.declared.fault.HistoryFault.TheVariants.{DuplicateValue, Pending, Memory, InitialTwice}
-use Rattle.history_merge.specs.Complete.{IsCompleteHistory, called_values}
+use Rattle.history_merge.specs.Complete.{AreDistinct, IsCompleteHistory, called_values}
 use Rattle.history_merge.specs.Faults.{fault_at, NoFaultBefore, IsFirstFault, IsFirstFaultAt, repeats_value}
 use Rattle.history_merge.specs.Inner.Faults.{NothingPending, IsFirstRepeat}
 use Rattle.history_merge.proofs.Distinct.{one_at}
 use Rattle.history_merge.proofs.Tracking.{projection-push_own, projection-push_other}
-use Rattle.history_merge.proofs.DistinctValues.{AreDistinct, cut_at, distinct_push, new_from_distinct}
+use Rattle.history_merge.proofs.DistinctValues.{cut_at, distinct_push, new_from_distinct}
 use Rattle.history_merge.proofs.Turns.{TurnsSoFar, turns_push, fits_in_turns, nothing_after_turns}
 use Rattle.history_merge.proofs.FirstFaults.{MayFollow, may_follow, no_fault, one_of_rules}
 

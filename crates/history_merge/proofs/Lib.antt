@@ -6,6 +6,7 @@
 -- FirstFaults, ExactFaults: a list of events is a complete history exactly where it has no fault.
 -- Formed, MetFaults: what the builder holds after each event, and at the end: the operations, or the first fault.
 -- OneFault: a list of events has one first fault.
+-- InitialValues, InitialFaults: the same of a queue that holds some values first.
 -- Runs, Places: what a run of the sequential queue enqueued and dequeued, and where.
 -- DistinctValues: values that no two calls share.
 pub mod Gathered
@@ -23,3 +24,5 @@ pub mod Turns
 pub mod FirstFaults
 pub mod ExactFaults
 pub mod OneFault
+pub mod InitialFaults
+pub mod InitialValues

@@ -18,6 +18,10 @@ called_value _ = None
 abbrev pub called_values : List Event → List ℕ
 called_values events = filter_map (λ e. called_value e.what) events
 
+-- each number stands once
+abbrev pub AreDistinct : List ℕ → Type 0
+AreDistinct values = AllPairs (λ v w. v ≢ w) values
+
 -- tickets rise and are at most this one, each thread calls and returns in turn and leaves no call pending, and no two calls
 -- enqueue one value
 pub record IsCompleteUpTo (greatest : ℕ) (events : List Event) : Type 0 where
@@ -25,7 +29,7 @@ pub record IsCompleteUpTo (greatest : ℕ) (events : List Event) : Type 0 where
   pub tickets_in_range : All (λ e. e.ticket ≤ greatest) events
   pub threads_in_range : All (λ e. e.thread ≤ MAX_THREAD) events
   pub threads_take_turns : (thread : ℕ) → TakesTurns (projection thread events)
-  pub values_are_distinct : AllPairs (λ v w. v ≢ w) (called_values events)
+  pub values_are_distinct : AreDistinct (called_values events)
 
 -- the same with any ticket that an event may have
 abbrev pub IsCompleteHistory : List Event → Type 0

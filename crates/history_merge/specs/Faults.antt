@@ -1,8 +1,8 @@
--- The first fault of a list of events that is no complete history.
+-- The first fault of a list of events that is no complete history, of a queue that is empty first or holds some values.
 use Rattle.std.specs.Prelude.{◌≡◌, ℕ, ◌<◌, ◌≤◌, Bool, false, ◌||◌, ◌&&◌, not, nat_le, nat_lt, nat_eq, List, length, take, slice_get, Option, Some}
-use Rattle.std.specs.Prelude.{None, is_some, is_none, if◌then◌else◌, ⊤, option_and_then}
+use Rattle.std.specs.Prelude.{None, is_some, is_none, if◌then◌else◌, ⊤, option_and_then, Contains}
 use Rattle.std.specs.Bool.{then_some}
-use Rattle.std.specs.Option.{option_map_or}
+use Rattle.std.specs.Option.{option_map_or, option_or}
 use Rattle.std.specs.List.{last_or, list_any}
 use Rattle.event_records.specs.declared.event.Event.{Event}
 use Rattle.event_records.specs.Turns.{is_call, answers}
@@ -11,7 +11,7 @@ use Rattle.history_merge.specs.declared.fault.HistoryFault.{HistoryFault}
 use Rattle.history_merge.specs.declared.fault.HistoryFault.TheVariants.{TicketOrder, BadThread, CallWhilePending, ReturnWithoutCall, WrongReturn}
 use Rattle.history_merge.specs.declared.fault.HistoryFault.TheVariants.{DuplicateValue, Pending, Memory, InitialTwice}
 use Rattle.event_records.specs.declared.limits.TheConstants.{MAX_TICKET, MAX_THREAD}
-use Rattle.history_merge.specs.Complete.{called_value}
+use Rattle.history_merge.specs.Complete.{AreDistinct, called_value}
 
 -- the call of this thread that no event has answered yet: its last event, if that is a call
 abbrev pub pending_call : ℕ → List Event → Option Event
@@ -70,3 +70,43 @@ IsFirstFault events (DuplicateValue i) = IsFirstFaultAt events i (DuplicateValue
 IsFirstFault events (Pending ticket) = NoFaultBefore events (length events) × IsLeastPending events ticket
 IsFirstFault events Memory = ⊤
 IsFirstFault events (InitialTwice j) = ⊥
+
+-- ---- of a queue that holds some values first
+
+-- whether this is an initial value
+abbrev pub is_initial : List ℕ → ℕ → Bool
+is_initial initial v = list_any (λ w. nat_eq w v) initial
+
+-- whether the event calls with an initial value
+abbrev pub calls_initial : List ℕ → Event → Bool
+calls_initial initial e = option_map_or (is_initial initial) (called_value e.what) false
+
+-- the first rule that the event at this place breaks; the last rule is that its value is new, among the initial ones too
+abbrev pub fault_from : List ℕ → List Event → ℕ → Event → Option HistoryFault
+fault_from initial before i e = option_or (fault_at before i e) (then_some (calls_initial initial e) (DuplicateValue i))
+
+-- the events before place n have no fault
+abbrev pub NoFaultBeforeFrom : List ℕ → List Event → ℕ → Type 0
+NoFaultBeforeFrom initial events n = (i : ℕ) (e : Event) → i < n → slice_get events i ≡ Some e → fault_from initial (take i events) i e ≡ None
+
+-- the initial values are distinct, the event at place i has this fault, and the events before it have none
+abbrev pub IsFirstFaultAtFrom : List ℕ → List Event → ℕ → HistoryFault → Type 0
+IsFirstFaultAtFrom initial events i fault = AreDistinct initial × NoFaultBeforeFrom initial events i
+    × ((e : Event) × (slice_get events i ≡ Some e) × (fault_from initial (take i events) i e ≡ Some fault))
+
+-- the initial value at place j stands before it too, and those before it are distinct
+abbrev pub IsFirstTwice : List ℕ → ℕ → Type 0
+IsFirstTwice initial j = AreDistinct (take j initial) × ((v : ℕ) × (slice_get initial j ≡ Some v) × Contains (take j initial) v)
+
+-- what is wrong with the initial values, else with the events; running out of memory says nothing of them
+abbrev pub IsFirstFaultFrom : List ℕ → List Event → HistoryFault → Type 0
+IsFirstFaultFrom initial events (TicketOrder i) = IsFirstFaultAtFrom initial events i (TicketOrder i)
+IsFirstFaultFrom initial events (BadThread i) = IsFirstFaultAtFrom initial events i (BadThread i)
+IsFirstFaultFrom initial events (CallWhilePending i) = IsFirstFaultAtFrom initial events i (CallWhilePending i)
+IsFirstFaultFrom initial events (ReturnWithoutCall i) = IsFirstFaultAtFrom initial events i (ReturnWithoutCall i)
+IsFirstFaultFrom initial events (WrongReturn i) = IsFirstFaultAtFrom initial events i (WrongReturn i)
+IsFirstFaultFrom initial events (DuplicateValue i) = IsFirstFaultAtFrom initial events i (DuplicateValue i)
+IsFirstFaultFrom initial events (Pending ticket) =
+    AreDistinct initial × NoFaultBeforeFrom initial events (length events) × IsLeastPending events ticket
+IsFirstFaultFrom initial events Memory = ⊤
+IsFirstFaultFrom initial events (InitialTwice j) = IsFirstTwice initial j

@@ -1,15 +1,19 @@
--- What a history in the making keeps of its events.
-use Rattle.std.specs.Prelude.{◌≡◌, ℕ, ◌+◌, ◌<◌, ◌≤◌, ◌/◌, ◌%◌, ◌⊎◌, true, List, length, MatchOption, ⊤, option_map, slice_index_or}
+-- What a history in the making keeps of its events, and of what its queue holds first.
+use Rattle.std.specs.Prelude.{◌≡◌, ℕ, ◌+◌, ◌<◌, ◌≤◌, ◌/◌, ◌%◌, ◌⊎◌, true, false, List, [], length, MatchOption, MatchResult, ⊤, option_map, slice_get, slice_index_or, Option, Some, Result}
 use Rattle.std.specs.Ordering.{nat_cmp}
 use Rattle.std.specs.BTreeSet.{contains}
 use Rattle.event_records.specs.declared.event.Event.{Event}
 use Rattle.event_records.specs.declared.limits.TheConstants.{MAX_THREAD, MAX_THREADS, NAMES_OF_A_THREAD}
 use Rattle.history_merge.specs.declared.fault.HistoryFault.{HistoryFault}
-use Rattle.history_merge.specs.declared.fault.HistoryFault.TheVariants.{Memory}
+use Rattle.history_merge.specs.declared.fault.HistoryFault.TheVariants.{Memory, InitialTwice}
 use Rattle.history_merge.specs.declared.called.CalledValues.{CalledValues}
 use Rattle.history_merge.specs.declared.forming.Forming.{Forming}
 use Rattle.history_merge.specs.declared.builder.HistoryBuilder.{HistoryBuilder}
-use Rattle.history_merge.specs.Faults.{was_called, pending_call, NoFaultBefore, IsFirstFaultAt}
+use Rattle.history_merge.specs.declared.initial_values.InitialValues.{InitialValues}
+use Rattle.history_merge.specs.declared.initial_values.InitialCalls.{InitialCalls}
+use Rattle.history_merge.specs.declared.preloaded.PreloadedBuilder.{PreloadedBuilder}
+use Rattle.history_merge.specs.Complete.{AreDistinct}
+use Rattle.history_merge.specs.Faults.{was_called, pending_call, NoFaultBefore, IsFirstFaultAt, calls_initial, is_initial, IsFirstTwice}
 use Rattle.history_merge.specs.Forming.{operations_so_far, waiting}
 use Rattle.history_merge.specs.Progress.{HasTracked}
 
@@ -45,3 +49,43 @@ HasMetFault events fault = (fault ≡ Memory) ⊎ ((i : ℕ) × IsFirstFaultAt e
 -- these events were added, one after another
 abbrev pub HasGathered : List Event → HistoryBuilder → Type 0
 HasGathered events builder = MatchOption builder.fault (IsForming events builder) (HasMetFault events)
+
+-- ---- of a queue that holds some values first
+
+-- a set holds these values, and none is below the least of them or above the greatest
+pub record KnowsInitial (initial : List ℕ) (known : InitialValues) : Type 0 where
+  pub values : (v : ℕ) → contains nat_cmp known.values v ≡ is_initial initial v
+  pub range : (v : ℕ) → is_initial initial v ≡ true → (known.least ≤ v) × (v ≤ known.greatest)
+
+-- the events before place n don't call with an initial value
+abbrev pub NoInitialCallBefore : List ℕ → List Event → ℕ → Type 0
+NoInitialCallBefore initial events n = (i : ℕ) (e : Event) → i < n → slice_get events i ≡ Some e → calls_initial initial e ≡ false
+
+-- the event at place i calls with an initial value, and those before it don't
+abbrev pub IsFirstInitialCall : List ℕ → List Event → ℕ → Type 0
+IsFirstInitialCall initial events i = NoInitialCallBefore initial events i × ((e : Event) × (slice_get events i ≡ Some e) × (calls_initial initial e ≡ true))
+
+-- it is the place of the first call with an initial value, if there is one
+abbrev pub TellsFirstCall : List ℕ → List Event → Option ℕ → Type 0
+TellsFirstCall initial events first = MatchOption first (NoInitialCallBefore initial events (length events)) (IsFirstInitialCall initial events)
+
+-- the initial values are known, and which of the events was the first to call with one
+pub record HasWatched (initial : List ℕ) (events : List Event) (calls : InitialCalls) : Type 0 where
+  pub values : KnowsInitial initial calls.values
+  pub count : calls.count ≡ length events
+  pub first : TellsFirstCall initial events calls.first
+
+-- an initial value stands twice; or want of memory, which says nothing of them
+abbrev pub HasRefusedInitial : List ℕ → HistoryFault → Type 0
+HasRefusedInitial initial fault = (fault ≡ Memory) ⊎ ((j : ℕ) × (fault ≡ InitialTwice j) × IsFirstTwice initial j)
+
+-- the initial values are distinct, and the calls with them are watched where there are some; or the fault is theirs
+abbrev pub AreJudged : List ℕ → List Event → Result (Option InitialCalls) HistoryFault → Type 0
+AreJudged initial events judged =
+    MatchResult judged (λ calls. AreDistinct initial × MatchOption calls (initial ≡ []) (HasWatched initial events)) (HasRefusedInitial initial)
+
+-- the builder started with these initial values, and these events were added, one after another
+pub record HasGatheredFrom (initial : List ℕ) (events : List Event) (builder : PreloadedBuilder) : Type 0 where
+  pub started : builder.initial.items ≡ initial
+  pub judged : AreJudged initial events builder.calls
+  pub gathered : HasGathered events builder.events

@@ -1,15 +1,15 @@
 -- Histories of a queue that holds some values first: its initial values, front first, which no operation enqueues.
-use Rattle.std.specs.Prelude.{◌≢◌, ℕ, ◌+◌, ◌*◌, List, [], ◌∷◌, ◌++◌, AllPairs, length, map}
+use Rattle.std.specs.Prelude.{ℕ, ◌+◌, ◌*◌, List, [], ◌∷◌, ◌++◌, length, map}
 use Rattle.event_records.specs.declared.event.Event.{Event}
 use Rattle.event_records.specs.declared.event.What.TheVariants.{CallEnq, RetEnq}
 use Rattle.history_merge.specs.declared.operation.Operation.{Operation}
 use Rattle.history_merge.specs.declared.operation.OpKind.TheVariants.{Enq}
-use Rattle.history_merge.specs.Complete.{IsCompleteHistory, called_values}
+use Rattle.history_merge.specs.Complete.{AreDistinct, IsCompleteHistory, called_values}
 
 -- a complete history, and initial values that are distinct and that no call enqueues
 pub record IsCompleteFrom (initial : List ℕ) (events : List Event) : Type 0 where
   pub complete : IsCompleteHistory events
-  pub values_are_distinct : AllPairs (λ v w. v ≢ w) (initial ++ called_values events)
+  pub values_are_distinct : AreDistinct (initial ++ called_values events)
 
 -- a history: what its queue holds first, and its events
 pub record HistoryView : Type 0 where

@@ -87,7 +87,7 @@ fn name_in(value: u64) -> usize
 }
 
 /// The value that a call enqueues.
-fn called_value(what: What) -> Option<u64>
+pub fn called_value(what: What) -> Option<u64>
     ensures { result ≡ called_value what }
 {
     match what {

@@ -1,4 +1,5 @@
 ghost use Rattle.std.specs.Prelude.{◌≡◌, ◌≤◌, length};
+ghost use Rattle.history_merge.specs.Inner.Faults.{comes_by};
 ghost use Rattle.history_merge.specs.Names.{name_of, place_in};
 
 use std::alloc::AllocError;
@@ -65,6 +66,23 @@ impl HistoryFault {
             HistoryFault::Pending(_) => "Pending",
             HistoryFault::Memory => "Memory",
             HistoryFault::InitialTwice(_) => "InitialTwice",
+        }
+    }
+
+    /// Whether it decides where the event at this place is the first that calls with an initial value: that event or an earlier one
+    /// has it, or memory was refused.
+    pub(crate) fn comes_by(self, place: usize) -> bool
+        ensures { result ≡ comes_by place self }
+    {
+        match self {
+            HistoryFault::TicketOrder(at)
+            | HistoryFault::BadThread(at)
+            | HistoryFault::CallWhilePending(at)
+            | HistoryFault::ReturnWithoutCall(at)
+            | HistoryFault::WrongReturn(at)
+            | HistoryFault::DuplicateValue(at) => at <= place,
+            HistoryFault::Pending(_) => false,
+            HistoryFault::Memory | HistoryFault::InitialTwice(_) => true,
         }
     }
 
