@@ -122,12 +122,12 @@ fronts_agree Two Two is js r s right_i right_j same =
     let agree = initial_agree is js r s right_i right_j (after_version Two Two is js r s same).1 in
     (refl, agree.0, agree.1)
 
-abbrev text_by : Version → List ℕ → List Event → HistoryText
-text_by version initial events = record { version = version; initial = initial; events = events }
+abbrev said_by : Version → List ℕ → List Event → HistoryText
+said_by version initial events = record { version = version; initial = initial; events = events }
 
 text_is : (t u : HistoryText) → t.version ≡ u.version → t.initial ≡ u.initial → t.events ≡ u.events → t ≡ u
-text_is t u versions values events = ap (λ (v : Version). text_by v t.initial t.events) versions
-    ∙ ap (λ (is : List ℕ). text_by u.version is t.events) values ∙ ap (text_by u.version u.initial) events
+text_is t u versions values events = ap (λ (v : Version). said_by v t.initial t.events) versions
+    ∙ ap (λ (is : List ℕ). said_by u.version is t.events) values ∙ ap (said_by u.version u.initial) events
 
 -- two texts at the front of one input are one text
 pub texts_agree : (t u : HistoryText) (q r : List ℕ) → HasText t → HasText u → text_of t ++ q ≡ text_of u ++ r → (t ≡ u) × (q ≡ r)

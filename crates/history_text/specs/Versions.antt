@@ -5,6 +5,7 @@ use Rattle.std.specs.declared.result.Result.{Result}
 use Rattle.std.specs.Str.{bytes_eq}
 use Rattle.event_records.specs.declared.event.Event.{Event}
 use Rattle.event_records.specs.declared.limits.TheConstants.{MAX_INITIAL}
+use Rattle.history_merge.specs.Initial.{HistoryView}
 use Rattle.text_lines.specs.declared.fault.TextFault.{TextFault}
 use Rattle.text_lines.specs.declared.fault.TextFault.TheVariants.{Line}
 use Rattle.text_lines.specs.Input.{Ending}
@@ -65,15 +66,23 @@ abbrev pub count_before_events : Version → List ℕ → ℕ
 count_before_events One initial = 1
 count_before_events Two initial = 2 + length initial
 
--- the text of a history of version 2
+-- the text of initial values and events
+abbrev pub text_by : Version → List ℕ → List Event → List ℕ
+text_by version initial events = lines_before_events version initial ++ lines_to_end events
+
+-- the text of version 2
 abbrev pub history_text_2 : List ℕ → List Event → List ℕ
-history_text_2 initial events = lines_before_events Two initial ++ lines_to_end events
+history_text_2 initial events = text_by Two initial events
 
 -- the text of either version
 abbrev pub text_of : HistoryText → List ℕ
-text_of t = lines_before_events t.version t.initial ++ lines_to_end t.events
+text_of t = text_by t.version t.initial t.events
 
--- how many lines it has
+-- what the text of a history says in this version
+abbrev pub said_in : Version → HistoryView → HistoryText
+said_in version history = record { version = version; initial = history.initial; events = history.events }
+
+-- how many lines a text has
 abbrev pub line_count : HistoryText → ℕ
 line_count t = count_before_events t.version t.initial + length t.events + 1
 

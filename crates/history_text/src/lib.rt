@@ -20,7 +20,7 @@ mod verdict_writer;
 mod version;
 
 pub use event_records::MAX_STEPS;
-pub use history_writer::write_history;
+pub use history_writer::{write_history, write_history_2, write_history_text};
 pub use laws::{
     a_claim_on_a_text_has_a_text, a_text_has_no_fault, a_text_has_one_claim,
     a_text_has_one_history, a_text_has_one_schedule, a_text_of_either_version_has_one_history,
@@ -28,7 +28,8 @@ pub use laws::{
     no_text_of_either_version_begins_another, one_first_fault,
 };
 pub use reader::{
-    TextReader, at_end, gather_history, read_any, read_history, read_schedule, read_verdict,
+    TextReader, at_end, gather_any, gather_history, read_any, read_history, read_schedule,
+    read_verdict,
 };
 pub use schedule::{MOST_DRAINED, Schedule, Steps};
 pub use text_lines::{

@@ -2,7 +2,7 @@
 ghost use Rattle.std.specs.Prelude.{◌≡◌, ◌+◌, ◌<◌, ◌^◌, ◌≤◌, ◌∷◌, true, false, IfOk, IfErr, OnErr, OnOk, MatchResult, IfNone, IfSome, option_to_list, is_err, Err, Ok, length, List, []};
 ghost use Rattle.event_records.specs.declared.event.Event.{Event};
 ghost use Rattle.event_records.specs.declared.limits.TheConstants.{MAX_INITIAL};
-ghost use Rattle.history_merge.specs.Gathering.{HasGathered};
+ghost use Rattle.history_merge.specs.Gathering.{HasGathered, HasGatheredFrom};
 ghost use Rattle.verdicts.specs.declared.verifying.Claimed.{Claimed};
 ghost use Rattle.history_text.specs.declared.schedule.Schedule.{Schedule};
 ghost use Rattle.history_text.specs.declared.version.HistoryText.{HistoryText};
@@ -26,7 +26,7 @@ use crate::step_line::setting_in;
 use crate::value_line::{count_in, version_in};
 use crate::version::{Events, HistoryText, InitialValues, Version};
 use event_records::Event;
-use history_merge::HistoryBuilder;
+use history_merge::{HistoryBuilder, PreloadedBuilder};
 use std::alloc::Global;
 use std::marker::Model;
 use text_lines::{LONGEST_LINE, Line, ReadFailed, TextFault, TextSource};
@@ -303,7 +303,7 @@ impl<R: TextSource> TextReader<R> {
     fn collect_items<T: Item, C: Collects<T>>(&mut self, into: &mut C) -> Result<(), TextFault>
         requires { self.old.lines < 2 ^ 63 + 2 ^ 33 }
         ensures collected { IfOk result (λ _. (items : List T) × HaveLines T.kind items × TakesItems T.kind self.old.left self.new.left items
-            × (self.new.lines ≡ self.old.lines + 1 + length items) × (C.Holds into.old [] → C.Holds into.new items)) }
+            × (self.new.lines ≡ self.old.lines + 1 + length items) × C.Adds into.old into.new items) }
         ensures fault { IfErr result (HasItemsFault T.kind (self.old.lines + 1) self.old.left) }
         ensures is_stopped { self.new.is_stopped ≡ self.old.is_stopped }
     {
@@ -412,6 +412,21 @@ impl<R: TextSource> TextReader<R> {
             initial: InitialValues::from_vec(initial),
             events: Events::from_vec(events),
         })
+    }
+
+    /// The initial values and the events of the history, of either version, that the input begins with are those of a history
+    /// in the making.
+    fn any_gathered(&mut self, alloc: Global) -> Result<PreloadedBuilder, TextFault>
+        requires { self.old.lines < 2 ^ 63 }
+        ensures text { IfOk result (λ builder. (text : HistoryText) × HasText text × Takes self.old.left self.new.left (text_of text)
+            × ((self.new.lines ≡ self.old.lines + line_count text) × HasGatheredFrom text.initial text.events builder)) }
+        ensures fault { IfErr result (HasTextFault self.old.lines self.old.left) }
+        ensures is_stopped { self.new.is_stopped ≡ self.old.is_stopped }
+    {
+        let (_version, initial) = self.before_events(alloc)?;
+        let mut builder = PreloadedBuilder::new(alloc, initial);
+        self.collect_items(&mut builder)?;
+        Ok(builder)
     }
 
     /// The setting in the next line.
@@ -577,6 +592,33 @@ pub fn gather_history<R: TextSource>(
     ensures stopped { reader.new.is_stopped ≡ is_err result }
 {
     let result = reader.gathered(builder);
+    reader.is_stopped = result.is_err();
+    result
+}
+
+/// Reads the text of a history of either version as [`read_any`] does, and answers a history in the making that starts with its
+/// initial values and to which its events were added. It keeps none of these. The time is linear in the bytes read, beside that
+/// of the adding.
+pub fn gather_any<R: TextSource>(
+    alloc: Global,
+    reader: &mut TextReader<R>,
+) -> Result<PreloadedBuilder, TextFault>
+    requires running { reader.old.is_stopped ≡ false }
+    requires lines { reader.old.lines < 2 ^ 63 }
+
+    // What is read is the text of some values and events, nothing else is taken, and just these are gathered.
+    ensures text { IfOk result (λ builder. (text : HistoryText) × HasText text × Takes reader.old.left reader.new.left (text_of text)
+        × ((reader.new.lines ≡ reader.old.lines + line_count text) × HasGatheredFrom text.initial text.events builder)) }
+
+    // Where a text of either version stands at the front it is read, unless memory is refused.
+    ensures whole { (text : HistoryText) → HasText text → BeginsWith reader.old.left (text_of text) → MatchResult result (HasGatheredFrom text.initial text.events) (λ fault. fault ≡ TextFault.Memory) }
+
+    // A fault is the first one.
+    ensures fault { IfErr result (HasTextFault reader.old.lines reader.old.left) }
+
+    ensures stopped { reader.new.is_stopped ≡ is_err result }
+{
+    let result = reader.any_gathered(alloc);
     reader.is_stopped = result.is_err();
     result
 }
