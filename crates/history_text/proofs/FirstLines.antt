@@ -15,14 +15,14 @@ use Rattle.history_text.proofs.FirstFaults.{first_is, later_fault}
 
 -- ---- the first line
 
-no_line : (n : ℕ) (ending : Ending) (fault : TextFault) (front : Front) → NoLineFault n ending fault front → FirstLineFault n ending fault front
+no_line : (n : ℕ) (ending : Ending) (fault : TextFault) (front : Front) → NoLineFault (Line n) ending fault front → FirstLineFault n ending fault front
 no_line n ending fault (Whole bytes rest) h = absurd h
 no_line n ending fault TooLong h = h
 no_line n ending fault Unfinished h = h
 no_line n ending fault Nothing h = h
 
 -- where no line is whole, none is a first one
-pub no_first_line : (n : ℕ) (old : Option Ahead) (fault : TextFault) → HasNoLine n old fault → HasFirstLineFault n old fault
+pub no_first_line : (n : ℕ) (old : Option Ahead) (fault : TextFault) → HasNoLine (Line n) old fault → HasFirstLineFault n old fault
 no_first_line n None fault h = tt
 no_first_line n (Some a) fault h = no_line n a.ending fault (front_of a.bytes) h
 

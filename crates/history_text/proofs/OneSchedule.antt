@@ -1,23 +1,18 @@
 -- Two texts of schedules at the front of one input are one, and an input has one first fault.
-use Rattle.std.proofs.Common.{◌≡◌, ℕ, ◌+◌, List, [], ◌++◌, length, arith, ap, sym, subst, ◌∙◌, refl, Option, Some, None, Ok, Err, inl, inr}
-use Rattle.std.proofs.Common.{append_assoc, IfOk, IfErr, MatchResult}
-use Rattle.std.specs.declared.result.Result.{Result}
+use Rattle.std.proofs.Common.{◌≡◌, ℕ, ◌+◌, List, ◌++◌, length, arith, ap, sym, subst, ◌∙◌, refl, Some, None, Ok, inl, inr, append_assoc}
 use Rattle.std.proofs.lemmas.List.{append_cancel_left}
 use Rattle.recorder_core.specs.declared.step.Step.{Step}
 use Rattle.text_lines.specs.declared.fault.TextFault.{TextFault}
-use Rattle.text_lines.specs.declared.fault.TextFault.TheVariants.{Memory}
 use Rattle.history_text.specs.declared.schedule.Schedule.{Schedule}
 use Rattle.text_lines.specs.Lines.{line, spaced, end_line, front_of, header_fault, After}
-use Rattle.history_text.specs.Items.{lines_of, HaveLines, item_at_front, ItemFault}
-use Rattle.history_text.specs.Schedules.{setting_fields, schedule_header, lines_before_steps, schedule_text, step_kind, IsSetting, HasScheduleText}
-use Rattle.history_text.specs.Schedules.{SettingFault, AfterSetting, setting_at_front, IsScheduleTextFault, NoRoomForSchedule}
-use Rattle.text_lines.specs.Input.{Ahead, Ending, EndOfInput, Takes}
-use Rattle.history_text.specs.Reading.{HasScheduleTextFault, BeginsWith}
-use Rattle.history_text.proofs.FirstFaults.{is_read}
+use Rattle.history_text.specs.Items.{lines_of, HaveLines, item_at_front, LineFault, ItemFault}
+use Rattle.history_text.specs.Schedules.{setting_fields, setting_in, schedule_header, lines_before_steps, schedule_text, step_kind, IsSetting, HasScheduleText}
+use Rattle.history_text.specs.Schedules.{IsScheduleTextFault}
+use Rattle.text_lines.specs.Input.{Ending, EndOfInput}
 use Rattle.history_text.proofs.ItemFronts.{end_front, header_front}
-use Rattle.history_text.proofs.ReadSteps.{step_front, setting_front}
-use Rattle.history_text.proofs.Runs.{some_is, none_or_some, fault_or_ok, two_faults, stops_at_last, same_items, no_item_fault, one_item_fault}
-use Rattle.history_text.proofs.OneText.{rest_is}
+use Rattle.history_text.proofs.OneLine.{some_is, none_or_some, one_said, said_or_fault, one_line_fault}
+use Rattle.history_text.proofs.ReadSteps.{step_front, setting_says}
+use Rattle.history_text.proofs.Runs.{stops_at_last, same_items, no_item_fault, one_item_fault}
 
 -- the line of a setting
 abbrev setting_line : ℕ → ℕ → List ℕ
@@ -47,18 +42,12 @@ header_is_right ending bytes rest fault is h =
     ∙ header_front schedule_header ending rest (record { one = refl; short = omega arith }) refl in
     none_or_some fault (sym none ∙ h)
 
-setting_is_right : (n threads ring : ℕ) (ending : Ending) (fault : TextFault) (rest : List ℕ) → IsSetting threads ring
-    → SettingFault n ending fault (setting_line threads ring ++ rest) → ⊥
-setting_is_right n threads ring ending fault rest within h = fault_or_ok _ fault (sym (setting_front n threads ring ending rest within) ∙ h)
-
--- what a setting and the bytes after it are
-abbrev setting_of : Result ((ℕ × ℕ) × List ℕ) TextFault → ℕ × ℕ
-setting_of (Ok p) = p.0
-setting_of (Err fault) = (0, 0)
-
-abbrev after_setting : Result ((ℕ × ℕ) × List ℕ) TextFault → List ℕ
-after_setting (Ok p) = p.1
-after_setting (Err fault) = []
+-- the second line is a setting, or has a fault
+setting_or_fault : (n threads ring : ℕ) (ending : Ending) (fault : TextFault) (bytes rest : List ℕ) → IsSetting threads ring
+    → bytes ≡ line schedule_header ++ (setting_line threads ring ++ rest) → After (line schedule_header) (LineFault setting_in n ending fault) bytes → ⊥
+setting_or_fault n threads ring ending fault bytes rest within is after =
+    said_or_fault setting_in n ending fault (threads, ring) (setting_line threads ring) after.0 rest (setting_says threads ring within)
+    (append_cancel_left (line schedule_header) _ _ (sym after.1 ∙ is)) after.2
 
 -- two settings at the front of one input are one
 record IsOneSetting (threads ring count room : ℕ) (r s : List ℕ) : Type 0 where
@@ -70,12 +59,11 @@ one_setting : (threads ring count room : ℕ) (r s : List ℕ) → IsSetting thr
     → lines_before_steps threads ring ++ r ≡ lines_before_steps count room ++ s → IsOneSetting threads ring count room r s
 one_setting threads ring count room r s within_r within_s same =
     let lines = append_cancel_left (line schedule_header) _ _ (sym (first_lines threads ring r) ∙ same ∙ first_lines count room s) in
-    let both = sym (setting_front 0 threads ring EndOfInput r within_r) ∙ ap (λ (b : List ℕ). setting_at_front 0 EndOfInput (front_of b)) lines
-    ∙ setting_front 0 count room EndOfInput s within_s in
+    let both = one_said setting_in (threads, ring) (count, room) (setting_line threads ring) (setting_line count room) r s (setting_says threads ring within_r) (setting_says count room within_s) lines in
     record {
-      threads_are = ap (λ (x : Result ((ℕ × ℕ) × List ℕ) TextFault). (setting_of x).0) both;
-      rings_are = ap (λ (x : Result ((ℕ × ℕ) × List ℕ) TextFault). (setting_of x).1) both;
-      rest = ap after_setting both;
+      threads_are = ap (λ (p : ℕ × ℕ). p.0) both.0;
+      rings_are = ap (λ (p : ℕ × ℕ). p.1) both.0;
+      rest = both.1;
     }
 
 -- ---- whole texts
@@ -104,36 +92,12 @@ pub text_has_no_fault : (lines : ℕ) (ending : Ending) (s : Schedule) (r : List
     → IsScheduleTextFault lines ending (schedule_text s ++ r) fault → ⊥
 text_has_no_fault lines ending s r fault text (inl at_header) = header_is_right ending _ _ fault (whole_text s r ∙ first_lines s.threads s.ring _) at_header
 text_has_no_fault lines ending s r fault text (inr (inl after)) =
-    setting_is_right (lines + 2) s.threads s.ring ending fault _ text.setting
-    (rest_is (line schedule_header) _ after.0 _ (SettingFault (lines + 2) ending fault) after.1 (whole_text s r ∙ first_lines s.threads s.ring _) after.2)
+    setting_or_fault (lines + 2) s.threads s.ring ending fault _ _ text.setting (whole_text s r ∙ first_lines s.threads s.ring _) after
 text_has_no_fault lines ending s r fault text (inr (inr after)) =
     let set = one_setting s.threads s.ring after.0 after.1 _ after.3.0 text.setting after.2 (sym (whole_text s r) ∙ after.3.1) in
     no_item_fault step_kind step_front (lines + 3) ending fault s.steps (end_line (length s.steps) ++ r) r text.steps
     (λ m. last_is_read m ending s.steps r text.steps)
     (subst (ItemFault step_kind (lines + 3) ending fault) (sym set.rest) after.3.2)
-
-same_text : (found wanted : Schedule) (a : Ahead) (new : Option Ahead) (rest : List ℕ) → HasScheduleText found
-    → Takes (Some a) new (schedule_text found) → HasScheduleText wanted → a.bytes ≡ schedule_text wanted ++ rest → found ≡ wanted
-same_text found wanted a None rest text taken has is = absurd taken
-same_text found wanted a (Some b) rest text taken has is = (texts_agree found wanted b.bytes rest text has (sym taken.0 ∙ is)).0
-
--- what is read of a text at the front
-pub reads_what_is_there : (lines : ℕ) (old new : Option Ahead) (r : Result Schedule TextFault)
-    → IfOk r (λ s. HasScheduleText s × Takes old new (schedule_text s)) → IfErr r (HasScheduleTextFault lines old)
-    → (schedule : Schedule) → HasScheduleText schedule → BeginsWith old (schedule_text schedule) → MatchResult r (λ s. s ≡ schedule) (λ fault. fault ≡ Memory)
-reads_what_is_there lines None new r ok err schedule wanted begins = absurd begins
-reads_what_is_there lines (Some a) new r ok err schedule wanted begins =
-    is_read (IsScheduleTextFault lines) NoRoomForSchedule (λ s. HasScheduleText s × Takes (Some a) new (schedule_text s)) (λ s. s ≡ schedule) a r ok err
-    (λ s found. same_text s schedule a new begins.0 found.0 found.1 wanted begins.1)
-    (λ fault first. text_has_no_fault lines a.ending schedule begins.0 fault wanted
-    (subst (λ (b : List ℕ). IsScheduleTextFault lines a.ending b fault) begins.1 first))
-
--- the second line is right, or has a fault
-setting_or_fault : (n : ℕ) (ending : Ending) (bytes : List ℕ) (f : TextFault) (P : List ℕ → Type 0)
-    → After (line schedule_header) (SettingFault n ending f) bytes → AfterSetting P bytes → ⊥
-setting_or_fault n ending bytes f P a b =
-    setting_is_right n b.0 b.1 ending f b.3.0 b.2 (rest_is (line schedule_header) bytes a.0 _ (SettingFault n ending f) a.1
-    (b.3.1 ∙ first_lines b.0 b.1 b.3.0) a.2)
 
 -- an input has one first fault
 pub one_first_fault : (lines : ℕ) (ending : Ending) (bytes : List ℕ) (f g : TextFault) → IsScheduleTextFault lines ending bytes f
@@ -143,12 +107,12 @@ one_first_fault lines ending bytes f g (inl a) (inr (inl b)) = absurd (header_is
 one_first_fault lines ending bytes f g (inl a) (inr (inr b)) = absurd (header_is_right ending bytes _ f (b.3.1 ∙ first_lines b.0 b.1 b.3.0) a)
 one_first_fault lines ending bytes f g (inr (inl a)) (inl b) = absurd (header_is_right ending bytes a.0 g a.1 b)
 one_first_fault lines ending bytes f g (inr (inl a)) (inr (inl b)) =
-    two_faults f g (sym (rest_is (line schedule_header) bytes a.0 b.0 (SettingFault (lines + 2) ending f) a.1 b.1 a.2) ∙ b.2)
+    one_line_fault setting_in (lines + 2) (lines + 2) ending f g a.0 b.0 refl (append_cancel_left (line schedule_header) a.0 b.0 (sym a.1 ∙ b.1)) a.2 b.2
 one_first_fault lines ending bytes f g (inr (inl a)) (inr (inr b)) =
-    absurd (setting_or_fault (lines + 2) ending bytes f (ItemFault step_kind (lines + 3) ending g) a b)
+    absurd (setting_or_fault (lines + 2) b.0 b.1 ending f bytes b.3.0 b.2 (b.3.1 ∙ first_lines b.0 b.1 b.3.0) a)
 one_first_fault lines ending bytes f g (inr (inr a)) (inl b) = absurd (header_is_right ending bytes _ g (a.3.1 ∙ first_lines a.0 a.1 a.3.0) b)
 one_first_fault lines ending bytes f g (inr (inr a)) (inr (inl b)) =
-    absurd (setting_or_fault (lines + 2) ending bytes g (ItemFault step_kind (lines + 3) ending f) b a)
+    absurd (setting_or_fault (lines + 2) a.0 a.1 ending g bytes a.3.0 a.2 (a.3.1 ∙ first_lines a.0 a.1 a.3.0) b)
 one_first_fault lines ending bytes f g (inr (inr a)) (inr (inr b)) =
     let set = one_setting a.0 a.1 b.0 b.1 a.3.0 b.3.0 a.2 b.2 (sym a.3.1 ∙ b.3.1) in
     one_item_fault step_kind step_front (lines + 3) ending f g b.3.0 (subst (ItemFault step_kind (lines + 3) ending f) set.rest a.3.2) b.3.2

@@ -19,6 +19,7 @@ use Rattle.history_text.specs.Reading.{HasVerdictTextFault, IsAll}
 use Rattle.text_lines.specs.Inner.Lines.{IsPartOfLine}
 use Rattle.text_lines.proofs.Fronts.{whole}
 use Rattle.history_text.proofs.FirstFaults.{is_read}
+use Rattle.history_text.proofs.OneLine as lines
 use Rattle.history_text.proofs.ReadOperations.{operation_front}
 use Rattle.history_text.proofs.Runs.{stops_at_last, same_items, no_item_fault, one_item_fault}
 
@@ -44,19 +45,11 @@ answer_is (Some VRepeat) = refl
 answer_is (Some VOrd) = refl
 answer_is (Some VWit) = refl
 
-abbrev line_in : Front → List ℕ
-line_in (Whole bytes rest) = bytes
-line_in _ = []
-
-abbrev after_line : Front → List ℕ
-after_line (Whole bytes rest) = rest
-after_line _ = []
-
 -- two first lines of one input are one
 one_first_line : (a b : Option ViolationKind) (r s : List ℕ) → line (first_line a) ++ r ≡ line (first_line b) ++ s → (a ≡ b) × (r ≡ s)
 one_first_line a b r s same =
-    let fronts = sym (whole (first_line a) r (first_line_is_part a)) ∙ ap front_of same ∙ whole (first_line b) s (first_line_is_part b) in
-    (sym (answer_is a) ∙ ap (λ (f : Front). answer_of (line_in f)) fronts ∙ answer_is b, ap after_line fronts)
+    let first = lines.one_first_line (first_line a) (first_line b) r s (first_line_is_part a) (first_line_is_part b) same in
+    (sym (answer_is a) ∙ ap answer_of first.0 ∙ answer_is b, first.1)
 
 -- a right first line has no fault
 first_line_is_right : (n : ℕ) (answer : Option ViolationKind) (ending : Ending) (bytes rest : List ℕ) (fault : TextFault)

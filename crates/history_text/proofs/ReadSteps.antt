@@ -1,5 +1,5 @@
 -- What is written of a step and of a setting is read back.
-use Rattle.std.proofs.Common.{◌≡◌, ℕ, ◌<◌, ◌≤◌, List, [], ◌∷◌, ◌++◌, length, false, arith, ap, ◌∙◌, refl, Some, Ok, codes, length-append}
+use Rattle.std.proofs.Common.{◌≡◌, ℕ, ◌<◌, ◌≤◌, List, [], ◌∷◌, ◌++◌, length, false, arith, refl, Some, Ok, codes, length-append}
 use Rattle.std.specs.Prelude.{decimal}
 use Rattle.std.proofs.lemmas.Fmt.{length-decimal-le}
 use Rattle.event_records.specs.declared.limits.TheConstants.{MAX_THREAD}
@@ -12,11 +12,11 @@ use Rattle.history_text.specs.declared.schedule.TheConstants.{MOST_DRAINED}
 use Rattle.text_lines.specs.Lines.{line, spaced, greatest_value, front_of, number_in, begins_as_end}
 use Rattle.history_text.specs.Items.{line_of, item_at_front}
 use Rattle.history_text.specs.Schedules.{step_fields, setting_fields, IsAnswerInRange, HasStepLine, step_in, draining, numbered_saying, setting_in}
-use Rattle.history_text.specs.Schedules.{numbered_setting, setting_at_front, step_kind, IsSetting}
+use Rattle.history_text.specs.Schedules.{numbered_setting, step_kind, IsSetting}
 use Rattle.text_lines.specs.Input.{Ending}
-use Rattle.text_lines.proofs.Fronts.{whole}
 use Rattle.text_lines.proofs.WrittenLines.{IsField, number_is_field, number_read, between_read, IsLineOf, line_of_fields}
 use Rattle.history_text.proofs.ItemFronts.{item_front}
+use Rattle.history_text.proofs.OneLine.{Says, line_front}
 
 -- ---- steps
 
@@ -112,9 +112,7 @@ setting_is_line threads ring within =
       length-decimal-le 20 ring (omega arith) (omega (arith, room)) (omega (arith, room)),
     )) refl
 
--- the line of a setting is read as that setting
-pub setting_front : (n threads ring : ℕ) (ending : Ending) (rest : List ℕ) → IsSetting threads ring
-    → setting_at_front n ending (front_of (line (spaced (setting_fields threads ring)) ++ rest)) ≡ Ok ((threads, ring), rest)
-setting_front n threads ring ending rest within =
-    let is = setting_is_line threads ring within in
-    ap (setting_at_front n ending) (whole (spaced (setting_fields threads ring)) rest is.part) ∙ rw (is.back, setting_read n threads ring within) refl
+-- the line of a setting says that setting
+pub setting_says : (threads ring : ℕ) → IsSetting threads ring → Says setting_in (line (spaced (setting_fields threads ring))) (threads, ring)
+setting_says threads ring within = λ n ending rest.
+    line_front setting_in n ending (setting_fields threads ring) (threads, ring) rest (setting_is_line threads ring within) (setting_read n threads ring within)

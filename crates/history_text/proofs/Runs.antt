@@ -7,6 +7,7 @@ use Rattle.text_lines.specs.declared.fault.TextFault.{TextFault}
 use Rattle.text_lines.specs.Lines.{front_of}
 use Rattle.history_text.specs.Items.{Kind, line_of, lines_of, HaveLines, item_at_front, ItemFault}
 use Rattle.text_lines.specs.Input.{Ending}
+use Rattle.history_text.proofs.OneLine.{some_is, none_or_some, fault_or_ok, two_faults}
 
 -- ---- an item, the last line and a fault are three things
 
@@ -18,27 +19,11 @@ abbrev rest_of : {A B : Type 0} → B → Result (Option A × B) TextFault → B
 rest_of other (Ok p) = p.1
 rest_of other (Err fault) = other
 
--- what stands in two equal options is equal
-pub some_is : {A : Type 0} (x y : A) → (let left : Option A = Some x in left ≡ Some y) → x ≡ y
-some_is x y h = cc
-
--- none isn't some
-pub none_or_some : {A : Type 0} (x : A) → (let left : Option A = None in left ≡ Some x) → ⊥
-none_or_some x h = absurd (cc)
-
 last_or_item : {A B : Type 0} (x : A) (r s : B) → (let left : Result (Option A × B) TextFault = Ok (None, r) in left ≡ Ok (Some x, s)) → ⊥
 last_or_item x r s h = none_or_some x (some_is _ _ (ap item_of h))
 
--- a value isn't a fault
-pub fault_or_ok : {A : Type 0} (x : A) (fault : TextFault) → (let left : Result A TextFault = Ok x in left ≡ Err fault) → ⊥
-fault_or_ok x fault h = absurd (cc)
-
 two_items : {A B : Type 0} (x y : A) (r s : B) → (let left : Result (Option A × B) TextFault = Ok (Some x, r) in left ≡ Ok (Some y, s)) → (x ≡ y) × (r ≡ s)
 two_items x y r s h = (some_is x y (some_is _ _ (ap item_of h)), ap (rest_of r) h)
-
--- what stands in two equal faults is equal
-pub two_faults : {A : Type 0} (f g : TextFault) → (let left : Result A TextFault = Err f in left ≡ Err g) → f ≡ g
-two_faults f g h = cc
 
 -- ---- runs of items
 

@@ -1,35 +1,34 @@
--- What is written of a history.
-use Rattle.std.proofs.Common.{◌≡◌, ℕ, ◌≤◌, List, [], ◌++◌, length, Option, ◌∙◌, ap, sym, subst, append_assoc, append-nil}
-use Rattle.std.specs.List.{flat_map, All}
+-- What is written of a history, and that it has a text.
+use Rattle.std.proofs.Common.{◌≡◌, ℕ, ◌≤◌, List, [], ◌++◌, length, Option, subst, append_assoc}
+use Rattle.std.specs.List.{All}
 use Rattle.std.proofs.lemmas.List.Elements.{recursion_from_All}
 use Rattle.event_records.specs.declared.event.Event.{Event}
 use Rattle.event_records.specs.declared.limits.TheConstants.{MAX_EVENTS}
 use Rattle.history_merge.specs.Complete.{IsCompleteHistory}
-use Rattle.text_lines.specs.Lines.{line, end_line}
-use Rattle.history_text.specs.Histories.{header, event_line, history_text, HasEventLine, HasHistoryText, HasValueInRange}
+use Rattle.history_text.specs.Histories.{HasEventLine, HasHistoryText, HasValueInRange}
 use Rattle.text_lines.specs.Writing.{AppendsFront, Puts}
-use Rattle.text_lines.proofs.Appending.{front_first, front_of_kept, Puts-append, Puts-first, Puts-last}
+use Rattle.text_lines.proofs.Appending.{front_first, front_next, front_of_kept, Puts-nil, Puts-append, Puts-last}
 
--- a front of the lines of the events went out
-pub history_stops : (events : List Event) (a b : Option (List ℕ)) (kept : List ℕ) → kept ≡ line header
-    → AppendsFront a b (kept ++ flat_map event_line events) → AppendsFront a b (history_text events)
-history_stops events a b kept is h = front_first a b _ (end_line (length events))
-    (subst (λ (k : List ℕ). AppendsFront a b (k ++ flat_map event_line events)) is h)
+-- ---- three texts in turn
 
--- a front of the lines before the last went out
-pub history_stops_late : (events : List Event) (a b c : Option (List ℕ)) (kept mid : List ℕ) → kept ≡ line header
-    → Puts a b kept mid (flat_map event_line events) → AppendsFront b c mid → AppendsFront a c (history_text events)
-history_stops_late events a b c kept mid is h k =
-    subst (AppendsFront a c) (sym (append_assoc kept (flat_map event_line events) (end_line (length events)))
-    ∙ ap (λ (f : List ℕ). (f ++ flat_map event_line events) ++ end_line (length events)) is)
-    (front_of_kept a b c kept mid (flat_map event_line events) (end_line (length events)) h k)
+module _ (a b c : Option (List ℕ)) (mid xs ys zs : List ℕ) where
+  -- a front of the second goes out, after what was kept back of the first
+  pub stops_second : Puts a b [] mid xs → AppendsFront b c (mid ++ ys) → AppendsFront a c (xs ++ (ys ++ zs))
+  stops_second h k = front_next a b c [] mid xs (ys ++ zs) h (subst (AppendsFront b c) (append_assoc mid ys zs) (front_first b c (mid ++ ys) zs k))
 
--- all lines are written or kept back
-pub history_is_put : (events : List Event) (a b c : Option (List ℕ)) (kept mid room rest : List ℕ) → kept ≡ line header
-    → Puts a b kept mid (flat_map event_line events) → Puts b c mid room [] → rest ≡ room ++ end_line (length events) → Puts a c [] rest (history_text events)
-history_is_put events a b c kept mid room rest is h k last_is =
-    Puts-last a c [] room rest _ _ last_is (Puts-first a c kept room (line header) _ is
-    (subst (Puts a c kept room) (append-nil (flat_map event_line events)) (Puts-append a b c kept mid room _ _ h k)))
+  -- a front of what was kept back of both goes out
+  pub stops_third : (d : Option (List ℕ)) (last : List ℕ) → Puts a b [] mid xs → Puts b c mid last ys → AppendsFront c d last
+      → AppendsFront a d (xs ++ (ys ++ zs))
+  stops_third d last h k l = front_next a b d [] mid xs (ys ++ zs) h (front_of_kept b c d mid last ys zs k l)
+
+  -- all three are written or kept back
+  pub all_put : (d : Option (List ℕ)) (last rest : List ℕ) → Puts a b [] mid xs → Puts b c mid last ys → Puts c d last rest zs
+      → Puts a d [] rest (xs ++ (ys ++ zs))
+  all_put d last rest h k l = Puts-append a b d [] mid rest xs (ys ++ zs) h (Puts-append b c d mid last rest ys zs k l)
+
+-- a text is kept back
+pub is_kept : (a : Option (List ℕ)) (kept xs : List ℕ) → kept ≡ xs → Puts a a [] kept xs
+is_kept a kept xs is = Puts-last a a [] [] kept [] xs is (Puts-nil a [])
 
 -- a complete history has a text
 pub complete_has_text : (events : List Event) → IsCompleteHistory events → All (λ e. HasValueInRange e.what) events → length events ≤ MAX_EVENTS

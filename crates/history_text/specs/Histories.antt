@@ -37,13 +37,13 @@ event_line e = line (spaced (event_fields e))
 abbrev pub header : List ℕ
 header = codes "fifo-history 1"
 
--- the first line and the lines of the events
-abbrev pub lines_before_end : List Event → List ℕ
-lines_before_end events = line header ++ flat_map event_line events
+-- the lines of events, and the last line
+abbrev pub lines_to_end : List Event → List ℕ
+lines_to_end events = flat_map event_line events ++ end_line (length events)
 
 -- the text of a history
 abbrev pub history_text : List Event → List ℕ
-history_text events = lines_before_end events ++ end_line (length events)
+history_text events = line header ++ lines_to_end events
 
 -- a value of 64 bits, where there is one
 abbrev pub HasValueInRange : What → Type 0

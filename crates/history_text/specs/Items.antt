@@ -1,5 +1,5 @@
 -- Texts that list items, each in its line: events, steps or operations.
-use Rattle.std.specs.Prelude.{◌≡◌, ℕ, ◌+◌, ◌≤◌, ◌&&◌, nat_lt, Bool, true, false, if◌then◌else◌}
+use Rattle.std.specs.Prelude.{◌≡◌, ℕ, ◌+◌, ◌<◌, ◌≤◌, ◌&&◌, nat_lt, Bool, true, false, if◌then◌else◌}
 use Rattle.std.specs.Prelude.{List, [], ◌∷◌, ◌++◌, length, drop, Option, Some, None, Ok, Err}
 use Rattle.std.specs.declared.result.Result.{Result}
 use Rattle.std.specs.List.{flat_map, AllByRecursion}
@@ -13,7 +13,7 @@ pub record Kind (A : Type 0) : Type 1 where
   pub fields : A → List (List ℕ)  -- the fields of an item's line
   pub HasLine : A → Type 0  -- which items have a line
   pub most : ℕ  -- how many items a text may have
-  pub is_counted : Bool  -- whether a last line counts the items; else they go on to the end of the input
+  pub is_counted : Bool  -- whether a last line counts the items; else they go on to the end of the input, or a line before them tells how many they are
   pub read : ℕ → List (List ℕ) → Result A TextFault  -- what the fields of line n say
 
 -- ---- what is written
@@ -32,6 +32,17 @@ pub record HaveLines {A : Type 0} (kind : Kind A) (items : List A) : Type 0 wher
   pub few : length items ≤ kind.most
 
 -- ---- what is read
+
+-- the line that the input begins with, line n, by what its fields say, and the bytes after it
+abbrev pub line_at_front : {A : Type 0} → (ℕ → List (List ℕ) → Result A TextFault) → ℕ → Ending → Front → Result (A × List ℕ) TextFault
+line_at_front read n ending (Whole bytes rest) = read n (fields_of bytes) >>= λ said. Ok (said, rest)
+line_at_front read n ending TooLong = Err (Line n)
+line_at_front read n ending Unfinished = Err (fault_at ending)
+line_at_front read n ending Nothing = Err (fault_at ending)
+
+-- the line that the input begins with, line n, is to be read so, and has this fault
+abbrev pub LineFault : {A : Type 0} → (ℕ → List (List ℕ) → Result A TextFault) → ℕ → Ending → TextFault → List ℕ → Type 0
+LineFault read n ending fault bytes = line_at_front read n ending (front_of bytes) ≡ Err fault
 
 -- a whole line, line n after k items: an item, or none where it is the last line
 abbrev pub item_in : {A : Type 0} → Kind A → ℕ → ℕ → List ℕ → Result (Option A) TextFault
@@ -67,3 +78,19 @@ pub record NoRoom {A : Type 0} (kind : Kind A) (bytes : List ℕ) : Type 0 where
   pub rest : List ℕ
   pub right : HaveLines kind (items ++ last ∷ [])
   pub front : bytes ≡ lines_of kind (items ++ last ∷ []) ++ rest
+
+-- ---- items of which a line before them tells how many they are
+
+-- of k items, each in its line from line n on, some come, and the line after them has this fault
+pub record FaultAmong {A : Type 0} (kind : Kind A) (k n : ℕ) (ending : Ending) (fault : TextFault) (bytes : List ℕ) : Type 0 where
+  pub items : List A
+  pub rest : List ℕ
+  pub fewer : length items < k
+  pub each : AllByRecursion kind.HasLine items
+  pub front : bytes ≡ lines_of kind items ++ rest
+  pub next : LineFault kind.read (n + length items) ending fault rest
+
+-- of k items some come, each in its line; there was no room to keep the last of these
+pub record NoRoomAmong {A : Type 0} (kind : Kind A) (k : ℕ) (bytes : List ℕ) : Type 0 where
+  pub room : NoRoom kind bytes
+  pub fewer : length room.items < k

@@ -1,5 +1,6 @@
 pub mod Items
 pub mod Histories
+pub mod Versions
 pub mod Schedules
 pub mod Verdicts
 pub mod Claims

@@ -5,6 +5,7 @@ use Rattle.text_lines.specs.declared.fault.TextFault.TheVariants.{Read, Trailing
 use Rattle.text_lines.specs.Faults.{MemoryOr}
 use Rattle.text_lines.specs.Input.{Ahead, Ending, EndOfInput, Failure, IsOver}
 use Rattle.history_text.specs.Histories.{IsHistoryTextFault, NoRoomFor}
+use Rattle.history_text.specs.Versions.{IsTextFault, NoRoomForText}
 use Rattle.history_text.specs.Schedules.{IsScheduleTextFault, NoRoomForSchedule}
 use Rattle.history_text.specs.Claims.{IsVerdictTextFault, NoRoomForVerdict}
 
@@ -26,6 +27,10 @@ HasFirstFault IsFault LacksRoom left fault = IfSome left (λ a. MemoryOr (LacksR
 -- the first fault of a history's text
 abbrev pub HasHistoryTextFault : ℕ → Option Ahead → TextFault → Type 0
 HasHistoryTextFault lines left fault = HasFirstFault (IsHistoryTextFault lines) NoRoomFor left fault
+
+-- the first fault of a history's text of either version
+abbrev pub HasTextFault : ℕ → Option Ahead → TextFault → Type 0
+HasTextFault lines left fault = HasFirstFault (IsTextFault lines) NoRoomForText left fault
 
 -- the first fault of a schedule's text
 abbrev pub HasScheduleTextFault : ℕ → Option Ahead → TextFault → Type 0

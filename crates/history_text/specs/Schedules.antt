@@ -14,9 +14,8 @@ use Rattle.text_lines.specs.declared.fault.TextFault.TheVariants.{Line}
 use Rattle.history_text.specs.declared.schedule.Schedule.{Schedule}
 use Rattle.history_text.specs.declared.schedule.TheConstants.{MOST_DRAINED}
 use Rattle.text_lines.specs.Input.{Ending}
-use Rattle.text_lines.specs.Lines.{line, spaced, end_line, greatest_value, Front, Whole, TooLong, Unfinished, Nothing, front_of, fault_at}
-use Rattle.text_lines.specs.Lines.{header_fault, fields_of, number_in, number_between, ◌>>=◌, After}
-use Rattle.history_text.specs.Items.{Kind, lines_of, HaveLines, ItemFault, NoRoom}
+use Rattle.text_lines.specs.Lines.{line, spaced, end_line, greatest_value, front_of, header_fault, number_in, number_between, ◌>>=◌, After}
+use Rattle.history_text.specs.Items.{Kind, lines_of, HaveLines, LineFault, ItemFault, NoRoom}
 
 -- ---- what is written
 
@@ -145,13 +144,6 @@ setting_in n (word ∷ threads ∷ other ∷ ring ∷ []) =
     if bytes_eq word (codes "threads") && bytes_eq other (codes "ring") then numbered_setting n threads ring else Err (Line n)
 setting_in n _ = Err (Line n)
 
--- the setting that the input begins with, in line n, and the bytes after that line
-abbrev pub setting_at_front : ℕ → Ending → Front → Result ((ℕ × ℕ) × List ℕ) TextFault
-setting_at_front n ending (Whole bytes rest) = setting_in n (fields_of bytes) >>= λ setting. Ok (setting, rest)
-setting_at_front n ending TooLong = Err (Line n)
-setting_at_front n ending Unfinished = Err (fault_at ending)
-setting_at_front n ending Nothing = Err (fault_at ending)
-
 -- ---- schedules
 
 -- what a schedule lists
@@ -174,10 +166,6 @@ pub record HasScheduleText (s : Schedule) : Type 0 where
   pub setting : IsSetting s.threads s.ring
   pub steps : HaveLines step_kind s.steps
 
--- the second line, line n, has this fault
-abbrev pub SettingFault : ℕ → Ending → TextFault → List ℕ → Type 0
-SettingFault n ending fault bytes = setting_at_front n ending (front_of bytes) ≡ Err fault
-
 -- the first two lines are right, and what comes after them is so
 abbrev pub AfterSetting : (List ℕ → Type 0) → List ℕ → Type 0
 AfterSetting P bytes = (threads : ℕ) × (ring : ℕ) × IsSetting threads ring × After (lines_before_steps threads ring) P bytes
@@ -186,7 +174,7 @@ AfterSetting P bytes = (threads : ℕ) × (ring : ℕ) × IsSetting threads ring
 abbrev pub IsScheduleTextFault : ℕ → Ending → List ℕ → TextFault → Type 0
 IsScheduleTextFault lines ending bytes fault =
     (header_fault schedule_header ending (front_of bytes) ≡ Some fault)
-    ⊎ (After (line schedule_header) (SettingFault (lines + 2) ending fault) bytes ⊎ AfterSetting (ItemFault step_kind (lines + 3) ending fault) bytes)
+    ⊎ (After (line schedule_header) (LineFault setting_in (lines + 2) ending fault) bytes ⊎ AfterSetting (ItemFault step_kind (lines + 3) ending fault) bytes)
 
 -- the first two lines are right, and some steps are each in their line; there was no room to keep the last
 abbrev pub NoRoomForSchedule : List ℕ → Type 0

@@ -1,24 +1,30 @@
 //! What takes the items of a text.
-ghost use Rattle.std.specs.Prelude.{◌≡◌, ◌<◌, ◌++◌, ◌∷◌, [], List, OnOk, length};
+ghost use Rattle.std.specs.Prelude.{◌≡◌, ◌<◌, ◌++◌, ◌∷◌, [], List, ℕ, OnOk, length};
 ghost use Rattle.event_records.specs.declared.event.Event.{Event};
 ghost use Rattle.event_records.specs.declared.limits.TheConstants.{MAX_EVENTS};
-ghost use Rattle.history_merge.specs.Gathering.{HasGathered};
+ghost use Rattle.history_merge.specs.Gathering.{HasGathered, HasGatheredFrom};
+ghost use Rattle.std.proofs.Common.{sym, append-nil};
 
 use event_records::Event;
-use history_merge::HistoryBuilder;
+use history_merge::{HistoryBuilder, PreloadedBuilder};
 use std::alloc::AllocError;
 
 /// What takes the items of a text, one after another.
 pub(crate) trait Collects<T> {
-    /// These were added, one after another.
-    ghost Holds: { Self → List T → Type 0 };
+    /// These were added, one after another, to what was so first.
+    ghost Adds: { Self → Self → List T → Type 0 };
 
     fn add(&mut self, item: T) -> Result<(), AllocError>
-        ensures { (items : List T) → Holds self.old items → length items < MAX_EVENTS → OnOk result (Holds self.new (items ++ item ∷ [])) };
+        ensures { (first : Self) (items : List T) → Adds first self.old items → length items < MAX_EVENTS → OnOk result (Adds first self.new (items ++ item ∷ [])) };
+
+    /// None was added yet.
+    ghost none: { (first : Self) → Adds first first [] };
 }
 
 impl<T: Drop> Collects<T> for Vec<T> {
-    ghost Holds = { λ v items. v.items ≡ items };
+    ghost Adds = { λ first now items. now.items ≡ first.items ++ items };
+
+    ghost none = { λ first. sym (append-nil first.items) };
 
     #[inline(always)]
     fn add(&mut self, item: T) -> Result<(), AllocError> {
@@ -30,11 +36,25 @@ impl<T: Drop> Collects<T> for Vec<T> {
 }
 
 impl Collects<Event> for HistoryBuilder {
-    ghost Holds = { λ builder events. HasGathered events builder };
+    ghost Adds = { λ first now events. HasGathered [] first → HasGathered events now };
+
+    ghost none = { λ first begun. begun };
 
     #[inline(always)]
     fn add(&mut self, item: Event) -> Result<(), AllocError> {
         HistoryBuilder::add(self, item);
+        Ok(())
+    }
+}
+
+impl Collects<Event> for PreloadedBuilder {
+    ghost Adds = { λ first now events. (initial : List ℕ) → HasGatheredFrom initial [] first → HasGatheredFrom initial events now };
+
+    ghost none = { λ first initial begun. begun };
+
+    #[inline(always)]
+    fn add(&mut self, item: Event) -> Result<(), AllocError> {
+        PreloadedBuilder::add(self, item);
         Ok(())
     }
 }

@@ -3,10 +3,14 @@ ghost use Rattle.std.specs.Prelude.{◌≡◌, ◌+◌, ◌≤◌, ◌||◌, ◌
 ghost use Rattle.std.specs.List.{flat_map};
 ghost use Rattle.std.specs.Io.KnownBytes.{Appends};
 ghost use Rattle.event_records.specs.declared.limits.TheConstants.{MAX_EVENTS};
-ghost use Rattle.text_lines.specs.Lines.{spaced};
+ghost use Rattle.text_lines.specs.Lines.{spaced, end_line, greatest_value};
+ghost use Rattle.history_text.specs.declared.version.Version.TheVariants.{One, Two};
+ghost use Rattle.history_text.specs.Items.{line_of, lines_of};
 ghost use Rattle.history_text.specs.Histories.{what_fields, event_line, history_text, HasHistoryText, HasValueInRange};
+ghost use Rattle.history_text.specs.Versions.{value_kind, lines_before_events, text_by, history_text_2, text_of, said_in, HasText};
 ghost use Rattle.text_lines.specs.Writing.{AppendsFront, Puts, IsWritten, IsRefused};
 
+use crate::version::Version;
 use event_records::{Event, What};
 use history_merge::History;
 use text_lines::{Kept, TextSink, WriteFault, make_room, write_piece};
@@ -75,43 +79,179 @@ fn put_events<W: TextSink>(
     Ok(())
 }
 
-/// The whole text, of which a last part may be kept back.
-fn put_history<W: TextSink>(
-    writer: &mut W,
-    kept: &mut Kept,
-    events: &[Event],
-) -> Result<(), WriteFault>
-    requires { kept.old ≡ [] }
-    ensures ok { OnOk result (Puts (W.contents writer.old) (W.contents writer.new) [] kept.new (history_text events.now)) }
-    ensures err { OnErr result (AppendsFront (W.contents writer.old) (W.contents writer.new) (history_text events.now)) }
+fn push_value(kept: &mut Kept, value: u64)
+    requires { length kept.old + 96 ≤ 4096 }
+    ensures line { kept.new ≡ kept.old ++ line_of value_kind value }
+    ensures fits { value ≤ greatest_value }
+{
+    kept.push_number(value);
+    kept.push(b"\n");
+}
+
+fn put_value<W: TextSink>(writer: &mut W, kept: &mut Kept, value: u64) -> Result<(), WriteFault>
+    ensures ok { OnOk result (Puts (W.contents writer.old) (W.contents writer.new) kept.old kept.new (line_of value_kind value)) }
+    ensures err { OnErr result (AppendsFront (W.contents writer.old) (W.contents writer.new) kept.old) }
     ensures refused { W.has_refused writer.new ≡ (W.has_refused writer.old || is_err result) }
     ensures written { OnOk result (IsWritten W.goes writer.old writer.new) }
     ensures stopped { OnErr result (IsRefused W.goes writer.old writer.new) }
-    ensures fits { OnOk result (All (λ e. HasValueInRange e.what) events.now) }
+    ensures fits { OnOk result (value ≤ greatest_value) }
 {
-    kept.push(b"fifo-history 1\n");
-    put_events(writer, kept, events)?;
+    make_room(writer, kept)?;
+    push_value(kept, value);
+    Ok(())
+}
+
+fn put_values<W: TextSink>(
+    writer: &mut W,
+    kept: &mut Kept,
+    values: &[u64],
+) -> Result<(), WriteFault>
+    ensures ok { OnOk result (Puts (W.contents writer.old) (W.contents writer.new) kept.old kept.new (lines_of value_kind values.now)) }
+    ensures err { OnErr result (AppendsFront (W.contents writer.old) (W.contents writer.new) (kept.old ++ lines_of value_kind values.now)) }
+    ensures refused { W.has_refused writer.new ≡ (W.has_refused writer.old || is_err result) }
+    ensures written { OnOk result (IsWritten W.goes writer.old writer.new) }
+    ensures stopped { OnErr result (IsRefused W.goes writer.old writer.new) }
+    ensures fits { OnOk result (All (λ v. v ≤ greatest_value) values.now) }
+{
+    for value in values {
+        put_value(writer, kept, *value)?;
+    }
+    Ok(())
+}
+
+/// The lines before the events, of which a last part may be kept back.
+fn put_before_events<W: TextSink>(
+    version: Version,
+    initial: &[u64],
+    writer: &mut W,
+    kept: &mut Kept,
+) -> Result<(), WriteFault>
+    requires { kept.old ≡ [] }
+    ensures ok { OnOk result (Puts (W.contents writer.old) (W.contents writer.new) [] kept.new (lines_before_events version initial.now)) }
+    ensures err { OnErr result (AppendsFront (W.contents writer.old) (W.contents writer.new) (lines_before_events version initial.now)) }
+    ensures refused { W.has_refused writer.new ≡ (W.has_refused writer.old || is_err result) }
+    ensures written { OnOk result (IsWritten W.goes writer.old writer.new) }
+    ensures stopped { OnErr result (IsRefused W.goes writer.old writer.new) }
+    ensures fits { version ≡ Two → OnOk result (All (λ v. v ≤ greatest_value) initial.now) }
+{
+    match version {
+        Version::One => {
+            kept.push(b"fifo-history 1\n");
+            return Ok(());
+        }
+        Version::Two => {
+            kept.push(b"fifo-history 2\ninitial ");
+            kept.push_number(initial.len() as u64);
+            kept.push(b"\n");
+            put_values(writer, kept, initial)
+        }
+    }
+}
+
+/// The last line, after so many events.
+fn put_end<W: TextSink>(writer: &mut W, kept: &mut Kept, count: usize) -> Result<(), WriteFault>
+    ensures ok { OnOk result (Puts (W.contents writer.old) (W.contents writer.new) kept.old kept.new (end_line count)) }
+    ensures err { OnErr result (AppendsFront (W.contents writer.old) (W.contents writer.new) kept.old) }
+    ensures refused { W.has_refused writer.new ≡ (W.has_refused writer.old || is_err result) }
+    ensures written { OnOk result (IsWritten W.goes writer.old writer.new) }
+    ensures stopped { OnErr result (IsRefused W.goes writer.old writer.new) }
+{
     make_room(writer, kept)?;
     kept.push(b"end ");
-    kept.push_number(events.len() as u64);
+    kept.push_number(count as u64);
     kept.push(b"\n");
     Ok(())
 }
 
-/// Writes the text of a history. It takes no memory, and its time is linear in the text.
+/// The whole text, of which a last part may be kept back.
+fn put_text<W: TextSink>(
+    version: Version,
+    initial: &[u64],
+    events: &[Event],
+    writer: &mut W,
+    kept: &mut Kept,
+) -> Result<(), WriteFault>
+    requires { kept.old ≡ [] }
+    ensures ok { OnOk result (Puts (W.contents writer.old) (W.contents writer.new) [] kept.new (text_by version initial.now events.now)) }
+    ensures err { OnErr result (AppendsFront (W.contents writer.old) (W.contents writer.new) (text_by version initial.now events.now)) }
+    ensures refused { W.has_refused writer.new ≡ (W.has_refused writer.old || is_err result) }
+    ensures written { OnOk result (IsWritten W.goes writer.old writer.new) }
+    ensures stopped { OnErr result (IsRefused W.goes writer.old writer.new) }
+    ensures values_fit { version ≡ Two → OnOk result (All (λ v. v ≤ greatest_value) initial.now) }
+    ensures events_fit { OnOk result (All (λ e. HasValueInRange e.what) events.now) }
+{
+    put_before_events(version, initial, writer, kept)?;
+    put_events(writer, kept, events)?;
+    put_end(writer, kept, events.len())
+}
+
+/// Writes the text of these values and events. In version 1 the values are left out.
+fn write_text<W: TextSink>(
+    version: Version,
+    initial: &[u64],
+    events: &[Event],
+    writer: &mut W,
+) -> Result<(), WriteFault>
+    ensures ok { OnOk result (Appends (W.contents writer.old) (W.contents writer.new) (text_by version initial.now events.now)) }
+    ensures err { OnErr result (AppendsFront (W.contents writer.old) (W.contents writer.new) (text_by version initial.now events.now)) }
+    ensures refused { W.has_refused writer.new ≡ (W.has_refused writer.old || is_err result) }
+    ensures written { OnOk result (IsWritten W.goes writer.old writer.new) }
+    ensures stopped { OnErr result (IsRefused W.goes writer.old writer.new) }
+    ensures values_fit { version ≡ Two → OnOk result (All (λ v. v ≤ greatest_value) initial.now) }
+    ensures events_fit { OnOk result (All (λ e. HasValueInRange e.what) events.now) }
+{
+    let mut kept = Kept::new();
+    put_text(version, initial, events, writer, &mut kept)?;
+    write_piece(writer, kept.as_slice())
+}
+
+/// Writes the text of a history of a queue that is empty first, in version 1. It takes no memory, and its time is linear in
+/// the text.
 ///
 /// The bytes go out in pieces of up to 4,096. The writer isn't flushed.
 pub fn write_history<W: TextSink>(history: &History, writer: &mut W) -> Result<(), WriteFault>
-    ensures ok { OnOk result (Appends (W.contents writer.old) (W.contents writer.new) (history_text history.now)) }
-    ensures err { OnErr result (AppendsFront (W.contents writer.old) (W.contents writer.new) (history_text history.now)) }
+    requires { history.now.initial ≡ [] }
+    ensures ok { OnOk result (Appends (W.contents writer.old) (W.contents writer.new) (history_text history.now.events)) }
+    ensures err { OnErr result (AppendsFront (W.contents writer.old) (W.contents writer.new) (history_text history.now.events)) }
     ensures refused { W.has_refused writer.new ≡ (W.has_refused writer.old || is_err result) }
     ensures written { OnOk result (IsWritten W.goes writer.old writer.new) }
     ensures stopped { OnErr result (IsRefused W.goes writer.old writer.new) }
 
     // What is written is read again, since `read_history` reads each text that stands at the front of its input.
-    ensures readable { OnOk result (HasHistoryText history.now) }
+    ensures readable { OnOk result (HasHistoryText history.now.events) }
 {
-    let mut kept = Kept::new();
-    put_history(writer, &mut kept, history.events())?;
-    write_piece(writer, kept.as_slice())
+    write_text(Version::One, history.initial(), history.events(), writer)
+}
+
+/// Writes the text of a history in version 2, with what its queue holds first. For the rest it is as [`write_history`].
+pub fn write_history_2<W: TextSink>(history: &History, writer: &mut W) -> Result<(), WriteFault>
+    ensures ok { OnOk result (Appends (W.contents writer.old) (W.contents writer.new) (history_text_2 history.now.initial history.now.events)) }
+    ensures err { OnErr result (AppendsFront (W.contents writer.old) (W.contents writer.new) (history_text_2 history.now.initial history.now.events)) }
+    ensures refused { W.has_refused writer.new ≡ (W.has_refused writer.old || is_err result) }
+    ensures written { OnOk result (IsWritten W.goes writer.old writer.new) }
+    ensures stopped { OnErr result (IsRefused W.goes writer.old writer.new) }
+
+    // What is written is read again, since `read_any` reads each text that stands at the front of its input.
+    ensures readable { OnOk result (HasText (said_in Two history.now)) }
+{
+    write_text(Version::Two, history.initial(), history.events(), writer)
+}
+
+/// Writes the text of a history in a version, as [`write_history`] or [`write_history_2`] does.
+pub fn write_history_text<W: TextSink>(
+    version: Version,
+    history: &History,
+    writer: &mut W,
+) -> Result<(), WriteFault>
+    requires { version ≡ One → history.now.initial ≡ [] }
+    ensures ok { OnOk result (Appends (W.contents writer.old) (W.contents writer.new) (text_of (said_in version history.now))) }
+    ensures err { OnErr result (AppendsFront (W.contents writer.old) (W.contents writer.new) (text_of (said_in version history.now))) }
+    ensures refused { W.has_refused writer.new ≡ (W.has_refused writer.old || is_err result) }
+    ensures written { OnOk result (IsWritten W.goes writer.old writer.new) }
+    ensures stopped { OnErr result (IsRefused W.goes writer.old writer.new) }
+
+    // What is written is read again, since `read_any` reads each text that stands at the front of its input.
+    ensures readable { OnOk result (HasText (said_in version history.now)) }
+{
+    write_text(version, history.initial(), history.events(), writer)
 }

@@ -1,18 +1,21 @@
 //! Reading texts line by line.
-ghost use Rattle.std.specs.Prelude.{◌≡◌, ◌+◌, ◌<◌, ◌^◌, ◌∷◌, true, false, IfOk, IfErr, OnErr, OnOk, MatchResult, IfNone, IfSome, option_to_list, is_err, Err, Ok, length, List, []};
+ghost use Rattle.std.specs.Prelude.{◌≡◌, ◌+◌, ◌<◌, ◌^◌, ◌≤◌, ◌∷◌, true, false, IfOk, IfErr, OnErr, OnOk, MatchResult, IfNone, IfSome, option_to_list, is_err, Err, Ok, length, List, []};
 ghost use Rattle.event_records.specs.declared.event.Event.{Event};
-ghost use Rattle.history_merge.specs.Gathering.{HasGathered};
+ghost use Rattle.event_records.specs.declared.limits.TheConstants.{MAX_INITIAL};
+ghost use Rattle.history_merge.specs.Gathering.{HasGathered, HasGatheredFrom};
 ghost use Rattle.verdicts.specs.declared.verifying.Claimed.{Claimed};
 ghost use Rattle.history_text.specs.declared.schedule.Schedule.{Schedule};
+ghost use Rattle.history_text.specs.declared.version.HistoryText.{HistoryText};
 ghost use Rattle.text_lines.specs.Input.{EndOfInput, Failure, Takes, IsOver};
 ghost use Rattle.text_lines.specs.Lines.{line, spaced};
-ghost use Rattle.history_text.specs.Items.{line_of, HaveLines};
+ghost use Rattle.history_text.specs.Items.{line_of, lines_of, HaveLines};
 ghost use Rattle.history_text.specs.Histories.{history_text, HasHistoryText};
-ghost use Rattle.history_text.specs.Schedules.{schedule_text, setting_fields, HasScheduleText, IsSetting};
+ghost use Rattle.history_text.specs.Versions.{value_kind, count_fields, count_in as judged_count, lines_of_initial, header_of, lines_before_events, count_before_events, text_of, line_count, HaveValueLines, HasText};
+ghost use Rattle.history_text.specs.Schedules.{schedule_text, setting_fields, setting_in as judged_setting, HasScheduleText, IsSetting};
 ghost use Rattle.history_text.specs.Verdicts.{verdict_text};
 ghost use Rattle.history_text.specs.Claims.{operations_in, HasVerdictText, first_line};
-ghost use Rattle.history_text.specs.Reading.{HasHistoryTextFault, HasScheduleTextFault, HasVerdictTextFault, HasEndFault, BeginsWith, IsAll};
-ghost use Rattle.history_text.specs.Inner.Taking.{TakesLine, StopsInLine, TakesItem, TakesItems, HasNoLine, HasHeaderFault, HasSettingFault, HasFirstLineFault, HasItemFault, HasItemsFault, IsOfInput};
+ghost use Rattle.history_text.specs.Reading.{HasHistoryTextFault, HasTextFault, HasScheduleTextFault, HasVerdictTextFault, HasEndFault, BeginsWith, IsAll};
+ghost use Rattle.history_text.specs.Inner.Taking.{TakesLine, StopsInLine, TakesItem, TakesItems, HasNoLine, HasHeaderFault, HasNoVersion, HasLineFault, HasFirstLineFault, HasItemFault, HasItemsFault, HasFaultAmong, HasInitialFault, IsOfInput};
 ghost use Rattle.text_lines.specs.Inner.Lines.{IsPartOfLine};
 
 use crate::collecting::Collects;
@@ -20,8 +23,10 @@ use crate::item::{Item, item_in};
 use crate::operation_line::answer_in;
 use crate::schedule::{Schedule, Steps};
 use crate::step_line::setting_in;
+use crate::value_line::{count_in, version_in};
+use crate::version::{Events, HistoryText, InitialValues, Version};
 use event_records::Event;
-use history_merge::HistoryBuilder;
+use history_merge::{HistoryBuilder, PreloadedBuilder};
 use std::alloc::Global;
 use std::marker::Model;
 use text_lines::{LONGEST_LINE, Line, ReadFailed, TextFault, TextSource};
@@ -135,6 +140,25 @@ impl<R: TextSource> TextReader<R> {
         }
     }
 
+    /// The next line, where it is whole. A line that is too long has the given fault.
+    fn whole_line(&mut self, too_long: TextFault) -> Result<Line, TextFault>
+        requires lines { self.old.lines + 1 < 2 ^ 64 }
+        requires of_input { IsOfInput too_long }
+        ensures ok { IfOk result (λ bytes. Takes self.old.left self.new.left (line bytes) × IsPartOfLine bytes) }
+        ensures fault { IfErr result (HasNoLine too_long self.old.left) }
+        ensures of_input { IfErr result IsOfInput }
+        ensures lines { self.new.lines ≡ self.old.lines + 1 }
+        ensures is_stopped { self.new.is_stopped ≡ self.old.is_stopped }
+    {
+        match self.next_line() {
+            Err(ReadFailed) => return Err(TextFault::Read),
+            Ok(FrontLine::Nothing) => return Err(TextFault::Cut),
+            Ok(FrontLine::Unfinished) => return Err(TextFault::Cut),
+            Ok(FrontLine::TooLong) => return Err(too_long),
+            Ok(FrontLine::Whole(line)) => return Ok(line),
+        }
+    }
+
     /// The first line, which is to be `expected`.
     fn header_line(&mut self, expected: &[u8]) -> Result<(), TextFault>
         requires { self.old.lines + 1 < 2 ^ 64 }
@@ -144,36 +168,27 @@ impl<R: TextSource> TextReader<R> {
         ensures lines { self.new.lines ≡ self.old.lines + 1 }
         ensures is_stopped { self.new.is_stopped ≡ self.old.is_stopped }
     {
-        match self.next_line() {
-            Err(ReadFailed) => Err(TextFault::Read),
-            Ok(FrontLine::Nothing) => Err(TextFault::Cut),
-            Ok(FrontLine::Unfinished) => Err(TextFault::Cut),
-            Ok(FrontLine::TooLong) => Err(TextFault::Header),
-            Ok(FrontLine::Whole(line)) => {
-                if line.as_slice() == expected {
-                    Ok(())
-                } else {
-                    Err(TextFault::Header)
-                }
-            }
+        let line = self.whole_line(TextFault::Header)?;
+        if line.as_slice() == expected {
+            Ok(())
+        } else {
+            Err(TextFault::Header)
         }
     }
 
-    /// The next line, where it is whole.
-    fn whole_line(&mut self) -> Result<Line, TextFault>
+    /// The version of a history's text, by its first line.
+    fn version(&mut self) -> Result<Version, TextFault>
         requires { self.old.lines + 1 < 2 ^ 64 }
-        ensures ok { IfOk result (λ bytes. Takes self.old.left self.new.left (line bytes) × IsPartOfLine bytes) }
-        ensures fault { IfErr result (HasNoLine (self.old.lines + 1) self.old.left) }
+        ensures ok { IfOk result (λ version. Takes self.old.left self.new.left (line (header_of version))) }
+        ensures fault { IfErr result (HasNoVersion self.old.left) }
         ensures of_input { IfErr result IsOfInput }
         ensures lines { self.new.lines ≡ self.old.lines + 1 }
         ensures is_stopped { self.new.is_stopped ≡ self.old.is_stopped }
     {
-        match self.next_line() {
-            Err(ReadFailed) => return Err(TextFault::Read),
-            Ok(FrontLine::Nothing) => return Err(TextFault::Cut),
-            Ok(FrontLine::Unfinished) => return Err(TextFault::Cut),
-            Ok(FrontLine::TooLong) => return Err(TextFault::Line(self.lines)),
-            Ok(FrontLine::Whole(line)) => return Ok(line),
+        let line = self.whole_line(TextFault::Header)?;
+        match version_in(line.as_slice()) {
+            Some(version) => return Ok(version),
+            None => return Err(TextFault::Header),
         }
     }
 
@@ -236,11 +251,59 @@ impl<R: TextSource> TextReader<R> {
         self.item_by_line(count)
     }
 
+    /// The item of the next line, which is to be one.
+    fn told_by_line<T: Item>(&mut self) -> Result<T, TextFault>
+        requires { self.old.lines + 1 < 2 ^ 64 }
+        ensures ok { IfOk result (λ item. Takes self.old.left self.new.left (line_of T.kind item) × T.kind.HasLine item) }
+        ensures fault { IfErr result (HasLineFault T.kind.read (self.old.lines + 1) self.old.left) }
+        ensures of_input { IfErr result IsOfInput }
+        ensures lines { self.new.lines ≡ self.old.lines + 1 }
+        ensures is_stopped { self.new.is_stopped ≡ self.old.is_stopped }
+    {
+        let line = self.whole_line(TextFault::Line(self.lines + 1))?;
+        T::from_line(self.lines, line.as_slice())
+    }
+
+    /// The same, in one pass where the line stands whole in the buffer and is right.
+    fn told_item<T: Item>(&mut self) -> Result<T, TextFault>
+        requires { self.old.lines + 1 < 2 ^ 64 }
+        ensures ok { IfOk result (λ item. Takes self.old.left self.new.left (line_of T.kind item) × T.kind.HasLine item) }
+        ensures fault { IfErr result (HasLineFault T.kind.read (self.old.lines + 1) self.old.left) }
+        ensures of_input { IfErr result IsOfInput }
+        ensures lines { self.new.lines ≡ self.old.lines + 1 }
+        ensures is_stopped { self.new.is_stopped ≡ self.old.is_stopped }
+    {
+        if let Some(item) = self.item_in_buffer() {
+            return Ok(item);
+        }
+        self.told_by_line()
+    }
+
+    /// So many items, each in its line.
+    fn told_items<T: Item>(&mut self, alloc: Global, count: usize) -> Result<Vec<T>, TextFault>
+        requires few { count ≤ T.kind.most }
+        requires lines { self.old.lines < 2 ^ 63 + 2 ^ 32 }
+        ensures items { IfOk result (λ v. HaveLines T.kind v.items × Takes self.old.left self.new.left (lines_of T.kind v.items)) }
+        ensures count { IfOk result (λ v. length v.items ≡ count) }
+        ensures fault { IfErr result (HasFaultAmong T.kind count (self.old.lines + 1) self.old.left) }
+        ensures lines { IfOk result (λ v. self.new.lines ≡ self.old.lines + count) }
+        ensures is_stopped { self.new.is_stopped ≡ self.old.is_stopped }
+    {
+        let mut items = Vec::new(alloc);
+        while items.len() < count {
+            let item = self.told_item()?;
+            if items.push(item).is_err() {
+                return Err(TextFault::Memory);
+            }
+        }
+        Ok(items)
+    }
+
     /// The items from here on, up to the last line or the end of the input, go where they are collected.
     fn collect_items<T: Item, C: Collects<T>>(&mut self, into: &mut C) -> Result<(), TextFault>
-        requires { self.old.lines < 2 ^ 63 + 2 }
+        requires { self.old.lines < 2 ^ 63 + 2 ^ 33 }
         ensures collected { IfOk result (λ _. (items : List T) × HaveLines T.kind items × TakesItems T.kind self.old.left self.new.left items
-            × (self.new.lines ≡ self.old.lines + 1 + length items) × (C.Holds into.old [] → C.Holds into.new items)) }
+            × (self.new.lines ≡ self.old.lines + 1 + length items) × C.Adds into.old into.new items) }
         ensures fault { IfErr result (HasItemsFault T.kind (self.old.lines + 1) self.old.left) }
         ensures is_stopped { self.new.is_stopped ≡ self.old.is_stopped }
     {
@@ -256,7 +319,7 @@ impl<R: TextSource> TextReader<R> {
 
     /// The items from here on, up to the last line or the end of the input.
     fn items<T: Item>(&mut self, alloc: Global) -> Result<Vec<T>, TextFault>
-        requires { self.old.lines < 2 ^ 63 + 2 }
+        requires { self.old.lines < 2 ^ 63 + 2 ^ 33 }
         ensures each { IfOk result (λ v. HaveLines T.kind v.items) }
         ensures taken { IfOk result (λ v. TakesItems T.kind self.old.left self.new.left v.items) }
         ensures fault { IfErr result (HasItemsFault T.kind (self.old.lines + 1) self.old.left) }
@@ -292,16 +355,90 @@ impl<R: TextSource> TextReader<R> {
         self.items(alloc)
     }
 
-    /// The setting in the next line.
-    fn setting(&mut self) -> Result<(usize, usize), TextFault>
+    /// How many initial values there are, by the next line.
+    fn initial_count(&mut self) -> Result<usize, TextFault>
         requires { self.old.lines + 1 < 2 ^ 64 }
-        ensures ok { IfOk result (λ s. Takes self.old.left self.new.left (line (spaced (setting_fields s.0 s.1))) × IsSetting s.0 s.1) }
-        ensures fault { IfErr result (HasSettingFault (self.old.lines + 1) self.old.left) }
+        ensures ok { IfOk result (λ k. Takes self.old.left self.new.left (line (spaced (count_fields k))) × (k ≤ MAX_INITIAL)) }
+        ensures fault { IfErr result (HasLineFault judged_count (self.old.lines + 1) self.old.left) }
         ensures of_input { IfErr result IsOfInput }
         ensures lines { self.new.lines ≡ self.old.lines + 1 }
         ensures is_stopped { self.new.is_stopped ≡ self.old.is_stopped }
     {
-        let line = self.whole_line()?;
+        let line = self.whole_line(TextFault::Line(self.lines + 1))?;
+        count_in(self.lines, line.as_slice())
+    }
+
+    /// The initial values, behind the line that counts them.
+    fn initial_values(&mut self, alloc: Global) -> Result<Vec<u64>, TextFault>
+        requires { self.old.lines < 2 ^ 63 + 2 }
+        ensures values { IfOk result (λ v. HaveLines value_kind v.items × Takes self.old.left self.new.left (lines_of_initial v.items)) }
+        ensures fault { IfErr result (HasInitialFault (self.old.lines + 1) self.old.left) }
+        ensures lines { IfOk result (λ v. self.new.lines ≡ self.old.lines + 1 + length v.items) }
+        ensures is_stopped { self.new.is_stopped ≡ self.old.is_stopped }
+    {
+        let count = self.initial_count()?;
+        self.told_items(alloc, count)
+    }
+
+    /// The version of the history's text that the input begins with, and its initial values.
+    fn before_events(&mut self, alloc: Global) -> Result<(Version, Vec<u64>), TextFault>
+        requires { self.old.lines < 2 ^ 63 }
+        ensures values { IfOk result (λ p. HaveValueLines p.0 p.1.items × Takes self.old.left self.new.left (lines_before_events p.0 p.1.items)) }
+        ensures fault { IfErr result (HasTextFault self.old.lines self.old.left) }
+        ensures lines { IfOk result (λ p. self.new.lines ≡ self.old.lines + count_before_events p.0 p.1.items) }
+        ensures few { IfOk result (λ p. length p.1.items ≤ MAX_INITIAL) }
+        ensures is_stopped { self.new.is_stopped ≡ self.old.is_stopped }
+    {
+        let version = self.version()?;
+        let initial = match version {
+            Version::One => Vec::new(alloc),
+            Version::Two => self.initial_values(alloc)?,
+        };
+        Ok((version, initial))
+    }
+
+    /// The history, of either version, that the input begins with.
+    fn any_history(&mut self, alloc: Global) -> Result<HistoryText, TextFault>
+        requires { self.old.lines < 2 ^ 63 }
+        ensures text { IfOk result (λ t. HasText t × Takes self.old.left self.new.left (text_of t)) }
+        ensures fault { IfErr result (HasTextFault self.old.lines self.old.left) }
+        ensures lines { IfOk result (λ t. self.new.lines ≡ self.old.lines + line_count t) }
+        ensures is_stopped { self.new.is_stopped ≡ self.old.is_stopped }
+    {
+        let (version, initial) = self.before_events(alloc)?;
+        let events = self.items(alloc)?;
+        Ok(HistoryText {
+            version,
+            initial: InitialValues::from_vec(initial),
+            events: Events::from_vec(events),
+        })
+    }
+
+    /// The initial values and the events of the history, of either version, that the input begins with are those of a history
+    /// in the making.
+    fn any_gathered(&mut self, alloc: Global) -> Result<PreloadedBuilder, TextFault>
+        requires { self.old.lines < 2 ^ 63 }
+        ensures text { IfOk result (λ builder. (text : HistoryText) × HasText text × Takes self.old.left self.new.left (text_of text)
+            × ((self.new.lines ≡ self.old.lines + line_count text) × HasGatheredFrom text.initial text.events builder)) }
+        ensures fault { IfErr result (HasTextFault self.old.lines self.old.left) }
+        ensures is_stopped { self.new.is_stopped ≡ self.old.is_stopped }
+    {
+        let (_version, initial) = self.before_events(alloc)?;
+        let mut builder = PreloadedBuilder::new(alloc, initial);
+        self.collect_items(&mut builder)?;
+        Ok(builder)
+    }
+
+    /// The setting in the next line.
+    fn setting(&mut self) -> Result<(usize, usize), TextFault>
+        requires { self.old.lines + 1 < 2 ^ 64 }
+        ensures ok { IfOk result (λ s. Takes self.old.left self.new.left (line (spaced (setting_fields s.0 s.1))) × IsSetting s.0 s.1) }
+        ensures fault { IfErr result (HasLineFault judged_setting (self.old.lines + 1) self.old.left) }
+        ensures of_input { IfErr result IsOfInput }
+        ensures lines { self.new.lines ≡ self.old.lines + 1 }
+        ensures is_stopped { self.new.is_stopped ≡ self.old.is_stopped }
+    {
+        let line = self.whole_line(TextFault::Line(self.lines + 1))?;
         setting_in(self.lines, line.as_slice())
     }
 
@@ -332,7 +469,7 @@ impl<R: TextSource> TextReader<R> {
         ensures lines { self.new.lines ≡ self.old.lines + 1 }
         ensures is_stopped { self.new.is_stopped ≡ self.old.is_stopped }
     {
-        let line = self.whole_line()?;
+        let line = self.whole_line(TextFault::Line(self.lines + 1))?;
         match answer_in(line.as_slice()) {
             Some(answer) => return Ok(answer),
             None => return Err(TextFault::Line(self.lines)),
@@ -404,6 +541,35 @@ pub fn read_history<R: TextSource>(
     result
 }
 
+/// Reads the text of a history of either version, as [`read_history`] reads that of version 1.
+///
+/// Whether its values and events make a complete history isn't judged here. The time is linear in the bytes read. Memory is
+/// taken for the values and the events alone, and `Memory` is answered only at a line of one of these that, like those before
+/// it, is whole and without fault.
+pub fn read_any<R: TextSource>(
+    alloc: Global,
+    reader: &mut TextReader<R>,
+) -> Result<HistoryText, TextFault>
+    requires running { reader.old.is_stopped ≡ false }
+    requires lines { reader.old.lines < 2 ^ 63 }
+
+    // What is read is the text of this version, these values and these events, and nothing else is taken.
+    ensures text { IfOk result (λ t. HasText t × Takes reader.old.left reader.new.left (text_of t)) }
+
+    // Where a text of either version stands at the front it is read, unless memory is refused.
+    ensures whole { (text : HistoryText) → HasText text → BeginsWith reader.old.left (text_of text) → MatchResult result (λ t. t ≡ text) (λ fault. fault ≡ TextFault.Memory) }
+
+    // A fault is the first one.
+    ensures fault { IfErr result (HasTextFault reader.old.lines reader.old.left) }
+
+    ensures lines { IfOk result (λ t. reader.new.lines ≡ reader.old.lines + line_count t) }
+    ensures stopped { reader.new.is_stopped ≡ is_err result }
+{
+    let result = reader.any_history(alloc);
+    reader.is_stopped = result.is_err();
+    result
+}
+
 /// Reads the text of a history as [`read_history`] does, and adds its events to a history in the making, which keeps none of
 /// them. The time is linear in the bytes read, beside that of the adding.
 pub fn gather_history<R: TextSource>(
@@ -426,6 +592,33 @@ pub fn gather_history<R: TextSource>(
     ensures stopped { reader.new.is_stopped ≡ is_err result }
 {
     let result = reader.gathered(builder);
+    reader.is_stopped = result.is_err();
+    result
+}
+
+/// Reads the text of a history of either version as [`read_any`] does, and answers a history in the making that starts with its
+/// initial values and to which its events were added. It keeps none of these. The time is linear in the bytes read, beside that
+/// of the adding.
+pub fn gather_any<R: TextSource>(
+    alloc: Global,
+    reader: &mut TextReader<R>,
+) -> Result<PreloadedBuilder, TextFault>
+    requires running { reader.old.is_stopped ≡ false }
+    requires lines { reader.old.lines < 2 ^ 63 }
+
+    // What is read is the text of some values and events, nothing else is taken, and just these are gathered.
+    ensures text { IfOk result (λ builder. (text : HistoryText) × HasText text × Takes reader.old.left reader.new.left (text_of text)
+        × ((reader.new.lines ≡ reader.old.lines + line_count text) × HasGatheredFrom text.initial text.events builder)) }
+
+    // Where a text of either version stands at the front it is read, unless memory is refused.
+    ensures whole { (text : HistoryText) → HasText text → BeginsWith reader.old.left (text_of text) → MatchResult result (HasGatheredFrom text.initial text.events) (λ fault. fault ≡ TextFault.Memory) }
+
+    // A fault is the first one.
+    ensures fault { IfErr result (HasTextFault reader.old.lines reader.old.left) }
+
+    ensures stopped { reader.new.is_stopped ≡ is_err result }
+{
+    let result = reader.any_gathered(alloc);
     reader.is_stopped = result.is_err();
     result
 }

@@ -225,10 +225,10 @@ pub fn write_verdict<W: TextSink>(
     writer: &mut W,
 ) -> Result<(), WriteFault>
     // The verdict's operations are places of this history.
-    requires { All (λ place. place < length (operations_of history.now)) (places_of verdict.now) }
+    requires { All (λ place. place < length (operations_of history.now.events)) (places_of verdict.now) }
 
-    ensures ok { OnOk result (Appends (W.contents writer.old) (W.contents writer.new) (verdict_text (claim_of (operations_of history.now) verdict.now))) }
-    ensures err { OnErr result (AppendsFront (W.contents writer.old) (W.contents writer.new) (verdict_text (claim_of (operations_of history.now) verdict.now))) }
+    ensures ok { OnOk result (Appends (W.contents writer.old) (W.contents writer.new) (verdict_text (claim_of (operations_of history.now.events) verdict.now))) }
+    ensures err { OnErr result (AppendsFront (W.contents writer.old) (W.contents writer.new) (verdict_text (claim_of (operations_of history.now.events) verdict.now))) }
     ensures refused { W.has_refused writer.new ≡ (W.has_refused writer.old || is_err result) }
     ensures written { OnOk result (IsWritten W.goes writer.old writer.new) }
     ensures stopped { OnErr result (IsRefused W.goes writer.old writer.new) }

@@ -19,4 +19,6 @@ mod texts;
 #[cfg(test)]
 mod verdict_texts;
 #[cfg(test)]
+mod versions;
+#[cfg(test)]
 mod words;

@@ -240,7 +240,9 @@ fn lines_count_on(rt: HostRuntime) -> Result<(), Fail> {
 }
 
 /// The history that a text tells.
-fn history_of(alloc: Global, text: &[u8]) -> Result<History, Fail> {
+fn history_of(alloc: Global, text: &[u8]) -> Result<History, Fail>
+    ensures { IfOk result (λ whole. whole.initial ≡ []) }
+{
     let mut reader = TextReader::new(MemorySource::new(text));
     let events = read_history(alloc, &mut reader)?;
     Ok(history(alloc, events)?)
@@ -248,7 +250,7 @@ fn history_of(alloc: Global, text: &[u8]) -> Result<History, Fail> {
 
 /// The text of a verdict on a history.
 fn written(alloc: Global, history: &History, verdict: &Verdict) -> Result<Vec<u8>, Fail>
-    requires { All (λ place. place < length (operations_of history.now)) (places_of verdict.now) }
+    requires { All (λ place. place < length (operations_of history.now.events)) (places_of verdict.now) }
 {
     let mut writer = Watched::new(Vec::new(alloc));
     write_verdict(history, verdict, &mut writer)?;

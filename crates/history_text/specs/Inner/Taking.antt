@@ -1,15 +1,16 @@
 -- What the steps of a reader take of its input.
 use Rattle.std.specs.Prelude.{◌≡◌, ℕ, ◌<◌, Bool, true, false, List, [], ◌∷◌, ◌++◌, length, Option, Some, None, Err, IfSome}
+use Rattle.std.specs.declared.result.Result.{Result}
 use Rattle.text_lines.specs.declared.fault.TextFault.{TextFault}
-use Rattle.text_lines.specs.declared.fault.TextFault.TheVariants.{Line, Memory}
+use Rattle.text_lines.specs.declared.fault.TextFault.TheVariants.{Memory}
 use Rattle.history_text.specs.declared.reader.FrontLine.{FrontLine}
 use Rattle.history_text.specs.declared.reader.FrontLine.TheVariants as at_front
 use Rattle.text_lines.specs.Input.{Ahead, Ending, EndOfInput, Failure, Takes, IsOver}
 use Rattle.text_lines.specs.Lines.{line, end_line, longest_line, is_line_feed, front_of, header_fault, Front, Whole, TooLong}
 use Rattle.text_lines.specs.Inner.Lines.{IsPartOfLine}
 use Rattle.text_lines.specs.Lines.{Unfinished, Nothing, fault_at}
-use Rattle.history_text.specs.Items.{Kind, line_of, lines_of, item_at_front, ItemFault, NoRoom}
-use Rattle.history_text.specs.Schedules.{SettingFault}
+use Rattle.history_text.specs.Items.{Kind, line_of, lines_of, item_at_front, LineFault, ItemFault, NoRoom, FaultAmong, NoRoomAmong}
+use Rattle.history_text.specs.Versions.{value_kind, NoVersionFault, AfterCount, InitialFault}
 use Rattle.history_text.specs.Claims.{FirstLineFault}
 use Rattle.history_text.specs.Reading.{HasFirstFault}
 
@@ -25,24 +26,28 @@ TakesLine old new at_front.Nothing = Takes old new [] × IsOver EndOfInput new
 abbrev pub StopsInLine : Option Ahead → Option Ahead → Type 0
 StopsInLine old new = (given : List ℕ) × Takes old new given × IsPartOfLine given × IsOver Failure new
 
--- the fault of line n where no whole line stands at the front
-abbrev pub NoLineFault : ℕ → Ending → TextFault → Front → Type 0
-NoLineFault n ending fault (Whole bytes rest) = ⊥
-NoLineFault n ending fault TooLong = fault ≡ Line n
-NoLineFault n ending fault Unfinished = fault ≡ fault_at ending
-NoLineFault n ending fault Nothing = fault ≡ fault_at ending
+-- no whole line stands at the front, and this is the fault; that of a line that is too long is given
+abbrev pub NoLineFault : TextFault → Ending → TextFault → Front → Type 0
+NoLineFault long ending fault (Whole bytes rest) = ⊥
+NoLineFault long ending fault TooLong = fault ≡ long
+NoLineFault long ending fault Unfinished = fault ≡ fault_at ending
+NoLineFault long ending fault Nothing = fault ≡ fault_at ending
 
--- line n isn't whole, and has this fault
-abbrev pub HasNoLine : ℕ → Option Ahead → TextFault → Type 0
-HasNoLine n old fault = IfSome old (λ a. NoLineFault n a.ending fault (front_of a.bytes))
+-- the next line isn't whole, and has this fault
+abbrev pub HasNoLine : TextFault → Option Ahead → TextFault → Type 0
+HasNoLine long old fault = IfSome old (λ a. NoLineFault long a.ending fault (front_of a.bytes))
 
 -- the first line isn't as expected
 abbrev pub HasHeaderFault : List ℕ → Option Ahead → TextFault → Type 0
 HasHeaderFault expected old fault = IfSome old (λ a. header_fault expected a.ending (front_of a.bytes) ≡ Some fault)
 
--- line n isn't the setting of a schedule, and has this fault
-abbrev pub HasSettingFault : ℕ → Option Ahead → TextFault → Type 0
-HasSettingFault n old fault = IfSome old (λ a. SettingFault n a.ending fault a.bytes)
+-- the first line is that of no version
+abbrev pub HasNoVersion : Option Ahead → TextFault → Type 0
+HasNoVersion old fault = IfSome old (λ a. NoVersionFault a.ending fault (front_of a.bytes))
+
+-- line n, which is to be read so, has this fault
+abbrev pub HasLineFault : {A : Type 0} → (ℕ → List (List ℕ) → Result A TextFault) → ℕ → Option Ahead → TextFault → Type 0
+HasLineFault read n old fault = IfSome old (λ a. LineFault read n a.ending fault a.bytes)
 
 -- line n isn't the first of a verdict, and has this fault
 abbrev pub HasFirstLineFault : ℕ → Option Ahead → TextFault → Type 0
@@ -81,6 +86,14 @@ HasItemFault kind n k old fault = IfSome old (λ a. item_at_front kind n k a.end
 -- the first fault of the lines of items from line n on
 abbrev pub HasItemsFault : {A : Type 0} → Kind A → ℕ → Option Ahead → TextFault → Type 0
 HasItemsFault kind n old fault = HasFirstFault (λ ending bytes f. ItemFault kind n ending f bytes) (NoRoom kind) old fault
+
+-- the first fault of the lines of so many items from line n on
+abbrev pub HasFaultAmong : {A : Type 0} → Kind A → ℕ → ℕ → Option Ahead → TextFault → Type 0
+HasFaultAmong kind k n old fault = HasFirstFault (λ ending bytes f. FaultAmong kind k n ending f bytes) (NoRoomAmong kind k) old fault
+
+-- the first fault of the line that counts the initial values, line n, and of theirs
+abbrev pub HasInitialFault : ℕ → Option Ahead → TextFault → Type 0
+HasInitialFault n old fault = HasFirstFault (λ ending bytes f. InitialFault n ending f bytes) (AfterCount (NoRoomAmong value_kind)) old fault
 
 -- a fault of the input, and not of the reader's memory
 abbrev pub IsOfInput : TextFault → Type 0

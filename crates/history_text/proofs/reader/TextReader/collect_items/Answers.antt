@@ -29,9 +29,8 @@ loop-item-preserved g c =
       items = known.items ++ c.in-Some.item ∷ [];
       right = HaveLines-push g.T.Item.kind known.items c.in-Some.item known.right item.1 (omega (arith, known.count, item.2));
       taken = takes_item g.T.Item.kind known.items c.in-Some.item _ _ _ known.taken item.0;
-      held = λ begun.
-          on_ok c.add.result _ c.if-is_err.ensures.value
-          (c.add.ensures known.items (known.held begun) (omega (arith, known.count, item.2, g.met.T.Item.few)));
+      held = on_ok c.add.result _ c.if-is_err.ensures.value
+          (c.add.ensures _ known.items known.held (omega (arith, known.count, item.2, g.met.T.Item.few)));
       count = simp length-append (omega (arith, known.count));
       lines = omega (arith, c.next_item.ensures.lines, known.lines);
       is_stopped = c.next_item.ensures.is_stopped ∙ known.is_stopped;

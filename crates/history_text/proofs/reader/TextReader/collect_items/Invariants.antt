@@ -1,4 +1,4 @@
-use Rattle.std.proofs.Common.{◌≡◌, ◌+◌, ◌-◌, List, [], length}
+use Rattle.std.proofs.Common.{◌≡◌, ◌+◌, ◌-◌, List, length}
 use Rattle.text_lines.specs.Input.{Takes}
 use Rattle.history_text.specs.Items.{HaveLines, lines_of}
 use Rattle.history_text.proofs.reader.TextReader.collect_items.Given as goal
@@ -8,7 +8,7 @@ invariant-loop-item g l = record {
   items : List g.row.T.Denot;
   right : HaveLines g.T.Item.kind items;
   taken : Takes l.fn.self.left l.self.left (lines_of g.T.Item.kind items);
-  held : g.C.Collects.Holds l.fn.into [] → g.C.Collects.Holds l.into items;
+  held : g.C.Collects.Adds l.fn.into l.into items;
   count : l.count ≡ length items;
   lines : l.self.lines ≡ l.fn.self.lines + l.count;
   is_stopped : l.self.is_stopped ≡ l.fn.self.is_stopped;

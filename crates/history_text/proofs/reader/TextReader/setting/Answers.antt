@@ -1,15 +1,18 @@
 use Rattle.std.proofs.Common.{◌≡◌, ◌+◌, ap, ◌∙◌}
 use Rattle.history_text.specs.Reading.{Input}
-use Rattle.history_text.proofs.Settings.{setting_taken, setting_faulty}
+use Rattle.history_text.specs.Schedules.{setting_in, setting_fields, IsSetting}
+use Rattle.history_text.proofs.FieldLines.{said_taken, line_faulty}
+use Rattle.history_text.proofs.Settings.{setting_said}
 use Rattle.history_text.proofs.reader.TextReader.setting.Goals as goal
 
 pub returns-clause-ok : goal.returns-clause-ok
 returns-clause-ok g c =
-    setting_taken c.self.inside.lines _ _ c.in_ok-line.line c.setting_in.result c.in_ok-line.ensures.ok.0 (rw c.as_slice.ensures at c.setting_in.ensures.value)
+    said_taken setting_in (λ s. setting_fields s.0 s.1) (λ s. IsSetting s.0 s.1) c.self.inside.lines _ _ c.in_ok-line.line c.setting_in.result
+    c.in_ok-line.ensures.ok.0 (setting_said c.self.inside.lines c.in_ok-line.line) (rw c.as_slice.ensures at c.setting_in.ensures.value)
 
 pub returns-clause-fault : goal.returns-clause-fault
 returns-clause-fault g c =
     let taken = c.in_ok-line.ensures.ok in
     let n : c.self.inside.lines ≡ c.args.self.now.lines + 1 = ap (λ (i : Input). i.lines) c.self.view_is ∙ c.in_ok-line.ensures.lines in
-    rw (← n) (setting_faulty c.self.inside.lines _ _ c.in_ok-line.line c.setting_in.result taken.0 taken.1
+    rw (← n) (line_faulty setting_in c.self.inside.lines _ _ c.in_ok-line.line c.setting_in.result taken.0 taken.1
     (rw c.as_slice.ensures at c.setting_in.ensures.value))

@@ -1,0 +1,86 @@
+-- The next line of the input, by what its fields say.
+use Rattle.std.proofs.Common.{◌≡◌, ℕ, List, ◌∷◌, ap, sym, subst, ◌∙◌, refl, Option, Some, None, Ok, Err}
+use Rattle.std.specs.Prelude.{IfOk, IfErr}
+use Rattle.std.specs.declared.result.Result.{Result}
+use Rattle.std.proofs.lemmas.List.Splits.{join_with_byte-slice_split}
+use Rattle.text_lines.specs.declared.fault.TextFault.{TextFault}
+use Rattle.text_lines.specs.declared.fault.TextFault.TheVariants.{Header, Line}
+use Rattle.text_lines.specs.Lines.{line, spaced, front_of, Front, Whole, TooLong, Unfinished, Nothing, fields_of, header_fault}
+use Rattle.text_lines.specs.Input.{Ahead, Ending, Takes}
+use Rattle.text_lines.specs.Inner.Lines.{IsPartOfLine}
+use Rattle.history_text.specs.Items.{Kind, line_of, line_at_front}
+use Rattle.history_text.specs.Inner.Taking.{NoLineFault, HasNoLine, HasHeaderFault, HasLineFault, IsSpelled}
+use Rattle.text_lines.proofs.Fields.{has_field}
+use Rattle.history_text.proofs.Faults.{at_line}
+
+-- ---- lines that aren't whole
+
+no_header : (expected : List ℕ) (ending : Ending) (fault : TextFault) (front : Front) → NoLineFault Header ending fault front
+    → header_fault expected ending front ≡ Some fault
+no_header expected ending fault (Whole bytes rest) h = absurd h
+no_header expected ending fault TooLong h = ap Some (sym h)
+no_header expected ending fault Unfinished h = ap Some (sym h)
+no_header expected ending fault Nothing h = ap Some (sym h)
+
+-- where no line is whole, none is the expected first one
+pub no_header_line : (expected : List ℕ) (old : Option Ahead) (fault : TextFault) → HasNoLine Header old fault → HasHeaderFault expected old fault
+no_header_line expected None fault h = tt
+no_header_line expected (Some a) fault h = no_header expected a.ending fault (front_of a.bytes) h
+
+nothing_said : {A : Type 0} (read : ℕ → List (List ℕ) → Result A TextFault) (n : ℕ) (ending : Ending) (fault : TextFault) (front : Front)
+    → NoLineFault (Line n) ending fault front → line_at_front read n ending front ≡ Err fault
+nothing_said read n ending fault (Whole bytes rest) h = absurd h
+nothing_said read n ending fault TooLong h = ap Err (sym h)
+nothing_said read n ending fault Unfinished h = ap Err (sym h)
+nothing_said read n ending fault Nothing h = ap Err (sym h)
+
+-- where no line is whole, none says anything
+pub no_line_said : {A : Type 0} (read : ℕ → List (List ℕ) → Result A TextFault) (n : ℕ) (old : Option Ahead) (fault : TextFault)
+    → HasNoLine (Line n) old fault → HasLineFault read n old fault
+no_line_said read n None fault h = tt
+no_line_said read n (Some a) fault h = nothing_said read n a.ending fault (front_of a.bytes) h
+
+-- ---- whole lines
+
+-- a line whose fields have a fault has it
+pub line_faulty : {A : Type 0} (read : ℕ → List (List ℕ) → Result A TextFault) (n : ℕ) (old new : Option Ahead) (bytes : List ℕ) (r : Result A TextFault)
+    → Takes old new (line bytes) → IsPartOfLine bytes → r ≡ read n (fields_of bytes) → IfErr r (HasLineFault read n old)
+line_faulty read n old new bytes (Ok said) taken part e = tt
+line_faulty read n old new bytes (Err fault) taken part e =
+    at_line (λ end front. line_at_front read n end front ≡ Err fault) old new bytes taken part (λ end rest. rw (← e) refl)
+
+-- the line of some fields is taken
+pub fields_taken : (old new : Option Ahead) (bytes : List ℕ) (fields : List (List ℕ)) → Takes old new (line bytes) → fields_of bytes ≡ fields
+    → Takes old new (line (spaced fields))
+fields_taken old new bytes fields taken is =
+    subst (λ (b : List ℕ). Takes old new (line b)) (sym (join_with_byte-slice_split 32 bytes) ∙ ap spaced is) taken
+
+-- what is said in a line that is spelled so is taken
+pub said_taken : {A : Type 0} (read : ℕ → List (List ℕ) → Result A TextFault) (fields : A → List (List ℕ)) (Fits : A → Type 0) (n : ℕ)
+    (old new : Option Ahead) (bytes : List ℕ) (r : Result A TextFault) → Takes old new (line bytes)
+    → ((said : A) → read n (fields_of bytes) ≡ Ok said → (fields_of bytes ≡ fields said) × Fits said) → r ≡ read n (fields_of bytes)
+    → IfOk r (λ said. Takes old new (line (spaced (fields said))) × Fits said)
+said_taken read fields Fits n old new bytes (Ok said) taken spelled e =
+    let is = spelled said (sym e) in
+    (fields_taken old new bytes (fields said) taken is.0, is.1)
+said_taken read fields Fits n old new bytes (Err fault) taken spelled e = tt
+
+-- the line of an item is taken
+pub told_taken : {A : Type 0} (kind : Kind A) (old new : Option Ahead) (bytes : List ℕ) (r : Result A TextFault) → Takes old new (line bytes)
+    → IfOk r (IsSpelled kind (fields_of bytes)) → IfOk r (λ item. Takes old new (line_of kind item) × kind.HasLine item)
+told_taken kind old new bytes (Ok item) taken spelled = (fields_taken old new bytes (kind.fields item) taken spelled.text, spelled.line)
+told_taken kind old new bytes (Err fault) taken spelled = tt
+
+-- ---- lines of more fields
+
+-- what is judged of two fields and more is judged of a line that has them
+pub two_fields : {X : Type 0} (judge : List (List ℕ) → X) (x : X) (all a rest : List ℕ) → fields_of all ≡ a ∷ fields_of rest
+    → ((field : List ℕ) (others : List (List ℕ)) → judge (a ∷ field ∷ others) ≡ x) → x ≡ judge (fields_of all)
+two_fields judge x all a rest is two =
+    let last = has_field rest in
+    sym (ap judge (is ∙ ap (λ (r : List (List ℕ)). a ∷ r) last.2) ∙ two last.0 last.1)
+
+-- the same of three
+pub three_fields : {X : Type 0} (judge : List (List ℕ) → X) (x : X) (all a b r1 r2 : List ℕ) → fields_of all ≡ a ∷ fields_of r1
+    → fields_of r1 ≡ b ∷ fields_of r2 → ((field : List ℕ) (others : List (List ℕ)) → judge (a ∷ b ∷ field ∷ others) ≡ x) → x ≡ judge (fields_of all)
+three_fields judge x all a b r1 r2 e1 e2 three = two_fields (λ fields. judge (a ∷ fields)) x r1 b r2 e2 three ∙ sym (ap judge e1)

@@ -1,0 +1,130 @@
+-- What is taken of a history of either version, and its first fault.
+use Rattle.std.proofs.Common.{◌≡◌, ℕ, ◌+◌, ◌<◌, ◌≤◌, List, ◌++◌, length, arith, sym, subst, refl, Bool, true, false}
+use Rattle.std.proofs.Common.{Option, Some, None, inl, inr, IfSome, append_assoc}
+use Rattle.std.specs.List.{AllByRecursion}
+use Rattle.std.specs.Str.{bytes_eq}
+use Rattle.event_records.specs.declared.limits.TheConstants.{MAX_INITIAL}
+use Rattle.text_lines.specs.declared.fault.TextFault.{TextFault}
+use Rattle.text_lines.specs.declared.fault.TextFault.TheVariants.{Header}
+use Rattle.text_lines.specs.Lines.{line, spaced, header_fault}
+use Rattle.text_lines.specs.Input.{Ahead, Takes}
+use Rattle.text_lines.specs.Inner.Lines.{IsPartOfLine}
+use Rattle.history_text.specs.declared.version.Version.{Version}
+use Rattle.history_text.specs.declared.version.Version.TheVariants.{One, Two}
+use Rattle.history_text.specs.Items.{Kind, line_of, lines_of, HaveLines, LineFault, ItemFault, NoRoom, FaultAmong, NoRoomAmong}
+use Rattle.history_text.specs.Histories.{event_kind}
+use Rattle.history_text.specs.Versions.{value_kind, count_fields, count_in, lines_of_initial, header_of, lines_before_events, count_before_events}
+use Rattle.history_text.specs.Versions.{HaveValueLines, AfterCount, InitialFault, IsTextFault, NoRoomForText}
+use Rattle.history_text.specs.Reading.{HasTextFault}
+use Rattle.history_text.specs.Inner.Taking.{HasNoLine, HasNoVersion, HasHeaderFault, HasLineFault, HasItemsFault, HasFaultAmong, HasInitialFault, IsOfInput}
+use Rattle.text_lines.proofs.Consuming.{Takes-append}
+use Rattle.text_lines.proofs.Numbers.{text_is}
+use Rattle.history_text.proofs.Faults.{at_line}
+use Rattle.history_text.proofs.FieldLines.{no_header_line}
+use Rattle.history_text.proofs.FirstFaults.{first_is, line_fault, later_fault, takes_item, HaveLines-push}
+
+-- ---- as many items as were told
+
+-- the line after some of them has the first fault
+pub told_is_first : {A : Type 0} (kind : Kind A) (k n m : ℕ) (items : List A) (old mid : Option Ahead) (fault : TextFault) → IsOfInput fault
+    → AllByRecursion kind.HasLine items → Takes old mid (lines_of kind items) → length items < k → m ≡ n + length items
+    → HasLineFault kind.read m mid fault → HasFaultAmong kind k n old fault
+told_is_first kind k n m items old mid fault of_input each taken fewer m_is h =
+    line_fault (λ e r f. LineFault kind.read m e f r) (λ e b f. FaultAmong kind k n e f b) (NoRoomAmong kind k) old mid
+    (lines_of kind items) fault of_input taken
+    (λ e r next. record { items = items; rest = r; fewer = fewer; each = each; front = refl; next = rw (← m_is) next }) h
+
+-- one of them more than there is room for
+pub no_room_among : {A : Type 0} (kind : Kind A) (k : ℕ) (items : List A) (x : A) (old mid new : Option Ahead) → HaveLines kind items
+    → Takes old mid (lines_of kind items) → length items < k → k ≤ kind.most → kind.HasLine x → Takes mid new (line_of kind x)
+    → IfSome old (λ a. NoRoomAmong kind k a.bytes)
+no_room_among kind k items x None mid new right taken fewer most has now = tt
+no_room_among kind k items x (Some a) None new right taken fewer most has now = absurd taken
+no_room_among kind k items x (Some a) (Some b) None right taken fewer most has now = absurd now
+no_room_among kind k items x (Some a) (Some b) (Some c) right taken fewer most has now = record {
+  room = record {
+    items = items;
+    last = x;
+    rest = c.bytes;
+    right = HaveLines-push kind items x right has (omega (arith, fewer, most));
+    front = (takes_item kind items x (Some a) (Some b) (Some c) taken now).0;
+  };
+  fewer = fewer;
+}
+
+-- ---- the first line
+
+no_version : (old : Option Ahead) (fault : TextFault) → ((version : Version) → HasHeaderFault (header_of version) old fault) → HasNoVersion old fault
+no_version None fault h = tt
+no_version (Some a) fault h = h
+
+-- where no line is whole, none is the first of a version
+pub no_version_line : (old : Option Ahead) (fault : TextFault) → HasNoLine Header old fault → HasNoVersion old fault
+no_version_line old fault h = no_version old fault (λ version. no_header_line (header_of version) old fault h)
+
+differs : (b : Bool) → (b ≡ true → ⊥) → b ≡ false
+differs true h = absurd (h refl)
+differs false h = refl
+
+-- another line is that of none
+pub other_version : (old new : Option Ahead) (bytes : List ℕ) → Takes old new (line bytes) → IsPartOfLine bytes
+    → ((version : Version) → bytes ≡ header_of version → ⊥) → HasNoVersion old Header
+other_version old new bytes taken part other = no_version old Header (λ version.
+    let differ : bytes_eq bytes (header_of version) ≡ false = differs _ (λ same. other version (text_is bytes (header_of version) same)) in
+    at_line (λ end front. header_fault (header_of version) end front ≡ Some Header) old new bytes taken part (λ end rest. rw differ refl))
+
+-- ---- initial values
+
+-- the line that counts them has the fault
+pub count_is_first : (n : ℕ) (old : Option Ahead) (fault : TextFault) → IsOfInput fault → HasLineFault count_in n old fault → HasInitialFault n old fault
+count_is_first n None fault of_input h = first_is (λ e b f. InitialFault n e f b) (AfterCount (NoRoomAmong value_kind)) None fault of_input tt
+count_is_first n (Some a) fault of_input h = first_is (λ e b f. InitialFault n e f b) (AfterCount (NoRoomAmong value_kind)) (Some a) fault of_input (inl h)
+
+-- a later line has it
+pub value_is_first : (n m k : ℕ) (old mid : Option Ahead) (fault : TextFault) → m ≡ n + 1 → k ≤ MAX_INITIAL
+    → Takes old mid (line (spaced (count_fields k))) → HasFaultAmong value_kind k m mid fault → HasInitialFault n old fault
+value_is_first n m k old mid fault m_is few taken h =
+    later_fault (λ e r f. FaultAmong value_kind k m e f r) (λ e b f. InitialFault n e f b) (NoRoomAmong value_kind k) (AfterCount (NoRoomAmong value_kind))
+    old mid (line (spaced (count_fields k))) fault taken
+    (λ e r f among. inr (k, few, (r, refl, subst (λ (i : ℕ). FaultAmong value_kind k i e f r) m_is among))) (λ r room. (k, few, (r, refl, room))) h
+
+-- the line that counts them is taken, and then theirs
+pub takes_initial : (k : ℕ) (initial : List ℕ) (old mid new : Option Ahead) → length initial ≡ k → Takes old mid (line (spaced (count_fields k)))
+    → Takes mid new (lines_of value_kind initial) → Takes old new (lines_of_initial initial)
+takes_initial k initial old mid new is count values =
+    Takes-append old mid new _ _ (subst (λ (i : ℕ). Takes old mid (line (spaced (count_fields i)))) (sym is) count) values
+
+-- ---- whole histories
+
+-- the first line has the fault
+pub version_is_first : (lines : ℕ) (old : Option Ahead) (fault : TextFault) → IsOfInput fault → HasNoVersion old fault → HasTextFault lines old fault
+version_is_first lines None fault of_input h = first_is (IsTextFault lines) NoRoomForText None fault of_input tt
+version_is_first lines (Some a) fault of_input h = first_is (IsTextFault lines) NoRoomForText (Some a) fault of_input (inl h)
+
+-- the count or a value of version 2 has it
+pub initial_is_first : (lines n : ℕ) (old mid : Option Ahead) (fault : TextFault) → n ≡ lines + 2 → Takes old mid (line (header_of Two))
+    → HasInitialFault n mid fault → HasTextFault lines old fault
+initial_is_first lines n old mid fault n_is taken h =
+    later_fault (λ e r f. InitialFault n e f r) (IsTextFault lines) (AfterCount (NoRoomAmong value_kind)) NoRoomForText old mid (line (header_of Two)) fault taken
+    (λ e r f k. inr (Two, (r, refl, inl (subst (λ (m : ℕ). InitialFault m e f r) n_is k)))) (λ r k. (Two, (r, refl, inl k))) h
+
+-- a later line has it
+pub event_is_first : (version : Version) (initial : List ℕ) (lines n : ℕ) (old mid : Option Ahead) (fault : TextFault)
+    → n ≡ lines + count_before_events version initial + 1 → HaveValueLines version initial → Takes old mid (lines_before_events version initial)
+    → HasItemsFault event_kind n mid fault → HasTextFault lines old fault
+event_is_first One initial lines n old mid fault n_is right taken h =
+    let place : n ≡ lines + 2 = omega (arith, n_is) in
+    later_fault (λ e r f. ItemFault event_kind n e f r) (IsTextFault lines) (NoRoom event_kind) NoRoomForText old mid (line (header_of One)) fault taken
+    (λ e r f k. inr (One, (r, refl, subst (λ (m : ℕ). ItemFault event_kind m e f r) place k))) (λ r k. (One, (r, refl, k))) h
+event_is_first Two initial lines n old mid fault n_is right taken h =
+    let place : n ≡ lines + 2 + 1 + length initial = omega (arith, n_is) in
+    later_fault (λ e r f. ItemFault event_kind n e f r) (IsTextFault lines) (NoRoom event_kind) NoRoomForText old mid (lines_before_events Two initial) fault taken
+    (λ e r f k. inr (
+      Two,
+      (
+        lines_of_initial initial ++ r,
+        append_assoc (line (header_of Two)) (lines_of_initial initial) r,
+        inr (initial, right, (r, refl, subst (λ (m : ℕ). ItemFault event_kind m e f r) place k)),
+      ),
+    ))
+    (λ r k. (Two, (lines_of_initial initial ++ r, append_assoc (line (header_of Two)) (lines_of_initial initial) r, inr (initial, right, (r, refl, k))))) h

@@ -1,0 +1,22 @@
+use Rattle.std.proofs.Common.{arith}
+use Rattle.std.proofs.lemmas.Result.{err_from_is_err_and}
+use Rattle.text_lines.proofs.Consuming.{Takes-append}
+use Rattle.history_text.proofs.Versions.{event_is_first}
+use Rattle.history_text.proofs.reader.TextReader.any_gathered.Goals as goal
+
+pub returns-in_err-collect_items-clause-fault : goal.returns-in_err-collect_items-clause-fault
+returns-in_err-collect_items-clause-fault g c =
+    let p = err_from_is_err_and c.from_residual-in_err-collect_items.result c.from_residual-in_err-collect_items.ensures.1 in
+    let first = c.in_ok-_version in
+    rw (p.1, p.2) (event_is_first first._version first.initial.items c.args.self.now.lines _ _ _ c.in_err-collect_items.field-0.0
+    (omega (arith, first.ensures.lines)) first.ensures.values.0 first.ensures.values.1 c.in_err-collect_items.ensures.fault)
+
+pub returns-clause-text : goal.returns-clause-text
+returns-clause-text g c =
+    let first = c.in_ok-_version in
+    let got = c.in_ok-collect_items.ensures.collected in (
+      record { version = first._version; initial = first.initial.items; events = got.0 },
+      record { initial = first.ensures.values.0; events = got.1 },
+      Takes-append _ _ _ _ _ first.ensures.values.1 (Takes-append _ _ _ _ _ got.2.1 got.2.2),
+      (omega (arith, first.ensures.lines, got.3), got.4 first.initial.items c.new-builder.ensures),
+    )

@@ -1,0 +1,20 @@
+use Rattle.std.proofs.Common.{◌≡◌, ◌+◌, ◌≤◌, ap, ◌∙◌}
+use Rattle.event_records.specs.declared.limits.TheConstants.{MAX_INITIAL}
+use Rattle.text_lines.specs.Lines.{fields_of}
+use Rattle.history_text.specs.Reading.{Input}
+use Rattle.history_text.specs.Versions.{count_in, count_fields}
+use Rattle.history_text.proofs.FieldLines.{said_taken, line_faulty}
+use Rattle.history_text.proofs.SpelledValues.{count_ok}
+use Rattle.history_text.proofs.reader.TextReader.initial_count.Goals as goal
+
+pub returns-clause-ok : goal.returns-clause-ok
+returns-clause-ok g c =
+    said_taken count_in count_fields (λ k. k ≤ MAX_INITIAL) c.self.inside.lines _ _ c.in_ok-line.line c.count_in.result
+    c.in_ok-line.ensures.ok.0 (count_ok c.self.inside.lines (fields_of c.in_ok-line.line)) (rw c.as_slice.ensures at c.count_in.ensures.value)
+
+pub returns-clause-fault : goal.returns-clause-fault
+returns-clause-fault g c =
+    let taken = c.in_ok-line.ensures.ok in
+    let n : c.self.inside.lines ≡ c.args.self.now.lines + 1 = ap (λ (i : Input). i.lines) c.self.view_is ∙ c.in_ok-line.ensures.lines in
+    rw (← n) (line_faulty count_in c.self.inside.lines _ _ c.in_ok-line.line c.count_in.result taken.0 taken.1
+    (rw c.as_slice.ensures at c.count_in.ensures.value))

@@ -1,0 +1,92 @@
+//! The lines before the events: the first one, the count of the initial values, and each of these.
+ghost use Rattle.std.specs.Prelude.{◌≡◌, ◌++◌, IfOk, IfErr, IfSome, MatchOption};
+ghost use Rattle.std.proofs.Common.{lit≤};
+ghost use Rattle.text_lines.specs.Lines.{IsLineFault, fields_of};
+ghost use Rattle.history_text.specs.Items.{line_of};
+ghost use Rattle.history_text.specs.Versions as judged;
+ghost use Rattle.history_text.specs.Versions.{value_kind, header_of};
+
+use crate::item::Item;
+use crate::version::Version;
+use event_records::MAX_INITIAL;
+use text_lines::{TextFault, after_word, number_front, number_in, split_field};
+
+/// The version of which this is the first line.
+pub(crate) fn version_in(bytes: &[u8]) -> Option<Version>
+    ensures { MatchOption result ((version : Version) → bytes.now ≡ header_of version → ⊥) (λ version. bytes.now ≡ header_of version) }
+{
+    if bytes == b"fifo-history 1".as_slice() {
+        Some(Version::One)
+    } else if bytes == b"fifo-history 2".as_slice() {
+        Some(Version::Two)
+    } else {
+        None
+    }
+}
+
+/// The number of initial values that a line says, or the first fault of its fields.
+pub(crate) fn count_in(line: u64, bytes: &[u8]) -> Result<usize, TextFault>
+    ensures value { result ≡ judged.count_in line (fields_of bytes.now) }
+    ensures of_line { IfErr result IsLineFault }
+{
+    let Some((word, count)) = split_field(bytes) else {
+        return Err(TextFault::Line(line));
+    };
+    if let Some((_, _more)) = split_field(count) {
+        return Err(TextFault::Line(line));
+    }
+    if word != b"initial".as_slice() {
+        return Err(TextFault::Line(line));
+    }
+    let count = number_in(line, MAX_INITIAL as u64, count)?;
+    Ok(count as usize)
+}
+
+/// The value of a line, or the first fault of its fields.
+fn value_in(line: u64, bytes: &[u8]) -> Result<u64, TextFault>
+    ensures value { result ≡ judged.value_in line (fields_of bytes.now) }
+    ensures of_line { IfErr result IsLineFault }
+{
+    if let Some((_, _more)) = split_field(bytes) {
+        return Err(TextFault::Line(line));
+    }
+    if bytes.is_empty() {
+        return Err(TextFault::Line(line));
+    }
+    number_in(line, u64::MAX, bytes)
+}
+
+/// The value whose line stands whole at the front, and the bytes after it.
+///
+/// It finds each line that is right and none that is wrong. What it doesn't find, `value_in` judges.
+#[inline(always)]
+fn value_front(bytes: &[u8]) -> Option<(u64, &[u8])>
+    ensures { IfSome result (λ p. bytes.now ≡ line_of value_kind p.0 ++ p.1.now) }
+{
+    let (value, rest) = number_front(bytes)?;
+    let rest = after_word(rest, b"\n")?;
+    Some((value, rest))
+}
+
+impl Item for u64 {
+    ghost kind = { value_kind };
+
+    ghost few = { lit≤ tt };
+
+    fn most() -> usize {
+        MAX_INITIAL
+    }
+
+    fn is_counted() -> bool {
+        false
+    }
+
+    fn from_line(line: u64, bytes: &[u8]) -> Result<u64, TextFault> {
+        value_in(line, bytes)
+    }
+
+    #[inline(always)]
+    fn at_front(bytes: &[u8]) -> Option<(u64, &[u8])> {
+        value_front(bytes)
+    }
+}
