@@ -6,7 +6,9 @@ use Rattle.text_lines.specs.declared.fault.TextFault.{TextFault}
 use Rattle.text_lines.specs.declared.fault.TextFault.TheVariants as text
 use Rattle.text_lines.specs.Faults as text_names
 use Rattle.text_lines.specs.Lines.{line}
+use Rattle.history_text.specs.declared.version.HistoryText.{HistoryText}
 use Rattle.history_text.specs.Histories.{history_text}
+use Rattle.history_text.specs.Versions.{text_of}
 use Rattle.history_text.specs.Verdicts.{verdict_text}
 use Rattle.history_merge.specs.declared.fault.HistoryFault.{HistoryFault}
 use Rattle.history_merge.specs.declared.fault.HistoryFault.TheVariants as history
@@ -23,7 +25,7 @@ pub data Answer : Type 0 where
   -- a verdict
   judged : Claimed → Answer
   -- a history and its verdict
-  shown : List Event → Claimed → Answer
+  shown : HistoryText → Claimed → Answer
   -- the refused steps of a schedule, after which the machine isn't done
   left_open : List Rejection → Answer
   -- the refused steps of a schedule, and the collected history and its verdict
@@ -37,6 +39,8 @@ pub data Answer : Type 0 where
   refused_history : HistoryFault → Answer
   -- the history or the verdict is too large to be drawn
   refused_size : Answer
+  -- the command takes no history whose queue holds some values first
+  refused_initial : Answer
   -- the words are refused: no queue has this name, or there are too many operations
   refused_queue : Answer
   refused_limit : Answer
@@ -87,7 +91,7 @@ validity false = codes "INVALID"
 -- the text of an answer
 abbrev pub answer_text : Answer → List ℕ
 answer_text (judged claimed) = verdict_text claimed
-answer_text (shown events claimed) = history_text events ++ verdict_text claimed
+answer_text (shown text claimed) = text_of text ++ verdict_text claimed
 answer_text (left_open rejections) = rejection_lines rejections ++ line (codes "OPEN")
 answer_text (played rejections events claimed) = rejection_lines rejections ++ (history_text events ++ verdict_text claimed)
 answer_text (verified valid) = line (validity valid)
@@ -95,6 +99,7 @@ answer_text (drawn picture) = picture
 answer_text (refused_text fault) = line (beginning true ++ text_fault_name fault)
 answer_text (refused_history fault) = line (beginning true ++ history_fault_name fault)
 answer_text refused_size = line (beginning true ++ codes "Size")
+answer_text refused_initial = line (beginning true ++ codes "Initial")
 answer_text refused_queue = line (beginning true ++ codes "Queue")
 answer_text refused_limit = line (beginning true ++ codes "Limit")
 answer_text read_fault = line (beginning false ++ codes "Read")
@@ -121,7 +126,7 @@ fault_status false = 3
 -- the status that goes with an answer
 abbrev pub answer_status : Answer → ℕ
 answer_status (judged claimed) = claim_status claimed
-answer_status (shown events claimed) = claim_status claimed
+answer_status (shown text claimed) = claim_status claimed
 answer_status (left_open rejections) = 0
 answer_status (played rejections events claimed) = claim_status claimed
 answer_status (verified valid) = validity_status valid
@@ -129,6 +134,7 @@ answer_status (drawn picture) = 0
 answer_status (refused_text fault) = fault_status true
 answer_status (refused_history fault) = fault_status true
 answer_status refused_size = fault_status true
+answer_status refused_initial = fault_status true
 answer_status refused_queue = fault_status true
 answer_status refused_limit = fault_status true
 answer_status read_fault = fault_status false

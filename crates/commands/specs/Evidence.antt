@@ -1,10 +1,10 @@
 -- What one command writes, and what another answers of it: every answer is evidence.
 use Rattle.std.specs.Prelude.{◌≡◌, ℕ, List, ◌++◌, ◌⊎◌, true}
-use Rattle.event_records.specs.declared.event.Event.{Event}
+use Rattle.history_text.specs.declared.version.HistoryText.{HistoryText}
 use Rattle.verdicts.specs.declared.verifying.Claimed.{Claimed}
 use Rattle.text_lines.specs.Input.{Ahead, EndOfInput}
 use Rattle.command_words.specs.Commands.{check, shrink, verify}
-use Rattle.history_text.specs.Histories.{history_text}
+use Rattle.history_text.specs.Versions.{text_of}
 use Rattle.commands.specs.Answers.{Answer, judged, shown, verified, memory_fault, answer_text}
 use Rattle.commands.specs.Running.{AnswersOf}
 
@@ -23,10 +23,10 @@ CheckedIsValid = (bytes : List ℕ) (claimed : Claimed) (answer : Answer) → An
 
 -- where `shrink` answers an input with a history and its verdict, `verify` answers these two texts with `VALID`
 abbrev pub ShrunkIsValid : Type 0
-ShrunkIsValid = (bytes : List ℕ) (small : List Event) (claimed : Claimed) (answer : Answer) → AnswersOf shrink (input_of bytes) (shown small claimed)
+ShrunkIsValid = (bytes : List ℕ) (small : HistoryText) (claimed : Claimed) (answer : Answer) → AnswersOf shrink (input_of bytes) (shown small claimed)
     → AnswersOf verify (input_of (answer_text (shown small claimed))) answer → IsValidOrNoMemory answer
 
 -- and `check` answers the text of that history with that same verdict, or memory runs out
 abbrev pub ShrunkIsChecked : Type 0
-ShrunkIsChecked = (bytes : List ℕ) (small : List Event) (claimed : Claimed) (answer : Answer) → AnswersOf shrink (input_of bytes) (shown small claimed)
-    → AnswersOf check (input_of (history_text small)) answer → (answer ≡ judged claimed) ⊎ (answer ≡ memory_fault)
+ShrunkIsChecked = (bytes : List ℕ) (small : HistoryText) (claimed : Claimed) (answer : Answer) → AnswersOf shrink (input_of bytes) (shown small claimed)
+    → AnswersOf check (input_of (text_of small)) answer → (answer ≡ judged claimed) ⊎ (answer ≡ memory_fault)

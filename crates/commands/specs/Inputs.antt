@@ -1,12 +1,12 @@
 -- Inputs that should be one text, or one after another.
-use Rattle.std.specs.Prelude.{◌≡◌, ℕ, ◌+◌, List, ◌∷◌, ◌++◌, ◌⊎◌, length}
-use Rattle.event_records.specs.declared.event.Event.{Event}
+use Rattle.std.specs.Prelude.{◌≡◌, ℕ, List, ◌∷◌, ◌++◌, ◌⊎◌}
 use Rattle.verdicts.specs.declared.verifying.Claimed.{Claimed}
 use Rattle.text_lines.specs.declared.fault.TextFault.{TextFault}
 use Rattle.text_lines.specs.declared.fault.TextFault.TheVariants as text
 use Rattle.text_lines.specs.Faults.{MemoryOr}
 use Rattle.history_text.specs.declared.schedule.Schedule.{Schedule}
-use Rattle.history_text.specs.Histories.{history_text, HasHistoryText, IsHistoryTextFault, NoRoomFor}
+use Rattle.history_text.specs.declared.version.HistoryText.{HistoryText}
+use Rattle.history_text.specs.Versions.{text_of, line_count, HasText, IsTextFault, NoRoomForText}
 use Rattle.history_text.specs.Schedules.{schedule_text, HasScheduleText, IsScheduleTextFault, NoRoomForSchedule}
 use Rattle.history_text.specs.Verdicts.{verdict_text}
 use Rattle.history_text.specs.Claims.{HasVerdictText, IsVerdictTextFault, NoRoomForVerdict}
@@ -45,13 +45,13 @@ IsFaultOfOneText {A} HasText text_of IsTextFault LacksRoom input fault =
 
 -- ---- histories
 
--- the input is the text of these events and nothing more
-abbrev pub IsHistoryOf : Ahead → List Event → Type 0
-IsHistoryOf input events = HasHistoryText events × IsWhole (history_text events) input
+-- the input is this text of a history, of either version, and nothing more
+abbrev pub IsHistoryOf : Ahead → HistoryText → Type 0
+IsHistoryOf input text = HasText text × IsWhole (text_of text) input
 
 -- the fault of input that should be the text of one history
 abbrev pub IsFaultOfHistoryInput : Ahead → TextFault → Type 0
-IsFaultOfHistoryInput input fault = IsFaultOfOneText HasHistoryText history_text (IsHistoryTextFault 0) NoRoomFor input fault
+IsFaultOfHistoryInput input fault = IsFaultOfOneText HasText text_of (IsTextFault 0) NoRoomForText input fault
 
 -- ---- schedules
 
@@ -65,28 +65,28 @@ IsFaultOfScheduleInput input fault = IsFaultOfOneText HasScheduleText schedule_t
 
 -- ---- a history, and a verdict on it
 
--- a list of events, and what is claimed of them
-pub record ClaimOnEvents : Type 0 where
-  pub events : List Event
+-- the text of a history, and what is claimed of it
+pub record ClaimOnText : Type 0 where
+  pub text : HistoryText
   pub claimed : Claimed
 
--- the input is the text of these events, then that of the verdict, and nothing more
-pub record IsClaimOf (input : Ahead) (claim : ClaimOnEvents) : Type 0 where
-  pub history : HasHistoryText claim.events
+-- the input is this text, then that of the verdict, and nothing more
+pub record IsClaimOf (input : Ahead) (claim : ClaimOnText) : Type 0 where
+  pub history : HasText claim.text
   pub verdict : HasVerdictText claim.claimed
-  pub whole : IsWhole (history_text claim.events ++ verdict_text claim.claimed) input
+  pub whole : IsWhole (text_of claim.text ++ verdict_text claim.claimed) input
 
 -- the text of a history stands at the front, and what comes after its lines is so
 pub record AfterHistory (P : ℕ → List ℕ → Type 0) (bytes : List ℕ) : Type 0 where
-  pub events : List Event
+  pub text : HistoryText
   pub rest : List ℕ
-  pub history : HasHistoryText events
-  pub front : bytes ≡ history_text events ++ rest
-  pub after : P (length events + 2) rest
+  pub history : HasText text
+  pub front : bytes ≡ text_of text ++ rest
+  pub after : P (line_count text) rest
 
 -- the fault of input that should be a history and a verdict: that of the first text, or else of the second, whose lines count on
 abbrev pub IsFaultOfClaimInput : Ahead → TextFault → Type 0
 IsFaultOfClaimInput input fault =
-    MemoryOr (NoRoomFor input.bytes ⊎ AfterHistory (λ lines rest. NoRoomForVerdict rest) input.bytes)
-    (λ f. IsHistoryTextFault 0 input.ending input.bytes f ⊎ AfterHistory (λ lines rest. IsVerdictTextFault lines input.ending rest f) input.bytes)
+    MemoryOr (NoRoomForText input.bytes ⊎ AfterHistory (λ lines rest. NoRoomForVerdict rest) input.bytes)
+    (λ f. IsTextFault 0 input.ending input.bytes f ⊎ AfterHistory (λ lines rest. IsVerdictTextFault lines input.ending rest f) input.bytes)
     fault

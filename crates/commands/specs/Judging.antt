@@ -1,10 +1,10 @@
 -- What the commands that read answer of what they read.
-use Rattle.std.specs.Prelude.{◌≡◌, ◌≢◌, ◌≤◌, Bool, false, IsTrue, List, length, ◌⊎◌, ◌↔◌, ℕ}
+use Rattle.std.specs.Prelude.{◌≡◌, ◌≢◌, ◌≤◌, Bool, false, IsTrue, List, [], length, ◌⊎◌, ◌↔◌, ℕ, Some}
 use Rattle.event_records.specs.declared.event.Event.{Event}
 use Rattle.history_merge.specs.declared.fault.HistoryFault.{HistoryFault}
-use Rattle.history_merge.specs.declared.fault.HistoryFault.TheVariants as history
-use Rattle.history_merge.specs.declared.operation.Operation.{Operation}
-use Rattle.history_merge.specs.Faults.{IsFirstFault}
+use Rattle.history_merge.specs.declared.fault.HistoryFault.TheVariants.{Memory}
+use Rattle.history_merge.specs.Faults.{IsFirstFaultFrom}
+use Rattle.history_merge.specs.Initial.{HistoryView, IsCompleteFrom}
 use Rattle.history_merge.specs.Complete.{IsCompleteHistory}
 use Rattle.history_merge.specs.Legal.{IsLinearizable}
 use Rattle.history_merge.specs.Merge.{IsMerged}
@@ -18,119 +18,156 @@ use Rattle.simulation.specs.Simulations.{schedule_of, rejections}
 use Rattle.verdicts.specs.declared.verifying.Claimed.{Claimed}
 use Rattle.verdicts.specs.declared.verdict.Verdict.{Verdict}
 use Rattle.verdicts.specs.Claims.{IsTrueClaim}
-use Rattle.verdicts.specs.Verdicts.{IsVerdictOf, IsEvidence, IsExact}
+use Rattle.verdicts.specs.declared.verifying.Claimed.TheVariants as claim
+use Rattle.verdicts.specs.Claiming.{claim_of}
+use Rattle.verdicts.specs.Verdicts.{IsVerdictOf, IsEvidence, IsExactFrom, filled_of}
 use Rattle.verdicts.specs.Selection.{KeepsViolation, StaysChosen, IsMinimal, HasShortestCover, ArePartOf}
-use Rattle.history_text.specs.Verdicts.{claim_of}
-use Rattle.history_text.specs.Claims.{operations_in}
+use Rattle.history_text.specs.declared.version.HistoryText.{HistoryText}
 use Rattle.command_words.specs.declared.options.PictureForm.{PictureForm}
 use Rattle.command_words.specs.declared.options.PictureForm.TheVariants.{Svg, Terminal}
+use Rattle.drawing.specs.declared.claim.ShownClaim.{ShownClaim}
+use Rattle.drawing.specs.Claim.{shown_of}
 use Rattle.drawing.specs.Terminal.{terminal_picture}
 use Rattle.svg_picture.specs.Picture.{svg_picture}
 use Rattle.drawing.specs.declared.columns.TheConstants.{MOST_DRAWN}
 use Rattle.text_lines.specs.declared.fault.TextFault.{TextFault}
 use Rattle.history_text.specs.declared.schedule.Schedule.{Schedule}
 use Rattle.text_lines.specs.Input.{Ahead}
-use Rattle.commands.specs.Inputs.{ClaimOnEvents}
-use Rattle.commands.specs.Answers.{Answer, judged, shown, left_open, played, verified, drawn, refused_size, memory_fault, answer_of_text_fault}
+use Rattle.commands.specs.Inputs.{ClaimOnText}
+use Rattle.commands.specs.Answers.{Answer, judged, shown, left_open, played, verified, drawn, refused_size, refused_initial, memory_fault, answer_of_text_fault}
 use Rattle.commands.specs.Answers.{answer_of_history_fault}
 
--- ---- events
+-- ---- histories
 
--- the claim of the chosen verdict on these operations, which is evidence: a yes exactly where a legal order exists
-pub record IsVerdictClaim (operations : List Operation) (claimed : Claimed) : Type 0 where
+-- what a text says of a history: what its queue holds first, and its events
+abbrev pub said_by : HistoryText → HistoryView
+said_by text = record { initial = text.initial; events = text.events }
+
+-- a history of a queue that is empty first
+abbrev pub from_none : List Event → HistoryView
+from_none events = record { initial = []; events = events }
+
+-- it is complete, and its initial values are distinct and enqueued by no call
+abbrev pub IsSound : HistoryView → Type 0
+IsSound history = IsCompleteFrom history.initial history.events
+
+-- the claim of the chosen verdict on a history, which is evidence: a yes exactly where a legal order exists
+pub record IsVerdictClaim (history : HistoryView) (claimed : Claimed) : Type 0 where
   pub verdict : Verdict
-  pub chosen : IsVerdictOf operations verdict
-  pub evidence : IsEvidence operations verdict
-  pub exact : IsExact operations verdict
-  pub claim : claimed ≡ claim_of operations verdict
+  pub chosen : IsVerdictOf (filled_of history) verdict
+  pub evidence : IsEvidence (filled_of history) verdict
+  pub exact : IsExactFrom history.initial (operations_of history.events) verdict
+  pub claim : claimed ≡ claim_of history.initial (operations_of history.events) verdict
 
--- the events are no complete history, and this is their first fault
-pub record IsFaulty (events : List Event) (answer : Answer) : Type 0 where
+-- it is no complete history, and this is its first fault
+pub record IsFaulty (history : HistoryView) (answer : Answer) : Type 0 where
   pub fault : HistoryFault
-  pub first : IsFirstFault events fault
-  pub known : fault ≢ history.Memory
+  pub first : IsFirstFaultFrom history.initial history.events fault
+  pub known : fault ≢ Memory
   pub is : answer ≡ answer_of_history_fault fault
 
--- the events are a complete history, and this is its verdict
-pub record IsJudged (events : List Event) (answer : Answer) : Type 0 where
-  pub complete : IsCompleteHistory events
+-- it is a complete history, and this is its verdict
+pub record IsJudged (history : HistoryView) (answer : Answer) : Type 0 where
+  pub complete : IsSound history
   pub claimed : Claimed
-  pub right : IsVerdictClaim (operations_of events) claimed
+  pub right : IsVerdictClaim history claimed
   pub is : answer ≡ judged claimed
 
--- `check`: the first fault of the events, or their verdict
-abbrev pub Judges : List Event → Answer → Type 0
-Judges events answer = IsFaulty events answer ⊎ IsJudged events answer
+-- `check`: the first fault of the history, or its verdict
+abbrev pub Judges : HistoryText → Answer → Type 0
+Judges text answer = IsFaulty (said_by text) answer ⊎ IsJudged (said_by text) answer
+
+-- it is a complete history, but its queue holds some values first
+pub record HasInitial (text : HistoryText) (answer : Answer) : Type 0 where
+  pub complete : IsSound (said_by text)
+  pub some : text.initial ≢ []
+  pub is : answer ≡ refused_initial
 
 -- the events are a complete history that isn't linearizable; those of the chosen violation are shown, with their own verdict. They
 -- are a complete history: values with all their operations, and an empty answer; nothing can be left out of them, and no shorter cover exists
-pub record IsShrunk (events : List Event) (answer : Answer) : Type 0 where
-  pub complete : IsCompleteHistory events
-  pub not_linearizable : ¬ (IsLinearizable (operations_of events))
+pub record IsShrunk (text : HistoryText) (answer : Answer) : Type 0 where
+  pub complete : IsCompleteHistory text.events
+  pub not_linearizable : ¬ (IsLinearizable (operations_of text.events))
   pub violation : Violation
-  pub chosen : IsChosenViolation (operations_of events) violation
+  pub chosen : IsChosenViolation (operations_of text.events) violation
   pub small : List Event
   pub small_is_complete : IsCompleteHistory small
-  pub part : ArePartOf events small
-  pub kept : KeepsViolation (operations_of events) violation (operations_of small)
-  pub same : StaysChosen (operations_of events) violation (operations_of small)
+  pub part : ArePartOf text.events small
+  pub kept : KeepsViolation (operations_of text.events) violation (operations_of small)
+  pub same : StaysChosen (operations_of text.events) violation (operations_of small)
   pub minimal : IsMinimal (operations_of small)
-  pub shortest : HasShortestCover (operations_of events) violation
+  pub shortest : HasShortestCover (operations_of text.events) violation
   pub claimed : Claimed
-  pub right : IsVerdictClaim (operations_of small) claimed
-  pub is : answer ≡ shown small claimed
+  pub right : IsVerdictClaim (from_none small) claimed
+  pub is : answer ≡ shown (record { version = text.version; initial = []; events = small }) claimed
 
--- `shrink`: the first fault of the events, their verdict where it is a yes, or what shows the no
-abbrev pub Shrinks : List Event → Answer → Type 0
-Shrinks events answer = IsFaulty events answer ⊎ ((IsLinearizable (operations_of events) × IsJudged events answer) ⊎ IsShrunk events answer)
+-- the queue is empty first, and this is its verdict where that is a yes, or what shows the no
+abbrev pub ShrinksFromNone : HistoryText → Answer → Type 0
+ShrinksFromNone text answer = (text.initial ≡ []) × ((IsLinearizable (operations_of text.events) × IsJudged (said_by text) answer) ⊎ IsShrunk text answer)
+
+-- `shrink`: the first fault of the history, or that its queue holds some values first, or its verdict, or what shows the no
+abbrev pub Shrinks : HistoryText → Answer → Type 0
+Shrinks text answer = IsFaulty (said_by text) answer ⊎ (HasInitial text answer ⊎ ShrinksFromNone text answer)
 
 -- ---- claims
 
--- the events are a complete history, and this is whether the claim is evidence in it
-pub record IsVerified (claim : ClaimOnEvents) (answer : Answer) : Type 0 where
-  pub complete : IsCompleteHistory claim.events
+-- it is a complete history, and this is whether the claim is evidence in it
+pub record IsVerified (claim : ClaimOnText) (answer : Answer) : Type 0 where
+  pub complete : IsSound (said_by claim.text)
   pub valid : Bool
-  pub right : IsTrue valid ↔ IsTrueClaim (operations_of claim.events) claim.claimed
+  pub right : IsTrue valid ↔ IsTrueClaim claim.text.initial (operations_of claim.text.events) claim.claimed
   pub is : answer ≡ verified valid
 
--- `verify`: the first fault of the events, or whether the claim is evidence
-abbrev pub Verifies : ClaimOnEvents → Answer → Type 0
-Verifies claim answer = IsFaulty claim.events answer ⊎ IsVerified claim answer
+-- `verify`: the first fault of the history, or whether the claim is evidence
+abbrev pub Verifies : ClaimOnText → Answer → Type 0
+Verifies claim answer = IsFaulty (said_by claim.text) answer ⊎ IsVerified claim answer
 
 -- ---- pictures
 
--- the history and the claim have few enough operations to be drawn
-abbrev pub IsSmall : ClaimOnEvents → Type 0
-IsSmall claim = (length (operations_of claim.events) ≤ MOST_DRAWN) × (length (operations_in claim.claimed) ≤ MOST_DRAWN)
+-- how many lines a claim has
+abbrev pub count_of_lines : Claimed → ℕ
+count_of_lines (claim.Yes operations) = length operations
+count_of_lines (claim.No kind lines) = length lines
 
--- the events are a complete history, which is too large to be drawn, or the claim is
-pub record IsTooLarge (claim : ClaimOnEvents) (answer : Answer) : Type 0 where
-  pub complete : IsCompleteHistory claim.events
+-- the history and the claim have few enough operations to be drawn
+abbrev pub IsSmall : ClaimOnText → Type 0
+IsSmall claim = (length (operations_of claim.text.events) ≤ MOST_DRAWN) × (count_of_lines claim.claimed ≤ MOST_DRAWN)
+
+-- it is a complete history of a queue that is empty first, which is too large to be drawn, or the claim is
+pub record IsTooLarge (claim : ClaimOnText) (answer : Answer) : Type 0 where
+  pub complete : IsSound (said_by claim.text)
+  pub none : claim.text.initial ≡ []
   pub large : ¬ (IsSmall claim)
   pub is : answer ≡ refused_size
 
--- the events are a complete history, and the claim is no evidence in it
-pub record IsRefuted (claim : ClaimOnEvents) (answer : Answer) : Type 0 where
-  pub complete : IsCompleteHistory claim.events
+-- it is a complete history of a queue that is empty first, and the claim is no evidence in it
+pub record IsRefuted (claim : ClaimOnText) (answer : Answer) : Type 0 where
+  pub complete : IsSound (said_by claim.text)
+  pub none : claim.text.initial ≡ []
   pub small : IsSmall claim
-  pub untrue : ¬ (IsTrueClaim (operations_of claim.events) claim.claimed)
+  pub untrue : ¬ (IsTrueClaim claim.text.initial (operations_of claim.text.events) claim.claimed)
   pub is : answer ≡ verified false
 
--- the picture of a history and a claim, in a form
-abbrev pub picture_in : PictureForm → ClaimOnEvents → List ℕ
-picture_in Svg claim = svg_picture claim.events claim.claimed
-picture_in Terminal claim = terminal_picture claim.events claim.claimed
+-- the picture of events and a claim, in a form
+abbrev pub picture_in : PictureForm → List Event → ShownClaim → List ℕ
+picture_in Svg events claimed = svg_picture events claimed
+picture_in Terminal events claimed = terminal_picture events claimed
 
--- the events are a complete history, the claim is evidence in it, and this is the picture of both in that form
-pub record IsDrawn (form : PictureForm) (claim : ClaimOnEvents) (answer : Answer) : Type 0 where
-  pub complete : IsCompleteHistory claim.events
+-- it is a complete history of a queue that is empty first, the claim is evidence in it, and this is the picture of both in that form
+pub record IsDrawn (form : PictureForm) (claim : ClaimOnText) (answer : Answer) : Type 0 where
+  pub complete : IsSound (said_by claim.text)
+  pub none : claim.text.initial ≡ []
   pub small : IsSmall claim
-  pub evidence : IsTrueClaim (operations_of claim.events) claim.claimed
-  pub is : answer ≡ drawn (picture_in form claim)
+  pub evidence : IsTrueClaim claim.text.initial (operations_of claim.text.events) claim.claimed
+  pub drawn_claim : ShownClaim
+  pub as_drawn : shown_of claim.claimed ≡ Some drawn_claim
+  pub is : answer ≡ drawn (picture_in form claim.text.events drawn_claim)
 
--- `draw`: the first fault of the events, or their picture in a form with the claim, where they are small and the claim is evidence
-abbrev pub Draws : PictureForm → ClaimOnEvents → Answer → Type 0
-Draws form claim answer = IsFaulty claim.events answer ⊎ (IsTooLarge claim answer ⊎ (IsRefuted claim answer ⊎ IsDrawn form claim answer))
+-- `draw`: the first fault of the history, or that its queue holds some values first, or the picture in a form with the claim, where
+-- they are small and the claim is evidence
+abbrev pub Draws : PictureForm → ClaimOnText → Answer → Type 0
+Draws form claim answer = IsFaulty (said_by claim.text) answer
+    ⊎ (HasInitial claim.text answer ⊎ (IsTooLarge claim answer ⊎ (IsRefuted claim answer ⊎ IsDrawn form claim answer)))
 
 -- ---- schedules
 
@@ -146,7 +183,7 @@ pub record IsPlayed (setting : Setting) (schedule : List Attempt) (answer : Answ
   pub merged : IsMerged (collected_lists setting schedule) events
   pub complete : IsCompleteHistory events
   pub claimed : Claimed
-  pub right : IsVerdictClaim (operations_of events) claimed
+  pub right : IsVerdictClaim (from_none events) claimed
   pub is : answer ≡ played (rejections setting schedule) events claimed
 
 -- what is answered of these steps in this setting
@@ -155,7 +192,7 @@ SimulatesIn setting schedule answer = IsLeftOpen setting schedule answer ⊎ IsP
 
 -- `sim`: the steps tried one after another, where no growth is refused
 abbrev pub Simulates : Schedule → Answer → Type 0
-Simulates schedule answer = SimulatesIn (record { threads = schedule.threads; ring = schedule.ring }) (schedule_of schedule.steps) answer
+Simulates schedule answer = SimulatesIn (record { threads = schedule.threads; ring = schedule.ring; initial = [] }) (schedule_of schedule.steps) answer
 
 -- ---- inputs
 

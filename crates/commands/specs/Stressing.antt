@@ -1,5 +1,5 @@
 -- What `stress` answers: it reads nothing, and runs the first queue of a name.
-use Rattle.std.specs.Prelude.{◌≡◌, ◌≢◌, ℕ, ◌*◌, ◌<◌, ◌≤◌, List, ◌∷◌, ◌++◌, All, ◌⊎◌}
+use Rattle.std.specs.Prelude.{◌≡◌, ◌≢◌, ℕ, ◌*◌, ◌<◌, ◌≤◌, List, [], ◌∷◌, ◌++◌, All, ◌⊎◌}
 use Rattle.event_records.specs.declared.event.Event.{Event}
 use Rattle.event_records.specs.declared.kind.Kind.{Kind}
 use Rattle.event_records.specs.declared.kind.Answer.{Answer as Told}
@@ -7,7 +7,7 @@ use Rattle.event_records.specs.declared.limits.TheConstants.{MAX_OPERATIONS}
 use Rattle.event_records.specs.Question.{Question}
 use Rattle.history_merge.specs.Complete.{IsCompleteHistory}
 use Rattle.history_merge.specs.Merge.{IsMerged}
-use Rattle.history_merge.specs.Operations.{operations_of}
+use Rattle.history_text.specs.declared.version.Version.TheVariants.{One}
 use Rattle.recorder_core.specs.Replay.{AreRecorded, Replays}
 use Rattle.workloads.specs.Seeds.{IsSeeded}
 use Rattle.stress_run.specs.declared.faults.RunFault.{RunFault}
@@ -18,7 +18,7 @@ use Rattle.verdicts.specs.declared.verifying.Claimed.{Claimed}
 use Rattle.command_words.specs.Options.{Settings}
 use Rattle.commands.specs.declared.stress.TheConstants.{TRIES}
 use Rattle.commands.specs.Answers.{Answer, shown, refused_queue, refused_limit, memory_fault, run_fault}
-use Rattle.commands.specs.Judging.{IsVerdictClaim}
+use Rattle.commands.specs.Judging.{IsVerdictClaim, from_none}
 
 -- x is the first element of the list that this name fits
 pub record IsFirstNamed {X : Type 0} (name_of : X → List ℕ) (name : List ℕ) (xs : List X) (x : X) : Type 0 where
@@ -36,13 +36,13 @@ pub record IsRecordedRun (may : Question → Told → Type 0) (settings : Settin
   pub total : ℕ
   pub run : IsRun may plan lists total
   pub recorded : AreRecorded lists
-  pub replays : Replays settings.ring lists
+  pub replays : Replays settings.ring [] lists
   pub events : List Event
   pub merged : IsMerged lists events
   pub complete : IsCompleteHistory events
   pub claimed : Claimed
-  pub right : IsVerdictClaim (operations_of events) claimed
-  pub is : answer ≡ shown events claimed
+  pub right : IsVerdictClaim (from_none events) claimed
+  pub is : answer ≡ shown (record { version = One; initial = []; events = events }) claimed
 
 -- no history: a fault that a run of the seed's plan may have, on a queue that may answer so, with rings and tries of these sizes
 pub record IsFailedRun (may : Question → Told → Type 0) (settings : Settings) (answer : Answer) : Type 0 where

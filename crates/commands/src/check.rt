@@ -1,19 +1,19 @@
 //! `check`: the verdict on a history.
-ghost use Rattle.std.specs.Prelude.{◌≤◌, List, IfSome, length};
-ghost use Rattle.event_records.specs.declared.event.Event.{Event};
-ghost use Rattle.history_merge.specs.Gathering.{HasGathered};
+ghost use Rattle.std.specs.Prelude.{IfSome};
+ghost use Rattle.history_merge.specs.Gathering.{HasGatheredFrom};
+ghost use Rattle.history_text.specs.declared.version.HistoryText.{HistoryText};
+ghost use Rattle.history_text.specs.Versions.{HasText};
 ghost use Rattle.commands.specs.Inputs.{IsHistoryOf, IsFaultOfHistoryInput};
 ghost use Rattle.commands.specs.Judging.{Judges, AnswersFor, AnswersOrNoMemory};
 ghost use Rattle.commands.specs.Outcomes.{answer_of, NamesPlaces};
 
 use crate::input::gathered_of;
 use crate::outcome::Outcome;
-use event_records::MAX_EVENTS;
-use history_merge::HistoryBuilder;
+use history_merge::PreloadedBuilder;
 use history_text::TextSource;
 use std::alloc::Global;
 use std::thread::Threads;
-use verdicts::decide_operations_par;
+use verdicts::decide_from_par;
 
 /// Into how many pieces `check` and `stress` cut the searches for violations.
 pub const PIECES: usize = 4;
@@ -32,18 +32,18 @@ where
     }
 }
 
-/// What `check` finds in the events that a history in the making was given.
-fn judge<R: Threads + Sync>(rt: &R, alloc: Global, builder: HistoryBuilder) -> Outcome
-    requires { (events : List Event) × HasGathered events builder × (length events ≤ MAX_EVENTS) }
-    ensures found { (events : List Event) → HasGathered events builder → AnswersOrNoMemory Judges events (answer_of result) }
+/// What `check` finds in the history that a history in the making was given.
+fn judge<R: Threads + Sync>(rt: &R, alloc: Global, builder: PreloadedBuilder) -> Outcome
+    requires { (text : HistoryText) × HasGatheredFrom text.initial text.events builder × HasText text }
+    ensures found { (text : HistoryText) → HasText text → HasGatheredFrom text.initial text.events builder → AnswersOrNoMemory Judges text (answer_of result) }
     ensures places { NamesPlaces result }
 {
-    let operations = match builder.finish() {
-        Ok(operations) => operations,
+    let parts = match builder.finish() {
+        Ok(parts) => parts,
         Err(fault) => return Outcome::HistoryFailed(fault),
     };
-    match decide_operations_par(rt, alloc, &operations, PIECES) {
-        Ok(verdict) => Outcome::Judged(operations, verdict),
+    match decide_from_par(rt, alloc, &parts.initial, &parts.operations, PIECES) {
+        Ok(verdict) => Outcome::Judged(parts, verdict),
         Err(_) => Outcome::MemoryFault,
     }
 }

@@ -1,52 +1,53 @@
 //! What a command reads.
-ghost use Rattle.std.specs.Prelude.{◌≤◌, IfOk, IfErr, IfSome, List, vec_len};
-ghost use Rattle.event_records.specs.declared.event.Event.{Event};
-ghost use Rattle.history_merge.specs.Gathering.{HasGathered};
-ghost use Rattle.history_text.specs.Histories.{HasHistoryText};
+ghost use Rattle.std.specs.Prelude.{◌≡◌, IfOk, IfErr, IfSome};
+ghost use Rattle.history_merge.specs.Gathering.{HasGatheredFrom};
+ghost use Rattle.history_text.specs.declared.version.HistoryText.{HistoryText};
+ghost use Rattle.history_merge.specs.Faults.{IsFirstFaultFrom};
+ghost use Rattle.history_merge.specs.Initial.{IsCompleteFrom};
+ghost use Rattle.history_text.specs.Versions.{HasText, said_in};
 ghost use Rattle.history_text.specs.Schedules.{IsSetting};
 ghost use Rattle.commands.specs.Inputs.{IsHistoryOf, IsFaultOfHistoryInput, IsScheduleOf, IsFaultOfScheduleInput, IsClaimOf, IsFaultOfClaimInput};
 
-use event_records::{Event, MAX_EVENTS};
-use history_merge::HistoryBuilder;
+use history_merge::{History, HistoryFault, PreloadedBuilder, history_from};
 use history_text::{
-    Schedule, TextFault, TextReader, TextSource, at_end, gather_history, read_history,
+    HistoryText, Schedule, TextFault, TextReader, TextSource, at_end, gather_any, read_any,
     read_schedule, read_verdict,
 };
 use std::alloc::Global;
 use verdicts::Claimed;
 
-/// The events of the one history text that the reader gives.
-pub fn events_of<S: TextSource>(alloc: Global, reader: S) -> Result<Vec<Event>, TextFault>
+/// What the one text of a history that the reader gives says, of either version.
+pub fn text_of<S: TextSource>(alloc: Global, reader: S) -> Result<HistoryText, TextFault>
 where
     S: Drop,
-    ensures events { IfOk result (λ events. IfSome (S.ahead reader) (λ input. IsHistoryOf input events.items)) }
-    ensures few { IfOk result (λ events. vec_len events ≤ MAX_EVENTS) }
+    ensures text { IfOk result (λ text. IfSome (S.ahead reader) (λ input. IsHistoryOf input text)) }
+    ensures has { IfOk result HasText }
     ensures fault { IfErr result (λ fault. IfSome (S.ahead reader) (λ input. IsFaultOfHistoryInput input fault)) }
 {
     let mut texts = TextReader::new(reader);
-    let events = match read_history(alloc, &mut texts) {
-        Ok(events) => events,
+    let text = match read_any(alloc, &mut texts) {
+        Ok(text) => text,
         Err(fault) => return Err(fault),
     };
     match at_end(&mut texts) {
-        Ok(()) => return Ok(events),
+        Ok(()) => return Ok(text),
         Err(fault) => return Err(fault),
     }
 }
 
-/// The one history text that the reader gives, as a history in the making, which keeps none of its events.
-pub fn gathered_of<S: TextSource>(alloc: Global, reader: S) -> Result<HistoryBuilder, TextFault>
+/// The one text of a history that the reader gives, as a history in the making, which keeps none of its events.
+pub fn gathered_of<S: TextSource>(alloc: Global, reader: S) -> Result<PreloadedBuilder, TextFault>
 where
     S: Drop,
-    ensures events { IfOk result (λ builder. (events : List Event) × HasGathered events builder × HasHistoryText events × IfSome (S.ahead reader) (λ input. IsHistoryOf input events)) }
+    ensures text { IfOk result (λ builder. (text : HistoryText) × HasGatheredFrom text.initial text.events builder × HasText text
+        × IfSome (S.ahead reader) (λ input. IsHistoryOf input text)) }
     ensures fault { IfErr result (λ fault. IfSome (S.ahead reader) (λ input. IsFaultOfHistoryInput input fault)) }
 {
     let mut texts = TextReader::new(reader);
-    let mut builder = HistoryBuilder::new(alloc);
-    match gather_history(&mut builder, &mut texts) {
-        Ok(()) => {}
+    let builder = match gather_any(alloc, &mut texts) {
+        Ok(builder) => builder,
         Err(fault) => return Err(fault),
-    }
+    };
     match at_end(&mut texts) {
         Ok(()) => return Ok(builder),
         Err(fault) => return Err(fault),
@@ -72,21 +73,39 @@ where
     }
 }
 
-/// The events of a history text, and what the verdict text after it claims of them.
-pub fn claim_of<S: TextSource>(alloc: Global, reader: S) -> Result<(Vec<Event>, Claimed), TextFault>
+/// What the text of a history says, and what the verdict text after it claims of it.
+pub fn claim_of<S: TextSource>(
+    alloc: Global,
+    reader: S,
+) -> Result<(HistoryText, Claimed), TextFault>
 where
     S: Drop,
-    ensures claim { IfOk result (λ read. IfSome (S.ahead reader) (λ input. IsClaimOf input (record { events = read.0.items; claimed = read.1 }))) }
-    ensures few { IfOk result (λ read. vec_len read.0 ≤ MAX_EVENTS) }
+    ensures claim { IfOk result (λ read. IfSome (S.ahead reader) (λ input. IsClaimOf input (record { text = read.0; claimed = read.1 }))) }
+    ensures has { IfOk result (λ read. HasText read.0) }
     ensures fault { IfErr result (λ fault. IfSome (S.ahead reader) (λ input. IsFaultOfClaimInput input fault)) }
 {
     let mut texts = TextReader::new(reader);
-    let events = match read_history(alloc, &mut texts) {
-        Ok(events) => events,
+    let text = match read_any(alloc, &mut texts) {
+        Ok(text) => text,
         Err(fault) => return Err(fault),
     };
     match read_verdict(alloc, &mut texts) {
-        Ok(claimed) => return Ok((events, claimed)),
+        Ok(claimed) => return Ok((text, claimed)),
         Err(fault) => return Err(fault),
     }
+}
+
+/// The history that a text says, of either version; or its first fault.
+pub fn history_of(alloc: Global, text: HistoryText) -> Result<History, HistoryFault>
+    requires { HasText text }
+    ensures history { IfOk result (λ history. said_in text.version history ≡ text) }
+    ensures complete { IfOk result (λ history. IsCompleteFrom history.initial history.events) }
+    ensures fault { IfErr result (IsFirstFaultFrom text.initial text.events) }
+{
+    let HistoryText {
+        version: _version,
+        initial,
+        events,
+    } = text;
+    history_from(alloc, initial.into_vec(), events.into_vec())
 }

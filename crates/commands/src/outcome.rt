@@ -1,6 +1,6 @@
 //! What a command found.
-use history_merge::{History, HistoryFault, Operation};
-use history_text::TextFault;
+use history_merge::{History, HistoryFault, HistoryParts};
+use history_text::{TextFault, Version};
 use simulation::Rejections;
 use stress_run::RunFault;
 use verdicts::Verdict;
@@ -8,10 +8,10 @@ use verdicts::Verdict;
 /// What a command found, to be printed.
 #[derive(Debug, Drop)]
 pub enum Outcome {
-    /// The verdict on a history, with its operations.
-    Judged(Vec<Operation>, Verdict),
-    /// A history to be shown, with its verdict.
-    Shown(History, Verdict),
+    /// The verdict on a history, with its initial values and its operations.
+    Judged(HistoryParts, Verdict),
+    /// A history to be shown in a version, with its verdict.
+    Shown(Version, History, Verdict),
     /// The refused steps of a schedule, after which the machine isn't done.
     LeftOpen(Rejections),
     /// The refused steps of a schedule, and the history that it collected, with its verdict.
@@ -26,6 +26,8 @@ pub enum Outcome {
     HistoryFailed(HistoryFault),
     /// The history or the verdict has more operations than are drawn.
     SizeRefused,
+    /// The history's queue holds some values first, and the command takes no such history.
+    InitialRefused,
     /// No queue has the name that was asked for.
     QueueRefused,
     /// More operations were asked for than a run may have.

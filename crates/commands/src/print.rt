@@ -1,8 +1,8 @@
 //! What is written, and the status that goes with it.
-ghost use Rattle.std.specs.Prelude.{◌≡◌, ◌||◌, List, OnOk, OnErr, is_err, false};
+ghost use Rattle.std.specs.Prelude.{◌≡◌, ◌||◌, ℕ, List, OnOk, OnErr, is_err, false};
 ghost use Rattle.std.specs.Io.KnownBytes.{Appends};
 ghost use Rattle.history_merge.specs.declared.operation.Operation.{Operation};
-ghost use Rattle.history_text.specs.Verdicts.{claim_of};
+ghost use Rattle.verdicts.specs.Claiming.{claim_of};
 ghost use Rattle.text_lines.specs.Writing.{AppendsFront, IsWritten, IsRefused};
 ghost use Rattle.commands.specs.Answers.{answer_text, answer_status, claim_status};
 ghost use Rattle.commands.specs.Outcomes.{answer_of, NamesPlaces};
@@ -24,10 +24,12 @@ pub fn write_outcome<W: TextSink>(writer: &mut W, outcome: &Outcome) -> Result<(
     ensures stopped { OnErr result (IsRefused W.goes writer.old writer.new) }
 {
     match outcome {
-        Outcome::Judged(operations, verdict) => {
-            return write_verdict_on(operations, verdict, writer);
+        Outcome::Judged(parts, verdict) => {
+            return write_verdict_on(&parts.initial, &parts.operations, verdict, writer);
         }
-        Outcome::Shown(history, verdict) => return write_shown(writer, history, verdict),
+        Outcome::Shown(version, history, verdict) => {
+            return write_shown(writer, *version, history, verdict);
+        }
         Outcome::LeftOpen(rejections) => return write_left_open(writer, rejections),
         Outcome::Played(rejections, history, verdict) => {
             return write_played(writer, rejections, history, verdict);
@@ -42,17 +44,18 @@ pub fn write_outcome<W: TextSink>(writer: &mut W, outcome: &Outcome) -> Result<(
             return write_fault(writer, refuses_events(*fault), fault.name(), fault.place());
         }
         Outcome::SizeRefused => return write_fault(writer, true, "Size", None),
+        Outcome::InitialRefused => return write_fault(writer, true, "Initial", None),
         Outcome::QueueRefused => return write_fault(writer, true, "Queue", None),
         Outcome::LimitRefused => return write_fault(writer, true, "Limit", None),
         Outcome::MemoryFault => return write_fault(writer, false, "Memory", None),
         Outcome::RunFailed(fault) => {
-            return write_fault(writer, false, fault.name(), fault.thread().map(u64::from));
+            return write_fault(writer, false, fault.name(), fault.place());
         }
     }
 }
 
 fn status_of_verdict(verdict: &Verdict) -> u8
-    ensures { (operations : List Operation) → result ≡ claim_status (claim_of operations verdict.now) }
+    ensures { (initial : List ℕ) (operations : List Operation) → result ≡ claim_status (claim_of initial operations verdict.now) }
 {
     match verdict {
         Verdict::Yes(_) => return 0,
@@ -66,7 +69,7 @@ pub fn status_of(outcome: &Outcome) -> u8
 {
     match outcome {
         Outcome::Judged(_, verdict) => return status_of_verdict(verdict),
-        Outcome::Shown(_, verdict) => return status_of_verdict(verdict),
+        Outcome::Shown(_, _, verdict) => return status_of_verdict(verdict),
         Outcome::LeftOpen(_) => return 0,
         Outcome::Played(_, _, verdict) => return status_of_verdict(verdict),
         Outcome::Verified(true) => return 0,
@@ -75,6 +78,7 @@ pub fn status_of(outcome: &Outcome) -> u8
         Outcome::TextFailed(fault) => return status_of_fault(refuses_text(*fault)),
         Outcome::HistoryFailed(fault) => return status_of_fault(refuses_events(*fault)),
         Outcome::SizeRefused => return status_of_fault(true),
+        Outcome::InitialRefused => return status_of_fault(true),
         Outcome::QueueRefused => return status_of_fault(true),
         Outcome::LimitRefused => return status_of_fault(true),
         Outcome::MemoryFault => return status_of_fault(false),

@@ -78,6 +78,20 @@ impl<R: Wait + Drop + Send + Sync> TestQueue for BuiltIn<R> {
             BuiltIn::Losing(queue) => queue.dequeue(ask),
         }
     }
+
+    fn preload(&self, value: u64) -> bool {
+        match self {
+            BuiltIn::Locked(queue) => queue.preload(value),
+            BuiltIn::TwoLock(queue) => queue.preload(value),
+            BuiltIn::Array(queue) => queue.preload(value),
+            BuiltIn::Seg(queue) => queue.preload(value),
+            BuiltIn::Lifo(queue) => queue.preload(value),
+            BuiltIn::Doubling(queue) => queue.preload(value),
+            BuiltIn::Inventing(queue) => queue.preload(value),
+            BuiltIn::Shy(queue) => queue.preload(value),
+            BuiltIn::Losing(queue) => queue.preload(value),
+        }
+    }
 }
 
 /// One queue of each kind, empty, in the order in which they stand on the program's shelf.

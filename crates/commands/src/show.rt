@@ -4,13 +4,15 @@ ghost use Rattle.std.specs.Io.KnownBytes.{Appends};
 ghost use Rattle.history_merge.specs.Operations.{operations_of};
 ghost use Rattle.history_text.specs.Histories.{history_text};
 ghost use Rattle.text_lines.specs.Lines.{line};
-ghost use Rattle.history_text.specs.Verdicts.{claim_of, verdict_text};
+ghost use Rattle.history_text.specs.declared.version.Version.TheVariants.{One};
+ghost use Rattle.history_text.specs.Versions.{said_in, text_of};
+ghost use Rattle.history_text.specs.Verdicts.{verdict_text};
 ghost use Rattle.text_lines.specs.Writing.{AppendsFront, IsWritten, IsRefused};
 ghost use Rattle.commands.specs.Answers.{rejection_line, rejection_lines};
-ghost use Rattle.verdicts.specs.Claiming.{IsWithin};
+ghost use Rattle.verdicts.specs.Claiming.{IsWithin, claim_of};
 
 use history_merge::History;
-use history_text::{TextSink, WriteFault, write_history, write_piece, write_verdict};
+use history_text::{TextSink, Version, WriteFault, write_history_text, write_piece, write_verdict};
 use simulation::{Rejection, Rejections};
 use text_lines::Kept;
 use verdicts::Verdict;
@@ -18,17 +20,21 @@ use verdicts::Verdict;
 /// Writes a history, and a verdict on it.
 pub fn write_shown<W: TextSink>(
     writer: &mut W,
+    version: Version,
     history: &History,
     verdict: &Verdict,
 ) -> Result<(), WriteFault>
-    requires { IsWithin (operations_of history.now) verdict.now }
-    ensures ok { OnOk result (Appends (W.contents writer.old) (W.contents writer.new) (history_text history.now ++ verdict_text (claim_of (operations_of history.now) verdict.now))) }
-    ensures err { OnErr result (AppendsFront (W.contents writer.old) (W.contents writer.new) (history_text history.now ++ verdict_text (claim_of (operations_of history.now) verdict.now))) }
+    requires places { IsWithin history.now.initial (operations_of history.now.events) verdict.now }
+    requires version { version ≡ One → history.now.initial ≡ [] }
+    ensures ok { OnOk result (Appends (W.contents writer.old) (W.contents writer.new)
+        (text_of (said_in version history.now) ++ verdict_text (claim_of history.now.initial (operations_of history.now.events) verdict.now))) }
+    ensures err { OnErr result (AppendsFront (W.contents writer.old) (W.contents writer.new)
+        (text_of (said_in version history.now) ++ verdict_text (claim_of history.now.initial (operations_of history.now.events) verdict.now))) }
     ensures refused { W.has_refused writer.new ≡ (W.has_refused writer.old || is_err result) }
     ensures written { OnOk result (IsWritten W.goes writer.old writer.new) }
     ensures stopped { OnErr result (IsRefused W.goes writer.old writer.new) }
 {
-    write_history(history, writer)?;
+    write_history_text(version, history, writer)?;
     write_verdict(history, verdict, writer)
 }
 
@@ -54,15 +60,18 @@ pub fn write_played<W: TextSink>(
     history: &History,
     verdict: &Verdict,
 ) -> Result<(), WriteFault>
-    requires { IsWithin (operations_of history.now) verdict.now }
-    ensures ok { OnOk result (Appends (W.contents writer.old) (W.contents writer.new) (rejection_lines rejections.now ++ (history_text history.now ++ verdict_text (claim_of (operations_of history.now) verdict.now)))) }
-    ensures err { OnErr result (AppendsFront (W.contents writer.old) (W.contents writer.new) (rejection_lines rejections.now ++ (history_text history.now ++ verdict_text (claim_of (operations_of history.now) verdict.now)))) }
+    requires places { IsWithin history.now.initial (operations_of history.now.events) verdict.now }
+    requires none { history.now.initial ≡ [] }
+    ensures ok { OnOk result (Appends (W.contents writer.old) (W.contents writer.new) (rejection_lines rejections.now
+        ++ (history_text history.now.events ++ verdict_text (claim_of history.now.initial (operations_of history.now.events) verdict.now)))) }
+    ensures err { OnErr result (AppendsFront (W.contents writer.old) (W.contents writer.new) (rejection_lines rejections.now
+        ++ (history_text history.now.events ++ verdict_text (claim_of history.now.initial (operations_of history.now.events) verdict.now)))) }
     ensures refused { W.has_refused writer.new ≡ (W.has_refused writer.old || is_err result) }
     ensures written { OnOk result (IsWritten W.goes writer.old writer.new) }
     ensures stopped { OnErr result (IsRefused W.goes writer.old writer.new) }
 {
     write_rejections(writer, rejections.as_slice())?;
-    write_shown(writer, history, verdict)
+    write_shown(writer, Version::One, history, verdict)
 }
 
 /// Writes a line for each refused step.

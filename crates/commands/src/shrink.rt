@@ -1,19 +1,18 @@
 //! `shrink`: what shows that a history is not linearizable, and no more.
-ghost use Rattle.std.specs.Prelude.{◌≤◌, ◌⊎◌, ◌≡◌, IfSome, vec_len};
+ghost use Rattle.std.specs.Prelude.{◌≡◌, [], IfSome};
 ghost use Rattle.history_merge.specs.Complete.{IsCompleteHistory};
 ghost use Rattle.history_merge.specs.Legal.{IsLinearizable};
 ghost use Rattle.history_merge.specs.Operations.{operations_of};
+ghost use Rattle.history_text.specs.Versions.{HasText, said_in};
 ghost use Rattle.value_match.specs.Outcome.{IsChosenViolation};
-ghost use Rattle.commands.specs.Answers.{memory_fault};
 ghost use Rattle.commands.specs.Inputs.{IsHistoryOf, IsFaultOfHistoryInput};
 ghost use Rattle.commands.specs.Judging.{Shrinks, IsShrunk, AnswersFor, AnswersOrNoMemory};
 ghost use Rattle.commands.specs.Outcomes.{answer_of, NamesPlaces};
 
-use crate::input::events_of;
+use crate::input::{history_of, text_of};
 use crate::outcome::Outcome;
-use event_records::{Event, MAX_EVENTS};
-use history_merge::{History, history};
-use history_text::TextSource;
+use history_merge::{History, HistoryParts};
+use history_text::{HistoryText, TextSource, Version};
 use std::alloc::Global;
 use value_match::Violation;
 use verdicts::{Verdict, decide};
@@ -25,37 +24,51 @@ where
     ensures found { IfSome (S.ahead reader) (λ input. AnswersFor IsHistoryOf IsFaultOfHistoryInput Shrinks input (answer_of result)) }
     ensures places { NamesPlaces result }
 {
-    match events_of(alloc, reader) {
-        Ok(events) => shrink_events(alloc, events),
+    match text_of(alloc, reader) {
+        Ok(text) => shrink_text(alloc, text),
         Err(fault) => Outcome::TextFailed(fault),
     }
 }
 
-/// What `shrink` finds in the events of a text.
-fn shrink_events(alloc: Global, events: Vec<Event>) -> Outcome
-    requires { vec_len events ≤ MAX_EVENTS }
-    ensures found { AnswersOrNoMemory Shrinks events.items (answer_of result) }
+/// What `shrink` finds in what a text says.
+fn shrink_text(alloc: Global, text: HistoryText) -> Outcome
+    requires { HasText text }
+    ensures found { AnswersOrNoMemory Shrinks text (answer_of result) }
     ensures places { NamesPlaces result }
 {
-    let history = match history(alloc, events) {
+    let version = text.version;
+    let history = match history_of(alloc, text) {
         Ok(history) => history,
         Err(fault) => return Outcome::HistoryFailed(fault),
     };
+    if !history.initial().is_empty() {
+        return Outcome::InitialRefused;
+    }
     match decide(alloc, &history) {
-        Ok(Verdict::Yes(order)) => {
-            Outcome::Judged(history.into_operations(), Verdict::Yes(order))
-        }
-        Ok(Verdict::No(violation)) => shrink_history(alloc, &history, &violation),
+        Ok(Verdict::Yes(order)) => Outcome::Judged(
+            HistoryParts {
+                initial: Vec::new(alloc),
+                operations: history.into_operations(),
+            },
+            Verdict::Yes(order),
+        ),
+        Ok(Verdict::No(violation)) => shrink_history(alloc, version, &history, &violation),
         Err(_) => Outcome::MemoryFault,
     }
 }
 
-/// What shows the chosen violation of a history.
-fn shrink_history(alloc: Global, history: &History, violation: &Violation) -> Outcome
-    requires complete { IsCompleteHistory history.now }
-    requires chosen { IsChosenViolation (operations_of history.now) violation.now }
-    requires no { ¬ (IsLinearizable (operations_of history.now)) }
-    ensures found { AnswersOrNoMemory IsShrunk history.now (answer_of result) }
+/// What shows the chosen violation of a history of a queue that is empty first.
+fn shrink_history(
+    alloc: Global,
+    version: Version,
+    history: &History,
+    violation: &Violation,
+) -> Outcome
+    requires none { history.now.initial ≡ [] }
+    requires complete { IsCompleteHistory history.now.events }
+    requires chosen { IsChosenViolation (operations_of history.now.events) violation.now }
+    requires no { ¬ (IsLinearizable (operations_of history.now.events)) }
+    ensures found { AnswersOrNoMemory IsShrunk (said_in version history.now) (answer_of result) }
     ensures places { NamesPlaces result }
 {
     let Ok(small) = verdicts::shrink(alloc, history, violation) else {
@@ -64,7 +77,7 @@ fn shrink_history(alloc: Global, history: &History, violation: &Violation) -> Ou
     // A history is complete, as its accessor says.
     let _events = small.events();
     match decide(alloc, &small) {
-        Ok(verdict) => Outcome::Shown(small, verdict),
+        Ok(verdict) => Outcome::Shown(version, small, verdict),
         Err(_) => Outcome::MemoryFault,
     }
 }

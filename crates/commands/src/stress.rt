@@ -9,6 +9,7 @@ use crate::check::PIECES;
 use crate::outcome::Outcome;
 use command_words::StressOptions;
 use event_records::MAX_OPERATIONS;
+use history_text::Version;
 use queue_interface::TestQueue;
 use std::alloc::Global;
 use std::thread::Threads;
@@ -104,7 +105,7 @@ fn run_plan<'a, R: Threads + Sync>(
         return Outcome::MemoryFault;
     };
     match decide_par(rt, alloc, &history, PIECES) {
-        Ok(verdict) => Outcome::Shown(history, verdict),
+        Ok(verdict) => Outcome::Shown(Version::One, history, verdict),
         Err(_) => Outcome::MemoryFault,
     }
 }

@@ -1,7 +1,8 @@
 //! What the commands find in a text in memory, all in the caller's thread: nothing is read, printed or started.
-ghost use Rattle.std.specs.Prelude.{◌≡◌, ◌≤◌, List, IfOk, length};
-ghost use Rattle.event_records.specs.declared.event.Event.{Event};
-ghost use Rattle.history_merge.specs.Gathering.{HasGathered};
+ghost use Rattle.std.specs.Prelude.{◌≡◌, IfOk};
+ghost use Rattle.history_merge.specs.Gathering.{HasGatheredFrom};
+ghost use Rattle.history_text.specs.declared.version.HistoryText.{HistoryText};
+ghost use Rattle.history_text.specs.Versions.{HasText};
 ghost use Rattle.command_words.specs.Commands.{check, shrink, verify};
 ghost use Rattle.commands.specs.Answers.{answer_text, answer_status};
 ghost use Rattle.commands.specs.Evidence.{input_of};
@@ -14,11 +15,10 @@ use crate::outcome::Outcome;
 use crate::print::{status_of, write_outcome};
 use crate::shrink::shrink;
 use crate::verify::verify;
-use event_records::MAX_EVENTS;
-use history_merge::HistoryBuilder;
+use history_merge::PreloadedBuilder;
 use history_text::{MemorySource, Watched};
 use std::alloc::{AllocError, Global};
-use verdicts::decide_operations;
+use verdicts::decide_from;
 
 /// What `check` finds in a text. Time and memory as of the command in one thread.
 pub fn check_text(alloc: Global, text: &[u8]) -> Outcome
@@ -47,18 +47,18 @@ pub fn verify_text(alloc: Global, text: &[u8]) -> Outcome
     verify(alloc, MemorySource::new(text))
 }
 
-/// What `check` finds in the events that a history in the making was given.
-pub fn judge_gathered(alloc: Global, builder: HistoryBuilder) -> Outcome
-    requires { (events : List Event) × HasGathered events builder × (length events ≤ MAX_EVENTS) }
-    ensures found { (events : List Event) → HasGathered events builder → AnswersOrNoMemory Judges events (answer_of result) }
+/// What `check` finds in the history that a history in the making was given.
+pub fn judge_gathered(alloc: Global, builder: PreloadedBuilder) -> Outcome
+    requires { (text : HistoryText) × HasGatheredFrom text.initial text.events builder × HasText text }
+    ensures found { (text : HistoryText) → HasText text → HasGatheredFrom text.initial text.events builder → AnswersOrNoMemory Judges text (answer_of result) }
     ensures places { NamesPlaces result }
 {
-    let operations = match builder.finish() {
-        Ok(operations) => operations,
+    let parts = match builder.finish() {
+        Ok(parts) => parts,
         Err(fault) => return Outcome::HistoryFailed(fault),
     };
-    match decide_operations(alloc, &operations) {
-        Ok(verdict) => Outcome::Judged(operations, verdict),
+    match decide_from(alloc, &parts.initial, &parts.operations) {
+        Ok(verdict) => Outcome::Judged(parts, verdict),
         Err(_) => Outcome::MemoryFault,
     }
 }

@@ -1,14 +1,15 @@
 //! `verify`: whether a verdict is evidence in a history.
 ghost use Rattle.std.specs.Prelude.{IfOk, IfErr, IfSome};
-ghost use Rattle.history_merge.specs.Complete.{IsCompleteHistory};
-ghost use Rattle.commands.specs.Inputs.{ClaimOnEvents, IsClaimOf, IsFaultOfClaimInput};
-ghost use Rattle.commands.specs.Judging.{IsFaulty, Verifies, AnswersFor, AnswersOrNoMemory};
+ghost use Rattle.history_text.specs.declared.version.Version.{Version};
+ghost use Rattle.history_text.specs.Versions.{said_in};
+ghost use Rattle.commands.specs.Inputs.{IsClaimOf, IsFaultOfClaimInput};
+ghost use Rattle.commands.specs.Judging.{IsFaulty, Verifies, AnswersFor, AnswersOrNoMemory, said_by};
 ghost use Rattle.commands.specs.Outcomes.{answer_of, NamesPlaces};
 
-use crate::input::claim_of;
+use crate::input::{claim_of, history_of};
 use crate::outcome::Outcome;
-use history_merge::{History, history};
-use history_text::TextSource;
+use history_merge::History;
+use history_text::{TextSource, Version};
 use std::alloc::Global;
 use verdicts::Claimed;
 
@@ -20,7 +21,7 @@ where
     ensures places { NamesPlaces result }
 {
     match claimed_history(alloc, reader) {
-        Ok((history, claimed)) => verify_claim(alloc, &history, &claimed),
+        Ok((_version, history, claimed)) => verify_claim(alloc, &history, &claimed),
         Err(outcome) => outcome,
     }
 }
@@ -29,26 +30,27 @@ where
 pub fn claimed_history<S: TextSource>(
     alloc: Global,
     reader: S,
-) -> Result<(History, Claimed), Outcome>
+) -> Result<(Version, History, Claimed), Outcome>
 where
     S: Drop,
-    ensures claim { IfOk result (λ read. IfSome (S.ahead reader) (λ input. IsClaimOf input (record { events = read.0; claimed = read.1 }))) }
-    ensures found { IfErr result (λ outcome. IfSome (S.ahead reader) (λ input. AnswersFor IsClaimOf IsFaultOfClaimInput (λ claim. IsFaulty claim.events) input (answer_of outcome))) }
+    ensures claim { IfOk result (λ read. IfSome (S.ahead reader) (λ input. IsClaimOf input (record { text = said_in read.0 read.1; claimed = read.2 }))) }
+    ensures found { IfErr result (λ outcome. IfSome (S.ahead reader) (λ input. AnswersFor IsClaimOf IsFaultOfClaimInput (λ claim. IsFaulty (said_by claim.text)) input (answer_of outcome))) }
     ensures places { IfErr result NamesPlaces }
 {
-    let (events, claimed) = match claim_of(alloc, reader) {
+    let (text, claimed) = match claim_of(alloc, reader) {
         Ok(read) => read,
         Err(fault) => return Err(Outcome::TextFailed(fault)),
     };
-    match history(alloc, events) {
-        Ok(history) => return Ok((history, claimed)),
+    let version = text.version;
+    match history_of(alloc, text) {
+        Ok(history) => return Ok((version, history, claimed)),
         Err(fault) => return Err(Outcome::HistoryFailed(fault)),
     }
 }
 
 /// Whether the claim is evidence in the history.
 fn verify_claim(alloc: Global, history: &History, claimed: &Claimed) -> Outcome
-    ensures found { AnswersOrNoMemory Verifies (record { events = history.now; claimed = claimed.now }) (answer_of result) }
+    ensures found { (version : Version) → AnswersOrNoMemory Verifies (record { text = said_in version history.now; claimed = claimed.now }) (answer_of result) }
     ensures places { NamesPlaces result }
 {
     // A history is complete, as its accessor says.

@@ -4,8 +4,8 @@ use Rattle.std.specs.List.{concat}
 use Rattle.history_merge.specs.declared.operation.Operation.{Operation}
 use Rattle.history_merge.specs.declared.operation.OpKind.{OpKind}
 use Rattle.history_merge.specs.declared.operation.OpKind.TheVariants as kind
-use Rattle.verdicts.specs.declared.verifying.Claimed.{Claimed}
-use Rattle.verdicts.specs.declared.verifying.Claimed.TheVariants.{Yes, No}
+use Rattle.drawing.specs.declared.claim.ShownClaim.{ShownClaim}
+use Rattle.drawing.specs.declared.claim.ShownClaim.TheVariants.{Yes, No}
 use Rattle.verdicts.specs.declared.verifying.ViolationKind.TheVariants.{VFresh, VRepeat, VOrd, VWit}
 use Rattle.drawing.specs.declared.bands.Band.{Band}
 use Rattle.drawing.specs.declared.bands.Head.{Head}
@@ -67,7 +67,7 @@ repeat_bands [] = []
 repeat_bands (enq ∷ rest) = record { head = InOrOut (value_of enq.kind); first = None; last = None } ∷ []
 
 -- the bands of a claim, left to right
-abbrev pub bands_of : Claimed → List Band
+abbrev pub bands_of : ShownClaim → List Band
 bands_of (Yes order) = []
 bands_of (No VFresh lines) = fresh_bands lines
 bands_of (No VRepeat lines) = repeat_bands lines

@@ -4,14 +4,14 @@ use Rattle.std.specs.List.{concat}
 use Rattle.history_merge.specs.declared.operation.Operation.{Operation}
 use Rattle.history_merge.specs.declared.operation.OpKind.{OpKind}
 use Rattle.history_merge.specs.declared.operation.OpKind.TheVariants as kind
-use Rattle.verdicts.specs.declared.verifying.Claimed.{Claimed}
-use Rattle.verdicts.specs.declared.verifying.Claimed.TheVariants.{Yes, No}
+use Rattle.drawing.specs.declared.claim.ShownClaim.{ShownClaim}
+use Rattle.drawing.specs.declared.claim.ShownClaim.TheVariants.{Yes, No}
 use Rattle.verdicts.specs.declared.verifying.ViolationKind.TheVariants.{VFresh, VRepeat, VOrd, VWit}
 use Rattle.text_lines.specs.Lines.{line}
 use Rattle.drawing.specs.Bands.{value_of}
 
 -- what a picture shows, in a line
-abbrev pub headline : Claimed → List ℕ
+abbrev pub headline : ShownClaim → List ℕ
 headline (Yes order) = codes "YES: a FIFO queue can have answered so"
 headline (No VFresh lines) = codes "NO: a value was dequeued that was not there"
 headline (No VRepeat lines) = codes "NO: a value was dequeued twice"
@@ -84,7 +84,7 @@ yes_caption =
     ∷ line (codes "effect. They rise from top to bottom, and each stands within its bar.") ∷ [])
 
 -- what a claim says, in sentences
-unfoldable pub caption : Claimed → List ℕ
+unfoldable pub caption : ShownClaim → List ℕ
 caption (Yes order) = yes_caption
 caption (No VFresh lines) = fresh_caption lines
 caption (No VRepeat lines) = repeat_caption lines
@@ -96,7 +96,7 @@ unfoldable pub lane_meanings : List ℕ
 lane_meanings = concat (line (codes "[    call of an operation") ∷ line (codes "]    its return") ∷ [])
 
 -- what a number in a lane means
-abbrev pub number_meaning : Claimed → List ℕ
+abbrev pub number_meaning : ShownClaim → List ℕ
 number_meaning (Yes order) = line (codes "1    number 1 in the order, where it takes effect")
 number_meaning (No kind lines) = line (codes "1    number 1 of the operations that show it")
 
@@ -110,7 +110,7 @@ fresh_meanings =
     concat (line (codes "xxx  the value surely was not in the queue.") ∷ line (codes ":::  within this time it was dequeued nevertheless.") ∷ [])
 
 -- what the forms of the bands mean
-abbrev pub form_meanings : Claimed → List ℕ
+abbrev pub form_meanings : ShownClaim → List ℕ
 form_meanings (Yes order) = []
 form_meanings (No VFresh lines) = fresh_meanings
 form_meanings (No VRepeat lines) = []
@@ -118,5 +118,5 @@ form_meanings (No VOrd lines) = sure_and (line (codes ":::  within this time the
 form_meanings (No VWit lines) = sure_and (line (codes ":::  within this time the queue was said to be empty."))
 
 -- how to read a picture of characters
-unfoldable pub legend : Claimed → List ℕ
+unfoldable pub legend : ShownClaim → List ℕ
 legend claimed = lane_meanings ++ (number_meaning claimed ++ form_meanings claimed)

@@ -6,8 +6,8 @@ use Rattle.event_records.specs.declared.event.Event.{Event}
 use Rattle.event_records.specs.declared.limits.TheConstants.{MAX_THREAD}
 use Rattle.history_merge.specs.declared.operation.Operation.{Operation}
 use Rattle.history_merge.specs.declared.operation.OpKind.{OpKind}
-use Rattle.verdicts.specs.declared.verifying.Claimed.{Claimed}
-use Rattle.verdicts.specs.declared.verifying.Claimed.TheVariants.{Yes, No}
+use Rattle.drawing.specs.declared.claim.ShownClaim.{ShownClaim}
+use Rattle.drawing.specs.declared.claim.ShownClaim.TheVariants.{Yes, No}
 use Rattle.text_lines.specs.Lines.{spaced}
 use Rattle.history_text.specs.Verdicts.{kind_fields}
 use Rattle.drawing.specs.declared.columns.Columns.{Columns}
@@ -99,12 +99,12 @@ abbrev pub number_in : List Operation → Operation → List ℕ
 number_in lines o = number_at (place_in lines o)
 
 -- the order of a yes
-abbrev pub order_of : Claimed → List Operation
+abbrev pub order_of : ShownClaim → List Operation
 order_of (Yes order) = order
 order_of (No kind lines) = []
 
 -- the operations that show a no
-abbrev pub shown_by : Claimed → List Operation
+abbrev pub shown_by : ShownClaim → List Operation
 shown_by (Yes order) = []
 shown_by (No kind lines) = lines
 

@@ -6,11 +6,11 @@ use Rattle.history_merge.specs.declared.operation.Operation.{Operation}
 use Rattle.history_merge.specs.declared.operation.OpKind.{OpKind}
 use Rattle.history_merge.specs.declared.operation.OpKind.TheVariants as kind
 use Rattle.history_merge.specs.Operations.{operations_of}
-use Rattle.verdicts.specs.declared.verifying.Claimed.{Claimed}
-use Rattle.verdicts.specs.declared.verifying.Claimed.TheVariants.{No}
+use Rattle.drawing.specs.declared.claim.ShownClaim.{ShownClaim}
+use Rattle.drawing.specs.declared.claim.ShownClaim.TheVariants.{No}
 use Rattle.verdicts.specs.declared.verifying.ViolationKind.TheVariants.{VRepeat}
 use Rattle.text_lines.specs.Lines.{line}
-use Rattle.history_text.specs.Claims.{operations_in}
+use Rattle.drawing.specs.Claim.{operations_in}
 use Rattle.drawing.specs.declared.columns.Columns.{Columns}
 use Rattle.drawing.specs.declared.columns.Lane.{Lane}
 use Rattle.drawing.specs.declared.bands.Band.{Band}
@@ -74,12 +74,12 @@ way_of lines None = []
 way_of lines (Some o) = way_at o.kind (place_in lines o)
 
 -- the words `in` and `out` where a value was dequeued twice
-abbrev pub way_word : Claimed → Option Operation → List ℕ
+abbrev pub way_word : ShownClaim → Option Operation → List ℕ
 way_word (No VRepeat lines) called = way_of lines called
 way_word _ called = []
 
 -- the words in the row of an event: its ticket, what its thread and the others do, the label of what is called, and the bands
-unfoldable pub event_words : Columns → List Lane → List Band → List Operation → Claimed → ℕ → List Word
+unfoldable pub event_words : Columns → List Lane → List Band → List Operation → ShownClaim → ℕ → List Word
 event_words columns lanes bands operations claimed ticket =
     ticket_word columns ticket ∷ (lane_words operations (shown_by claimed) lanes ticket
     ++ (record { column = columns.label; bytes = label_if (called_at operations ticket) }
@@ -126,7 +126,7 @@ effect_rows columns lanes operations order ticket = flat_map (effect_if columns 
 -- ---- the picture
 
 -- the row of the event at a ticket, and of the effects after it
-abbrev pub event_rows : Columns → List Lane → List Band → List Operation → Claimed → ℕ → List ℕ
+abbrev pub event_rows : Columns → List Lane → List Band → List Operation → ShownClaim → ℕ → List ℕ
 event_rows columns lanes bands operations claimed ticket =
     line (line_of (event_words columns lanes bands operations claimed ticket)) ++ effect_rows columns lanes operations (order_of claimed) ticket
 
@@ -160,24 +160,24 @@ name_words columns lanes bands =
     record { column = columns.ticket - 6; bytes = codes "ticket" } ∷ (lane_names lanes ++ strokes columns bands)
 
 -- the heads, the rows of the events, and those of the effects
-unfoldable pub rows : Columns → List Lane → List Band → List Event → List Operation → Claimed → List ℕ
+unfoldable pub rows : Columns → List Lane → List Band → List Event → List Operation → ShownClaim → List ℕ
 rows columns lanes bands events operations claimed =
     head_lines columns bands ++ (line (line_of (thread_words columns (length bands))) ++ (line (line_of (name_words columns lanes (length bands)))
     ++ flat_map (λ e. event_rows columns lanes bands operations claimed e.ticket) events))
 
 -- the columns of the picture of a history and what is claimed of it
-abbrev pub columns_in : List Event → Claimed → Columns
+abbrev pub columns_in : List Event → ShownClaim → Columns
 columns_in events claimed = columns_of events (operations_of events) (threads_of events) (length (operations_in claimed))
 
 -- what stands above the rows
-unfoldable pub words : Claimed → List ℕ
+unfoldable pub words : ShownClaim → List ℕ
 words claimed = line (headline claimed) ++ (caption claimed ++ (line [] ++ (legend claimed ++ line [])))
 
 -- the rows of the picture of a history and what is claimed of it
-abbrev pub rows_in : List Event → Claimed → List ℕ
+abbrev pub rows_in : List Event → ShownClaim → List ℕ
 rows_in events claimed =
     rows (columns_in events claimed) (lanes_of (columns_in events claimed) (threads_of events)) (bands_of claimed) events (operations_of events) claimed
 
 -- the picture of a history and what is claimed of it, in lines of characters
-unfoldable pub terminal_picture : List Event → Claimed → List ℕ
+unfoldable pub terminal_picture : List Event → ShownClaim → List ℕ
 terminal_picture events claimed = words claimed ++ rows_in events claimed

@@ -1,13 +1,14 @@
 //! Bands beside the lanes of a no.
 ghost use Rattle.std.specs.Prelude.{◌≡◌, ◌++◌, ◌∷◌, ◌+◌, ◌≤◌, [], OnOk, IfOk, decimal, length, vec_len};
-ghost use Rattle.history_text.specs.Claims.{operations_in};
+ghost use Rattle.drawing.specs.Claim.{operations_in};
 ghost use Rattle.std.specs.List.{concat};
 ghost use Rattle.drawing.specs.Bands.{value_of, sure_until, time_of, absent_until, call_if_taken, cover_bands, fresh_bands, order_bands, witness_bands, repeat_bands, bands_of, head_text, form, holds_gap};
 
 use crate::line::{Piece, push_all};
 use history_merge::{OpKind, Operation};
 use std::alloc::{AllocError, Global};
-use verdicts::{Claimed, ViolationKind};
+use crate::claim::ShownClaim;
+use verdicts::ViolationKind;
 
 /// What stands above a band.
 #[derive(Clone, Copy, Debug, PartialEq, Eq)]
@@ -177,14 +178,14 @@ fn push_repeat_bands(bands: &mut Vec<Band>, lines: &[Operation]) -> Result<(), A
 }
 
 /// The bands of a claim, left to right.
-pub fn bands_of(alloc: Global, claimed: &Claimed) -> Result<Vec<Band>, AllocError>
+pub fn bands_of(alloc: Global, claimed: &ShownClaim) -> Result<Vec<Band>, AllocError>
     ensures bands { IfOk result (λ bands. bands.items ≡ bands_of claimed.now) }
     ensures few { IfOk result (λ bands. vec_len bands ≤ length (operations_in claimed.now) + 2) }
 {
     let mut bands = Vec::new(alloc);
     match claimed {
-        Claimed::Yes(_) => {}
-        Claimed::No(kind, lines) => {
+        ShownClaim::Yes(_) => {}
+        ShownClaim::No(kind, lines) => {
             let lines = lines.as_slice();
             match kind {
                 ViolationKind::VFresh => push_fresh_bands(&mut bands, lines)?,

@@ -1,21 +1,22 @@
 //! The words of a picture.
 ghost use Rattle.std.specs.Prelude.{◌≡◌, ◌++◌, ◌+◌, ◌<◌, ◌≤◌, OnOk, length};
-ghost use Rattle.history_text.specs.Claims.{operations_in};
+ghost use Rattle.drawing.specs.Claim.{operations_in};
 ghost use Rattle.drawing.specs.Captions.{headline, fresh_reason, fresh_caption, repeat_caption, overtaking_caption, order_caption, one_of_cover, last_of_cover, cover_caption, witness_words, witness_caption, yes_caption, caption, lane_meanings, number_meaning, fresh_meanings, sure_and, form_meanings, legend};
 
 use crate::bands::value_of;
 use crate::line::{Piece, push_all};
 use history_merge::{OpKind, Operation};
 use std::alloc::AllocError;
-use verdicts::{Claimed, ViolationKind};
+use crate::claim::ShownClaim;
+use verdicts::ViolationKind;
 
 /// What a picture shows, in a line.
-pub fn headline(claimed: &Claimed) -> &'static [u8]
+pub fn headline(claimed: &ShownClaim) -> &'static [u8]
     ensures { result.now ≡ headline claimed.now }
 {
     match claimed {
-        Claimed::Yes(_) => b"YES: a FIFO queue can have answered so",
-        Claimed::No(kind, _) => match kind {
+        ShownClaim::Yes(_) => b"YES: a FIFO queue can have answered so",
+        ShownClaim::No(kind, _) => match kind {
             ViolationKind::VFresh => b"NO: a value was dequeued that was not there",
             ViolationKind::VRepeat => b"NO: a value was dequeued twice",
             ViolationKind::VOrd => b"NO: values were dequeued against the order of their enqueues",
@@ -220,13 +221,13 @@ fn push_yes_caption(text: &mut Vec<u8>) -> Result<(), AllocError>
 
 /// Adds what a claim says, in sentences, each line with its line feed.
 #[tactic(auto, unfolding(crate::specs::Captions::caption))]
-pub fn push_caption(text: &mut Vec<u8>, claimed: &Claimed) -> Result<(), AllocError>
+pub fn push_caption(text: &mut Vec<u8>, claimed: &ShownClaim) -> Result<(), AllocError>
     requires { length (operations_in claimed.now) ≤ 400 }
     ensures { OnOk result (text.new.items ≡ text.old.items ++ caption claimed.now) }
 {
     match claimed {
-        Claimed::Yes(_) => push_yes_caption(text),
-        Claimed::No(kind, lines) => {
+        ShownClaim::Yes(_) => push_yes_caption(text),
+        ShownClaim::No(kind, lines) => {
             let lines = lines.as_slice();
             match kind {
                 ViolationKind::VFresh => push_fresh_caption(text, lines),
@@ -238,12 +239,12 @@ pub fn push_caption(text: &mut Vec<u8>, claimed: &Claimed) -> Result<(), AllocEr
     }
 }
 
-fn number_meaning(claimed: &Claimed) -> &'static [u8]
+fn number_meaning(claimed: &ShownClaim) -> &'static [u8]
     ensures { result.now ≡ number_meaning claimed.now }
 {
     match claimed {
-        Claimed::Yes(_) => b"1    number 1 in the order, where it takes effect\n",
-        Claimed::No(_, _) => b"1    number 1 of the operations that show it\n",
+        ShownClaim::Yes(_) => b"1    number 1 in the order, where it takes effect\n",
+        ShownClaim::No(_, _) => b"1    number 1 of the operations that show it\n",
     }
 }
 
@@ -286,12 +287,12 @@ fn push_sure_and(text: &mut Vec<u8>, time: &[u8]) -> Result<(), AllocError>
     )
 }
 
-fn push_form_meanings(text: &mut Vec<u8>, claimed: &Claimed) -> Result<(), AllocError>
+fn push_form_meanings(text: &mut Vec<u8>, claimed: &ShownClaim) -> Result<(), AllocError>
     ensures { OnOk result (text.new.items ≡ text.old.items ++ form_meanings claimed.now) }
 {
     match claimed {
-        Claimed::Yes(_) => Ok(()),
-        Claimed::No(kind, _) => match kind {
+        ShownClaim::Yes(_) => Ok(()),
+        ShownClaim::No(kind, _) => match kind {
             ViolationKind::VFresh => push_fresh_meanings(text),
             ViolationKind::VRepeat => Ok(()),
             ViolationKind::VOrd => push_sure_and(
@@ -308,7 +309,7 @@ fn push_form_meanings(text: &mut Vec<u8>, claimed: &Claimed) -> Result<(), Alloc
 
 /// Adds how to read a picture of characters.
 #[tactic(auto, unfolding(crate::specs::Captions::legend))]
-pub(crate) fn push_legend(text: &mut Vec<u8>, claimed: &Claimed) -> Result<(), AllocError>
+pub(crate) fn push_legend(text: &mut Vec<u8>, claimed: &ShownClaim) -> Result<(), AllocError>
     ensures { OnOk result (text.new.items ≡ text.old.items ++ legend claimed.now) }
 {
     push_lane_meanings(text)?;

@@ -3,6 +3,7 @@
 
 mod bands;
 mod captions;
+mod claim;
 mod columns;
 mod laws;
 mod line;
@@ -12,6 +13,7 @@ mod writing;
 
 pub use bands::{Band, Head, bands_of, push_head};
 pub use captions::{headline, push_caption};
+pub use claim::ShownClaim;
 pub use columns::{Columns, Lane, MOST_DRAWN, digits, label_width, last_ticket, threads_of};
 pub use laws::{
     bars_are_the_operations, effects_rise_within_bars, lanes_stand_apart,

@@ -2,7 +2,7 @@
 ghost use Rattle.std.specs.Prelude.{◌≡◌, ◌==◌, ◌+◌, ◌≤◌, ◌++◌, ◌∷◌, [], IfOk, OnOk, length, map, codes, decimal};
 ghost use Rattle.std.specs.List.{flat_map, enumerate_from, range_with_len};
 ghost use Rattle.history_merge.specs.Operations.{operations_of};
-ghost use Rattle.history_text.specs.Claims.{operations_in};
+ghost use Rattle.drawing.specs.Claim.{operations_in};
 ghost use Rattle.text_lines.specs.Lines.{line};
 ghost use Rattle.drawing.specs.Layout.{label, threads_of, columns_of, lanes_of, number_in, order_of, shown_by};
 ghost use Rattle.drawing.specs.Bands.{bands_of, head_text};
@@ -18,7 +18,8 @@ use event_records::Event;
 use history_merge::{History, OpKind, Operation};
 use itoa::Buffer;
 use std::alloc::{AllocError, Global};
-use verdicts::{Claimed, ViolationKind};
+use crate::claim::ShownClaim;
+use verdicts::ViolationKind;
 
 /// Adds a number to a line at a column.
 fn place_number(line: &mut Vec<u8>, column: usize, number: u64) -> Result<(), AllocError>
@@ -166,11 +167,11 @@ fn way_of(lines: &[Operation], operation: Option<Operation>) -> &'static [u8]
     }
 }
 
-fn way_word(claimed: &Claimed, operation: Option<Operation>) -> &'static [u8]
+fn way_word(claimed: &ShownClaim, operation: Option<Operation>) -> &'static [u8]
     ensures { result.now ≡ way_word claimed.now operation }
 {
     match claimed {
-        Claimed::No(ViolationKind::VRepeat, lines) => way_of(lines.as_slice(), operation),
+        ShownClaim::No(ViolationKind::VRepeat, lines) => way_of(lines.as_slice(), operation),
         _ => b"",
     }
 }
@@ -182,26 +183,26 @@ struct Sheet<'a> {
     lanes: &'a [Lane],
     bands: &'a [Band],
     operations: &'a [Operation],
-    claimed: &'a Claimed,
+    claimed: &'a ShownClaim,
 }
 
 /// The order of a yes.
-pub fn order_of(claimed: &Claimed) -> &[Operation]
+pub fn order_of(claimed: &ShownClaim) -> &[Operation]
     ensures { result.now ≡ order_of claimed.now }
 {
     match claimed {
-        Claimed::Yes(order) => order.as_slice(),
-        Claimed::No(_, _) => &[],
+        ShownClaim::Yes(order) => order.as_slice(),
+        ShownClaim::No(_, _) => &[],
     }
 }
 
-fn shown_by(claimed: &Claimed) -> &[Operation]
+fn shown_by(claimed: &ShownClaim) -> &[Operation]
     ensures value { result.now ≡ shown_by claimed.now }
     ensures few { length result.now ≤ length (operations_in claimed.now) }
 {
     match claimed {
-        Claimed::Yes(_) => &[],
-        Claimed::No(_, lines) => lines.as_slice(),
+        ShownClaim::Yes(_) => &[],
+        ShownClaim::No(_, lines) => lines.as_slice(),
     }
 }
 
@@ -530,7 +531,7 @@ fn push_rows(
 
 /// Adds what stands above the rows: what the picture shows, and how to read it.
 #[tactic(auto, unfolding(crate::specs::Terminal::words))]
-fn push_words(text: &mut Vec<u8>, claimed: &Claimed) -> Result<(), AllocError>
+fn push_words(text: &mut Vec<u8>, claimed: &ShownClaim) -> Result<(), AllocError>
     requires { length (operations_in claimed.now) ≤ 400 }
     ensures { OnOk result (text.new.items ≡ text.old.items ++ words claimed.now) }
 {
@@ -542,12 +543,12 @@ fn push_words(text: &mut Vec<u8>, claimed: &Claimed) -> Result<(), AllocError>
 }
 
 /// The operations that a claim lists.
-pub fn operations_in(claimed: &Claimed) -> &[Operation]
+pub fn operations_in(claimed: &ShownClaim) -> &[Operation]
     ensures { result.now ≡ operations_in claimed.now }
 {
     match claimed {
-        Claimed::Yes(lines) => lines.as_slice(),
-        Claimed::No(_, lines) => lines.as_slice(),
+        ShownClaim::Yes(lines) => lines.as_slice(),
+        ShownClaim::No(_, lines) => lines.as_slice(),
     }
 }
 
@@ -559,11 +560,11 @@ pub fn operations_in(claimed: &Claimed) -> &[Operation]
 pub fn terminal_picture(
     alloc: Global,
     history: &History,
-    claimed: &Claimed,
+    claimed: &ShownClaim,
 ) -> Result<Vec<u8>, AllocError>
     // The claim has few enough lines to be drawn.
     requires { length (operations_in claimed.now) ≤ MOST_DRAWN }
-    ensures { IfOk result (λ text. text.items ≡ terminal_picture history.now claimed.now) }
+    ensures { IfOk result (λ text. text.items ≡ terminal_picture history.now.events claimed.now) }
 {
     let events = history.events();
     let operations = history.operations();

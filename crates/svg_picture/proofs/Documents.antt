@@ -4,8 +4,8 @@ use Rattle.std.specs.Prelude.{⊤, decimal}
 use Rattle.std.specs.List.{enumerate_from}
 use Rattle.event_records.specs.declared.event.Event.{Event}
 use Rattle.history_merge.specs.declared.operation.Operation.{Operation}
-use Rattle.verdicts.specs.declared.verifying.Claimed.{Claimed}
-use Rattle.verdicts.specs.declared.verifying.Claimed.TheVariants.{Yes, No}
+use Rattle.drawing.specs.declared.claim.ShownClaim.{ShownClaim}
+use Rattle.drawing.specs.declared.claim.ShownClaim.TheVariants.{Yes, No}
 use Rattle.verdicts.specs.declared.verifying.ViolationKind.TheVariants.{VFresh, VRepeat, VOrd, VWit}
 use Rattle.drawing.specs.declared.bands.Band.{Band}
 use Rattle.drawing.specs.Layout.{label}
@@ -195,7 +195,7 @@ clean_way : (page : Page) (o : Operation) → IsClean (way_mark page o)
 unfolding way_mark
 clean_way page o = (clean_stroke _ _ _ _ _ refl, (clean_text _ _ _ _ _ refl (way_plain o.kind), tt))
 
-clean_ways : (page : Page) (claimed : Claimed) → IsClean (ways page claimed)
+clean_ways : (page : Page) (claimed : ShownClaim) → IsClean (ways page claimed)
 unfolding ways
 clean_ways page (Yes lines) = tt
 clean_ways page (No VFresh lines) = tt
@@ -207,7 +207,7 @@ clean_order_line : (page : Page) (i : ℕ) (o : Operation) → IsClean (order_li
 unfolding order_line
 clean_order_line page i o = clean_text _ _ _ _ _ refl (plain_concat (decimal (i + 1) ∷ codes " " ∷ label o.kind ∷ []) (decimal_plain (i + 1), (refl, (label_plain o.kind, tt))))
 
-clean_order : (page : Page) (claimed : Claimed) → IsClean (order page claimed)
+clean_order : (page : Page) (claimed : ShownClaim) → IsClean (order page claimed)
 unfolding order
 clean_order page (Yes lines) =
     (clean_text _ _ _ _ _ refl refl, (clean_each (numbered_line page) (λ p. clean_order_line page p.0 p.1) (enumerate_from 0 lines), tt))
@@ -263,7 +263,7 @@ clean_heading page = (
   ),
 )
 
-clean_about : (claimed : Claimed) → IsClean (about claimed)
+clean_about : (claimed : ShownClaim) → IsClean (about claimed)
 unfolding about
 clean_about claimed = ((bare _ refl, headline_plain claimed), ((bare _ refl, caption_plain claimed), (clean_style, tt)))
 

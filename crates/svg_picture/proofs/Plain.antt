@@ -8,8 +8,8 @@ use Rattle.std.proofs.lemmas.Bool.Decides.{nat_tests}
 use Rattle.history_merge.specs.declared.operation.Operation.{Operation}
 use Rattle.history_merge.specs.declared.operation.OpKind.{OpKind}
 use Rattle.history_merge.specs.declared.operation.OpKind.TheVariants as kind
-use Rattle.verdicts.specs.declared.verifying.Claimed.{Claimed}
-use Rattle.verdicts.specs.declared.verifying.Claimed.TheVariants.{Yes, No}
+use Rattle.drawing.specs.declared.claim.ShownClaim.{ShownClaim}
+use Rattle.drawing.specs.declared.claim.ShownClaim.TheVariants.{Yes, No}
 use Rattle.verdicts.specs.declared.verifying.ViolationKind.TheVariants.{VFresh, VRepeat, VOrd, VWit}
 use Rattle.text_lines.specs.Lines.{is_line_feed, line}
 use Rattle.drawing.specs.declared.bands.Head.{Head}
@@ -130,14 +130,14 @@ head_plain (InAndOut v) = plain_append (decimal v) _ (decimal_plain v) refl
 head_plain SaidEmpty = refl
 head_plain (InOrOut v) = plain_append (decimal v) _ (decimal_plain v) refl
 
-pub headline_plain : (claimed : Claimed) → are_plain (headline claimed) ≡ true
+pub headline_plain : (claimed : ShownClaim) → are_plain (headline claimed) ≡ true
 headline_plain (Yes order) = refl
 headline_plain (No VFresh lines) = refl
 headline_plain (No VRepeat lines) = refl
 headline_plain (No VOrd lines) = refl
 headline_plain (No VWit lines) = refl
 
-pub legend_plain : (claimed : Claimed) → are_plain (legend claimed) ≡ true
+pub legend_plain : (claimed : ShownClaim) → are_plain (legend claimed) ≡ true
 unfolding legend reading
 legend_plain (Yes order) = refl
 legend_plain (No VFresh lines) = refl
@@ -153,7 +153,7 @@ pub dark_plain : are_plain dark ≡ true
 unfolding dark
 dark_plain = refl
 
-pub mark_plain : (claimed : Claimed) (place : Option ℕ) → are_plain (mark claimed place) ≡ true
+pub mark_plain : (claimed : ShownClaim) (place : Option ℕ) → are_plain (mark claimed place) ≡ true
 mark_plain (Yes order) place = refl
 mark_plain (No kind lines) None = refl
 mark_plain (No kind lines) (Some place) = refl
@@ -270,7 +270,7 @@ unfolding witness_words
 witness_plain [] = refl
 witness_plain (empty ∷ cover) = plain_append witness_words (cover_caption 2 cover) refl (cover_plain 2 cover)
 
-pub caption_plain : (claimed : Claimed) → are_plain (caption claimed) ≡ true
+pub caption_plain : (claimed : ShownClaim) → are_plain (caption claimed) ≡ true
 unfolding caption yes_caption
 caption_plain (Yes order) = refl
 caption_plain (No VFresh lines) = fresh_plain lines

@@ -9,7 +9,7 @@ use Rattle.event_records.specs.declared.event.Event.{Event}
 use Rattle.history_merge.specs.declared.operation.Operation.{Operation}
 use Rattle.history_merge.proofs.Distinct.{contains_at, traced}
 use Rattle.history_merge.specs.Operations.{operations_of}
-use Rattle.verdicts.specs.declared.verifying.Claimed.TheVariants.{Yes}
+use Rattle.drawing.specs.declared.claim.ShownClaim.TheVariants.{Yes}
 use Rattle.std.proofs.lemmas.Option.{slice_get_within}
 use Rattle.std.proofs.lemmas.List.Sorted.{Contains-permutation, IsPermutation-sym}
 use Rattle.drawing.specs.Layout.{point}

@@ -7,8 +7,8 @@ use Rattle.history_merge.specs.declared.operation.Operation.{Operation}
 use Rattle.history_merge.specs.Complete.{IsCompleteHistory}
 use Rattle.history_merge.specs.Operations.{Precedes, operations_of}
 use Rattle.history_merge.specs.Legal.{IsLegalOrder}
-use Rattle.verdicts.specs.declared.verifying.Claimed.{Claimed}
-use Rattle.verdicts.specs.declared.verifying.Claimed.TheVariants.{Yes}
+use Rattle.drawing.specs.declared.claim.ShownClaim.{ShownClaim}
+use Rattle.drawing.specs.declared.claim.ShownClaim.TheVariants.{Yes}
 use Rattle.svg_picture.specs.Markup.{Named, declaration, start_tag, end_tag}
 use Rattle.svg_picture.specs.Layout.{Page, lane_width, thread_x, row, call_y, ret_y}
 use Rattle.svg_picture.specs.Picture.{page_of, row_of_effect, svg_picture}
@@ -70,7 +70,7 @@ pub record IsDocument (text : List ℕ) : Type 0 where
 
 -- a picture is a well-formed document
 abbrev pub PicturesAreWellFormed : Type 0
-PicturesAreWellFormed = (events : List Event) (claimed : Claimed) → IsDocument (svg_picture events claimed)
+PicturesAreWellFormed = (events : List Event) (claimed : ShownClaim) → IsDocument (svg_picture events claimed)
 
 -- ---- time
 
@@ -81,7 +81,7 @@ RowsRise = (page : Page) (e : Event) (later : ℕ) → Contains page.events e �
 -- a bar ends above another begins exactly where its operation precedes the other: so bars share a height exactly where operations overlap
 abbrev pub BarsOverlapInTime : Type 0
 BarsOverlapInTime =
-    (events : List Event) (claimed : Claimed) (x y : Operation) → IsCompleteHistory events → Contains (operations_of events) x
+    (events : List Event) (claimed : ShownClaim) (x y : Operation) → IsCompleteHistory events → Contains (operations_of events) x
     → Contains (operations_of events) y → Precedes x y ↔ (ret_y (page_of events claimed) x.ret < call_y (page_of events claimed) y.call)
 
 -- of a yes an operation takes effect in a row between those of its call and of its return

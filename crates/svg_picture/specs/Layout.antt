@@ -3,7 +3,7 @@ use Rattle.std.specs.Prelude.{ℕ, ◌+◌, ◌*◌, max, nat_lt, nat_le, if◌t
 use Rattle.std.specs.List.{slice_split}
 use Rattle.event_records.specs.declared.event.Event.{Event}
 use Rattle.history_merge.specs.declared.operation.Operation.{Operation}
-use Rattle.verdicts.specs.declared.verifying.Claimed.{Claimed}
+use Rattle.drawing.specs.declared.claim.ShownClaim.{ShownClaim}
 use Rattle.text_lines.specs.Lines.{is_line_feed}
 use Rattle.drawing.specs.declared.bands.Band.{Band}
 use Rattle.svg_picture.specs.declared.layout.Measures.{Measures}
@@ -15,7 +15,7 @@ pub record Page : Type 0 where
   pub events : List Event
   pub operations : List Operation
   pub threads : List ℕ
-  pub claimed : Claimed
+  pub claimed : ShownClaim
   pub bands : List Band
   pub points : List ℕ
 

@@ -5,10 +5,10 @@ use Rattle.std.specs.List.{concat, enumerate_from, range_with_len}
 use Rattle.event_records.specs.declared.event.Event.{Event}
 use Rattle.history_merge.specs.declared.operation.Operation.{Operation}
 use Rattle.history_merge.specs.Operations.{operations_of}
-use Rattle.verdicts.specs.declared.verifying.Claimed.{Claimed}
-use Rattle.verdicts.specs.declared.verifying.Claimed.TheVariants.{Yes, No}
+use Rattle.drawing.specs.declared.claim.ShownClaim.{ShownClaim}
+use Rattle.drawing.specs.declared.claim.ShownClaim.TheVariants.{Yes, No}
 use Rattle.verdicts.specs.declared.verifying.ViolationKind.TheVariants.{VRepeat}
-use Rattle.history_text.specs.Claims.{operations_in}
+use Rattle.drawing.specs.Claim.{operations_in}
 use Rattle.drawing.specs.declared.bands.Band.{Band}
 use Rattle.drawing.specs.declared.bands.Head.{Head}
 use Rattle.drawing.specs.declared.bands.Head.TheVariants.{Dequeued, InAndOut, SaidEmpty}
@@ -30,7 +30,7 @@ abbrev pub place_of : Page → Operation → Option ℕ
 place_of page o = place_in (operations_in page.claimed) o
 
 -- how an operation is marked: of a no those of the claim are on, the others off
-abbrev pub mark : Claimed → Option ℕ → List ℕ
+abbrev pub mark : ShownClaim → Option ℕ → List ℕ
 mark (Yes order) place = codes "yes"
 mark (No kind lines) None = codes "off"
 mark (No kind lines) (Some place) = codes "on"
@@ -58,7 +58,7 @@ bar_words o place =
     ∷ number_words place ∷ [])
 
 -- the upper edge of a number: of a yes in the row of the effect, of a no beside the label
-abbrev pub number_y : Page → Claimed → Operation → ℕ → ℕ
+abbrev pub number_y : Page → ShownClaim → Operation → ℕ → ℕ
 number_y page (Yes order) o place = row_y page (row_of_effect page place) + 2
 number_y page (No kind lines) o place = row_y page (row page o.call) + 12
 
@@ -173,7 +173,7 @@ way_mark page o =
     ∷ text_at 7 (codes "name") (right page.measures) (row_y page (row page o.call) + 24) (way o.kind) ∷ [])
 
 -- where a value was dequeued twice, the words `in` and `out`
-unfoldable pub ways : Page → Claimed → Content
+unfoldable pub ways : Page → ShownClaim → Content
 ways page (No VRepeat lines) = each (way_mark page) lines
 ways page _ = Nothing
 
@@ -190,7 +190,7 @@ abbrev pub numbered_line : Page → ℕ × Operation → Content
 numbered_line page (i, o) = order_line page i o
 
 -- the order of a yes under its name
-unfoldable pub order : Page → Claimed → Content
+unfoldable pub order : Page → ShownClaim → Content
 order page (Yes operations) =
     group (text_at 7 (codes "dim") (shown page.measures) (top page.measures - 8) (codes "order")
     ∷ each (numbered_line page) (enumerate_from 0 operations) ∷ [])
@@ -248,7 +248,7 @@ heading page =
     ∷ samples (legend_y page.measures) ∷ lines_at 7 (codes "dim") (legend_y page.measures + 35) (legend page.claimed) ∷ [])
 
 -- what the picture tells those who don't see it, and its style
-unfoldable pub about : Claimed → Content
+unfoldable pub about : ShownClaim → Content
 about claimed =
     group (Element (codes "title") [] (Words (headline claimed)) ∷ Element (codes "desc") [] (Words (caption claimed))
     ∷ style_element ∷ [])
@@ -278,7 +278,7 @@ page_content page = Element (codes "svg") (page_attributes page.measures) (insid
 -- ---- of a history and a claim
 
 -- there is an order
-abbrev pub is_yes : Claimed → Bool
+abbrev pub is_yes : ShownClaim → Bool
 is_yes (Yes order) = true
 is_yes (No kind lines) = false
 
@@ -287,7 +287,7 @@ abbrev pub points_of : List Operation → List ℕ
 points_of order = map (point order) (range_with_len 0 (length order))
 
 -- how wide the parts of a picture are, in characters, and how many there are
-abbrev pub measures_of : List Event → Claimed → Measures
+abbrev pub measures_of : List Event → ShownClaim → Measures
 measures_of events claimed = record {
   ticket = max 6 (digits (last_ticket events));
   number = digits (length (operations_in claimed));
@@ -304,7 +304,7 @@ measures_of events claimed = record {
 }
 
 -- what the picture of a history and a claim is made of
-abbrev pub page_of : List Event → Claimed → Page
+abbrev pub page_of : List Event → ShownClaim → Page
 page_of events claimed = record {
   measures = measures_of events claimed;
   events = events;
@@ -316,9 +316,9 @@ page_of events claimed = record {
 }
 
 -- the picture of a history and what is claimed of it, as a tree of elements
-unfoldable pub picture_content : List Event → Claimed → Content
+unfoldable pub picture_content : List Event → ShownClaim → Content
 picture_content events claimed = page_content (page_of events claimed)
 
 -- the picture of a history and what is claimed of it, as a document
-unfoldable pub svg_picture : List Event → Claimed → List ℕ
+unfoldable pub svg_picture : List Event → ShownClaim → List ℕ
 svg_picture events claimed = document (picture_content events claimed)

@@ -1,6 +1,6 @@
 //! The bars of the operations.
 ghost use Rattle.std.specs.Prelude.{◌≡◌, ◌++◌, ◌≤◌, ◌^◌, [], OnOk, IfOk, IfSome, length, codes};
-ghost use Rattle.history_text.specs.Claims.{operations_in};
+ghost use Rattle.drawing.specs.Claim.{operations_in};
 ghost use Rattle.svg_picture.specs.Markup.{Element, text_of};
 ghost use Rattle.svg_picture.specs.Markup.{Words as InWords};
 ghost use Rattle.svg_picture.specs.Layout.{page_on};
@@ -15,14 +15,14 @@ use drawing::{digits, operations_in, place_in, push_label};
 use history_merge::Operation;
 use itoa::Buffer;
 use std::alloc::{AllocError, Global};
-use verdicts::Claimed;
+use drawing::ShownClaim;
 
-fn mark(claimed: &Claimed, place: Option<usize>) -> &'static [u8]
+fn mark(claimed: &ShownClaim, place: Option<usize>) -> &'static [u8]
     ensures { result.now ≡ mark claimed.now place }
 {
     match claimed {
-        Claimed::Yes(_) => b"yes",
-        Claimed::No(_, _) => match place {
+        ShownClaim::Yes(_) => b"yes",
+        ShownClaim::No(_, _) => match place {
             None => b"off",
             Some(_) => b"on",
         },
@@ -79,8 +79,8 @@ fn number_y(sheet: &Sheet<'_>, operation: Operation, place: usize) -> u128
     ensures small { result ≤ 2 ^ 92 }
 {
     match sheet.claimed {
-        Claimed::Yes(_) => row_y(sheet, row_of_effect(sheet, place)) + 2,
-        Claimed::No(_, _) => row_y(sheet, row(sheet, operation.call)) + 12,
+        ShownClaim::Yes(_) => row_y(sheet, row_of_effect(sheet, place)) + 2,
+        ShownClaim::No(_, _) => row_y(sheet, row(sheet, operation.call)) + 12,
     }
 }
 

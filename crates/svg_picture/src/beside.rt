@@ -1,7 +1,7 @@
 //! What stands beside the lanes: the bands of a no, or the order of a yes.
 ghost use Rattle.std.specs.Prelude.{◌≡◌, ◌++◌, ◌∷◌, ◌≤◌, ◌^◌, [], OnOk, IfOk, length, codes, decimal};
 ghost use Rattle.std.specs.List.{concat, enumerate_from};
-ghost use Rattle.history_text.specs.Claims.{operations_in};
+ghost use Rattle.drawing.specs.Claim.{operations_in};
 ghost use Rattle.drawing.specs.Layout.{label};
 ghost use Rattle.svg_picture.specs.Markup.{each, text_of};
 ghost use Rattle.svg_picture.specs.Layout.{page_on};
@@ -19,7 +19,8 @@ use drawing::{Band, Head, digits, push_label, way};
 use event_records::Event;
 use history_merge::Operation;
 use std::alloc::{AllocError, Global};
-use verdicts::{Claimed, ViolationKind};
+use drawing::ShownClaim;
+use verdicts::ViolationKind;
 
 fn is_time(head: Head) -> bool
     ensures { result ≡ is_time head }
@@ -239,7 +240,7 @@ pub(crate) fn push_ways(text: &mut Vec<u8>, sheet: &Sheet<'_>) -> Result<(), All
     ensures { OnOk result (text.new.items ≡ text.old.items ++ text_of (ways (page_on sheet.now) sheet.now.claimed.now)) }
 {
     match sheet.claimed {
-        Claimed::No(ViolationKind::VRepeat, lines) => {
+        ShownClaim::No(ViolationKind::VRepeat, lines) => {
             push_way_marks(text, sheet, lines.as_slice())
         }
         _ => Ok(()),
@@ -302,8 +303,8 @@ pub(crate) fn push_order(
     ensures { OnOk result (text.new.items ≡ text.old.items ++ text_of (order (page_on sheet.now) sheet.now.claimed.now)) }
 {
     match sheet.claimed {
-        Claimed::No(_, _) => Ok(()),
-        Claimed::Yes(operations) => {
+        ShownClaim::No(_, _) => Ok(()),
+        ShownClaim::Yes(operations) => {
             let x = shown(sheet.measures);
             let y = top(sheet.measures) - 8;
             push_text_at(text, 7, b"dim", x, y, b"order")?;

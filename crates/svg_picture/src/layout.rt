@@ -5,7 +5,7 @@ ghost use Rattle.svg_picture.specs.Layout.{page_on, shown, order_width, left, ba
 use drawing::Band;
 use event_records::Event;
 use history_merge::Operation;
-use verdicts::Claimed;
+use drawing::ShownClaim;
 
 /// How wide the parts of a picture are, in characters, and how many there are.
 #[derive(Clone, Copy, Debug, PartialEq, Eq)]
@@ -43,7 +43,7 @@ pub struct Sheet<'a> {
     pub events: &'a [Event],
     pub operations: &'a [Operation],
     pub threads: &'a [u8],
-    pub claimed: &'a Claimed,
+    pub claimed: &'a ShownClaim,
     pub bands: &'a [Band],
     /// The tickets just after which the operations of a yes take effect, in its order.
     pub points: &'a [u64],

@@ -1,6 +1,6 @@
 //! A picture as an SVG document.
 ghost use Rattle.std.specs.Prelude.{◌≡◌, ◌++◌, ◌≤◌, OnOk, IfOk, length};
-ghost use Rattle.history_text.specs.Claims.{operations_in};
+ghost use Rattle.drawing.specs.Claim.{operations_in};
 ghost use Rattle.drawing.specs.Layout.{threads_of};
 ghost use Rattle.drawing.specs.Bands.{bands_of};
 ghost use Rattle.drawing.specs.Captions.{caption};
@@ -23,9 +23,9 @@ use drawing::{
 };
 use history_merge::{History, Operation};
 use std::alloc::{AllocError, Global};
-use verdicts::Claimed;
+use drawing::ShownClaim;
 
-fn caption_of(alloc: Global, claimed: &Claimed) -> Result<Vec<u8>, AllocError>
+fn caption_of(alloc: Global, claimed: &ShownClaim) -> Result<Vec<u8>, AllocError>
     requires { length (operations_in claimed.now) ≤ 400 }
     ensures { IfOk result (λ words. words.items ≡ caption claimed.now) }
 {
@@ -51,7 +51,7 @@ fn push_heading(alloc: Global, text: &mut Vec<u8>, sheet: &Sheet<'_>) -> Result<
 
 /// Adds what the picture tells those who don't see it, and its style.
 #[tactic(auto, unfolding(crate::specs::Picture::about))]
-fn push_about(alloc: Global, text: &mut Vec<u8>, claimed: &Claimed) -> Result<(), AllocError>
+fn push_about(alloc: Global, text: &mut Vec<u8>, claimed: &ShownClaim) -> Result<(), AllocError>
     requires { length (operations_in claimed.now) ≤ 400 }
     ensures { OnOk result (text.new.items ≡ text.old.items ++ text_of (about claimed.now)) }
 {
@@ -120,10 +120,10 @@ fn push_page(alloc: Global, text: &mut Vec<u8>, sheet: &Sheet<'_>) -> Result<(),
     push_end(text, b"svg")
 }
 
-fn is_yes(claimed: &Claimed) -> bool
+fn is_yes(claimed: &ShownClaim) -> bool
     ensures { result ≡ is_yes claimed.now }
 {
-    matches!(claimed, Claimed::Yes(_))
+    matches!(claimed, ShownClaim::Yes(_))
 }
 
 /// The tickets just after which the operations of an order take effect.
@@ -144,13 +144,13 @@ fn measures_of(
     alloc: Global,
     history: &History,
     threads: &[u8],
-    claimed: &Claimed,
+    claimed: &ShownClaim,
     bands: &[Band],
 ) -> Result<Measures, AllocError>
     requires few { length (operations_in claimed.now) ≤ 400 }
-    requires threads { threads.now ≡ threads_of history.now }
+    requires threads { threads.now ≡ threads_of history.now.events }
     requires bands { bands.now ≡ bands_of claimed.now }
-    ensures { IfOk result (λ m. m ≡ measures_of history.now claimed.now) }
+    ensures { IfOk result (λ m. m ≡ measures_of history.now.events claimed.now) }
 {
     let events = history.events();
     let caption = caption_of(alloc, claimed)?;
@@ -179,11 +179,11 @@ fn measures_of(
 pub fn svg_picture(
     alloc: Global,
     history: &History,
-    claimed: &Claimed,
+    claimed: &ShownClaim,
 ) -> Result<Vec<u8>, AllocError>
     // The claim has few enough lines to be drawn.
     requires { length (operations_in claimed.now) ≤ MOST_DRAWN }
-    ensures { IfOk result (λ text. text.items ≡ svg_picture history.now claimed.now) }
+    ensures { IfOk result (λ text. text.items ≡ svg_picture history.now.events claimed.now) }
 {
     let threads = threads_of(alloc, history.events())?;
     let bands = bands_of(alloc, claimed)?;

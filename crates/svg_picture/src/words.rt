@@ -8,7 +8,8 @@ use crate::markup::{push_end, push_start};
 use drawing::Head;
 use history_merge::OpKind;
 use std::alloc::{AllocError, Global};
-use verdicts::{Claimed, ViolationKind};
+use drawing::ShownClaim;
+use verdicts::ViolationKind;
 
 /// The word of a kind of operation, which is its class too.
 pub(crate) fn kind_word(kind: OpKind) -> &'static [u8]
@@ -52,14 +53,14 @@ fn reading() -> &'static [u8]
 Time runs down, one row for each call and each return.\n"
 }
 
-fn numbers(claimed: &Claimed) -> &'static [u8]
+fn numbers(claimed: &ShownClaim) -> &'static [u8]
     ensures { result.now ≡ numbers claimed.now }
 {
     match claimed {
-        Claimed::Yes(_) => {
+        ShownClaim::Yes(_) => {
             b"A row without a ticket: there the numbered operation takes effect.\n"
         }
-        Claimed::No(_, _) => b"Numbered: the operations that show it. Grey: the others.\n",
+        ShownClaim::No(_, _) => b"Numbered: the operations that show it. Grey: the others.\n",
     }
 }
 
@@ -83,18 +84,18 @@ Dashed: within this time the queue was said to be empty.\n"
     }
 }
 
-fn claim_forms(claimed: &Claimed) -> &'static [u8]
+fn claim_forms(claimed: &ShownClaim) -> &'static [u8]
     ensures { result.now ≡ claim_forms claimed.now }
 {
     match claimed {
-        Claimed::Yes(_) => b"",
-        Claimed::No(kind, _) => forms(*kind),
+        ShownClaim::Yes(_) => b"",
+        ShownClaim::No(kind, _) => forms(*kind),
     }
 }
 
 /// How to read a picture, each line with its line feed.
 #[tactic(auto, unfolding(crate::specs::Words::legend))]
-pub(crate) fn legend(alloc: Global, claimed: &Claimed) -> Result<Vec<u8>, AllocError>
+pub(crate) fn legend(alloc: Global, claimed: &ShownClaim) -> Result<Vec<u8>, AllocError>
     ensures { IfOk result (λ text. text.items ≡ legend claimed.now) }
 {
     let mut text = Vec::from_slice(alloc, reading())?;
