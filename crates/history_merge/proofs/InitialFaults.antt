@@ -148,17 +148,7 @@ fault_by_call initial events place (Err f) fault distinct call first complete ke
     join false is = subst (IsFirstFaultFrom initial events) (sym (later is))
         (call_is_first initial events place distinct call (none_by_call events place f inside first is))
 
--- what holds of the fault alone
-pub errs_by : {T E : Type 0} (P : T → Type 0) (Q : E → Type 0) (result : Result T E) → MatchResult result P Q → IfErr result Q
-errs_by P Q (Ok made) told = tt
-errs_by P Q (Err fault) told = told
-
 -- what holds of the fault of a result that is one
-pub outcome_by_err : {T E : Type 0} (P : T → Type 0) (Q R : E → Type 0) (result : Result T E) → IsErrAnd result R → ((fault : E) → R fault → Q fault)
-    → MatchResult result P Q
-outcome_by_err P Q R (Ok made) is told = absurd is
-outcome_by_err P Q R (Err fault) is told = told fault is
-
 pub by_err : {T E : Type 0} (Q R : E → Type 0) (result : Result T E) → IsErrAnd result R → ((fault : E) → R fault → Q fault) → IfErr result Q
 by_err Q R (Ok made) is told = tt
 by_err Q R (Err fault) is told = told fault is
@@ -239,6 +229,25 @@ no_initial_call initial events complete i e below here =
         (get_or_append_left initial (called_values events) d found.0 found.2 ∙ get_or_default initial found.0 d found.1 found.2 ∙ found.3 ∙ eqb-true _ _ found.4
         ∙ sym (get_or-append-add initial (called_values events) k d)))
 
+-- what is judged of events that don't call with an initial value holds from these
+pub judged_without_calls : {T : Type 0} (P : T → Type 0) (initial : List ℕ) (events : List Event) (judged : Result T HistoryFault)
+    → AreDistinct initial → NoInitialCallBefore initial events (length events)
+    → MatchResult judged (λ made. P made × IsCompleteHistory events) (IsFirstFault events)
+    → MatchResult judged (λ made. P made × IsCompleteFrom initial events) (IsFirstFaultFrom initial events)
+judged_without_calls P initial events (Ok made) distinct new told = (told.0, complete_from initial events told.1 distinct new)
+judged_without_calls P initial events (Err fault) distinct new told = first_without_calls initial events fault distinct new told
+
+-- what the fault of events is where a call has an initial value
+pub judged_with_call : {T : Type 0} (P : T → Type 0) (initial : List ℕ) (events : List Event) (place : ℕ) (judged : Result T HistoryFault)
+    (fault : HistoryFault) → AreDistinct initial → IsFirstInitialCall initial events place
+    → MatchResult judged (λ made. P made × IsCompleteHistory events) (IsFirstFault events)
+    → IfErr judged (λ f. comes_by place f ≡ true → fault ≡ f) → IfErr judged (λ f. comes_by place f ≡ false → fault ≡ DuplicateValue place)
+    → IfOk judged (λ _. fault ≡ DuplicateValue place) → IsFirstFaultFrom initial events fault
+judged_with_call {T} P initial events place (Ok made) fault distinct call told kept later none =
+    fault_by_call {T = T} initial events place (Ok made) fault distinct call tt told.1 tt tt none
+judged_with_call {T} P initial events place (Err f) fault distinct call told kept later none =
+    fault_by_call {T = T} initial events place (Err f) fault distinct call told tt kept later tt
+
 -- only want of memory is left as a fault of a complete history
 pub complete_from_has_no_fault : (initial : List ℕ) (events : List Event) (fault : HistoryFault) → IsFirstFaultFrom initial events fault
     → IsCompleteFrom initial events → fault ≡ Memory
@@ -271,6 +280,12 @@ complete_from_has_no_fault initial events fault first complete = join fault firs
             let low : earlier.0 < j = omega (arith, earlier.1) in
             initial_distinct initial events complete earlier.0 j v low inside
             (sym (get_or-take j initial earlier.0 v low) ∙ earlier.2 ∙ sym (get_or_from_slice_get initial j v v here))
+
+-- what is told of a result, and of what it is where it is one
+pub both_told : {T E : Type 0} (P : T → Type 0) (Q : E → Type 0) (C : Type 0) (result : Result T E) → MatchResult result P Q → IfOk result (λ _. C)
+    → MatchResult result (λ made. P made × C) Q
+both_told P Q C (Ok made) told complete = (told, complete)
+both_told P Q C (Err fault) told complete = told
 
 -- ---- no initial values
 

@@ -3,9 +3,9 @@ ghost use Rattle.std.specs.Prelude.{◌≡◌, ◌<◌, true, false, ℕ, List, 
 ghost use Rattle.event_records.specs.declared.event.Event.{Event};
 ghost use Rattle.event_records.specs.declared.limits.TheConstants.{MAX_EVENTS};
 ghost use Rattle.history_merge.specs.declared.fault.HistoryFault.TheVariants.{DuplicateValue};
-ghost use Rattle.history_merge.specs.Complete.{AreDistinct};
-ghost use Rattle.history_merge.specs.Faults.{IsFirstFaultFrom};
-ghost use Rattle.history_merge.specs.Gathering.{AreJudged, HasGatheredFrom, HasRefusedInitial, TellsFirstCall};
+ghost use Rattle.history_merge.specs.Complete.{IsCompleteHistory};
+ghost use Rattle.history_merge.specs.Faults.{IsFirstFault, IsFirstFaultFrom};
+ghost use Rattle.history_merge.specs.Gathering.{AreJudged, HasGatheredFrom, TellsCalls};
 ghost use Rattle.history_merge.specs.Initial.{IsCompleteFrom};
 ghost use Rattle.history_merge.specs.Inner.Faults.{comes_by};
 ghost use Rattle.history_merge.specs.Operations.{operations_of};
@@ -81,15 +81,11 @@ impl PreloadedBuilder {
             calls,
             events,
         } = self;
-        let first_call = first_call(calls)?;
-        let judged = events.finish();
-        match first_call {
-            Some(place) => Err(fault_by(judged, place)),
-            None => Ok(HistoryParts {
-                initial,
-                operations: judged?,
-            }),
-        }
+        let operations = decided(first_call(calls), events.finish())?;
+        Ok(HistoryParts {
+            initial,
+            operations,
+        })
     }
 }
 
@@ -104,16 +100,31 @@ fn judged(alloc: Global, initial: &[u64]) -> Result<Option<InitialCalls>, Histor
     Ok(Some(InitialCalls::new(values)))
 }
 
-/// The place of the first call with an initial value, where these are distinct.
+/// The place of the first call with an initial value, where these are distinct; else their fault.
 fn first_call(
     calls: Result<Option<InitialCalls>, HistoryFault>,
 ) -> Result<Option<usize>, HistoryFault>
-    ensures { (initial : List ℕ) (events : List Event) → AreJudged initial events calls
-        → MatchResult result (λ first. AreDistinct initial × TellsFirstCall initial events first) (HasRefusedInitial initial) }
+    ensures { (initial : List ℕ) (events : List Event) → AreJudged initial events calls → TellsCalls initial events result }
 {
     match calls? {
         Some(calls) => Ok(calls.first()),
         None => Ok(None),
+    }
+}
+
+/// The operations, or the first fault of all: that of the initial values, else what the events have by the first call with an
+/// initial value, else that call's.
+fn decided(
+    first_call: Result<Option<usize>, HistoryFault>,
+    judged: Result<Vec<Operation>, HistoryFault>,
+) -> Result<Vec<Operation>, HistoryFault>
+    ensures { (initial : List ℕ) (events : List Event) → TellsCalls initial events first_call
+        → MatchResult judged (λ operations. (operations.items ≡ operations_of events) × IsCompleteHistory events) (IsFirstFault events)
+        → MatchResult result (λ operations. (operations.items ≡ operations_of events) × IsCompleteFrom initial events) (IsFirstFaultFrom initial events) }
+{
+    match first_call? {
+        Some(place) => Err(fault_by(judged, place)),
+        None => judged,
     }
 }
 
