@@ -7,7 +7,7 @@ use Rattle.std.specs.Bool.{then_some}
 use Rattle.std.specs.Option.{option_or, option_map_or}
 use Rattle.std.specs.List.{cons_option}
 use Rattle.std.proofs.lemmas.Bool.{leb-true, leb-false, eq-eqb, eqb-true, false≢true, false_from_ne_true, or_parts, cases_lt}
-use Rattle.std.proofs.lemmas.List.{get_or_append_left, get_or-append-add, get_or_default, get_or-take, length-take-le}
+use Rattle.std.proofs.lemmas.List.{get_or_append_left, get_or-append-add, get_or_default, get_or-take, length-take, take_all}
 use Rattle.std.proofs.lemmas.List.Elements.{All-nil, All-cons, All-head, All-tail}
 use Rattle.std.proofs.lemmas.List.Folds.{Any-from_list_any}
 use Rattle.std.proofs.lemmas.List.Kept.{AllPairs-cons}
@@ -248,6 +248,22 @@ judged_with_call {T} P initial events place (Ok made) fault distinct call told k
 judged_with_call {T} P initial events place (Err f) fault distinct call told kept later none =
     fault_by_call {T = T} initial events place (Err f) fault distinct call told tt kept later tt
 
+-- where a value stands twice before place n, the values before it aren't distinct
+pub twice_before : (initial : List ℕ) (j n : ℕ) → j < n → AreDistinct (take n initial) → IsFirstTwice initial j → ⊥
+twice_before initial j n below distinct (before, (v, here, earlier)) =
+    let inside = slice_get_within initial j v here in
+    let short = length-take j initial in
+    let long = length-take n initial in
+    let low : earlier.0 < j = omega (arith, earlier.1, short) in
+    distinct earlier.0 j v low (omega (arith, long, inside, below))
+    (get_or-take n initial earlier.0 v (omega arith) ∙ sym (get_or-take j initial earlier.0 v low) ∙ earlier.2
+    ∙ sym (get_or_from_slice_get initial j v v here) ∙ sym (get_or-take n initial j v below))
+
+pub twice_not_distinct : (initial : List ℕ) (j : ℕ) → AreDistinct initial → IsFirstTwice initial j → ⊥
+twice_not_distinct initial j distinct twice =
+    let inside = slice_get_within initial j twice.1.0 twice.1.1 in
+    twice_before initial j (length initial) inside (subst AreDistinct (sym (take_all (length initial) initial (omega arith))) distinct) twice
+
 -- only want of memory is left as a fault of a complete history
 pub complete_from_has_no_fault : (initial : List ℕ) (events : List Event) (fault : HistoryFault) → IsFirstFaultFrom initial events fault
     → IsCompleteFrom initial events → fault ≡ Memory
@@ -271,15 +287,7 @@ complete_from_has_no_fault initial events fault first complete = join fault firs
     join (Pending ticket) found =
         complete_has_no_fault events (Pending ticket) (no_fault_in_complete events complete.complete, found.2) complete.complete
     join Memory found = refl
-    join (InitialTwice j) found = absurd (twice j found)
-      where
-        twice : (j : ℕ) → IsFirstTwice initial j → ⊥
-        twice j (distinct, (v, here, earlier)) =
-            let inside = slice_get_within initial j v here in
-            let long = length-take-le j initial (omega arith) in
-            let low : earlier.0 < j = omega (arith, earlier.1) in
-            initial_distinct initial events complete earlier.0 j v low inside
-            (sym (get_or-take j initial earlier.0 v low) ∙ earlier.2 ∙ sym (get_or_from_slice_get initial j v v here))
+    join (InitialTwice j) found = absurd (twice_not_distinct initial j (initial_distinct initial events complete) found)
 
 -- what is told of a result, and of what it is where it is one
 pub both_told : {T E : Type 0} (P : T → Type 0) (Q : E → Type 0) (C : Type 0) (result : Result T E) → MatchResult result P Q → IfOk result (λ _. C)

@@ -84,10 +84,6 @@ abbrev pub AreJudged : List ℕ → List Event → Result (Option InitialCalls) 
 AreJudged initial events judged =
     MatchResult judged (λ calls. AreDistinct initial × MatchOption calls (initial ≡ []) (HasWatched initial events)) (HasRefusedInitial initial)
 
--- the initial values are distinct, and it is the place of the first call with one, if there is one; or the fault is theirs
-abbrev pub TellsCalls : List ℕ → List Event → Result (Option ℕ) HistoryFault → Type 0
-TellsCalls initial events told = MatchResult told (λ first. AreDistinct initial × TellsFirstCall initial events first) (HasRefusedInitial initial)
-
 -- the builder started with these initial values, and these events were added, one after another
 pub record HasGatheredFrom (initial : List ℕ) (events : List Event) (builder : PreloadedBuilder) : Type 0 where
   pub started : builder.initial.items ≡ initial

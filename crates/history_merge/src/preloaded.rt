@@ -5,9 +5,10 @@ ghost use Rattle.event_records.specs.declared.limits.TheConstants.{MAX_EVENTS};
 ghost use Rattle.history_merge.specs.declared.fault.HistoryFault.TheVariants.{DuplicateValue};
 ghost use Rattle.history_merge.specs.Complete.{IsCompleteHistory};
 ghost use Rattle.history_merge.specs.Faults.{IsFirstFault, IsFirstFaultFrom};
-ghost use Rattle.history_merge.specs.Gathering.{AreJudged, HasGatheredFrom, TellsCalls};
+ghost use Rattle.history_merge.specs.Gathering.{AreJudged, HasGatheredFrom};
 ghost use Rattle.history_merge.specs.Initial.{IsCompleteFrom};
 ghost use Rattle.history_merge.specs.Inner.Faults.{comes_by};
+ghost use Rattle.history_merge.specs.Inner.Initial.{TellsCalls};
 ghost use Rattle.history_merge.specs.Operations.{operations_of};
 
 use crate::builder::HistoryBuilder;

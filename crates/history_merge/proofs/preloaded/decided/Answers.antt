@@ -1,5 +1,6 @@
 use Rattle.std.proofs.Common.{◌≡◌, subst}
-use Rattle.history_merge.specs.Gathering.{TellsCalls, TellsFirstCall}
+use Rattle.history_merge.specs.Gathering.{TellsFirstCall}
+use Rattle.history_merge.specs.Inner.Initial.{TellsCalls}
 use Rattle.history_merge.specs.Operations.{operations_of}
 use Rattle.history_merge.proofs.InitialFaults.{judged_with_call, judged_without_calls}
 use Rattle.history_merge.proofs.preloaded.decided.Goals as goal
