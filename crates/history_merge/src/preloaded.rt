@@ -72,7 +72,8 @@ impl PreloadedBuilder {
     /// faulty event decides, as in [`HistoryBuilder::finish`]; a call with an initial value has the fault `DuplicateValue`.
     pub fn finish(self) -> Result<HistoryParts, HistoryFault>
         ensures outcome { (initial : List ℕ) (events : List Event) → HasGatheredFrom initial events self
-            → MatchResult result (λ whole. (whole.initial.items ≡ initial) × (whole.operations.items ≡ operations_of events)) (IsFirstFaultFrom initial events) }
+            → MatchResult result (λ whole. (whole.initial.items ≡ initial) × (whole.operations.items ≡ operations_of events))
+            (IsFirstFaultFrom initial events) }
         ensures complete { (initial : List ℕ) (events : List Event) → HasGatheredFrom initial events self → IfOk result (λ _. IsCompleteFrom initial events) }
         ensures refused { (initial : List ℕ) (events : List Event) → HasGatheredFrom initial events self
             → IfErr result (λ fault. IsCompleteFrom initial events → fault ≡ HistoryFault.Memory) }
