@@ -66,9 +66,18 @@ module _ {X : Type 0} (which : (x y : X) → EqualOrNot x y) where
       let right = sum_by-cons (one z) x ys in omega (arith, whole, left, right))
 
 kind_or_not : (j k : OpKind) → EqualOrNot j k
-kind_or_not (Enq v) (Enq w) = elim (cases_eq v w) [ inl same ↦ inl (ap (λ n. Enq n) same) | inr other ↦ inr (λ same. other (let inner : Enq v ≡ Enq w = same in cc)) ]
-kind_or_not (Not v) (Not w) = elim (cases_eq v w) [ inl same ↦ inl (ap (λ n. Not n) same) | inr other ↦ inr (λ same. other (let inner : Not v ≡ Not w = same in cc)) ]
-kind_or_not (Deq v) (Deq w) = elim (cases_eq v w) [ inl same ↦ inl (ap (λ n. Deq n) same) | inr other ↦ inr (λ same. other (let inner : Deq v ≡ Deq w = same in cc)) ]
+kind_or_not (Enq v) (Enq w) = elim (cases_eq v w) [
+  | inl same ↦ inl (ap (λ n. Enq n) same)
+  | inr other ↦ inr (λ same. other (let inner : Enq v ≡ Enq w = same in cc))
+]
+kind_or_not (Not v) (Not w) = elim (cases_eq v w) [
+  | inl same ↦ inl (ap (λ n. Not n) same)
+  | inr other ↦ inr (λ same. other (let inner : Not v ≡ Not w = same in cc))
+]
+kind_or_not (Deq v) (Deq w) = elim (cases_eq v w) [
+  | inl same ↦ inl (ap (λ n. Deq n) same)
+  | inr other ↦ inr (λ same. other (let inner : Deq v ≡ Deq w = same in cc))
+]
 kind_or_not Empty Empty = inl refl
 kind_or_not (Enq v) (Deq w) = inr (λ same. cc)
 kind_or_not (Enq v) (Not w) = inr (λ same. cc)

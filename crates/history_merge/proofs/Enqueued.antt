@@ -20,16 +20,19 @@ enqueue_at clock v = record { call = clock; ret = clock + 1; thread = 0; kind = 
 filling_push : (clock : ℕ) (values : List ℕ) (v : ℕ)
     → filling_from clock (values ++ v ∷ []) ≡ filling_from clock values ++ enqueue_at (clock + 2 * length values) v ∷ []
 filling_push clock [] v = ap (λ n. enqueue_at n v ∷ []) (let same : clock ≡ clock + 2 * 0 = omega arith in same)
-filling_push clock (w ∷ values) v = ap (λ os. enqueue_at clock w ∷ os) (filling_push (clock + 2) values v ∙ ap (λ n. filling_from (clock + 2) values ++ enqueue_at n v ∷ [])
-    (let same : clock + 2 + 2 * length values ≡ clock + 2 * length (w ∷ values) = omega arith in same))
+filling_push clock (w ∷ values) v =
+    let same : clock + 2 + 2 * length values ≡ clock + 2 * length (w ∷ values) = omega arith in
+    let rest = filling_push (clock + 2) values v in
+    ap (λ os. enqueue_at clock w ∷ os) (rest ∙ ap (λ n. filling_from (clock + 2) values ++ enqueue_at n v ∷ []) same)
 
 -- one value more
 pub filling_more : (values : List ℕ) (i : ℕ) → i < length values
     → filling_from 0 (take (i + 1) values) ≡ filling_from 0 (take i values) ++ enqueue_at (2 * i) (get_or values i 0) ∷ []
 filling_more values i below =
     let long = length-take-le i values (omega arith) in
+    let clock : 0 + 2 * length (take i values) ≡ 2 * i = omega (arith, long) in
     ap (filling_from 0) (take_more values i 0 below) ∙ filling_push 0 (take i values) (get_or values i 0)
-    ∙ ap (λ n. filling_from 0 (take i values) ++ enqueue_at n (get_or values i 0) ∷ []) (let same : 0 + 2 * length (take i values) ≡ 2 * i = omega (arith, long) in same)
+    ∙ ap (λ n. filling_from 0 (take i values) ++ enqueue_at n (get_or values i 0) ∷ []) clock
 
 -- tickets of a complete history are clocks too
 pub complete_by_clock : (events : List Event) → IsCompleteHistory events → IsCompleteUpTo MAX_CLOCK events

@@ -17,7 +17,8 @@ use Rattle.history_merge.specs.Complete.{AreComplete, AreDistinct, IsCompleteUpT
 use Rattle.history_merge.specs.Initial.{IsCompleteFrom, event_later_by, filled, filled_events, filling_events_from, filling_from, later_by}
 use Rattle.history_merge.specs.Legal.{IsLegalOrder, IsLegalOrderFrom, IsLinearizable, IsLinearizableFrom}
 use Rattle.history_merge.specs.Operations.{operation_of, operations_of}
-use Rattle.history_merge.proofs.Later.{later_injective, legal_earlier, legal_later, not_later, operations_later, projection_later, rise_later, turns_later, values_later}
+use Rattle.history_merge.proofs.Later.{later_injective, legal_earlier, legal_later, not_later}
+use Rattle.history_merge.proofs.Later.{operations_later, projection_later, rise_later, turns_later, values_later}
 use Rattle.history_merge.proofs.Leading.{Enqueue, LeadAll, enqueues_begin, enqueues_put}
 
 -- ---- legal orders

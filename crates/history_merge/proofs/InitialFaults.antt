@@ -7,7 +7,7 @@ use Rattle.std.specs.Bool.{then_some}
 use Rattle.std.specs.Option.{option_or, option_map_or}
 use Rattle.std.specs.List.{cons_option}
 use Rattle.std.proofs.lemmas.Bool.{leb-true, leb-false, eq-eqb, eqb-true, false≢true, false_from_ne_true, or_parts, cases_lt}
-use Rattle.std.proofs.lemmas.List.{get_or_append_left, get_or-append-add, get_or_default, get_or-take, length-take-le}
+use Rattle.std.proofs.lemmas.List.{get_or_append_left, get_or-append-add, get_or_default, get_or-take, length-take, take_all}
 use Rattle.std.proofs.lemmas.List.Elements.{All-nil, All-cons, All-head, All-tail}
 use Rattle.std.proofs.lemmas.List.Folds.{Any-from_list_any}
 use Rattle.std.proofs.lemmas.List.Kept.{AllPairs-cons}
@@ -148,17 +148,7 @@ fault_by_call initial events place (Err f) fault distinct call first complete ke
     join false is = subst (IsFirstFaultFrom initial events) (sym (later is))
         (call_is_first initial events place distinct call (none_by_call events place f inside first is))
 
--- what holds of the fault alone
-pub errs_by : {T E : Type 0} (P : T → Type 0) (Q : E → Type 0) (result : Result T E) → MatchResult result P Q → IfErr result Q
-errs_by P Q (Ok made) told = tt
-errs_by P Q (Err fault) told = told
-
 -- what holds of the fault of a result that is one
-pub outcome_by_err : {T E : Type 0} (P : T → Type 0) (Q R : E → Type 0) (result : Result T E) → IsErrAnd result R → ((fault : E) → R fault → Q fault)
-    → MatchResult result P Q
-outcome_by_err P Q R (Ok made) is told = absurd is
-outcome_by_err P Q R (Err fault) is told = told fault is
-
 pub by_err : {T E : Type 0} (Q R : E → Type 0) (result : Result T E) → IsErrAnd result R → ((fault : E) → R fault → Q fault) → IfErr result Q
 by_err Q R (Ok made) is told = tt
 by_err Q R (Err fault) is told = told fault is
@@ -239,6 +229,41 @@ no_initial_call initial events complete i e below here =
         (get_or_append_left initial (called_values events) d found.0 found.2 ∙ get_or_default initial found.0 d found.1 found.2 ∙ found.3 ∙ eqb-true _ _ found.4
         ∙ sym (get_or-append-add initial (called_values events) k d)))
 
+-- what is judged of events that don't call with an initial value holds from these
+pub judged_without_calls : {T : Type 0} (P : T → Type 0) (initial : List ℕ) (events : List Event) (judged : Result T HistoryFault)
+    → AreDistinct initial → NoInitialCallBefore initial events (length events)
+    → MatchResult judged (λ made. P made × IsCompleteHistory events) (IsFirstFault events)
+    → MatchResult judged (λ made. P made × IsCompleteFrom initial events) (IsFirstFaultFrom initial events)
+judged_without_calls P initial events (Ok made) distinct new told = (told.0, complete_from initial events told.1 distinct new)
+judged_without_calls P initial events (Err fault) distinct new told = first_without_calls initial events fault distinct new told
+
+-- what the fault of events is where a call has an initial value
+pub judged_with_call : {T : Type 0} (P : T → Type 0) (initial : List ℕ) (events : List Event) (place : ℕ) (judged : Result T HistoryFault)
+    (fault : HistoryFault) → AreDistinct initial → IsFirstInitialCall initial events place
+    → MatchResult judged (λ made. P made × IsCompleteHistory events) (IsFirstFault events)
+    → IfErr judged (λ f. comes_by place f ≡ true → fault ≡ f) → IfErr judged (λ f. comes_by place f ≡ false → fault ≡ DuplicateValue place)
+    → IfOk judged (λ _. fault ≡ DuplicateValue place) → IsFirstFaultFrom initial events fault
+judged_with_call {T} P initial events place (Ok made) fault distinct call told kept later none =
+    fault_by_call {T = T} initial events place (Ok made) fault distinct call tt told.1 tt tt none
+judged_with_call {T} P initial events place (Err f) fault distinct call told kept later none =
+    fault_by_call {T = T} initial events place (Err f) fault distinct call told tt kept later tt
+
+-- where a value stands twice before place n, the values before it aren't distinct
+pub twice_before : (initial : List ℕ) (j n : ℕ) → j < n → AreDistinct (take n initial) → IsFirstTwice initial j → ⊥
+twice_before initial j n below distinct (before, (v, here, earlier)) =
+    let inside = slice_get_within initial j v here in
+    let short = length-take j initial in
+    let long = length-take n initial in
+    let low : earlier.0 < j = omega (arith, earlier.1, short) in
+    distinct earlier.0 j v low (omega (arith, long, inside, below))
+    (get_or-take n initial earlier.0 v (omega arith) ∙ sym (get_or-take j initial earlier.0 v low) ∙ earlier.2
+    ∙ sym (get_or_from_slice_get initial j v v here) ∙ sym (get_or-take n initial j v below))
+
+pub twice_not_distinct : (initial : List ℕ) (j : ℕ) → AreDistinct initial → IsFirstTwice initial j → ⊥
+twice_not_distinct initial j distinct twice =
+    let inside = slice_get_within initial j twice.1.0 twice.1.1 in
+    twice_before initial j (length initial) inside (subst AreDistinct (sym (take_all (length initial) initial (omega arith))) distinct) twice
+
 -- only want of memory is left as a fault of a complete history
 pub complete_from_has_no_fault : (initial : List ℕ) (events : List Event) (fault : HistoryFault) → IsFirstFaultFrom initial events fault
     → IsCompleteFrom initial events → fault ≡ Memory
@@ -262,15 +287,13 @@ complete_from_has_no_fault initial events fault first complete = join fault firs
     join (Pending ticket) found =
         complete_has_no_fault events (Pending ticket) (no_fault_in_complete events complete.complete, found.2) complete.complete
     join Memory found = refl
-    join (InitialTwice j) found = absurd (twice j found)
-      where
-        twice : (j : ℕ) → IsFirstTwice initial j → ⊥
-        twice j (distinct, (v, here, earlier)) =
-            let inside = slice_get_within initial j v here in
-            let long = length-take-le j initial (omega arith) in
-            let low : earlier.0 < j = omega (arith, earlier.1) in
-            initial_distinct initial events complete earlier.0 j v low inside
-            (sym (get_or-take j initial earlier.0 v low) ∙ earlier.2 ∙ sym (get_or_from_slice_get initial j v v here))
+    join (InitialTwice j) found = absurd (twice_not_distinct initial j (initial_distinct initial events complete) found)
+
+-- what is told of a result, and of what it is where it is one
+pub both_told : {T E : Type 0} (P : T → Type 0) (Q : E → Type 0) (C : Type 0) (result : Result T E) → MatchResult result P Q → IfOk result (λ _. C)
+    → MatchResult result (λ made. P made × C) Q
+both_told P Q C (Ok made) told complete = (told, complete)
+both_told P Q C (Err fault) told complete = told
 
 -- ---- no initial values
 

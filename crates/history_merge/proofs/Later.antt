@@ -34,7 +34,8 @@ map_map f g [] = refl
 map_map f g (x ∷ xs) = ap (λ zs. g (f x) ∷ zs) (map_map f g xs)
 
 all_back : (n : ℕ) (operations : List Operation) → map (earlier_by n) (map (later_by n) operations) ≡ operations
-all_back n operations = map_map (later_by n) (earlier_by n) operations ∙ map_fixed (λ o. earlier_by n (later_by n o)) operations (λ k d below. there_and_back n _)
+all_back n operations =
+    map_map (later_by n) (earlier_by n) operations ∙ map_fixed (λ o. earlier_by n (later_by n o)) operations (λ k d below. there_and_back n _)
 
 pub later_injective : (n : ℕ) (xs ys : List Operation) → map (later_by n) xs ≡ map (later_by n) ys → xs ≡ ys
 later_injective n xs ys same = sym (all_back n xs) ∙ ap (map (earlier_by n)) same ∙ all_back n ys

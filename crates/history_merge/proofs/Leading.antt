@@ -1,5 +1,5 @@
 -- Enqueues that precede all other operations stand first in each legal order.
-use Rattle.std.proofs.Common.{◌≡◌, ℕ, zero, suc, List, [], ◌∷◌, ◌++◌, refl, sym, ◌∙◌, ap, subst, inl, inr, arith}
+use Rattle.std.proofs.Common.{◌≡◌, ℕ, zero, suc, ◌<◌, List, [], ◌∷◌, ◌++◌, get_or, refl, sym, ◌∙◌, ap, subst, inl, inr, arith}
 use Rattle.std.specs.Prelude.{All, Contains, IsPermutation, map, ⊤}
 use Rattle.std.proofs.lemmas.List.{append-nil, append_assoc}
 use Rattle.std.proofs.lemmas.List.Elements.{All-contains}
@@ -55,6 +55,13 @@ first_put queue v x others rest kind none legal = record {
       (All-permutation (λ o. ¬ (Precedes o x)) others rest legal.holds_each_once none) legal.extends_precedence;
   is_accepted = subst (λ k. IsAccepted queue (k ∷ map (λ o. o.kind) rest)) (sym kind) legal.is_accepted;
 }
+
+-- where calls come before returns, an operation that precedes others isn't preceded by one of them
+pub none_precedes : (x : Operation) (others : List Operation) → x.call < x.ret → All (λ o. o.call < o.ret) others → All (Precedes x) others
+    → All (λ o. ¬ (Precedes o x)) others
+none_precedes x others called called_all first k d below precedes =
+    let own = called_all k d below in
+    let later : x.ret < (get_or others k d).call = first k d below in omega (arith, called, own, later, precedes)
 
 -- each of the first operations precedes all later ones and the others, and none of these precedes it
 abbrev pub LeadAll : List Operation → List Operation → Type 0

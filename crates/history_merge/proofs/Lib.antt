@@ -6,7 +6,7 @@
 -- FirstFaults, ExactFaults: a list of events is a complete history exactly where it has no fault.
 -- Formed, MetFaults: what the builder holds after each event, and at the end: the operations, or the first fault.
 -- OneFault: a list of events has one first fault.
--- InitialValues, InitialFaults: the same of a queue that holds some values first.
+-- InitialValues, InitialFaults, OneFaultFrom: the same of a queue that holds some values first.
 -- Cancelling, Leading: enqueues that precede all other operations stand first in each legal order.
 -- Later, Filled, Enqueued: a history whose initial values are enqueued before all else is complete, and has the same legal orders.
 -- Runs, Places: what a run of the sequential queue enqueued and dequeued, and where.
@@ -33,3 +33,4 @@ pub mod Leading
 pub mod Later
 pub mod Filled
 pub mod Enqueued
+pub mod OneFaultFrom

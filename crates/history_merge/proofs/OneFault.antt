@@ -50,7 +50,7 @@ one_place events i j f g at_f at_g = elim (cases_order i j) [
 ]
 
 -- there is one least ticket
-one_least : (events : List Event) (t u : ℕ) → IsLeastPending events t → IsLeastPending events u → t ≡ u
+pub one_least : (events : List Event) (t u : ℕ) → IsLeastPending events t → IsLeastPending events u → t ≡ u
 one_least events t u least_t least_u =
     let a = least_t.0 in
     let b = least_u.0 in

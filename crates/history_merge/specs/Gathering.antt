@@ -1,5 +1,6 @@
 -- What a history in the making keeps of its events, and of what its queue holds first.
-use Rattle.std.specs.Prelude.{◌≡◌, ℕ, ◌+◌, ◌<◌, ◌≤◌, ◌/◌, ◌%◌, ◌⊎◌, true, false, List, [], length, MatchOption, MatchResult, ⊤, option_map, slice_get, slice_index_or, Option, Some, Result}
+use Rattle.std.specs.Prelude.{◌≡◌, ℕ, ◌+◌, ◌<◌, ◌≤◌, ◌/◌, ◌%◌, ◌⊎◌, true, false, List, [], length, MatchOption, MatchResult, ⊤}
+use Rattle.std.specs.Prelude.{option_map, slice_get, slice_index_or, Option, Some, Result}
 use Rattle.std.specs.Ordering.{nat_cmp}
 use Rattle.std.specs.BTreeSet.{contains}
 use Rattle.event_records.specs.declared.event.Event.{Event}

@@ -1,4 +1,5 @@
-ghost use Rattle.history_merge.specs.Laws.{CompleteFromNone, FilledAreComplete, FilledIsComplete, FilledOperations, FilledOrders, FilledOrdersAreAll, FilledWithNone, FirstFaultFromNone, LinearizableFromExactly};
+ghost use Rattle.history_merge.specs.Laws.{CompleteFromNone, FilledAreComplete, FilledIsComplete, FilledOperations, FilledWithNone};
+ghost use Rattle.history_merge.specs.Laws.{FilledOrders, FilledOrdersAreAll, FirstFaultFromNone, LinearizableFromExactly};
 
 /// A history that starts with some values is a complete history itself, where these are enqueued alone, one after another, before
 /// all events. The laws are the contract; the body is empty.

@@ -3,11 +3,12 @@ ghost use Rattle.std.specs.Prelude.{◌≡◌, ◌<◌, true, false, ℕ, List, 
 ghost use Rattle.event_records.specs.declared.event.Event.{Event};
 ghost use Rattle.event_records.specs.declared.limits.TheConstants.{MAX_EVENTS};
 ghost use Rattle.history_merge.specs.declared.fault.HistoryFault.TheVariants.{DuplicateValue};
-ghost use Rattle.history_merge.specs.Complete.{AreDistinct};
-ghost use Rattle.history_merge.specs.Faults.{IsFirstFaultFrom};
-ghost use Rattle.history_merge.specs.Gathering.{AreJudged, HasGatheredFrom, HasRefusedInitial, TellsFirstCall};
+ghost use Rattle.history_merge.specs.Complete.{IsCompleteHistory};
+ghost use Rattle.history_merge.specs.Faults.{IsFirstFault, IsFirstFaultFrom};
+ghost use Rattle.history_merge.specs.Gathering.{AreJudged, HasGatheredFrom};
 ghost use Rattle.history_merge.specs.Initial.{IsCompleteFrom};
 ghost use Rattle.history_merge.specs.Inner.Faults.{comes_by};
+ghost use Rattle.history_merge.specs.Inner.Initial.{TellsCalls};
 ghost use Rattle.history_merge.specs.Operations.{operations_of};
 
 use crate::builder::HistoryBuilder;
@@ -71,7 +72,8 @@ impl PreloadedBuilder {
     /// faulty event decides, as in [`HistoryBuilder::finish`]; a call with an initial value has the fault `DuplicateValue`.
     pub fn finish(self) -> Result<HistoryParts, HistoryFault>
         ensures outcome { (initial : List ℕ) (events : List Event) → HasGatheredFrom initial events self
-            → MatchResult result (λ whole. (whole.initial.items ≡ initial) × (whole.operations.items ≡ operations_of events)) (IsFirstFaultFrom initial events) }
+            → MatchResult result (λ whole. (whole.initial.items ≡ initial) × (whole.operations.items ≡ operations_of events))
+            (IsFirstFaultFrom initial events) }
         ensures complete { (initial : List ℕ) (events : List Event) → HasGatheredFrom initial events self → IfOk result (λ _. IsCompleteFrom initial events) }
         ensures refused { (initial : List ℕ) (events : List Event) → HasGatheredFrom initial events self
             → IfErr result (λ fault. IsCompleteFrom initial events → fault ≡ HistoryFault.Memory) }
@@ -81,15 +83,11 @@ impl PreloadedBuilder {
             calls,
             events,
         } = self;
-        let first_call = first_call(calls)?;
-        let judged = events.finish();
-        match first_call {
-            Some(place) => Err(fault_by(judged, place)),
-            None => Ok(HistoryParts {
-                initial,
-                operations: judged?,
-            }),
-        }
+        let operations = decided(first_call(calls), events.finish())?;
+        Ok(HistoryParts {
+            initial,
+            operations,
+        })
     }
 }
 
@@ -104,16 +102,31 @@ fn judged(alloc: Global, initial: &[u64]) -> Result<Option<InitialCalls>, Histor
     Ok(Some(InitialCalls::new(values)))
 }
 
-/// The place of the first call with an initial value, where these are distinct.
+/// The place of the first call with an initial value, where these are distinct; else their fault.
 fn first_call(
     calls: Result<Option<InitialCalls>, HistoryFault>,
 ) -> Result<Option<usize>, HistoryFault>
-    ensures { (initial : List ℕ) (events : List Event) → AreJudged initial events calls
-        → MatchResult result (λ first. AreDistinct initial × TellsFirstCall initial events first) (HasRefusedInitial initial) }
+    ensures { (initial : List ℕ) (events : List Event) → AreJudged initial events calls → TellsCalls initial events result }
 {
     match calls? {
         Some(calls) => Ok(calls.first()),
         None => Ok(None),
+    }
+}
+
+/// The operations, or the first fault of all: that of the initial values, else what the events have by the first call with an
+/// initial value, else that call's.
+fn decided(
+    first_call: Result<Option<usize>, HistoryFault>,
+    judged: Result<Vec<Operation>, HistoryFault>,
+) -> Result<Vec<Operation>, HistoryFault>
+    ensures { (initial : List ℕ) (events : List Event) → TellsCalls initial events first_call
+        → MatchResult judged (λ operations. (operations.items ≡ operations_of events) × IsCompleteHistory events) (IsFirstFault events)
+        → MatchResult result (λ operations. (operations.items ≡ operations_of events) × IsCompleteFrom initial events) (IsFirstFaultFrom initial events) }
+{
+    match first_call? {
+        Some(place) => Err(fault_by(judged, place)),
+        None => judged,
     }
 }
 

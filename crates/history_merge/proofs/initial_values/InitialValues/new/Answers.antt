@@ -11,7 +11,8 @@ returns-then-not-branch-clause-outcome c =
     let i = c.loop-place.place in
     let values = c.args.initial.now in
     let known = c.in_ok-add.ensures (take i values) c.loop-place.invariant.0 in
-    twice_at values i (get_or values i 0) (slice_get-get_or values i 0 c.loop-place-test.true) c.loop-place.invariant.1 (sym known.0 ∙ ap not c.if-not-branch.true)
+    twice_at values i (get_or values i 0) (slice_get-get_or values i 0 c.loop-place-test.true) c.loop-place.invariant.1
+    (sym known.0 ∙ ap not c.if-not-branch.true)
 
 pub loop-place-preserved : goal.loop-place-preserved
 loop-place-preserved c =
