@@ -1,44 +1,60 @@
 -- From the fault of a list of events, or of an input, to what is answered of it.
-use Rattle.std.proofs.Common.{◌≡◌, ◌≤◌, ◌⊎◌, List, length, arith, Option, Some, None, IfSome, inl, inr, refl}
-use Rattle.event_records.specs.declared.event.Event.{Event}
+use Rattle.std.proofs.Common.{◌≡◌, ℕ, ◌≤◌, ◌⊎◌, List, length, arith, Option, Some, None, IfSome, inl, inr, refl}
 use Rattle.history_merge.specs.declared.fault.HistoryFault.{HistoryFault}
 use Rattle.history_merge.specs.declared.fault.HistoryFault.TheVariants.{TicketOrder, BadThread, CallWhilePending, ReturnWithoutCall, WrongReturn}
-use Rattle.history_merge.specs.declared.fault.HistoryFault.TheVariants.{DuplicateValue, Pending, Memory}
-use Rattle.history_merge.specs.Faults.{IsFirstFault}
-use Rattle.history_merge.specs.declared.operation.Operation.{Operation}
+use Rattle.history_merge.specs.declared.fault.HistoryFault.TheVariants.{DuplicateValue, Pending, Memory, InitialTwice}
+use Rattle.history_merge.specs.declared.preloaded.HistoryParts.{HistoryParts}
+use Rattle.history_merge.specs.Faults.{IsFirstFaultFrom}
+use Rattle.history_merge.specs.Initial.{HistoryView, IsCompleteFrom}
 use Rattle.history_merge.specs.Operations.{operations_of}
-use Rattle.history_merge.proofs.Completeness.{few_operations}
-use Rattle.event_records.specs.declared.limits.TheConstants.{MAX_EVENTS}
+use Rattle.event_records.specs.declared.limits.TheConstants.{MAX_INITIAL}
+use Rattle.history_text.specs.declared.version.HistoryText.{HistoryText}
+use Rattle.history_text.specs.declared.version.Version.{Version}
+use Rattle.history_text.specs.declared.version.Version.TheVariants.{One, Two}
+use Rattle.history_text.specs.Versions.{HasText, HaveValueLines}
+use Rattle.verdicts.specs.Verdicts.{HasOperationsFrom}
+use Rattle.verdicts.proofs.DecidedFrom.{history_has}
 use Rattle.commands.specs.Answers.{Answer, memory_fault, answer_of_history_fault}
 use Rattle.text_lines.specs.declared.fault.TextFault.{TextFault}
 use Rattle.text_lines.specs.Input.{Ahead}
-use Rattle.commands.specs.Judging.{IsFaulty, AnswersFor}
+use Rattle.commands.specs.Judging.{IsFaulty, AnswersFor, said_by}
 
 -- the first fault is answered, and want of memory as such
-pub fault_found : (events : List Event) (fault : HistoryFault) → IsFirstFault events fault
-    → IsFaulty events (answer_of_history_fault fault) ⊎ (answer_of_history_fault fault ≡ memory_fault)
-fault_found events Memory first = inr refl
-fault_found events (TicketOrder i) first = inl (record { fault = TicketOrder i; first = first; known = (λ e. absurd (cc e)); is = refl })
-fault_found events (BadThread i) first = inl (record { fault = BadThread i; first = first; known = (λ e. absurd (cc e)); is = refl })
-fault_found events (CallWhilePending i) first = inl (record { fault = CallWhilePending i; first = first; known = (λ e. absurd (cc e)); is = refl })
-fault_found events (ReturnWithoutCall i) first = inl (record { fault = ReturnWithoutCall i; first = first; known = (λ e. absurd (cc e)); is = refl })
-fault_found events (WrongReturn i) first = inl (record { fault = WrongReturn i; first = first; known = (λ e. absurd (cc e)); is = refl })
-fault_found events (DuplicateValue i) first = inl (record { fault = DuplicateValue i; first = first; known = (λ e. absurd (cc e)); is = refl })
-fault_found events (Pending ticket) first = inl (record { fault = Pending ticket; first = first; known = (λ e. absurd (cc e)); is = refl })
+pub fault_found : (history : HistoryView) (fault : HistoryFault) → IsFirstFaultFrom history.initial history.events fault
+    → IsFaulty history (answer_of_history_fault fault) ⊎ (answer_of_history_fault fault ≡ memory_fault)
+fault_found history Memory first = inr refl
+fault_found history (TicketOrder i) first = inl (record { fault = TicketOrder i; first = first; known = (λ e. absurd (cc e)); is = refl })
+fault_found history (BadThread i) first = inl (record { fault = BadThread i; first = first; known = (λ e. absurd (cc e)); is = refl })
+fault_found history (CallWhilePending i) first = inl (record { fault = CallWhilePending i; first = first; known = (λ e. absurd (cc e)); is = refl })
+fault_found history (ReturnWithoutCall i) first = inl (record { fault = ReturnWithoutCall i; first = first; known = (λ e. absurd (cc e)); is = refl })
+fault_found history (WrongReturn i) first = inl (record { fault = WrongReturn i; first = first; known = (λ e. absurd (cc e)); is = refl })
+fault_found history (DuplicateValue i) first = inl (record { fault = DuplicateValue i; first = first; known = (λ e. absurd (cc e)); is = refl })
+fault_found history (Pending ticket) first = inl (record { fault = Pending ticket; first = first; known = (λ e. absurd (cc e)); is = refl })
+fault_found history (InitialTwice j) first = inl (record { fault = InitialTwice j; first = first; known = (λ e. absurd (cc e)); is = refl })
 
 -- and so, where something else may be answered too
-pub fault_or : {P : Type 0} (events : List Event) (fault : HistoryFault) → IsFirstFault events fault
-    → (IsFaulty events (answer_of_history_fault fault) ⊎ P) ⊎ (answer_of_history_fault fault ≡ memory_fault)
-fault_or events fault first =
-    elim (fault_found events fault first) [
+pub fault_or : {P : Type 0} (history : HistoryView) (fault : HistoryFault) → IsFirstFaultFrom history.initial history.events fault
+    → (IsFaulty history (answer_of_history_fault fault) ⊎ P) ⊎ (answer_of_history_fault fault ≡ memory_fault)
+fault_or history fault first =
+    elim (fault_found history fault first) [
       | inl faulty ↦ inl (inl faulty)
       | inr memory ↦ inr memory
     ]
 
--- the operations of a text's events are few
-pub few_gathered : (events : List Event) (operations : List Operation) → length events ≤ MAX_EVENTS → operations ≡ operations_of events
-    → length operations ≤ MAX_EVENTS
-few_gathered events operations few same = rw same (omega (arith, few, few_operations events))
+few_of_version : (version : Version) (initial : List ℕ) → HaveValueLines version initial → length initial ≤ MAX_INITIAL
+few_of_version One initial none = rw none (omega arith)
+few_of_version Two initial have = have.few
+
+-- a text has no more initial values than a history may have
+pub few_values : (text : HistoryText) → HasText text → length text.initial ≤ MAX_INITIAL
+few_values text has = few_of_version text.version text.initial has.initial
+
+-- what was gathered from a text are the operations of a history
+pub gathered_has : (text : HistoryText) (parts : HistoryParts) → HasText text → IsCompleteFrom text.initial text.events
+    → (parts.initial.items ≡ text.initial) × (parts.operations.items ≡ operations_of text.events)
+    → HasOperationsFrom parts.initial.items parts.operations.items
+gathered_has text parts has complete same =
+    history_has (said_by text) parts.initial.items parts.operations.items same.0 same.1 complete (few_values text has) has.events.few
 
 -- ---- from what is answered of a value to what is answered of an input
 

@@ -1,34 +1,34 @@
 -- From the faults of calls on the reader to the fault of the input.
 use Rattle.std.proofs.Common.{◌≡◌, ℕ, ◌+◌, List, ◌++◌, length, ◌⊎◌, Option, Some, None, inl, inr, ap, sym, ◌∙◌, refl, append-nil, IfSome, subst}
-use Rattle.event_records.specs.declared.event.Event.{Event}
+use Rattle.history_text.specs.declared.version.HistoryText.{HistoryText}
 use Rattle.text_lines.specs.declared.fault.TextFault.{TextFault}
 use Rattle.text_lines.specs.declared.fault.TextFault.TheVariants.{Read, Header, Line, Number, Limit, Count, Cut, Trailing, Memory}
 use Rattle.text_lines.proofs.MemoryOrNot.{follows}
-use Rattle.history_text.specs.Histories.{history_text, HasHistoryText, IsHistoryTextFault, NoRoomFor}
+use Rattle.history_text.specs.Versions.{text_of, line_count, HasText, IsTextFault, NoRoomForText}
 use Rattle.history_text.specs.Claims.{IsVerdictTextFault, NoRoomForVerdict}
 use Rattle.text_lines.specs.Input.{Ahead, Ending, Takes}
-use Rattle.history_text.specs.Reading.{HasFirstFault, HasEndFault, HasHistoryTextFault, HasVerdictTextFault}
+use Rattle.history_text.specs.Reading.{HasFirstFault, HasEndFault, HasTextFault, HasVerdictTextFault}
 use Rattle.commands.specs.Inputs.{IsFaultOfOneText, IsFaultAfter, AfterHistory, IsFaultOfClaimInput}
 
 -- ---- one text
 
-module _ {A : Type 0} (HasText : A → Type 0) (text_of : A → List ℕ) (IsTextFault : Ending → List ℕ → TextFault → Type 0) (LacksRoom : List ℕ → Type 0) where
+module _ {A : Type 0} (Has : A → Type 0) (said : A → List ℕ) (IsFirst : Ending → List ℕ → TextFault → Type 0) (LacksRoom : List ℕ → Type 0) where
   -- a fault of the text
-  pub text_fault : (input : Option Ahead) (fault : TextFault) → HasFirstFault IsTextFault LacksRoom input fault
-      → IfSome input (λ a. IsFaultOfOneText HasText text_of IsTextFault LacksRoom a fault)
+  pub text_fault : (input : Option Ahead) (fault : TextFault) → HasFirstFault IsFirst LacksRoom input fault
+      → IfSome input (λ a. IsFaultOfOneText Has said IsFirst LacksRoom a fault)
   text_fault None fault h = tt
   text_fault (Some a) fault h =
-      follows (LacksRoom a.bytes) (LacksRoom a.bytes) (IsTextFault a.ending a.bytes)
-      (λ f. IsTextFault a.ending a.bytes f ⊎ ((value : A) × HasText value × IsFaultAfter (text_of value) a f))
+      follows (LacksRoom a.bytes) (LacksRoom a.bytes) (IsFirst a.ending a.bytes)
+      (λ f. IsFirst a.ending a.bytes f ⊎ ((value : A) × Has value × IsFaultAfter (said value) a f))
       fault (λ room. room) (λ f is. inl is) h
 
   -- a fault of what comes after the text
-  pub end_fault : (input left : Option Ahead) (value : A) (fault : TextFault) → HasText value → Takes input left (text_of value)
-      → HasEndFault left fault → IfSome input (λ a. IsFaultOfOneText HasText text_of IsTextFault LacksRoom a fault)
+  pub end_fault : (input left : Option Ahead) (value : A) (fault : TextFault) → Has value → Takes input left (said value)
+      → HasEndFault left fault → IfSome input (λ a. IsFaultOfOneText Has said IsFirst LacksRoom a fault)
   end_fault None left value fault text taken h = tt
   end_fault (Some a) None value fault text taken h = absurd taken
   end_fault (Some a) (Some b) value Trailing text taken h =
-      inr (value, text, inl (refl, record { byte = h.0; more = h.1; bytes = taken.0 ∙ ap (λ (r : List ℕ). text_of value ++ r) h.2 }))
+      inr (value, text, inl (refl, record { byte = h.0; more = h.1; bytes = taken.0 ∙ ap (λ (r : List ℕ). said value ++ r) h.2 }))
   end_fault (Some a) (Some b) value Read text taken h =
       inr (
         value,
@@ -36,7 +36,7 @@ module _ {A : Type 0} (HasText : A → Type 0) (text_of : A → List ℕ) (IsTex
         inr (
           refl,
           record {
-            bytes = taken.0 ∙ ap (λ (r : List ℕ). text_of value ++ r) h.0 ∙ append-nil (text_of value);
+            bytes = taken.0 ∙ ap (λ (r : List ℕ). said value ++ r) h.0 ∙ append-nil (said value);
             ending =
                 sym taken.1 ∙ h.1;
           },
@@ -54,32 +54,32 @@ module _ {A : Type 0} (HasText : A → Type 0) (text_of : A → List ℕ) (IsTex
 
 -- the fault of a claim's input, want of memory aside
 abbrev IsClaimFault : Ahead → TextFault → Type 0
-IsClaimFault a fault = IsHistoryTextFault 0 a.ending a.bytes fault ⊎ AfterHistory (λ lines rest. IsVerdictTextFault lines a.ending rest fault) a.bytes
+IsClaimFault a fault = IsTextFault 0 a.ending a.bytes fault ⊎ AfterHistory (λ lines rest. IsVerdictTextFault lines a.ending rest fault) a.bytes
 
 -- there was no room for what it says
 abbrev LacksRoomForClaim : Ahead → Type 0
-LacksRoomForClaim a = NoRoomFor a.bytes ⊎ AfterHistory (λ lines rest. NoRoomForVerdict rest) a.bytes
+LacksRoomForClaim a = NoRoomForText a.bytes ⊎ AfterHistory (λ lines rest. NoRoomForVerdict rest) a.bytes
 
 -- a fault of the history's text
-pub history_fault : (input : Option Ahead) (fault : TextFault) → HasHistoryTextFault 0 input fault → IfSome input (λ a. IsFaultOfClaimInput a fault)
+pub history_fault : (input : Option Ahead) (fault : TextFault) → HasTextFault 0 input fault → IfSome input (λ a. IsFaultOfClaimInput a fault)
 history_fault None fault h = tt
 history_fault (Some a) fault h =
-    follows (NoRoomFor a.bytes) (LacksRoomForClaim a) (IsHistoryTextFault 0 a.ending a.bytes) (IsClaimFault a) fault (λ room. inl room) (λ f is. inl is) h
+    follows (NoRoomForText a.bytes) (LacksRoomForClaim a) (IsTextFault 0 a.ending a.bytes) (IsClaimFault a) fault (λ room. inl room) (λ f is. inl is) h
 
 -- the same fault, in the words of the whole input
-later : (events : List Event) (a b : Ahead) (lines : ℕ) (fault : TextFault) → b.ending ≡ a.ending → lines ≡ length events + 2
-    → IsVerdictTextFault lines b.ending b.bytes fault → IsVerdictTextFault (length events + 2) a.ending b.bytes fault
-later events a b lines fault same is h = subst (λ (n : ℕ). IsVerdictTextFault n a.ending b.bytes fault) is
+later : (text : HistoryText) (a b : Ahead) (lines : ℕ) (fault : TextFault) → b.ending ≡ a.ending → lines ≡ line_count text
+    → IsVerdictTextFault lines b.ending b.bytes fault → IsVerdictTextFault (line_count text) a.ending b.bytes fault
+later text a b lines fault same is h = subst (λ (n : ℕ). IsVerdictTextFault n a.ending b.bytes fault) is
     (subst (λ (e : Ending). IsVerdictTextFault lines e b.bytes fault) same h)
 
 -- a fault of the verdict's text, after the history's
-pub verdict_fault : (input left : Option Ahead) (events : List Event) (lines : ℕ) (fault : TextFault) → HasHistoryText events
-    → Takes input left (history_text events) → lines ≡ length events + 2 → HasVerdictTextFault lines left fault
+pub verdict_fault : (input left : Option Ahead) (text : HistoryText) (lines : ℕ) (fault : TextFault) → HasText text
+    → Takes input left (text_of text) → lines ≡ line_count text → HasVerdictTextFault lines left fault
     → IfSome input (λ a. IsFaultOfClaimInput a fault)
-verdict_fault None left events lines fault text taken is h = tt
-verdict_fault (Some a) None events lines fault text taken is h = absurd taken
-verdict_fault (Some a) (Some b) events lines fault text taken is h =
+verdict_fault None left text lines fault has taken is h = tt
+verdict_fault (Some a) None text lines fault has taken is h = absurd taken
+verdict_fault (Some a) (Some b) text lines fault has taken is h =
     follows (NoRoomForVerdict b.bytes) (LacksRoomForClaim a) (IsVerdictTextFault lines b.ending b.bytes) (IsClaimFault a) fault
-    (λ room. inr (record { events = events; rest = b.bytes; history = text; front = taken.0; after = room }))
-    (λ f first. inr (record { events = events; rest = b.bytes; history = text; front = taken.0; after = later events a b lines f taken.1 is first }))
+    (λ room. inr (record { text = text; rest = b.bytes; history = has; front = taken.0; after = room }))
+    (λ f first. inr (record { text = text; rest = b.bytes; history = has; front = taken.0; after = later text a b lines f taken.1 is first }))
     h

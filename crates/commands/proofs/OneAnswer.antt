@@ -6,8 +6,10 @@ use Rattle.event_records.specs.declared.event.Event.{Event}
 use Rattle.history_merge.specs.Complete.{IsCompleteHistory}
 use Rattle.history_merge.specs.Merge.{IsMerged}
 use Rattle.history_merge.specs.Operations.{operations_of}
-use Rattle.history_merge.proofs.ExactFaults.{complete_has_no_fault}
-use Rattle.history_merge.proofs.OneFault.{one_first_fault}
+use Rattle.history_merge.specs.Initial.{HistoryView, IsCompleteFrom}
+use Rattle.history_merge.proofs.Completeness.{operations_are_complete}
+use Rattle.history_merge.proofs.InitialFaults.{complete_from_has_no_fault, complete_from_nothing}
+use Rattle.history_merge.proofs.OneFaultFrom.{one_first_fault_from}
 use Rattle.recorder_core.specs.Setting.{Setting}
 use Rattle.recorder_core.specs.Laws.{collected_lists}
 use Rattle.simulation.specs.Simulations.{rejections, schedule_of}
@@ -20,20 +22,23 @@ use Rattle.verdicts.specs.Selection.{KeepsViolation, StaysChosen}
 use Rattle.text_lines.specs.declared.fault.TextFault.{TextFault}
 use Rattle.text_lines.specs.declared.fault.TextFault.TheVariants as text
 use Rattle.history_text.specs.declared.schedule.Schedule.{Schedule}
-use Rattle.history_text.specs.Histories.{history_text, HasHistoryText, IsHistoryTextFault, NoRoomFor}
+use Rattle.history_text.specs.declared.version.HistoryText.{HistoryText}
+use Rattle.history_text.specs.Versions.{text_of, HasText, IsTextFault, NoRoomForText}
 use Rattle.history_text.specs.Schedules.{schedule_text, HasScheduleText, IsScheduleTextFault, NoRoomForSchedule}
 use Rattle.text_lines.specs.Input.{Ahead}
 use Rattle.text_lines.proofs.MemoryOrNot.{is_memory}
-use Rattle.history_text.proofs.OneText as histories
+use Rattle.history_text.proofs.OneHistory as histories
 use Rattle.history_text.proofs.OneSchedule as schedules
 use Rattle.command_words.specs.declared.options.PictureForm.{PictureForm}
 use Rattle.command_words.specs.Commands.{check, shrink, verify, draw, sim}
-use Rattle.commands.specs.Answers.{Answer, judged, shown, played, verified, memory_fault, answer_of_text_fault, answer_of_history_fault}
-use Rattle.commands.specs.Inputs.{ClaimOnEvents, IsHistoryOf, IsFaultOfHistoryInput, IsScheduleOf, IsFaultOfScheduleInput, IsClaimOf, IsFaultOfClaimInput}
-use Rattle.commands.specs.Judging.{IsVerdictClaim, IsFaulty, IsJudged, IsShrunk, Judges, Shrinks, Verifies, Draws, Simulates, AnswersFor}
+use Rattle.commands.specs.Answers.{Answer, judged, shown, played, verified, drawn, memory_fault, answer_of_text_fault, answer_of_history_fault}
+use Rattle.commands.specs.Inputs.{ClaimOnText, IsHistoryOf, IsFaultOfHistoryInput, IsScheduleOf, IsFaultOfScheduleInput, IsClaimOf, IsFaultOfClaimInput}
+use Rattle.commands.specs.Judging.{IsVerdictClaim, IsFaulty, IsJudged, IsShrunk, IsSound, Judges, Shrinks, ShrinksFromNone, Verifies, Draws, Simulates, AnswersFor}
+use Rattle.commands.specs.Judging.{IsTooLarge, IsRefuted, IsDrawn, from_none, picture_in, said_by}
 use Rattle.commands.specs.Judging.{AnswersOrNoMemory, IsOfFault}
 use Rattle.commands.specs.OneAnswer.{SameOrNoMemory, HasOneAnswer}
 use Rattle.commands.proofs.OneInput.{one_value, only_memory, one_known_fault, one_claim, only_memory_of_claim, one_known_fault_of_claim}
+use Rattle.commands.proofs.Findings.{few_values}
 use Rattle.commands.proofs.ShrunkTexts.{one_verdict_claim}
 
 -- ---- from what is answered of values and faults to what is answered of inputs
@@ -74,52 +79,70 @@ module _ {A : Type 0} (IsInputOf : Ahead → A → Type 0) (IsFaultOf : Ahead �
   of_input input a b (inr x) (inl y) = inr (inl (of_value_and_fault input a x y.value y.input_of))
   of_input input a b (inr x) (inr y) = of_faults input a b x y
 
--- ---- events
+-- ---- histories
 
-not_both : (events : List Event) (answer : Answer) → IsFaulty events answer → IsCompleteHistory events → ⊥
-not_both events answer faulty complete = faulty.known (complete_has_no_fault events faulty.fault faulty.first complete)
+not_both : (history : HistoryView) (answer : Answer) → IsFaulty history answer → IsSound history → ⊥
+not_both history answer faulty complete =
+    faulty.known (complete_from_has_no_fault history.initial history.events faulty.fault faulty.first complete)
 
-one_faulty : (events : List Event) (a b : Answer) → IsFaulty events a → IsFaulty events b → a ≡ b
-one_faulty events a b x y = x.is ∙ ap answer_of_history_fault (one_first_fault events x.fault y.fault x.known y.known x.first y.first) ∙ sym y.is
+one_faulty : (history : HistoryView) (a b : Answer) → IsFaulty history a → IsFaulty history b → a ≡ b
+one_faulty history a b x y = x.is ∙ ap answer_of_history_fault
+    (one_first_fault_from history.initial history.events x.fault y.fault x.known y.known x.first y.first) ∙ sym y.is
 
-one_judged : (events : List Event) (a b : Answer) → IsJudged events a → IsJudged events b → a ≡ b
-one_judged events a b x y = x.is ∙ ap (λ c. judged c) (one_verdict_claim events x.claimed y.claimed x.complete x.right y.right) ∙ sym y.is
+one_judged : (text : HistoryText) (a b : Answer) → HasText text → IsJudged (said_by text) a → IsJudged (said_by text) b → a ≡ b
+one_judged text a b has x y = x.is ∙ ap (λ c. judged c)
+    (one_verdict_claim (said_by text) x.claimed y.claimed x.complete (few_values text has) x.right y.right) ∙ sym y.is
 
-one_judgement : (events : List Event) (a b : Answer) → Judges events a → Judges events b → a ≡ b
-one_judgement events a b (inl x) (inl y) = one_faulty events a b x y
-one_judgement events a b (inl x) (inr y) = absurd (not_both events a x y.complete)
-one_judgement events a b (inr x) (inl y) = absurd (not_both events b y x.complete)
-one_judgement events a b (inr x) (inr y) = one_judged events a b x y
+one_judgement : (text : HistoryText) (a b : Answer) → HasText text → Judges text a → Judges text b → a ≡ b
+one_judgement text a b has (inl x) (inl y) = one_faulty (said_by text) a b x y
+one_judgement text a b has (inl x) (inr y) = absurd (not_both (said_by text) a x y.complete)
+one_judgement text a b has (inr x) (inl y) = absurd (not_both (said_by text) b y x.complete)
+one_judgement text a b has (inr x) (inr y) = one_judged text a b has x y
 
 -- ---- what is shrunk
 
-one_small : (events : List Event) (a b : Answer) (x : IsShrunk events a) (y : IsShrunk events b) → x.small ≡ y.small
-one_small events a b x y =
-    let operations = operations_of events in
-    let violations = chosen_violation_is_one operations y.violation x.violation (events, x.complete, refl) y.chosen x.chosen in
+-- a complete history of a queue that is empty first
+from_nothing : (events : List Event) → IsCompleteHistory events → IsCompleteFrom [] events
+from_nothing events complete = (complete_from_nothing events).1 complete
+
+one_small : (text : HistoryText) (a b : Answer) (x : IsShrunk text a) (y : IsShrunk text b) → x.small ≡ y.small
+one_small text a b x y =
+    let operations = operations_of text.events in
+    let violations = chosen_violation_is_one operations y.violation x.violation (operations_are_complete text.events x.complete) y.chosen x.chosen in
     let kept = subst (λ v. KeepsViolation operations v (operations_of y.small)) violations y.kept in
     let same = subst (λ v. StaysChosen operations v (operations_of y.small)) violations y.same in
-    let selected = selection_is_one operations (operations_of x.small) (operations_of y.small) x.violation (x.small, x.small_is_complete, refl)
-    (y.small, y.small_is_complete, refl) x.kept kept x.same same x.minimal y.minimal in
-    part_is_one events x.small y.small x.complete x.part y.part x.small_is_complete y.small_is_complete selected
+    let selected = selection_is_one operations (operations_of x.small) (operations_of y.small) x.violation (operations_are_complete x.small x.small_is_complete)
+    (operations_are_complete y.small y.small_is_complete) x.kept kept x.same same x.minimal y.minimal in
+    part_is_one text.events x.small y.small x.complete x.part y.part x.small_is_complete y.small_is_complete selected
 
-one_shrunk : (events : List Event) (a b : Answer) → IsShrunk events a → IsShrunk events b → a ≡ b
-one_shrunk events a b x y =
-    let smalls = one_small events a b x y in
-    let moved = subst (λ es. IsVerdictClaim (operations_of es) x.claimed) smalls x.right in
-    let claims = one_verdict_claim y.small x.claimed y.claimed y.small_is_complete moved y.right in
-    x.is ∙ ap (λ es. shown es x.claimed) smalls ∙ ap (λ c. shown y.small c) claims ∙ sym y.is
+one_shrunk : (text : HistoryText) (a b : Answer) → IsShrunk text a → IsShrunk text b → a ≡ b
+one_shrunk text a b x y =
+    let smalls = one_small text a b x y in
+    let moved = subst (λ es. IsVerdictClaim (from_none es) x.claimed) smalls x.right in
+    let claims = one_verdict_claim (from_none y.small) x.claimed y.claimed (from_nothing y.small y.small_is_complete) (omega arith) moved y.right in
+    x.is ∙ ap (λ (es : List Event). shown (record { version = text.version; initial = []; events = es }) x.claimed) smalls
+    ∙ ap (λ c. shown (record { version = text.version; initial = []; events = y.small }) c) claims ∙ sym y.is
 
-one_shrinking : (events : List Event) (a b : Answer) → Shrinks events a → Shrinks events b → a ≡ b
-one_shrinking events a b (inl x) (inl y) = one_faulty events a b x y
-one_shrinking events a b (inl x) (inr (inl y)) = absurd (not_both events a x y.1.complete)
-one_shrinking events a b (inl x) (inr (inr y)) = absurd (not_both events a x y.complete)
-one_shrinking events a b (inr (inl x)) (inl y) = absurd (not_both events b y x.1.complete)
-one_shrinking events a b (inr (inr x)) (inl y) = absurd (not_both events b y x.complete)
-one_shrinking events a b (inr (inl x)) (inr (inl y)) = one_judged events a b x.1 y.1
-one_shrinking events a b (inr (inl x)) (inr (inr y)) = absurd (y.not_linearizable x.0)
-one_shrinking events a b (inr (inr x)) (inr (inl y)) = absurd (x.not_linearizable y.0)
-one_shrinking events a b (inr (inr x)) (inr (inr y)) = one_shrunk events a b x y
+one_shrinking_from_none : (text : HistoryText) (a b : Answer) → HasText text → ShrinksFromNone text a → ShrinksFromNone text b → a ≡ b
+one_shrinking_from_none text a b has (none, inl x) (other, inl y) = one_judged text a b has x.1 y.1
+one_shrinking_from_none text a b has (none, inl x) (other, inr y) = absurd (y.not_linearizable x.0)
+one_shrinking_from_none text a b has (none, inr x) (other, inl y) = absurd (x.not_linearizable y.0)
+one_shrinking_from_none text a b has (none, inr x) (other, inr y) = one_shrunk text a b x y
+
+sound_from_none : (text : HistoryText) (a : Answer) → ShrinksFromNone text a → IsSound (said_by text)
+sound_from_none text a (none, inl x) = x.1.complete
+sound_from_none text a (none, inr x) = subst (λ i. IsCompleteFrom i text.events) (sym none) (from_nothing text.events x.complete)
+
+one_shrinking : (text : HistoryText) (a b : Answer) → HasText text → Shrinks text a → Shrinks text b → a ≡ b
+one_shrinking text a b has (inl x) (inl y) = one_faulty (said_by text) a b x y
+one_shrinking text a b has (inl x) (inr (inl y)) = absurd (not_both (said_by text) a x y.complete)
+one_shrinking text a b has (inl x) (inr (inr y)) = absurd (not_both (said_by text) a x (sound_from_none text b y))
+one_shrinking text a b has (inr (inl x)) (inl y) = absurd (not_both (said_by text) b y x.complete)
+one_shrinking text a b has (inr (inr x)) (inl y) = absurd (not_both (said_by text) b y (sound_from_none text a x))
+one_shrinking text a b has (inr (inl x)) (inr (inl y)) = x.is ∙ sym y.is
+one_shrinking text a b has (inr (inl x)) (inr (inr y)) = absurd (x.some y.0)
+one_shrinking text a b has (inr (inr x)) (inr (inl y)) = absurd (y.some x.0)
+one_shrinking text a b has (inr (inr x)) (inr (inr y)) = one_shrinking_from_none text a b has x y
 
 -- ---- claims
 
@@ -129,32 +152,52 @@ one_truth false false P is_x is_y = refl
 one_truth true false P is_x is_y = sym (is_y.1 (is_x.0 refl))
 one_truth false true P is_x is_y = is_x.1 (is_y.0 refl)
 
-one_verification : (claim : ClaimOnEvents) (a b : Answer) → Verifies claim a → Verifies claim b → a ≡ b
-one_verification claim a b (inl x) (inl y) = one_faulty claim.events a b x y
-one_verification claim a b (inl x) (inr y) = absurd (not_both claim.events a x y.complete)
-one_verification claim a b (inr x) (inl y) = absurd (not_both claim.events b y x.complete)
+one_verification : (claim : ClaimOnText) (a b : Answer) → Verifies claim a → Verifies claim b → a ≡ b
+one_verification claim a b (inl x) (inl y) = one_faulty (said_by claim.text) a b x y
+one_verification claim a b (inl x) (inr y) = absurd (not_both (said_by claim.text) a x y.complete)
+one_verification claim a b (inr x) (inl y) = absurd (not_both (said_by claim.text) b y x.complete)
 one_verification claim a b (inr x) (inr y) =
-    x.is ∙ ap (λ valid. verified valid) (one_truth x.valid y.valid (IsTrueClaim (operations_of claim.events) claim.claimed) x.right y.right) ∙ sym y.is
+    x.is ∙ ap (λ valid. verified valid)
+    (one_truth x.valid y.valid (IsTrueClaim claim.text.initial (operations_of claim.text.events) claim.claimed) x.right y.right) ∙ sym y.is
 
 -- ---- pictures
 
-one_picture : (form : PictureForm) (claim : ClaimOnEvents) (a b : Answer) → Draws form claim a → Draws form claim b → a ≡ b
-one_picture form claim a b (inl x) (inl y) = one_faulty claim.events a b x y
-one_picture form claim a b (inl x) (inr (inl y)) = absurd (not_both claim.events a x y.complete)
-one_picture form claim a b (inl x) (inr (inr (inl y))) = absurd (not_both claim.events a x y.complete)
-one_picture form claim a b (inl x) (inr (inr (inr y))) = absurd (not_both claim.events a x y.complete)
-one_picture form claim a b (inr (inl x)) (inl y) = absurd (not_both claim.events b y x.complete)
-one_picture form claim a b (inr (inr (inl x))) (inl y) = absurd (not_both claim.events b y x.complete)
-one_picture form claim a b (inr (inr (inr x))) (inl y) = absurd (not_both claim.events b y x.complete)
+-- what is answered of a complete history of a queue that is empty first
+abbrev DrawsFromNone : PictureForm → ClaimOnText → Answer → Type 0
+DrawsFromNone form claim answer = IsTooLarge claim answer ⊎ (IsRefuted claim answer ⊎ IsDrawn form claim answer)
+
+drawn_from : (form : PictureForm) (claim : ClaimOnText) (a : Answer) → DrawsFromNone form claim a → IsSound (said_by claim.text) × (claim.text.initial ≡ [])
+drawn_from form claim a (inl x) = (x.complete, x.none)
+drawn_from form claim a (inr (inl x)) = (x.complete, x.none)
+drawn_from form claim a (inr (inr x)) = (x.complete, x.none)
+
+one_drawn : (form : PictureForm) (claim : ClaimOnText) (a b : Answer) → IsDrawn form claim a → IsDrawn form claim b → a ≡ b
+one_drawn form claim a b x y =
+    let same : Some x.drawn_claim ≡ Some y.drawn_claim = sym x.as_drawn ∙ y.as_drawn in
+    let one : x.drawn_claim ≡ y.drawn_claim = cc in
+    x.is ∙ ap (λ c. drawn (picture_in form claim.text.events c)) one ∙ sym y.is
+
+one_picture_from_none : (form : PictureForm) (claim : ClaimOnText) (a b : Answer) → DrawsFromNone form claim a → DrawsFromNone form claim b → a ≡ b
+one_picture_from_none form claim a b (inl x) (inl y) = x.is ∙ sym y.is
+one_picture_from_none form claim a b (inl x) (inr (inl y)) = absurd (x.large y.small)
+one_picture_from_none form claim a b (inl x) (inr (inr y)) = absurd (x.large y.small)
+one_picture_from_none form claim a b (inr (inl x)) (inl y) = absurd (y.large x.small)
+one_picture_from_none form claim a b (inr (inr x)) (inl y) = absurd (y.large x.small)
+one_picture_from_none form claim a b (inr (inl x)) (inr (inl y)) = x.is ∙ sym y.is
+one_picture_from_none form claim a b (inr (inl x)) (inr (inr y)) = absurd (x.untrue y.evidence)
+one_picture_from_none form claim a b (inr (inr x)) (inr (inl y)) = absurd (y.untrue x.evidence)
+one_picture_from_none form claim a b (inr (inr x)) (inr (inr y)) = one_drawn form claim a b x y
+
+one_picture : (form : PictureForm) (claim : ClaimOnText) (a b : Answer) → Draws form claim a → Draws form claim b → a ≡ b
+one_picture form claim a b (inl x) (inl y) = one_faulty (said_by claim.text) a b x y
+one_picture form claim a b (inl x) (inr (inl y)) = absurd (not_both (said_by claim.text) a x y.complete)
+one_picture form claim a b (inl x) (inr (inr y)) = absurd (not_both (said_by claim.text) a x (drawn_from form claim b y).0)
+one_picture form claim a b (inr (inl x)) (inl y) = absurd (not_both (said_by claim.text) b y x.complete)
+one_picture form claim a b (inr (inr x)) (inl y) = absurd (not_both (said_by claim.text) b y (drawn_from form claim a x).0)
 one_picture form claim a b (inr (inl x)) (inr (inl y)) = x.is ∙ sym y.is
-one_picture form claim a b (inr (inl x)) (inr (inr (inl y))) = absurd (x.large y.small)
-one_picture form claim a b (inr (inl x)) (inr (inr (inr y))) = absurd (x.large y.small)
-one_picture form claim a b (inr (inr (inl x))) (inr (inl y)) = absurd (y.large x.small)
-one_picture form claim a b (inr (inr (inr x))) (inr (inl y)) = absurd (y.large x.small)
-one_picture form claim a b (inr (inr (inl x))) (inr (inr (inl y))) = x.is ∙ sym y.is
-one_picture form claim a b (inr (inr (inl x))) (inr (inr (inr y))) = absurd (x.untrue y.evidence)
-one_picture form claim a b (inr (inr (inr x))) (inr (inr (inl y))) = absurd (y.untrue x.evidence)
-one_picture form claim a b (inr (inr (inr x))) (inr (inr (inr y))) = x.is ∙ sym y.is
+one_picture form claim a b (inr (inl x)) (inr (inr y)) = absurd (x.some (drawn_from form claim b y).1)
+one_picture form claim a b (inr (inr x)) (inr (inl y)) = absurd (y.some (drawn_from form claim a x).1)
+one_picture form claim a b (inr (inr x)) (inr (inr y)) = one_picture_from_none form claim a b x y
 
 -- ---- schedules
 
@@ -173,25 +216,39 @@ one_simulation schedule a b (inl x) (inl y) = x.is ∙ sym y.is
 one_simulation schedule a b (inl x) (inr y) = absurd (x.undone y.done)
 one_simulation schedule a b (inr x) (inl y) = absurd (y.undone x.done)
 one_simulation schedule a b (inr x) (inr y) =
-    let setting : Setting = record { threads = schedule.threads; ring = schedule.ring } in
+    let setting : Setting = record { threads = schedule.threads; ring = schedule.ring; initial = [] } in
     let steps = schedule_of schedule.steps in
     let events = one_merged (collected_lists setting steps) x.events y.events x.merged y.merged x.complete y.complete in
-    let moved = subst (λ es. IsVerdictClaim (operations_of es) x.claimed) events x.right in
-    let claims = one_verdict_claim y.events x.claimed y.claimed y.complete moved y.right in
+    let moved = subst (λ es. IsVerdictClaim (from_none es) x.claimed) events x.right in
+    let claims = one_verdict_claim (from_none y.events) x.claimed y.claimed (from_nothing y.events y.complete) (omega arith) moved y.right in
     x.is ∙ ap (λ es. played (rejections setting steps) es x.claimed) events ∙ ap (λ c. played (rejections setting steps) y.events c) claims ∙ sym y.is
 
 -- ---- inputs
 
-of_history : (OfEvents : List Event → Answer → Type 0) → ((events : List Event) (a b : Answer) → OfEvents events a → OfEvents events b → a ≡ b)
+of_history : (OfText : HistoryText → Answer → Type 0) → ((text : HistoryText) (a b : Answer) → HasText text → OfText text a → OfText text b → a ≡ b)
     → (input : Ahead) (a b : Answer)
-    → AnswersFor IsHistoryOf IsFaultOfHistoryInput OfEvents input a → AnswersFor IsHistoryOf IsFaultOfHistoryInput OfEvents input b → SameOrNoMemory a b
-of_history OfEvents one = of_input IsHistoryOf IsFaultOfHistoryInput OfEvents
-    (one_value HasHistoryText history_text (IsHistoryTextFault 0) NoRoomFor histories.texts_agree (histories.text_has_no_fault 0) (histories.one_first_fault 0))
-    (only_memory HasHistoryText history_text (IsHistoryTextFault 0) NoRoomFor histories.texts_agree (histories.text_has_no_fault 0)
-    (histories.one_first_fault 0))
-    (one_known_fault HasHistoryText history_text (IsHistoryTextFault 0) NoRoomFor histories.texts_agree (histories.text_has_no_fault 0)
-    (histories.one_first_fault 0))
-    one
+    → AnswersFor IsHistoryOf IsFaultOfHistoryInput OfText input a → AnswersFor IsHistoryOf IsFaultOfHistoryInput OfText input b → SameOrNoMemory a b
+of_history OfText one input a b answers_a answers_b = go answers_a answers_b
+  where
+    one_input : (input : Ahead) (x y : HistoryText) → IsHistoryOf input x → IsHistoryOf input y → x ≡ y
+    one_input = one_value HasText text_of (IsTextFault 0) NoRoomForText histories.texts_agree (histories.text_has_no_fault 0) (histories.one_first_fault 0)
+
+    OfWritten : HistoryText → Answer → Type 0
+    OfWritten text answer = HasText text × OfText text answer
+
+    written : (answer : Answer) → AnswersFor IsHistoryOf IsFaultOfHistoryInput OfText input answer → AnswersFor IsHistoryOf IsFaultOfHistoryInput OfWritten input answer
+    written answer (inr faulty) = inr faulty
+    written answer (inl read) = inl (record {
+      value = read.value;
+      input_of = read.input_of;
+      answered = elim read.answered [ inl is ↦ inl (read.input_of.0, is) | inr none ↦ inr none ];
+    })
+
+    go : AnswersFor IsHistoryOf IsFaultOfHistoryInput OfText input a → AnswersFor IsHistoryOf IsFaultOfHistoryInput OfText input b → SameOrNoMemory a b
+    go x y = of_input IsHistoryOf IsFaultOfHistoryInput OfWritten one_input
+        (only_memory HasText text_of (IsTextFault 0) NoRoomForText histories.texts_agree (histories.text_has_no_fault 0) (histories.one_first_fault 0))
+        (one_known_fault HasText text_of (IsTextFault 0) NoRoomForText histories.texts_agree (histories.text_has_no_fault 0) (histories.one_first_fault 0))
+        (λ text c d of_c of_d. one text c d of_c.0 of_c.1 of_d.1) input a b (written a x) (written b y)
 
 -- `check` has one answer
 pub check_has_one : HasOneAnswer check

@@ -1,64 +1,63 @@
 -- An input says one thing, or has one fault.
 use Rattle.std.proofs.Common.{◌≡◌, ◌≢◌, ℕ, ◌+◌, ◌⊎◌, List, [], ◌∷◌, ◌++◌, length, sym, ◌∙◌, ap, subst, inl, inr, append-nil}
-use Rattle.event_records.specs.declared.event.Event.{Event}
 use Rattle.text_lines.specs.declared.fault.TextFault.{TextFault}
 use Rattle.text_lines.specs.declared.fault.TextFault.TheVariants as text
 use Rattle.text_lines.specs.Input.{Ahead, Ending, EndOfInput, Failure}
 use Rattle.text_lines.proofs.MemoryOrNot.{known_fault}
-use Rattle.history_text.specs.Histories.{history_text, IsHistoryTextFault, NoRoomFor}
+use Rattle.history_text.specs.Versions.{text_of, line_count, IsTextFault, NoRoomForText}
 use Rattle.history_text.specs.Verdicts.{verdict_text}
 use Rattle.history_text.specs.Claims.{IsVerdictTextFault, NoRoomForVerdict}
-use Rattle.history_text.proofs.OneText as histories
+use Rattle.history_text.proofs.OneHistory as histories
 use Rattle.history_text.proofs.OneVerdict as verdict_texts
-use Rattle.commands.specs.Inputs.{IsWhole, IsFaultAfter, IsFaultOfOneText, ClaimOnEvents, IsClaimOf, AfterHistory, IsFaultOfClaimInput}
+use Rattle.commands.specs.Inputs.{IsWhole, IsFaultAfter, IsFaultOfOneText, ClaimOnText, IsClaimOf, AfterHistory, IsFaultOfClaimInput}
 
 -- ---- one text
 
-module _ {A : Type 0} (HasText : A → Type 0) (text_of : A → List ℕ) (IsTextFault : Ending → List ℕ → TextFault → Type 0) (LacksRoom : List ℕ → Type 0)
-    (agree : (x y : A) (r s : List ℕ) → HasText x → HasText y → text_of x ++ r ≡ text_of y ++ s → (x ≡ y) × (r ≡ s))
-    (no_fault : (ending : Ending) (x : A) (r : List ℕ) (fault : TextFault) → HasText x → IsTextFault ending (text_of x ++ r) fault → ⊥)
-    (one_fault : (ending : Ending) (bytes : List ℕ) (f g : TextFault) → IsTextFault ending bytes f → IsTextFault ending bytes g → f ≡ g) where
+module _ {A : Type 0} (Has : A → Type 0) (said : A → List ℕ) (IsFirst : Ending → List ℕ → TextFault → Type 0) (LacksRoom : List ℕ → Type 0)
+    (agree : (x y : A) (r s : List ℕ) → Has x → Has y → said x ++ r ≡ said y ++ s → (x ≡ y) × (r ≡ s))
+    (no_fault : (ending : Ending) (x : A) (r : List ℕ) (fault : TextFault) → Has x → IsFirst ending (said x ++ r) fault → ⊥)
+    (one_fault : (ending : Ending) (bytes : List ℕ) (f g : TextFault) → IsFirst ending bytes f → IsFirst ending bytes g → f ≡ g) where
   -- a fault of the text, or of what comes after it
   abbrev IsFault : Ahead → TextFault → Type 0
-  IsFault input fault = IsTextFault input.ending input.bytes fault ⊎ ((value : A) × HasText value × IsFaultAfter (text_of value) input fault)
+  IsFault input fault = IsFirst input.ending input.bytes fault ⊎ ((value : A) × Has value × IsFaultAfter (said value) input fault)
 
-  is_fault : (input : Ahead) (fault : TextFault) → fault ≢ text.Memory → IsFaultOfOneText HasText text_of IsTextFault LacksRoom input fault
+  is_fault : (input : Ahead) (fault : TextFault) → fault ≢ text.Memory → IsFaultOfOneText Has said IsFirst LacksRoom input fault
       → IsFault input fault
   is_fault input fault known is = known_fault (LacksRoom input.bytes) (IsFault input) fault known is
 
-  whole_again : (x : A) (input : Ahead) → IsWhole (text_of x) input → input.bytes ≡ text_of x ++ []
-  whole_again x input whole = whole.bytes ∙ sym (append-nil (text_of x))
+  whole_again : (x : A) (input : Ahead) → IsWhole (said x) input → input.bytes ≡ said x ++ []
+  whole_again x input whole = whole.bytes ∙ sym (append-nil (said x))
 
   -- where a fault comes after a text, that stands at the front
-  stands_before : (x : A) (input : Ahead) (fault : TextFault) → IsFaultAfter (text_of x) input fault → (rest : List ℕ) × (input.bytes ≡ text_of x ++ rest)
+  stands_before : (x : A) (input : Ahead) (fault : TextFault) → IsFaultAfter (said x) input fault → (rest : List ℕ) × (input.bytes ≡ said x ++ rest)
   stands_before x input fault (inl (same, more)) = (more.byte ∷ more.more, more.bytes)
-  stands_before x input fault (inr (same, fails)) = ([], fails.bytes ∙ sym (append-nil (text_of x)))
+  stands_before x input fault (inr (same, fails)) = ([], fails.bytes ∙ sym (append-nil (said x)))
 
-  pub one_value : (input : Ahead) (x y : A) → HasText x × IsWhole (text_of x) input → HasText y × IsWhole (text_of y) input → x ≡ y
+  pub one_value : (input : Ahead) (x y : A) → Has x × IsWhole (said x) input → Has y × IsWhole (said y) input → x ≡ y
   one_value input x y is_x is_y = (agree x y [] [] is_x.0 is_y.0 (sym (whole_again x input is_x.1) ∙ whole_again y input is_y.1)).0
 
   -- a text and nothing more has no fault
-  no_fault_of_whole : (input : Ahead) (x : A) (fault : TextFault) → HasText x × IsWhole (text_of x) input → IsFault input fault → ⊥
+  no_fault_of_whole : (input : Ahead) (x : A) (fault : TextFault) → Has x × IsWhole (said x) input → IsFault input fault → ⊥
   no_fault_of_whole input x fault is (inl first) = no_fault input.ending x [] fault is.0
-      (subst (λ bytes. IsTextFault input.ending bytes fault) (whole_again x input is.1) first)
+      (subst (λ bytes. IsFirst input.ending bytes fault) (whole_again x input is.1) first)
   no_fault_of_whole input x fault is (inr (y, has, inl (same, more))) =
       let parts = agree x y [] (more.byte ∷ more.more) is.0 has (sym (whole_again x input is.1) ∙ more.bytes) in
       let none = parts.1 in cc
   no_fault_of_whole input x fault is (inr (y, has, inr (same, fails))) = let ending : EndOfInput ≡ Failure = sym is.1.ending ∙ fails.ending in cc
 
-  no_text_fault_after : (input : Ahead) (y : A) (f g : TextFault) → IsTextFault input.ending input.bytes f → HasText y → IsFaultAfter (text_of y) input g → ⊥
+  no_text_fault_after : (input : Ahead) (y : A) (f g : TextFault) → IsFirst input.ending input.bytes f → Has y → IsFaultAfter (said y) input g → ⊥
   no_text_fault_after input y f g first has after =
       let front = stands_before y input g after in
-      no_fault input.ending y front.0 f has (subst (λ bytes. IsTextFault input.ending bytes f) front.1 first)
+      no_fault input.ending y front.0 f has (subst (λ bytes. IsFirst input.ending bytes f) front.1 first)
 
-  one_after : (input : Ahead) (x y : A) (f g : TextFault) → HasText x → HasText y → IsFaultAfter (text_of x) input f → IsFaultAfter (text_of y) input g → f ≡ g
+  one_after : (input : Ahead) (x y : A) (f g : TextFault) → Has x → Has y → IsFaultAfter (said x) input f → IsFaultAfter (said y) input g → f ≡ g
   one_after input x y f g has_x has_y (inl (is_f, more)) (inl (is_g, other)) = is_f ∙ sym is_g
   one_after input x y f g has_x has_y (inr (is_f, fails)) (inr (is_g, other)) = is_f ∙ sym is_g
   one_after input x y f g has_x has_y (inl (is_f, more)) (inr (is_g, fails)) =
-      let parts = agree x y (more.byte ∷ more.more) [] has_x has_y (sym more.bytes ∙ fails.bytes ∙ sym (append-nil (text_of y))) in
+      let parts = agree x y (more.byte ∷ more.more) [] has_x has_y (sym more.bytes ∙ fails.bytes ∙ sym (append-nil (said y))) in
       let none = parts.1 in cc
   one_after input x y f g has_x has_y (inr (is_f, fails)) (inl (is_g, more)) =
-      let parts = agree x y [] (more.byte ∷ more.more) has_x has_y (append-nil (text_of x) ∙ sym fails.bytes ∙ more.bytes) in
+      let parts = agree x y [] (more.byte ∷ more.more) has_x has_y (append-nil (said x) ∙ sym fails.bytes ∙ more.bytes) in
       let none = parts.1 in cc
 
   one_fault_of : (input : Ahead) (f g : TextFault) → IsFault input f → IsFault input g → f ≡ g
@@ -68,55 +67,55 @@ module _ {A : Type 0} (HasText : A → Type 0) (text_of : A → List ℕ) (IsTex
   one_fault_of input f g (inr (x, has_x, after_x)) (inr (y, has_y, after_y)) = one_after input x y f g has_x has_y after_x after_y
 
   -- a text and nothing more has no fault but want of memory
-  pub only_memory : (input : Ahead) (x : A) (fault : TextFault) → HasText x × IsWhole (text_of x) input → fault ≢ text.Memory
-      → IsFaultOfOneText HasText text_of IsTextFault LacksRoom input fault → ⊥
+  pub only_memory : (input : Ahead) (x : A) (fault : TextFault) → Has x × IsWhole (said x) input → fault ≢ text.Memory
+      → IsFaultOfOneText Has said IsFirst LacksRoom input fault → ⊥
   only_memory input x fault is known faulty = no_fault_of_whole input x fault is (is_fault input fault known faulty)
 
   -- an input has one fault beside want of memory
   pub one_known_fault : (input : Ahead) (f g : TextFault) → f ≢ text.Memory → g ≢ text.Memory
-      → IsFaultOfOneText HasText text_of IsTextFault LacksRoom input f → IsFaultOfOneText HasText text_of IsTextFault LacksRoom input g → f ≡ g
+      → IsFaultOfOneText Has said IsFirst LacksRoom input f → IsFaultOfOneText Has said IsFirst LacksRoom input g → f ≡ g
   one_known_fault input f g known_f known_g is_f is_g = one_fault_of input f g (is_fault input f known_f is_f) (is_fault input g known_g is_g)
 
 -- ---- a history, and a verdict on it
 
 abbrev IsClaimFault : Ahead → TextFault → Type 0
-IsClaimFault input fault = IsHistoryTextFault 0 input.ending input.bytes fault
+IsClaimFault input fault = IsTextFault 0 input.ending input.bytes fault
     ⊎ AfterHistory (λ lines rest. IsVerdictTextFault lines input.ending rest fault) input.bytes
 
 is_claim_fault : (input : Ahead) (fault : TextFault) → fault ≢ text.Memory → IsFaultOfClaimInput input fault → IsClaimFault input fault
 is_claim_fault input fault known is =
-    known_fault (NoRoomFor input.bytes ⊎ AfterHistory (λ lines rest. NoRoomForVerdict rest) input.bytes) (IsClaimFault input) fault known is
+    known_fault (NoRoomForText input.bytes ⊎ AfterHistory (λ lines rest. NoRoomForVerdict rest) input.bytes) (IsClaimFault input) fault known is
 
 -- an input has one claim
-pub one_claim : (input : Ahead) (x y : ClaimOnEvents) → IsClaimOf input x → IsClaimOf input y → x ≡ y
+pub one_claim : (input : Ahead) (x y : ClaimOnText) → IsClaimOf input x → IsClaimOf input y → x ≡ y
 one_claim input x y is_x is_y =
-    let parts = histories.texts_agree x.events y.events (verdict_text x.claimed) (verdict_text y.claimed) is_x.history is_y.history
+    let parts = histories.texts_agree x.text y.text (verdict_text x.claimed) (verdict_text y.claimed) is_x.history is_y.history
     (sym is_x.whole.bytes ∙ is_y.whole.bytes) in
-    let events = parts.0 in
+    let texts = parts.0 in
     let claims = verdict_texts.texts_agree x.claimed y.claimed is_x.verdict is_y.verdict parts.1 in
-    λ i. record { events = events i; claimed = claims i }
+    λ i. record { text = texts i; claimed = claims i }
 
 -- where a history stands at the front its text has no fault
 no_history_fault : (input : Ahead) (P : ℕ → List ℕ → Type 0) (fault : TextFault) → AfterHistory P input.bytes
-    → IsHistoryTextFault 0 input.ending input.bytes fault → ⊥
+    → IsTextFault 0 input.ending input.bytes fault → ⊥
 no_history_fault input P fault after first =
-    histories.text_has_no_fault 0 input.ending after.events after.rest fault after.history
-    (subst (λ bytes. IsHistoryTextFault 0 input.ending bytes fault) after.front first)
+    histories.text_has_no_fault 0 input.ending after.text after.rest fault after.history
+    (subst (λ bytes. IsTextFault 0 input.ending bytes fault) after.front first)
 
 -- the verdict's text of a whole claim has no fault
-no_verdict_fault : (input : Ahead) (x : ClaimOnEvents) (fault : TextFault) → IsClaimOf input x
+no_verdict_fault : (input : Ahead) (x : ClaimOnText) (fault : TextFault) → IsClaimOf input x
     → AfterHistory (λ lines rest. IsVerdictTextFault lines input.ending rest fault) input.bytes → ⊥
 no_verdict_fault input x fault is after =
-    let parts = histories.texts_agree x.events after.events (verdict_text x.claimed) after.rest is.history after.history (sym is.whole.bytes ∙ after.front) in
-    let ended = subst (λ ending. IsVerdictTextFault (length after.events + 2) ending after.rest fault) is.whole.ending after.after in
-    verdict_texts.text_has_no_fault (length after.events + 2) x.claimed fault is.verdict
-    (subst (λ rest. IsVerdictTextFault (length after.events + 2) EndOfInput rest fault) (sym parts.1) ended)
+    let parts = histories.texts_agree x.text after.text (verdict_text x.claimed) after.rest is.history after.history (sym is.whole.bytes ∙ after.front) in
+    let ended = subst (λ ending. IsVerdictTextFault (line_count after.text) ending after.rest fault) is.whole.ending after.after in
+    verdict_texts.text_has_no_fault (line_count after.text) x.claimed fault is.verdict
+    (subst (λ rest. IsVerdictTextFault (line_count after.text) EndOfInput rest fault) (sym parts.1) ended)
 
-no_fault_of_claim : (input : Ahead) (x : ClaimOnEvents) (fault : TextFault) → IsClaimOf input x → IsClaimFault input fault → ⊥
+no_fault_of_claim : (input : Ahead) (x : ClaimOnText) (fault : TextFault) → IsClaimOf input x → IsClaimFault input fault → ⊥
 no_fault_of_claim input x fault is (inl first) =
-    let front : input.bytes ≡ history_text x.events ++ verdict_text x.claimed = is.whole.bytes in
-    histories.text_has_no_fault 0 input.ending x.events (verdict_text x.claimed) fault is.history
-    (subst (λ bytes. IsHistoryTextFault 0 input.ending bytes fault) front first)
+    let front : input.bytes ≡ text_of x.text ++ verdict_text x.claimed = is.whole.bytes in
+    histories.text_has_no_fault 0 input.ending x.text (verdict_text x.claimed) fault is.history
+    (subst (λ bytes. IsTextFault 0 input.ending bytes fault) front first)
 no_fault_of_claim input x fault is (inr after) = no_verdict_fault input x fault is after
 
 one_fault_of_claim : (input : Ahead) (f g : TextFault) → IsClaimFault input f → IsClaimFault input g → f ≡ g
@@ -126,13 +125,13 @@ one_fault_of_claim input f g (inl first) (inr after) = absurd
 one_fault_of_claim input f g (inr after) (inl other) = absurd
     (no_history_fault input (λ lines rest. IsVerdictTextFault lines input.ending rest f) g after other)
 one_fault_of_claim input f g (inr a) (inr b) =
-    let parts = histories.texts_agree a.events b.events a.rest b.rest a.history b.history (sym a.front ∙ b.front) in
-    let lines = ap (λ (es : List Event). length es + 2) parts.0 in
-    let moved = subst (λ rest. IsVerdictTextFault (length a.events + 2) input.ending rest f) parts.1 a.after in
-    verdict_texts.one_first_fault (length b.events + 2) input.ending b.rest f g (subst (λ n. IsVerdictTextFault n input.ending b.rest f) lines moved) b.after
+    let parts = histories.texts_agree a.text b.text a.rest b.rest a.history b.history (sym a.front ∙ b.front) in
+    let lines = ap line_count parts.0 in
+    let moved = subst (λ rest. IsVerdictTextFault (line_count a.text) input.ending rest f) parts.1 a.after in
+    verdict_texts.one_first_fault (line_count b.text) input.ending b.rest f g (subst (λ n. IsVerdictTextFault n input.ending b.rest f) lines moved) b.after
 
 -- an input with a claim has no fault but want of memory
-pub only_memory_of_claim : (input : Ahead) (x : ClaimOnEvents) (fault : TextFault) → IsClaimOf input x → fault ≢ text.Memory
+pub only_memory_of_claim : (input : Ahead) (x : ClaimOnText) (fault : TextFault) → IsClaimOf input x → fault ≢ text.Memory
     → IsFaultOfClaimInput input fault → ⊥
 only_memory_of_claim input x fault is known faulty = no_fault_of_claim input x fault is (is_claim_fault input fault known faulty)
 
