@@ -1,9 +1,8 @@
 -- Two claims whose texts are one input are one, and an input has one first fault.
-use Rattle.std.proofs.Common.{◌≡◌, ℕ, ◌+◌, List, [], ◌++◌, length, cond, arith, ap, sym, subst, ◌∙◌, refl, append-nil, Option, Some, None, Ok, inl}
+use Rattle.std.proofs.Common.{◌≡◌, ℕ, ◌+◌, List, [], ◌++◌, length, cond, false, arith, ap, sym, subst, ◌∙◌, refl, append-nil, Option, Some, None, Ok, inl}
 use Rattle.std.proofs.Common.{inr, IfOk, IfErr, MatchResult, codes}
 use Rattle.std.specs.declared.result.Result.{Result}
 use Rattle.std.specs.Str.{bytes_eq}
-use Rattle.history_merge.specs.declared.operation.Operation.{Operation}
 use Rattle.verdicts.specs.declared.verifying.ViolationKind.{ViolationKind}
 use Rattle.verdicts.specs.declared.verifying.ViolationKind.TheVariants.{VFresh, VRepeat, VOrd, VWit}
 use Rattle.verdicts.specs.declared.verifying.Claimed.{Claimed}
@@ -11,17 +10,18 @@ use Rattle.verdicts.specs.declared.verifying.Claimed.TheVariants.{Yes, No}
 use Rattle.text_lines.specs.declared.fault.TextFault.{TextFault}
 use Rattle.text_lines.specs.declared.fault.TextFault.TheVariants.{Memory}
 use Rattle.text_lines.specs.Lines.{line, front_of, Front, Whole, TooLong, Unfinished, Nothing}
-use Rattle.history_text.specs.Items.{lines_of, item_at_front, ItemFault}
+use Rattle.history_text.specs.Items.{Kind, lines_of, HaveLines, item_at_front, ItemFault}
 use Rattle.history_text.specs.Verdicts.{verdict_text}
-use Rattle.history_text.specs.Claims.{first_line, FirstLineFault, operation_kind, operations_in, HasVerdictText, IsVerdictTextFault, NoRoomForVerdict}
+use Rattle.history_text.specs.Claims.{first_line, FirstLineFault, ClaimFault, operation_kind, claim_line_kind, HasVerdictText, IsVerdictTextFault, NoRoomForVerdict}
 use Rattle.text_lines.specs.Input.{Ahead, Ending, EndOfInput, Takes, IsOver}
 use Rattle.history_text.specs.Reading.{HasVerdictTextFault, IsAll}
 use Rattle.text_lines.specs.Inner.Lines.{IsPartOfLine}
 use Rattle.text_lines.proofs.Fronts.{whole}
 use Rattle.history_text.proofs.FirstFaults.{is_read}
 use Rattle.history_text.proofs.OneLine as lines
-use Rattle.history_text.proofs.ReadOperations.{operation_front}
-use Rattle.history_text.proofs.Runs.{stops_at_last, same_items, no_item_fault, one_item_fault}
+use Rattle.history_text.proofs.OneLine.{some_is}
+use Rattle.history_text.proofs.ReadOperations.{operation_front, claim_line_front}
+use Rattle.history_text.proofs.Runs.{IsReadBack, stops_at_last, same_items, no_item_fault, one_item_fault}
 
 -- ---- first lines
 
@@ -66,46 +66,57 @@ one_first_line_fault n ending f g Nothing a b = a ∙ sym b
 
 -- ---- whole texts
 
--- a claim by what its first line answers
-abbrev claim_by : Option ViolationKind → List Operation → Claimed
-claim_by None operations = Yes operations
-claim_by (Some kind) operations = No kind operations
-
 abbrev answer_in : Claimed → Option ViolationKind
 answer_in (Yes operations) = None
-answer_in (No kind operations) = Some kind
+answer_in (No kind lines) = Some kind
 
-claim_is : (c : Claimed) → claim_by (answer_in c) (operations_in c) ≡ c
-claim_is (Yes operations) = refl
-claim_is (No kind operations) = refl
+-- the lines after the first
+abbrev lines_in : Claimed → List ℕ
+lines_in (Yes operations) = lines_of operation_kind operations
+lines_in (No kind lines) = lines_of claim_line_kind lines
 
-text_is : (c : Claimed) → verdict_text c ≡ line (first_line (answer_in c)) ++ lines_of operation_kind (operations_in c)
+text_is : (c : Claimed) → verdict_text c ≡ line (first_line (answer_in c)) ++ lines_in c
 text_is (Yes operations) = refl
-text_is (No kind operations) = refl
+text_is (No kind lines) = refl
 
--- the input is over after the operations
-over_is_read : (n k : ℕ) → item_at_front operation_kind n k EndOfInput (front_of []) ≡ Ok (None, [])
-over_is_read n k = refl
+-- the lines of one input up to its end are one list
+one_list : {A : Type 0} (kind : Kind A) → IsReadBack kind → kind.is_counted ≡ false → (xs ys : List A) → HaveLines kind xs → HaveLines kind ys
+    → lines_of kind xs ≡ lines_of kind ys → xs ≡ ys
+one_list kind back uncounted xs ys right_x right_y same =
+    let over : (k : ℕ) → item_at_front kind 0 k EndOfInput (front_of []) ≡ Ok (None, []) = λ k. rw uncounted refl in
+    (same_items kind back 0 0 EndOfInput xs ys [] [] right_x right_y (stops_at_last kind back 0 (length xs) EndOfInput [] [] (over (length xs)))
+    (stops_at_last kind back 0 (length ys) EndOfInput [] [] (over (length ys))) (ap (λ (l : List ℕ). l ++ []) same)).0
+
+claims_agree : (c d : Claimed) → HasVerdictText c → HasVerdictText d → answer_in c ≡ answer_in d → lines_in c ≡ lines_in d → c ≡ d
+claims_agree (Yes xs) (Yes ys) text_c text_d answers same = ap Yes (one_list operation_kind operation_front refl xs ys text_c text_d same)
+claims_agree (Yes xs) (No kind ys) text_c text_d answers same = absurd (cc)
+claims_agree (No kind xs) (Yes ys) text_c text_d answers same = absurd (cc)
+claims_agree (No j xs) (No k ys) text_c text_d answers same =
+    let kinds : j ≡ k = some_is j k answers in
+    ap (λ (i : ViolationKind). No i xs) kinds ∙ ap (No k) (one_list claim_line_kind claim_line_front refl xs ys text_c text_d same)
 
 -- two claims of one text are one
 pub texts_agree : (c d : Claimed) → HasVerdictText c → HasVerdictText d → verdict_text c ≡ verdict_text d → c ≡ d
 texts_agree c d text_c text_d same =
     let first = one_first_line (answer_in c) (answer_in d) _ _ (sym (text_is c) ∙ same ∙ text_is d) in
-    let xs = operations_in c in
-    let ys = operations_in d in
-    let lines : lines_of operation_kind xs ++ [] ≡ lines_of operation_kind ys ++ [] = ap (λ (l : List ℕ). l ++ []) first.1 in
-    let parts = same_items operation_kind operation_front 0 0 EndOfInput xs ys [] [] text_c text_d
-    (stops_at_last operation_kind operation_front 0 (length xs) EndOfInput [] [] refl)
-    (stops_at_last operation_kind operation_front 0 (length ys) EndOfInput [] [] refl) lines in
-    sym (claim_is c) ∙ ap (λ (a : Option ViolationKind). claim_by a xs) first.0 ∙ ap (claim_by (answer_in d)) parts.0 ∙ claim_is d
+    claims_agree c d text_c text_d first.0 first.1
+
+-- the lines after the first have no fault
+lines_have_no_fault : (c : Claimed) (n : ℕ) (fault : TextFault) → HasVerdictText c → ClaimFault n EndOfInput fault (answer_in c) (lines_in c) → ⊥
+lines_have_no_fault (Yes xs) n fault text h =
+    no_item_fault operation_kind operation_front n EndOfInput fault xs [] [] text (λ m. refl)
+    (subst (ItemFault operation_kind n EndOfInput fault) (sym (append-nil (lines_of operation_kind xs))) h)
+lines_have_no_fault (No kind xs) n fault text h =
+    no_item_fault claim_line_kind claim_line_front n EndOfInput fault xs [] [] text (λ m. refl)
+    (subst (ItemFault claim_line_kind n EndOfInput fault) (sym (append-nil (lines_of claim_line_kind xs))) h)
 
 -- a text has no fault
 pub text_has_no_fault : (lines : ℕ) (c : Claimed) (fault : TextFault) → HasVerdictText c → IsVerdictTextFault lines EndOfInput (verdict_text c) fault → ⊥
 text_has_no_fault lines c fault text (inl at_first) = first_line_is_right (lines + 1) (answer_in c) EndOfInput _ _ fault (text_is c) at_first
-text_has_no_fault lines c fault text (inr after) =
-    let first = one_first_line after.0 (answer_in c) after.1.0 _ (sym after.1.1 ∙ text_is c) in
-    no_item_fault operation_kind operation_front (lines + 2) EndOfInput fault (operations_in c) [] [] text (λ m. refl)
-    (subst (ItemFault operation_kind (lines + 2) EndOfInput fault) (first.1 ∙ sym (append-nil (lines_of operation_kind (operations_in c)))) after.1.2)
+text_has_no_fault lines c fault text (inr (answer, (rest, is, h))) =
+    let first = one_first_line answer (answer_in c) rest _ (sym is ∙ text_is c) in
+    lines_have_no_fault c (lines + 2) fault text (subst (ClaimFault (lines + 2) EndOfInput fault (answer_in c)) first.1
+    (subst (λ (a : Option ViolationKind). ClaimFault (lines + 2) EndOfInput fault a rest) first.0 h))
 
 same_text : (found wanted : Claimed) (a : Ahead) (new : Option Ahead) → HasVerdictText found → Takes (Some a) new (verdict_text found)
     → IsOver EndOfInput new → HasVerdictText wanted → a.bytes ≡ verdict_text wanted → found ≡ wanted
@@ -131,12 +142,21 @@ reads_what_is_there lines (Some a) new r ok err claimed wanted all =
     (λ c found. same_text c claimed a new found.0 found.1 found.2 wanted all.0)
     (λ fault first. no_fault lines a claimed fault wanted all.0 all.1 first)
 
+-- the lines after the first have one first fault
+one_later_fault : (answer : Option ViolationKind) (n : ℕ) (ending : Ending) (f g : TextFault) (bytes : List ℕ) → ClaimFault n ending f answer bytes
+    → ClaimFault n ending g answer bytes → f ≡ g
+one_later_fault None n ending f g bytes a b = one_item_fault operation_kind operation_front n ending f g bytes a b
+one_later_fault (Some kind) n ending f g bytes a b = one_item_fault claim_line_kind claim_line_front n ending f g bytes a b
+
 -- an input has one first fault
 pub one_first_fault : (lines : ℕ) (ending : Ending) (bytes : List ℕ) (f g : TextFault) → IsVerdictTextFault lines ending bytes f
     → IsVerdictTextFault lines ending bytes g → f ≡ g
 one_first_fault lines ending bytes f g (inl a) (inl b) = one_first_line_fault (lines + 1) ending f g (front_of bytes) a b
-one_first_fault lines ending bytes f g (inl a) (inr b) = absurd (first_line_is_right (lines + 1) b.0 ending bytes b.1.0 f b.1.1 a)
-one_first_fault lines ending bytes f g (inr a) (inl b) = absurd (first_line_is_right (lines + 1) a.0 ending bytes a.1.0 g a.1.1 b)
-one_first_fault lines ending bytes f g (inr a) (inr b) =
-    let first = one_first_line a.0 b.0 a.1.0 b.1.0 (sym a.1.1 ∙ b.1.1) in
-    one_item_fault operation_kind operation_front (lines + 2) ending f g b.1.0 (subst (ItemFault operation_kind (lines + 2) ending f) first.1 a.1.2) b.1.2
+one_first_fault lines ending bytes f g (inl a) (inr (answer, (rest, is, b))) =
+    absurd (first_line_is_right (lines + 1) answer ending bytes rest f is a)
+one_first_fault lines ending bytes f g (inr (answer, (rest, is, a))) (inl b) =
+    absurd (first_line_is_right (lines + 1) answer ending bytes rest g is b)
+one_first_fault lines ending bytes f g (inr (v, (r, is_r, a))) (inr (w, (s, is_s, b))) =
+    let first = one_first_line v w r s (sym is_r ∙ is_s) in
+    one_later_fault w (lines + 2) ending f g s (subst (λ (u : Option ViolationKind). ClaimFault (lines + 2) ending f u s) first.0
+    (subst (ClaimFault (lines + 2) ending f v) first.1 a)) b

@@ -1,5 +1,5 @@
 -- What is read from the lines of a verdict is spelled so.
-use Rattle.std.proofs.Common.{◌≡◌, ℕ, ◌≤◌, List, [], ◌∷◌, true, arith, ap, sym, subst, ◌∙◌, refl, inl, inr, Ok, codes}
+use Rattle.std.proofs.Common.{◌≡◌, ℕ, ◌≤◌, List, [], ◌∷◌, true, arith, ap, ap₂, sym, subst, ◌∙◌, refl, inl, inr, Ok, codes}
 use Rattle.std.specs.Prelude.{decimal}
 use Rattle.std.specs.Str.{bytes_eq}
 use Rattle.event_records.specs.declared.limits.TheConstants.{MAX_TICKET, MAX_THREAD}
@@ -8,7 +8,10 @@ use Rattle.history_merge.specs.declared.operation.OpKind.{OpKind}
 use Rattle.history_merge.specs.declared.operation.OpKind.TheVariants.{Empty}
 use Rattle.text_lines.specs.Lines.{greatest_value, number_in}
 use Rattle.history_text.specs.Verdicts.{kind_fields}
-use Rattle.history_text.specs.Claims.{IsKindInRange, has_value, kind_of_value, empty_operation, numbered_operation, operation_in, operation_kind}
+use Rattle.history_text.specs.Claims.{IsKindInRange, has_value, kind_of_value, empty_operation, numbered_operation, operation_of, is_initial, operation_in, operation_kind}
+use Rattle.history_text.specs.Claims.{initial_of, claim_line_in, claim_line_kind}
+use Rattle.verdicts.specs.declared.verifying.ClaimLine.{ClaimLine}
+use Rattle.verdicts.specs.declared.verifying.ClaimLine.TheVariants.{Op, Initial}
 use Rattle.history_text.specs.Inner.Taking.{IsSpelled}
 use Rattle.text_lines.proofs.Numbers.{chosen, by_test, other_true, bind_ok, text_is, number_ok}
 
@@ -60,19 +63,54 @@ numbered_ok n c r t word value o known e =
     (kind_is.0 ∙ ap (λ (f : List ℕ). word ∷ f ∷ []) (sym value_is.0), kind_is.1) (cc (v.2))
 
 -- the fields of an operation are spelled as it is written
-pub operation_ok : (n : ℕ) (fields : List (List ℕ)) (o : Operation) → operation_in n fields ≡ Ok o → IsSpelled operation_kind fields o
-operation_ok n [] o e = absurd (cc)
-operation_ok n (a ∷ []) o e = absurd (cc)
-operation_ok n (a ∷ b ∷ []) o e = absurd (cc)
-operation_ok n (a ∷ b ∷ c ∷ []) o e = absurd (cc)
-operation_ok n (a ∷ b ∷ c ∷ d ∷ []) o e =
+operation_of_ok : (n : ℕ) (fields : List (List ℕ)) (o : Operation) → operation_of n fields ≡ Ok o → IsSpelled operation_kind fields o
+operation_of_ok n [] o e = absurd (cc)
+operation_of_ok n (a ∷ []) o e = absurd (cc)
+operation_of_ok n (a ∷ b ∷ []) o e = absurd (cc)
+operation_of_ok n (a ∷ b ∷ c ∷ []) o e = absurd (cc)
+operation_of_ok n (a ∷ b ∷ c ∷ d ∷ []) o e =
     elim (chosen (bytes_eq d (codes "empty")) _ _ _ e) [
       | inl h ↦ empty_ok n a b c d o h.0 h.1
       | inr h ↦ absurd (cc (h.1))
     ]
-operation_ok n (a ∷ b ∷ c ∷ d ∷ x ∷ []) o e =
+operation_of_ok n (a ∷ b ∷ c ∷ d ∷ x ∷ []) o e =
     elim (chosen (has_value d) _ _ _ e) [
       | inl h ↦ numbered_ok n a b c d x o h.0 h.1
       | inr h ↦ absurd (cc (h.1))
     ]
-operation_ok n (a ∷ b ∷ c ∷ d ∷ x ∷ y ∷ zs) o e = absurd (cc)
+operation_of_ok n (a ∷ b ∷ c ∷ d ∷ x ∷ y ∷ zs) o e = absurd (cc)
+
+-- the fields of a line of a yes are spelled as its operation is written
+pub operation_ok : (n : ℕ) (fields : List (List ℕ)) (o : Operation) → operation_in n fields ≡ Ok o → IsSpelled operation_kind fields o
+operation_ok n fields o e =
+    elim (chosen (is_initial fields) _ _ _ e) [
+      | inl h ↦ absurd (cc (h.1))
+      | inr h ↦ operation_of_ok n fields o h.1
+    ]
+
+-- ---- lines of a no
+
+initial_ok : (n : ℕ) (fields : List (List ℕ)) (v : ℕ) → is_initial fields ≡ true → initial_of n fields ≡ Ok v
+    → (fields ≡ codes "init" ∷ decimal v ∷ []) × (v ≤ greatest_value)
+initial_ok n [] v first e = absurd (cc (e))
+initial_ok n (a ∷ []) v first e = absurd (cc (e))
+initial_ok n (a ∷ b ∷ []) v first e =
+    let is = number_ok n greatest_value b v (omega arith) e in
+    (ap₂ (λ (x y : List ℕ). x ∷ y ∷ []) (text_is a (codes "init") first) is.0, is.1)
+initial_ok n (a ∷ b ∷ x ∷ xs) v first e = absurd (cc (e))
+
+-- the fields of a line of a no are spelled as it is written
+pub claim_line_ok : (n : ℕ) (fields : List (List ℕ)) (l : ClaimLine) → claim_line_in n fields ≡ Ok l → IsSpelled claim_line_kind fields l
+claim_line_ok n fields l e =
+    elim (chosen (is_initial fields) _ _ _ e) [
+      | inl h ↦
+          let v = bind_ok (initial_of n fields) _ l h.1 in
+          let is = initial_ok n fields v.0 h.0 v.1 in
+          let same : (let made : ClaimLine = Initial v.0 in made ≡ l) = cc (v.2) in
+          subst (IsSpelled claim_line_kind fields) same (record { text = is.0; line = is.1 })
+      | inr h ↦
+          let o = bind_ok (operation_of n fields) _ l h.1 in
+          let is = operation_of_ok n fields o.0 o.1 in
+          let same : (let made : ClaimLine = Op o.0 in made ≡ l) = cc (o.2) in
+          subst (IsSpelled claim_line_kind fields) same (record { text = is.text; line = is.line })
+    ]

@@ -1,23 +1,34 @@
 -- The claim of a verdict on a history that has a text has a text.
-use Rattle.std.proofs.Common.{◌≡◌, ℕ, ◌+◌, ◌≤◌, List, [], ◌∷◌, length, Option, Some, None, arith, refl, subst, inl, inr}
-use Rattle.std.specs.Prelude.{Contains, slice_get}
+use Rattle.std.proofs.Common.{◌≡◌, ℕ, zero, suc, ◌+◌, ◌-◌, ◌≤◌, List, [], ◌∷◌, ◌++◌, length, true, false, nat_lt, Option, Some, None, arith, refl, subst, inl, inr}
+use Rattle.std.specs.Prelude.{Contains, slice_get, filter_map, map, if◌then◌else◌}
 use Rattle.std.specs.List.{cons_option, AllByRecursion}
 use Rattle.event_records.specs.declared.event.Event.{Event}
-use Rattle.event_records.specs.declared.limits.TheConstants.{MAX_OPERATIONS}
+use Rattle.event_records.specs.declared.limits.TheConstants.{MAX_CLAIM_LINES}
 use Rattle.history_merge.specs.declared.operation.Operation.{Operation}
 use Rattle.history_merge.specs.declared.operation.OpKind.{OpKind}
 use Rattle.history_merge.specs.declared.operation.OpKind.TheVariants.{Enq, Deq, Empty, Not}
 use Rattle.history_merge.specs.Operations.{operations_of}
-use Rattle.history_merge.proofs.Distinct.{contains_at}
+use Rattle.history_merge.proofs.Distinct.{contains_at, contains_cons}
 use Rattle.recorder_core.specs.Laws.{operation_call, operation_return, call_what, return_what}
-use Rattle.history_merge.proofs.Distinct.{contains_cons}
 use Rattle.recorder_core.proofs.Members.{none_in_nil}
 use Rattle.recorder_core.proofs.Ticketed.{operation_events}
+use Rattle.text_lines.specs.Lines.{greatest_value}
 use Rattle.verdicts.specs.declared.verdict.Verdict.{Verdict}
 use Rattle.verdicts.specs.declared.verdict.Verdict.TheVariants as found
+use Rattle.verdicts.specs.declared.verifying.ClaimLine.{ClaimLine}
+use Rattle.verdicts.specs.declared.verifying.ClaimLine.TheVariants.{Op, Initial}
+use Rattle.verdicts.specs.Claiming.{lines_of_history, operation_behind}
+use Rattle.history_text.specs.declared.version.Version.{Version}
+use Rattle.history_text.specs.declared.version.Version.TheVariants.{One, Two}
+use Rattle.history_text.specs.declared.version.HistoryText.{HistoryText}
 use Rattle.history_text.specs.Histories.{HasValueInRange, HasEventLine, HasHistoryText}
-use Rattle.history_text.specs.Verdicts.{places_of, places_of_violation, operations_at, claim_of}
-use Rattle.history_text.specs.Claims.{IsKindInRange, HasOperationLine, HasVerdictText}
+use Rattle.history_text.specs.Versions.{HaveValueLines, HasText}
+use Rattle.history_text.specs.Verdicts.{places_of, places_of_violation, claim_of}
+use Rattle.history_text.specs.Claims.{IsKindInRange, HasOperationLine, HasClaimLine, HasVerdictText}
+use Rattle.history_text.proofs.OneLine.{none_or_some}
+
+deeper : {X : Type 0} (y : X) (xs : List X) (x : X) → Contains xs x → Contains (y ∷ xs) x
+deeper y xs x among = (suc among.0, omega (arith, among.1), among.2)
 
 all_of : {X : Type 0} (P : X → Type 0) (xs : List X) (x : X) → AllByRecursion P xs → Contains xs x → P x
 all_of P [] x all among = absurd (none_in_nil x among)
@@ -40,37 +51,71 @@ has_line events o all among =
     let answer = all_of HasEventLine events (operation_return o) all made.1 in
     record { call = call.ticket; ret = answer.ticket; thread = call.thread; value = value_by o.kind call.value answer.value }
 
--- what holds of all operations holds of those at some places
-at_places : (P : Operation → Type 0) (operations : List Operation) (places : List ℕ) → ((o : Operation) → Contains operations o → P o)
-    → AllByRecursion P (operations_at operations places)
-at_places P operations [] all = tt
-at_places P operations (p ∷ places) all = by_place (slice_get operations p) refl (at_places P operations places all)
+-- what holds of what may stand at a place holds of what stands at some places
+at_places : {X : Type 0} (P : X → Type 0) (at : ℕ → Option X) (places : List ℕ) → ((p : ℕ) (x : X) → at p ≡ Some x → P x)
+    → AllByRecursion P (filter_map at places)
+at_places P at [] all = tt
+at_places {X} P at (p ∷ places) all = by_place (at p) refl (at_places P at places all)
   where
-    by_place : (here : Option Operation) → slice_get operations p ≡ here → AllByRecursion P (operations_at operations places)
-        → AllByRecursion P (cons_option here (operations_at operations places))
+    by_place : (here : Option X) → at p ≡ here → AllByRecursion P (filter_map at places) → AllByRecursion P (cons_option here (filter_map at places))
     by_place None is others = others
-    by_place (Some o) is others = (all o (contains_at operations p o is), others)
+    by_place (Some x) is others = (all p x is, others)
 
-longer : (here : Option Operation) (rest : List Operation) → length (cons_option here rest) ≤ length rest + 1
+longer : {X : Type 0} (here : Option X) (rest : List X) → length (cons_option here rest) ≤ length rest + 1
 longer None rest = omega arith
-longer (Some o) rest = omega arith
+longer (Some x) rest = omega arith
 
-few_places : (operations : List Operation) (places : List ℕ) → length (operations_at operations places) ≤ length places
-few_places operations [] = omega arith
-few_places operations (p ∷ places) =
-    let more = longer (slice_get operations p) (operations_at operations places) in
-    let others = few_places operations places in
+few_places : {X : Type 0} (at : ℕ → Option X) (places : List ℕ) → length (filter_map at places) ≤ length places
+few_places at [] = omega arith
+few_places at (p ∷ places) =
+    let more = longer (at p) (filter_map at places) in
+    let others = few_places at places in
     omega (arith, more, others)
 
-places_have_text : (events : List Event) (places : List ℕ) → HasHistoryText events → length places ≤ MAX_OPERATIONS
-    → HasVerdictText (claim_of (operations_of events) (found.Yes places))
-places_have_text events places text few = record {
-  each = at_places HasOperationLine (operations_of events) places (λ o among. has_line events o text.each among);
-  few = let fewer = few_places (operations_of events) places in omega (arith, fewer, few);
-}
+-- ---- the operations of a yes
+
+module _ (initial : List ℕ) (events : List Event) (values : AllByRecursion (λ v. v ≤ greatest_value) initial) (text : HasHistoryText events) where
+  has_line_behind : (p : ℕ) (o : Operation) → operation_behind (length initial) (operations_of events) p ≡ Some o → HasOperationLine o
+  has_line_behind p o is =
+      elim (nat_lt p (length initial)) as (λ b. (if b then None else slice_get (operations_of events) (p - length initial)) ≡ Some o → HasOperationLine o) [
+        | true ↦ λ none. absurd (none_or_some o none)
+        | false ↦ λ at. has_line events o text.each (contains_at (operations_of events) (p - length initial) o at)
+      ] is
+
+  -- ---- the lines of a no
+
+  values_have_lines : (vs : List ℕ) (os : List Operation) → AllByRecursion (λ v. v ≤ greatest_value) vs → ((o : Operation) → Contains os o → HasOperationLine o)
+      → (l : ClaimLine) → Contains (lines_of_history vs os) l → HasClaimLine l
+  values_have_lines [] [] ranges all l among = absurd (none_in_nil l among)
+  values_have_lines [] (o ∷ os) ranges all l among = elim (contains_cons (Op o) (map Op os) l among) [
+    | inl same ↦ subst HasClaimLine same (all o (zero, omega arith, refl))
+    | inr more ↦ values_have_lines [] os tt (λ x later. all x (deeper o os x later)) l more
+  ]
+  values_have_lines (v ∷ vs) os ranges all l among = elim (contains_cons (Initial v) (map Initial vs ++ map Op os) l among) [
+    | inl same ↦ subst HasClaimLine same ranges.0
+    | inr more ↦ values_have_lines vs os ranges.1 all l more
+  ]
+
+  has_claim_line : (p : ℕ) (l : ClaimLine) → slice_get (lines_of_history initial (operations_of events)) p ≡ Some l → HasClaimLine l
+  has_claim_line p l is = values_have_lines initial (operations_of events) values (λ o among. has_line events o text.each among) l
+      (contains_at (lines_of_history initial (operations_of events)) p l is)
+
+  claim_by_parts : (verdict : Verdict) → length (places_of verdict) ≤ MAX_CLAIM_LINES → HasVerdictText (claim_of initial (operations_of events) verdict)
+  claim_by_parts (found.Yes places) few = record {
+    each = at_places HasOperationLine (operation_behind (length initial) (operations_of events)) places has_line_behind;
+    few = let fewer = few_places (operation_behind (length initial) (operations_of events)) places in omega (arith, fewer, few);
+  }
+  claim_by_parts (found.No violation) few = record {
+    each = at_places HasClaimLine (slice_get (lines_of_history initial (operations_of events))) (places_of_violation violation) has_claim_line;
+    few = let fewer = few_places (slice_get (lines_of_history initial (operations_of events))) (places_of_violation violation) in omega (arith, fewer, few);
+  }
+
+values_of : (version : Version) (initial : List ℕ) → HaveValueLines version initial → AllByRecursion (λ v. v ≤ greatest_value) initial
+values_of One [] right = tt
+values_of One (v ∷ vs) right = absurd (cc)
+values_of Two initial right = right.each
 
 -- the claim of a verdict on a history with a text has a text
-pub claim_has_text : (events : List Event) (verdict : Verdict) → HasHistoryText events → length (places_of verdict) ≤ MAX_OPERATIONS
-    → HasVerdictText (claim_of (operations_of events) verdict)
-claim_has_text events (found.Yes places) text few = places_have_text events places text few
-claim_has_text events (found.No violation) text few = places_have_text events (places_of_violation violation) text few
+pub claim_has_text : (text : HistoryText) (verdict : Verdict) → HasText text → length (places_of verdict) ≤ MAX_CLAIM_LINES
+    → HasVerdictText (claim_of text.initial (operations_of text.events) verdict)
+claim_has_text text verdict has few = claim_by_parts text.initial text.events (values_of text.version text.initial has.initial) has.events verdict few

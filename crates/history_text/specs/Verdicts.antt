@@ -6,13 +6,15 @@ use Rattle.history_merge.specs.declared.operation.OpKind.{OpKind}
 use Rattle.history_merge.specs.declared.operation.OpKind.TheVariants.{Enq, Deq, Empty, Not}
 use Rattle.verdicts.specs.declared.verifying.ViolationKind.{ViolationKind}
 use Rattle.verdicts.specs.declared.verifying.ViolationKind.TheVariants.{VFresh, VRepeat, VOrd, VWit}
+use Rattle.verdicts.specs.declared.verifying.ClaimLine.{ClaimLine}
+use Rattle.verdicts.specs.declared.verifying.ClaimLine.TheVariants.{Op, Initial}
 use Rattle.verdicts.specs.declared.verifying.Claimed.{Claimed}
 use Rattle.verdicts.specs.declared.verifying.Claimed.TheVariants as claimed
 use Rattle.text_lines.specs.Lines.{line, spaced}
 -- the places of a violation's operations, and of a value's in its cover, in the order in which they are shown
 pub use Rattle.verdicts.specs.Shown.{places_of_step, places_of as places_of_violation}
--- the places of a verdict's operations, and what it claims
-pub use Rattle.verdicts.specs.Claiming.{places_of, violation_kind, operations_at, claim_of}
+-- the places of a verdict's operations and initial values, and what it claims
+pub use Rattle.verdicts.specs.Claiming.{places_of, violation_kind, IsWithin, lines_at, operations_at, claim_of}
 
 -- the words of what an operation did, with its value
 abbrev pub kind_fields : OpKind → List (List ℕ)
@@ -29,6 +31,15 @@ operation_fields o = decimal o.call ∷ decimal o.ret ∷ decimal o.thread ∷ k
 abbrev pub operation_line : Operation → List ℕ
 operation_line o = line (spaced (operation_fields o))
 
+-- what a line of a no says: an operation, or a value that the queue holds first
+abbrev pub claim_line_fields : ClaimLine → List (List ℕ)
+claim_line_fields (Op o) = operation_fields o
+claim_line_fields (Initial v) = codes "init" ∷ decimal v ∷ []
+
+-- a line of a no
+abbrev pub claim_line : ClaimLine → List ℕ
+claim_line l = line (spaced (claim_line_fields l))
+
 -- the name of a kind of violation
 abbrev pub kind_name : ViolationKind → List ℕ
 kind_name VFresh = codes "VFresh"
@@ -36,7 +47,7 @@ kind_name VRepeat = codes "VRepeat"
 kind_name VOrd = codes "VOrd"
 kind_name VWit = codes "VWit"
 
--- the text of a verdict: a yes with its order, or a no with its kind and the operations that show it
+-- the text of a verdict: a yes with its order, or a no with its kind and the lines that show it
 abbrev pub verdict_text : Claimed → List ℕ
 verdict_text (claimed.Yes operations) = line (codes "YES") ++ flat_map operation_line operations
-verdict_text (claimed.No kind operations) = line (codes "NO " ++ kind_name kind) ++ flat_map operation_line operations
+verdict_text (claimed.No kind lines) = line (codes "NO " ++ kind_name kind) ++ flat_map claim_line lines

@@ -1,6 +1,6 @@
 //! Laws of texts. They do nothing when they run.
 ghost use Rattle.std.specs.Prelude.{◌≡◌, ◌≤◌, ◌++◌, ℕ, List, [], length};
-ghost use Rattle.event_records.specs.declared.limits.TheConstants.{MAX_OPERATIONS};
+ghost use Rattle.event_records.specs.declared.limits.TheConstants.{MAX_CLAIM_LINES};
 ghost use Rattle.history_merge.specs.Operations.{operations_of};
 ghost use Rattle.event_records.specs.declared.event.Event.{Event};
 ghost use Rattle.verdicts.specs.declared.verifying.Claimed.{Claimed};
@@ -50,11 +50,11 @@ pub fn a_text_has_one_claim()
     ensures { (first second : Claimed) → HasVerdictText first → HasVerdictText second → verdict_text first ≡ verdict_text second → first ≡ second }
 {}
 
-/// The claim of a verdict on a history that has a text has one too, where it names no more operations than a text may have.
+/// The claim of a verdict on a history that has a text has one too, where it has no more lines than a text may have.
 ///
 /// So `read_verdict` reads what `write_verdict` wrote of it.
 pub fn a_claim_on_a_text_has_a_text()
-    ensures { (events : List Event) (verdict : Verdict) → HasHistoryText events → length (places_of verdict) ≤ MAX_OPERATIONS → HasVerdictText (claim_of (operations_of events) verdict) }
+    ensures { (text : HistoryText) (verdict : Verdict) → HasText text → length (places_of verdict) ≤ MAX_CLAIM_LINES → HasVerdictText (claim_of text.initial (operations_of text.events) verdict) }
 {}
 
 /// An input has one first fault, as the text of a history of version 1 or of either version, of a schedule or of a verdict.

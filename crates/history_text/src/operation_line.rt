@@ -1,15 +1,15 @@
-//! The lines of a verdict: its first one, and its operations, judged field by field.
+//! The lines of a verdict: its first one, its operations and the initial values of a no, judged field by field.
 ghost use Rattle.std.specs.Prelude.{◌≡◌, IfOk, IfErr, MatchOption};
 ghost use Rattle.std.proofs.Common.{lit≤};
 ghost use Rattle.text_lines.specs.Lines.{IsLineFault, fields_of};
 ghost use Rattle.history_text.specs.Claims as judged;
-ghost use Rattle.history_text.specs.Claims.{operation_kind, IsNoFirstLine, first_line};
+ghost use Rattle.history_text.specs.Claims.{operation_kind, claim_line_kind, IsNoFirstLine, first_line};
 
 use crate::item::Item;
-use event_records::{MAX_OPERATIONS, MAX_THREAD, MAX_TICKET};
+use event_records::{MAX_CLAIM_LINES, MAX_THREAD, MAX_TICKET};
 use history_merge::{OpKind, Operation};
 use text_lines::{TextFault, number_in, split_field};
-use verdicts::ViolationKind;
+use verdicts::{ClaimLine, ViolationKind};
 
 /// What the first line of a verdict answers: a yes, for which no kind stands, or a no of some kind.
 pub(crate) fn answer_in(bytes: &[u8]) -> Option<Option<ViolationKind>>
@@ -94,8 +94,8 @@ fn numbered_operation(
 }
 
 /// The operation of a line, or the first fault of its fields.
-fn operation_in(line: u64, bytes: &[u8]) -> Result<Operation, TextFault>
-    ensures value { result ≡ judged.operation_in line (fields_of bytes.now) }
+fn operation_of(line: u64, bytes: &[u8]) -> Result<Operation, TextFault>
+    ensures value { result ≡ judged.operation_of line (fields_of bytes.now) }
     ensures of_line { IfErr result IsLineFault }
 {
     let Some((call, rest)) = split_field(bytes) else {
@@ -122,13 +122,61 @@ fn operation_in(line: u64, bytes: &[u8]) -> Result<Operation, TextFault>
     numbered_operation(line, call, ret, thread, word, value)
 }
 
+/// Whether the first field is that of an initial value.
+fn is_initial(bytes: &[u8]) -> bool
+    ensures { result ≡ judged.is_initial (fields_of bytes.now) }
+{
+    match split_field(bytes) {
+        Some((word, _rest)) => word == b"init".as_slice(),
+        None => bytes == b"init".as_slice(),
+    }
+}
+
+/// What a line of a yes says, or the first fault of its fields.
+fn operation_in(line: u64, bytes: &[u8]) -> Result<Operation, TextFault>
+    ensures value { result ≡ judged.operation_in line (fields_of bytes.now) }
+    ensures of_line { IfErr result IsLineFault }
+{
+    if is_initial(bytes) {
+        return Err(TextFault::Line(line));
+    }
+    operation_of(line, bytes)
+}
+
+/// The initial value of a line, or the first fault of its fields.
+fn initial_of(line: u64, bytes: &[u8]) -> Result<u64, TextFault>
+    ensures value { result ≡ judged.initial_of line (fields_of bytes.now) }
+    ensures of_line { IfErr result IsLineFault }
+{
+    let Some((_word, value)) = split_field(bytes) else {
+        return Err(TextFault::Line(line));
+    };
+    if let Some((_, _more)) = split_field(value) {
+        return Err(TextFault::Line(line));
+    }
+    number_in(line, u64::MAX, value)
+}
+
+/// What a line of a no says, or the first fault of its fields.
+fn claim_line_in(line: u64, bytes: &[u8]) -> Result<ClaimLine, TextFault>
+    ensures value { result ≡ judged.claim_line_in line (fields_of bytes.now) }
+    ensures of_line { IfErr result IsLineFault }
+{
+    if is_initial(bytes) {
+        let value = initial_of(line, bytes)?;
+        return Ok(ClaimLine::Initial(value));
+    }
+    let operation = operation_of(line, bytes)?;
+    Ok(ClaimLine::Op(operation))
+}
+
 impl Item for Operation {
     ghost kind = { operation_kind };
 
     ghost few = { lit≤ tt };
 
     fn most() -> usize {
-        MAX_OPERATIONS as usize
+        MAX_CLAIM_LINES as usize
     }
 
     fn is_counted() -> bool {
@@ -137,5 +185,23 @@ impl Item for Operation {
 
     fn from_line(line: u64, bytes: &[u8]) -> Result<Operation, TextFault> {
         operation_in(line, bytes)
+    }
+}
+
+impl Item for ClaimLine {
+    ghost kind = { claim_line_kind };
+
+    ghost few = { lit≤ tt };
+
+    fn most() -> usize {
+        MAX_CLAIM_LINES as usize
+    }
+
+    fn is_counted() -> bool {
+        false
+    }
+
+    fn from_line(line: u64, bytes: &[u8]) -> Result<ClaimLine, TextFault> {
+        claim_line_in(line, bytes)
     }
 }

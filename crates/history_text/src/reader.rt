@@ -13,7 +13,7 @@ ghost use Rattle.history_text.specs.Histories.{history_text, HasHistoryText};
 ghost use Rattle.history_text.specs.Versions.{value_kind, count_fields, count_in as judged_count, lines_of_initial, header_of, lines_before_events, count_before_events, text_of, line_count, HaveValueLines, HasText};
 ghost use Rattle.history_text.specs.Schedules.{schedule_text, setting_fields, setting_in as judged_setting, HasScheduleText, IsSetting};
 ghost use Rattle.history_text.specs.Verdicts.{verdict_text};
-ghost use Rattle.history_text.specs.Claims.{operations_in, HasVerdictText, first_line};
+ghost use Rattle.history_text.specs.Claims.{claim_length, HasVerdictText, first_line};
 ghost use Rattle.history_text.specs.Reading.{HasHistoryTextFault, HasTextFault, HasScheduleTextFault, HasVerdictTextFault, HasEndFault, BeginsWith, IsAll};
 ghost use Rattle.history_text.specs.Inner.Taking.{TakesLine, StopsInLine, TakesItem, TakesItems, HasNoLine, HasHeaderFault, HasNoVersion, HasLineFault, HasFirstLineFault, HasItemFault, HasItemsFault, HasFaultAmong, HasInitialFault, IsOfInput};
 ghost use Rattle.text_lines.specs.Inner.Lines.{IsPartOfLine};
@@ -30,7 +30,7 @@ use history_merge::{HistoryBuilder, PreloadedBuilder};
 use std::alloc::Global;
 use std::marker::Model;
 use text_lines::{LONGEST_LINE, Line, ReadFailed, TextFault, TextSource};
-use verdicts::{Claimed, Lines, ViolationKind};
+use verdicts::{ClaimLines, Claimed, Lines, ViolationKind};
 
 /// The most bytes that a source is asked for at a time.
 const BUFFER_LEN: usize = 4096;
@@ -476,22 +476,37 @@ impl<R: TextSource> TextReader<R> {
         }
     }
 
+    /// The verdict that the input is. The end of the input is counted as one line more.
+    fn lines_of_claim(&mut self, alloc: Global) -> Result<Claimed, TextFault>
+        requires { self.old.lines < 2 ^ 63 }
+        ensures claim { IfOk result (λ c. HasVerdictText c × Takes self.old.left self.new.left (verdict_text c) × IsOver EndOfInput self.new.left) }
+        ensures fault { IfErr result (HasVerdictTextFault self.old.lines self.old.left) }
+        ensures lines { IfOk result (λ c. self.new.lines ≡ self.old.lines + 2 + claim_length c) }
+        ensures is_stopped { self.new.is_stopped ≡ self.old.is_stopped }
+    {
+        match self.answer()? {
+            None => {
+                let operations = Lines::from_vec(self.items(alloc)?);
+                return Ok(Claimed::Yes(operations));
+            }
+            Some(kind) => {
+                let lines = ClaimLines::from_vec(self.items(alloc)?);
+                return Ok(Claimed::No(kind, lines));
+            }
+        }
+    }
+
     /// The verdict that the input is.
     fn claim(&mut self, alloc: Global) -> Result<Claimed, TextFault>
         requires { self.old.lines < 2 ^ 63 }
         ensures claim { IfOk result (λ c. HasVerdictText c × Takes self.old.left self.new.left (verdict_text c) × IsOver EndOfInput self.new.left) }
         ensures fault { IfErr result (HasVerdictTextFault self.old.lines self.old.left) }
-        ensures lines { IfOk result (λ c. self.new.lines ≡ self.old.lines + 1 + length (operations_in c)) }
+        ensures lines { IfOk result (λ c. self.new.lines ≡ self.old.lines + 1 + claim_length c) }
         ensures is_stopped { self.new.is_stopped ≡ self.old.is_stopped }
     {
-        let answer = self.answer()?;
-        let operations = Lines::from_vec(self.items(alloc)?);
-        // The end of the input is no line.
+        let claimed = self.lines_of_claim(alloc)?;
         self.lines -= 1;
-        match answer {
-            None => return Ok(Claimed::Yes(operations)),
-            Some(kind) => return Ok(Claimed::No(kind, operations)),
-        }
+        Ok(claimed)
     }
 }
 
@@ -654,8 +669,8 @@ pub fn read_schedule<R: TextSource>(
 
 /// Reads the text of a verdict, which goes on to the end of the input.
 ///
-/// Any operations may stand in it: whether the claim is true is for `verify` to tell. The time is linear in the bytes
-/// read. Memory is taken for the operations alone, and `Memory` is answered only at a line that, like those before it, is
+/// Any operations may stand in it, and in a no any initial values: whether the claim is true is for `verify` to tell. The time
+/// is linear in the bytes read. Memory is taken for the lines alone, and `Memory` is answered only at a line that, like those before it, is
 /// whole and without fault.
 pub fn read_verdict<R: TextSource>(
     alloc: Global,
@@ -673,7 +688,7 @@ pub fn read_verdict<R: TextSource>(
     // A fault is the first one.
     ensures fault { IfErr result (HasVerdictTextFault reader.old.lines reader.old.left) }
 
-    ensures lines { IfOk result (λ c. reader.new.lines ≡ reader.old.lines + 1 + length (operations_in c)) }
+    ensures lines { IfOk result (λ c. reader.new.lines ≡ reader.old.lines + 1 + claim_length c) }
     ensures stopped { reader.new.is_stopped ≡ is_err result }
 {
     let result = reader.claim(alloc);

@@ -1,18 +1,20 @@
 //! Writing the text of a verdict.
-ghost use Rattle.std.specs.Prelude.{◌≡◌, ◌+◌, ◌<◌, ◌≤◌, ◌||◌, ◌∷◌, ◌++◌, [], length, is_err, OnOk, OnErr, All, codes, slice_index_or};
+ghost use Rattle.std.specs.Prelude.{◌≡◌, ◌+◌, ◌≤◌, ◌||◌, ◌∷◌, ◌++◌, [], length, is_err, OnOk, OnErr, All, codes, option_map, slice_get};
 ghost use Rattle.std.specs.List.{flat_map};
 ghost use Rattle.std.specs.Io.KnownBytes.{Appends};
 ghost use Rattle.std.specs.Option.{option_to_list};
 ghost use Rattle.history_merge.specs.Operations.{operations_of};
 ghost use Rattle.text_lines.specs.Lines.{line, spaced};
-ghost use Rattle.history_text.specs.Verdicts.{kind_fields, kind_name, operation_line, verdict_text, places_of, places_of_violation, places_of_step, violation_kind, claim_of};
-ghost use Rattle.history_text.specs.Inner.Verdicts.{lines_at};
+ghost use Rattle.history_text.specs.Verdicts.{kind_fields, kind_name, operation_line, claim_line, verdict_text, IsWithin, places_of_violation, places_of_step, violation_kind, claim_of};
+ghost use Rattle.history_text.specs.Inner.Verdicts.{operation_text, lines_text};
+ghost use Rattle.verdicts.specs.declared.verifying.ClaimLine.TheVariants.{Op};
+ghost use Rattle.verdicts.specs.Claiming.{lines_of_history, operation_behind};
 ghost use Rattle.text_lines.specs.Writing.{AppendsFront, Puts, IsWritten, IsRefused};
 
 use history_merge::{History, OpId, OpKind, Operation};
 use text_lines::{Kept, TextSink, WriteFault, make_room, write_piece};
 use value_match::{CoverStep, Violation};
-use verdicts::Verdict;
+use verdicts::{ClaimLine, Verdict};
 
 #[inline(always)]
 fn push_kind(kept: &mut Kept, kind: OpKind)
@@ -49,23 +51,109 @@ fn push_operation(kept: &mut Kept, operation: &Operation)
     kept.push(b"\n");
 }
 
-/// The lines of the operations at these places.
-fn put_places<W: TextSink>(
+#[inline(always)]
+fn push_line(kept: &mut Kept, shown: &ClaimLine)
+    requires { length kept.old + 96 ≤ 4096 }
+    ensures { kept.new ≡ kept.old ++ claim_line shown.now }
+{
+    match shown {
+        ClaimLine::Op(operation) => push_operation(kept, operation),
+        ClaimLine::Initial(value) => {
+            kept.push(b"init ");
+            kept.push_number(*value);
+            kept.push(b"\n");
+        }
+    }
+}
+
+/// A line, if there is one.
+#[inline(always)]
+fn put_line<W: TextSink>(
     writer: &mut W,
     kept: &mut Kept,
+    shown: Option<ClaimLine>,
+) -> Result<(), WriteFault>
+    ensures ok { OnOk result (Puts (W.contents writer.old) (W.contents writer.new) kept.old kept.new (flat_map claim_line (option_to_list shown))) }
+    ensures err { OnErr result (AppendsFront (W.contents writer.old) (W.contents writer.new) kept.old) }
+    ensures refused { W.has_refused writer.new ≡ (W.has_refused writer.old || is_err result) }
+    ensures written { OnOk result (IsWritten W.goes writer.old writer.new) }
+    ensures stopped { OnErr result (IsRefused W.goes writer.old writer.new) }
+{
+    match shown {
+        None => return Ok(()),
+        Some(shown) => {
+            make_room(writer, kept)?;
+            push_line(kept, &shown);
+            return Ok(());
+        }
+    }
+}
+
+/// The operation at the place; the first places are those of the initial values.
+fn operation_behind(
+    initial_count: usize,
+    operations: &[Operation],
+    place: OpId,
+) -> Option<Operation>
+    ensures { result ≡ operation_behind initial_count operations.now place }
+{
+    let behind = place.place().checked_sub(initial_count)?;
+    operations.get(behind).copied()
+}
+
+/// The line of the operation at the place.
+fn order_line_at(initial_count: usize, operations: &[Operation], place: OpId) -> Option<ClaimLine>
+    ensures { result ≡ option_map Op (operation_behind initial_count operations.now place) }
+{
+    operation_behind(initial_count, operations, place).map(ClaimLine::Op)
+}
+
+/// The line at the place.
+fn line_at(initial: &[u64], operations: &[Operation], place: OpId) -> Option<ClaimLine>
+    ensures { result ≡ slice_get (lines_of_history initial.now operations.now) place }
+{
+    match initial.get(place.place()) {
+        Some(value) => Some(ClaimLine::Initial(*value)),
+        None => operation_behind(initial.len(), operations, place).map(ClaimLine::Op),
+    }
+}
+
+/// The lines of the operations at these places.
+fn put_order<W: TextSink>(
+    writer: &mut W,
+    kept: &mut Kept,
+    initial_count: usize,
     operations: &[Operation],
     places: &[OpId],
 ) -> Result<(), WriteFault>
-    requires { All (λ p. p < length operations.now) places.now }
-    ensures ok { OnOk result (Puts (W.contents writer.old) (W.contents writer.new) kept.old kept.new (lines_at operations.now places.now)) }
-    ensures err { OnErr result (AppendsFront (W.contents writer.old) (W.contents writer.new) (kept.old ++ lines_at operations.now places.now)) }
+    ensures ok { OnOk result (Puts (W.contents writer.old) (W.contents writer.new) kept.old kept.new (flat_map (operation_text initial_count operations.now) places.now)) }
+    ensures err { OnErr result (AppendsFront (W.contents writer.old) (W.contents writer.new) (kept.old ++ flat_map (operation_text initial_count operations.now) places.now)) }
     ensures refused { W.has_refused writer.new ≡ (W.has_refused writer.old || is_err result) }
     ensures written { OnOk result (IsWritten W.goes writer.old writer.new) }
     ensures stopped { OnErr result (IsRefused W.goes writer.old writer.new) }
 {
     for id in places {
-        make_room(writer, kept)?;
-        push_operation(kept, &operations[id.place()]);
+        put_line(writer, kept, order_line_at(initial_count, operations, *id))?;
+    }
+    Ok(())
+}
+
+/// The lines at these places.
+fn put_places<W: TextSink>(
+    writer: &mut W,
+    kept: &mut Kept,
+    initial: &[u64],
+    operations: &[Operation],
+    places: &[OpId],
+) -> Result<(), WriteFault>
+    ensures ok { OnOk result (Puts (W.contents writer.old) (W.contents writer.new) kept.old kept.new (lines_text initial.now operations.now places.now)) }
+    ensures err { OnErr result (AppendsFront (W.contents writer.old) (W.contents writer.new) (kept.old ++ lines_text initial.now operations.now places.now)) }
+    ensures refused { W.has_refused writer.new ≡ (W.has_refused writer.old || is_err result) }
+    ensures written { OnOk result (IsWritten W.goes writer.old writer.new) }
+    ensures stopped { OnErr result (IsRefused W.goes writer.old writer.new) }
+{
+    for id in places {
+        put_line(writer, kept, line_at(initial, operations, *id))?;
     }
     Ok(())
 }
@@ -73,18 +161,18 @@ fn put_places<W: TextSink>(
 fn put_maybe<W: TextSink>(
     writer: &mut W,
     kept: &mut Kept,
+    initial: &[u64],
     operations: &[Operation],
     place: Option<OpId>,
 ) -> Result<(), WriteFault>
-    requires { All (λ p. p < length operations.now) (option_to_list place) }
-    ensures ok { OnOk result (Puts (W.contents writer.old) (W.contents writer.new) kept.old kept.new (lines_at operations.now (option_to_list place))) }
-    ensures err { OnErr result (AppendsFront (W.contents writer.old) (W.contents writer.new) (kept.old ++ lines_at operations.now (option_to_list place))) }
+    ensures ok { OnOk result (Puts (W.contents writer.old) (W.contents writer.new) kept.old kept.new (lines_text initial.now operations.now (option_to_list place))) }
+    ensures err { OnErr result (AppendsFront (W.contents writer.old) (W.contents writer.new) (kept.old ++ lines_text initial.now operations.now (option_to_list place))) }
     ensures refused { W.has_refused writer.new ≡ (W.has_refused writer.old || is_err result) }
     ensures written { OnOk result (IsWritten W.goes writer.old writer.new) }
     ensures stopped { OnErr result (IsRefused W.goes writer.old writer.new) }
 {
     match place {
-        Some(place) => put_places(writer, kept, operations, &[place]),
+        Some(place) => put_places(writer, kept, initial, operations, &[place]),
         None => Ok(()),
     }
 }
@@ -93,36 +181,43 @@ fn put_maybe<W: TextSink>(
 fn put_with_last<W: TextSink>(
     writer: &mut W,
     kept: &mut Kept,
+    initial: &[u64],
     operations: &[Operation],
     first: &[OpId],
     last: Option<OpId>,
 ) -> Result<(), WriteFault>
-    requires { All (λ p. p < length operations.now) (first.now ++ option_to_list last) }
-    ensures ok { OnOk result (Puts (W.contents writer.old) (W.contents writer.new) kept.old kept.new (lines_at operations.now (first.now ++ option_to_list last))) }
-    ensures err { OnErr result (AppendsFront (W.contents writer.old) (W.contents writer.new) (kept.old ++ lines_at operations.now (first.now ++ option_to_list last))) }
+    ensures ok { OnOk result (Puts (W.contents writer.old) (W.contents writer.new) kept.old kept.new (lines_text initial.now operations.now (first.now ++ option_to_list last))) }
+    ensures err { OnErr result (AppendsFront (W.contents writer.old) (W.contents writer.new) (kept.old ++ lines_text initial.now operations.now (first.now ++ option_to_list last))) }
     ensures refused { W.has_refused writer.new ≡ (W.has_refused writer.old || is_err result) }
     ensures written { OnOk result (IsWritten W.goes writer.old writer.new) }
     ensures stopped { OnErr result (IsRefused W.goes writer.old writer.new) }
 {
-    put_places(writer, kept, operations, first)?;
-    put_maybe(writer, kept, operations, last)
+    put_places(writer, kept, initial, operations, first)?;
+    put_maybe(writer, kept, initial, operations, last)
 }
 
 fn put_cover<W: TextSink>(
     writer: &mut W,
     kept: &mut Kept,
+    initial: &[u64],
     operations: &[Operation],
     steps: &[CoverStep],
 ) -> Result<(), WriteFault>
-    requires { All (λ p. p < length operations.now) (flat_map places_of_step steps.now) }
-    ensures ok { OnOk result (Puts (W.contents writer.old) (W.contents writer.new) kept.old kept.new (lines_at operations.now (flat_map places_of_step steps.now))) }
-    ensures err { OnErr result (AppendsFront (W.contents writer.old) (W.contents writer.new) (kept.old ++ lines_at operations.now (flat_map places_of_step steps.now))) }
+    ensures ok { OnOk result (Puts (W.contents writer.old) (W.contents writer.new) kept.old kept.new (lines_text initial.now operations.now (flat_map places_of_step steps.now))) }
+    ensures err { OnErr result (AppendsFront (W.contents writer.old) (W.contents writer.new) (kept.old ++ lines_text initial.now operations.now (flat_map places_of_step steps.now))) }
     ensures refused { W.has_refused writer.new ≡ (W.has_refused writer.old || is_err result) }
     ensures written { OnOk result (IsWritten W.goes writer.old writer.new) }
     ensures stopped { OnErr result (IsRefused W.goes writer.old writer.new) }
 {
     for step in steps {
-        put_with_last(writer, kept, operations, &[step.enqueue], step.dequeue)?;
+        put_with_last(
+            writer,
+            kept,
+            initial,
+            operations,
+            &[step.enqueue],
+            step.dequeue,
+        )?;
     }
     Ok(())
 }
@@ -130,19 +225,19 @@ fn put_cover<W: TextSink>(
 fn put_witness<W: TextSink>(
     writer: &mut W,
     kept: &mut Kept,
+    initial: &[u64],
     operations: &[Operation],
     empty: OpId,
     cover: &[CoverStep],
 ) -> Result<(), WriteFault>
-    requires { All (λ p. p < length operations.now) (empty ∷ flat_map places_of_step cover.now) }
-    ensures ok { OnOk result (Puts (W.contents writer.old) (W.contents writer.new) kept.old kept.new (lines_at operations.now (empty ∷ flat_map places_of_step cover.now))) }
-    ensures err { OnErr result (AppendsFront (W.contents writer.old) (W.contents writer.new) (kept.old ++ lines_at operations.now (empty ∷ flat_map places_of_step cover.now))) }
+    ensures ok { OnOk result (Puts (W.contents writer.old) (W.contents writer.new) kept.old kept.new (lines_text initial.now operations.now (empty ∷ flat_map places_of_step cover.now))) }
+    ensures err { OnErr result (AppendsFront (W.contents writer.old) (W.contents writer.new) (kept.old ++ lines_text initial.now operations.now (empty ∷ flat_map places_of_step cover.now))) }
     ensures refused { W.has_refused writer.new ≡ (W.has_refused writer.old || is_err result) }
     ensures written { OnOk result (IsWritten W.goes writer.old writer.new) }
     ensures stopped { OnErr result (IsRefused W.goes writer.old writer.new) }
 {
-    put_places(writer, kept, operations, &[empty])?;
-    put_cover(writer, kept, operations, cover)
+    put_places(writer, kept, initial, operations, &[empty])?;
+    put_cover(writer, kept, initial, operations, cover)
 }
 
 /// The first line of a no.
@@ -161,29 +256,43 @@ fn violation_line(violation: &Violation) -> &'static [u8]
 fn put_violation<W: TextSink>(
     writer: &mut W,
     kept: &mut Kept,
+    initial: &[u64],
     operations: &[Operation],
     violation: &Violation,
 ) -> Result<(), WriteFault>
-    requires { All (λ p. p < length operations.now) (places_of_violation violation.now) }
-    ensures ok { OnOk result (Puts (W.contents writer.old) (W.contents writer.new) kept.old kept.new (lines_at operations.now (places_of_violation violation.now))) }
-    ensures err { OnErr result (AppendsFront (W.contents writer.old) (W.contents writer.new) (kept.old ++ lines_at operations.now (places_of_violation violation.now))) }
+    ensures ok { OnOk result (Puts (W.contents writer.old) (W.contents writer.new) kept.old kept.new (lines_text initial.now operations.now (places_of_violation violation.now))) }
+    ensures err { OnErr result (AppendsFront (W.contents writer.old) (W.contents writer.new) (kept.old ++ lines_text initial.now operations.now (places_of_violation violation.now))) }
     ensures refused { W.has_refused writer.new ≡ (W.has_refused writer.old || is_err result) }
     ensures written { OnOk result (IsWritten W.goes writer.old writer.new) }
     ensures stopped { OnErr result (IsRefused W.goes writer.old writer.new) }
 {
     match violation {
-        Violation::Fresh { deq, enq } => put_with_last(writer, kept, operations, &[*deq], *enq),
+        Violation::Fresh { deq, enq } => put_with_last(
+            writer,
+            kept,
+            initial,
+            operations,
+            &[*deq],
+            *enq,
+        ),
         Violation::Repeat { enq, first, second } => {
-            put_places(writer, kept, operations, &[*enq, *first, *second])
+            put_places(writer, kept, initial, operations, &[*enq, *first, *second])
         }
         Violation::Order {
             enq_a,
             enq_b,
             deq_b,
             deq_a,
-        } => put_with_last(writer, kept, operations, &[*enq_a, *enq_b, *deq_b], *deq_a),
+        } => put_with_last(
+            writer,
+            kept,
+            initial,
+            operations,
+            &[*enq_a, *enq_b, *deq_b],
+            *deq_a,
+        ),
         Violation::Witness { empty, cover } => {
-            put_witness(writer, kept, operations, *empty, cover.as_slice())
+            put_witness(writer, kept, initial, operations, *empty, cover.as_slice())
         }
     }
 }
@@ -192,13 +301,13 @@ fn put_violation<W: TextSink>(
 fn put_verdict<W: TextSink>(
     writer: &mut W,
     kept: &mut Kept,
+    initial: &[u64],
     operations: &[Operation],
     verdict: &Verdict,
 ) -> Result<(), WriteFault>
-    requires none { kept.old ≡ [] }
-    requires within { All (λ p. p < length operations.now) (places_of verdict.now) }
-    ensures ok { OnOk result (Puts (W.contents writer.old) (W.contents writer.new) [] kept.new (verdict_text (claim_of operations.now verdict.now))) }
-    ensures err { OnErr result (AppendsFront (W.contents writer.old) (W.contents writer.new) (verdict_text (claim_of operations.now verdict.now))) }
+    requires { kept.old ≡ [] }
+    ensures ok { OnOk result (Puts (W.contents writer.old) (W.contents writer.new) [] kept.new (verdict_text (claim_of initial.now operations.now verdict.now))) }
+    ensures err { OnErr result (AppendsFront (W.contents writer.old) (W.contents writer.new) (verdict_text (claim_of initial.now operations.now verdict.now))) }
     ensures refused { W.has_refused writer.new ≡ (W.has_refused writer.old || is_err result) }
     ensures written { OnOk result (IsWritten W.goes writer.old writer.new) }
     ensures stopped { OnErr result (IsRefused W.goes writer.old writer.new) }
@@ -206,11 +315,11 @@ fn put_verdict<W: TextSink>(
     match verdict {
         Verdict::Yes(order) => {
             kept.push(b"YES\n");
-            put_places(writer, kept, operations, order.as_slice())
+            put_order(writer, kept, initial.len(), operations, order.as_slice())
         }
         Verdict::No(violation) => {
             kept.push(violation_line(violation));
-            put_violation(writer, kept, operations, violation)
+            put_violation(writer, kept, initial, operations, violation)
         }
     }
 }
@@ -224,34 +333,35 @@ pub fn write_verdict<W: TextSink>(
     verdict: &Verdict,
     writer: &mut W,
 ) -> Result<(), WriteFault>
-    // The verdict's operations are places of this history.
-    requires { All (λ place. place < length (operations_of history.now.events)) (places_of verdict.now) }
+    // The verdict's places are those of this history's initial values and operations.
+    requires { IsWithin history.now.initial (operations_of history.now.events) verdict.now }
 
-    ensures ok { OnOk result (Appends (W.contents writer.old) (W.contents writer.new) (verdict_text (claim_of (operations_of history.now.events) verdict.now))) }
-    ensures err { OnErr result (AppendsFront (W.contents writer.old) (W.contents writer.new) (verdict_text (claim_of (operations_of history.now.events) verdict.now))) }
+    ensures ok { OnOk result (Appends (W.contents writer.old) (W.contents writer.new) (verdict_text (claim_of history.now.initial (operations_of history.now.events) verdict.now))) }
+    ensures err { OnErr result (AppendsFront (W.contents writer.old) (W.contents writer.new) (verdict_text (claim_of history.now.initial (operations_of history.now.events) verdict.now))) }
     ensures refused { W.has_refused writer.new ≡ (W.has_refused writer.old || is_err result) }
     ensures written { OnOk result (IsWritten W.goes writer.old writer.new) }
     ensures stopped { OnErr result (IsRefused W.goes writer.old writer.new) }
 {
-    write_verdict_on(history.operations(), verdict, writer)
+    write_verdict_on(history.initial(), history.operations(), verdict, writer)
 }
 
 /// The same of a verdict on operations, where the events of their history aren't kept.
 pub fn write_verdict_on<W: TextSink>(
+    initial: &[u64],
     operations: &[Operation],
     verdict: &Verdict,
     writer: &mut W,
 ) -> Result<(), WriteFault>
-    // The verdict's operations are places of these.
-    requires { All (λ place. place < length operations.now) (places_of verdict.now) }
+    // The verdict's places are those of these values and operations.
+    requires { IsWithin initial.now operations.now verdict.now }
 
-    ensures ok { OnOk result (Appends (W.contents writer.old) (W.contents writer.new) (verdict_text (claim_of operations.now verdict.now))) }
-    ensures err { OnErr result (AppendsFront (W.contents writer.old) (W.contents writer.new) (verdict_text (claim_of operations.now verdict.now))) }
+    ensures ok { OnOk result (Appends (W.contents writer.old) (W.contents writer.new) (verdict_text (claim_of initial.now operations.now verdict.now))) }
+    ensures err { OnErr result (AppendsFront (W.contents writer.old) (W.contents writer.new) (verdict_text (claim_of initial.now operations.now verdict.now))) }
     ensures refused { W.has_refused writer.new ≡ (W.has_refused writer.old || is_err result) }
     ensures written { OnOk result (IsWritten W.goes writer.old writer.new) }
     ensures stopped { OnErr result (IsRefused W.goes writer.old writer.new) }
 {
     let mut kept = Kept::new();
-    put_verdict(writer, &mut kept, operations, verdict)?;
+    put_verdict(writer, &mut kept, initial, operations, verdict)?;
     write_piece(writer, kept.as_slice())
 }
