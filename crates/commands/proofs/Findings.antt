@@ -1,5 +1,5 @@
 -- From the fault of a list of events, or of an input, to what is answered of it.
-use Rattle.std.proofs.Common.{◌≡◌, ℕ, ◌≤◌, ◌⊎◌, List, length, arith, Option, Some, None, IfSome, inl, inr, refl}
+use Rattle.std.proofs.Common.{◌≡◌, ℕ, ◌≤◌, ◌⊎◌, List, [], length, arith, Option, Some, None, IfSome, inl, inr, refl}
 use Rattle.history_merge.specs.declared.fault.HistoryFault.{HistoryFault}
 use Rattle.history_merge.specs.declared.fault.HistoryFault.TheVariants.{TicketOrder, BadThread, CallWhilePending, ReturnWithoutCall, WrongReturn}
 use Rattle.history_merge.specs.declared.fault.HistoryFault.TheVariants.{DuplicateValue, Pending, Memory, InitialTwice}
@@ -12,12 +12,14 @@ use Rattle.history_text.specs.declared.version.HistoryText.{HistoryText}
 use Rattle.history_text.specs.declared.version.Version.{Version}
 use Rattle.history_text.specs.declared.version.Version.TheVariants.{One, Two}
 use Rattle.history_text.specs.Versions.{HasText, HaveValueLines}
-use Rattle.verdicts.specs.Verdicts.{HasOperationsFrom}
+use Rattle.verdicts.specs.declared.verdict.Verdict.{Verdict}
+use Rattle.verdicts.specs.Claiming.{claim_of}
+use Rattle.verdicts.specs.Verdicts.{HasOperationsFrom, IsEvidence, IsExactFrom, IsVerdictOf, filled_of}
 use Rattle.verdicts.proofs.DecidedFrom.{history_has}
 use Rattle.commands.specs.Answers.{Answer, memory_fault, answer_of_history_fault}
 use Rattle.text_lines.specs.declared.fault.TextFault.{TextFault}
 use Rattle.text_lines.specs.Input.{Ahead}
-use Rattle.commands.specs.Judging.{IsFaulty, AnswersFor, said_by}
+use Rattle.commands.specs.Judging.{IsFaulty, IsVerdictClaim, AnswersFor, from_none, said_by}
 
 -- the first fault is answered, and want of memory as such
 pub fault_found : (history : HistoryView) (fault : HistoryFault) → IsFirstFaultFrom history.initial history.events fault
@@ -55,6 +57,17 @@ pub gathered_has : (text : HistoryText) (parts : HistoryParts) → HasText text 
     → HasOperationsFrom parts.initial.items parts.operations.items
 gathered_has text parts has complete same =
     history_has (said_by text) parts.initial.items parts.operations.items same.0 same.1 complete (few_values text has) has.events.few
+
+-- what is decided of a history is the claim of its verdict
+pub decided_claim : (history : HistoryView) (verdict : Verdict) → IsVerdictOf (filled_of history) verdict → IsEvidence (filled_of history) verdict
+    → IsExactFrom history.initial (operations_of history.events) verdict
+    → IsVerdictClaim history (claim_of history.initial (operations_of history.events) verdict)
+decided_claim history verdict chosen evidence exact =
+    record { verdict = verdict; chosen = chosen; evidence = evidence; exact = exact; claim = refl }
+
+-- a history of a queue that is empty first, by its events
+pub is_from_none : (history : HistoryView) → history.initial ≡ [] → history ≡ from_none history.events
+is_from_none history none = λ i. record { initial = none i; events = history.events }
 
 -- ---- from what is answered of a value to what is answered of an input
 

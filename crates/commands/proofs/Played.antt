@@ -5,7 +5,6 @@ use Rattle.event_records.specs.declared.event.Event.{Event}
 use Rattle.event_records.specs.declared.limits.TheConstants.{MAX_EVENTS}
 use Rattle.history_merge.specs.Complete.{IsCompleteHistory}
 use Rattle.history_merge.specs.Merge.{IsMerged}
-use Rattle.history_merge.specs.Operations.{operations_of}
 use Rattle.event_records.specs.declared.limits.TheConstants.{MAX_THREADS}
 use Rattle.recorder_core.specs.Setting.{Setting}
 use Rattle.recorder_core.specs.Schedule.{Attempt}
@@ -26,7 +25,7 @@ module _ (setting : Setting) (schedule : List Attempt) (rejected : List Rejectio
   -- the machine is done
   pub played_found : (lists : List (List Event)) (events : List Event) (claimed : Claimed)
       → IsDone setting schedule × (lists ≡ collected_lists setting schedule) → IsMerged lists events → IsCompleteHistory events
-      → IsVerdictClaim (operations_of events) claimed → SimulatesIn setting schedule (played rejected events claimed)
+      → IsVerdictClaim (record { initial = setting.initial; events = events }) claimed → SimulatesIn setting schedule (played rejected events claimed)
   played_found lists events claimed ended merged complete right = inr (record {
     done = ended.0;
     events = events;

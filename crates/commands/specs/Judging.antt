@@ -183,7 +183,7 @@ pub record IsPlayed (setting : Setting) (schedule : List Attempt) (answer : Answ
   pub merged : IsMerged (collected_lists setting schedule) events
   pub complete : IsCompleteHistory events
   pub claimed : Claimed
-  pub right : IsVerdictClaim (from_none events) claimed
+  pub right : IsVerdictClaim (record { initial = setting.initial; events = events }) claimed
   pub is : answer ≡ played (rejections setting schedule) events claimed
 
 -- what is answered of these steps in this setting

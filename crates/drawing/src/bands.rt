@@ -4,10 +4,10 @@ ghost use Rattle.drawing.specs.Claim.{operations_in};
 ghost use Rattle.std.specs.List.{concat};
 ghost use Rattle.drawing.specs.Bands.{value_of, sure_until, time_of, absent_until, call_if_taken, cover_bands, fresh_bands, order_bands, witness_bands, repeat_bands, bands_of, head_text, form, holds_gap};
 
+use crate::claim::ShownClaim;
 use crate::line::{Piece, push_all};
 use history_merge::{OpKind, Operation};
 use std::alloc::{AllocError, Global};
-use crate::claim::ShownClaim;
 use verdicts::ViolationKind;
 
 /// What stands above a band.

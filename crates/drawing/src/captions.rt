@@ -4,10 +4,10 @@ ghost use Rattle.drawing.specs.Claim.{operations_in};
 ghost use Rattle.drawing.specs.Captions.{headline, fresh_reason, fresh_caption, repeat_caption, overtaking_caption, order_caption, one_of_cover, last_of_cover, cover_caption, witness_words, witness_caption, yes_caption, caption, lane_meanings, number_meaning, fresh_meanings, sure_and, form_meanings, legend};
 
 use crate::bands::value_of;
+use crate::claim::ShownClaim;
 use crate::line::{Piece, push_all};
 use history_merge::{OpKind, Operation};
 use std::alloc::AllocError;
-use crate::claim::ShownClaim;
 use verdicts::ViolationKind;
 
 /// What a picture shows, in a line.

@@ -11,6 +11,7 @@ ghost use Rattle.drawing.specs.Terminal.{ticket_word, sign, lane_words, label_if
 
 use crate::bands::{Band, Head, bands_of, form, holds_gap, push_head};
 use crate::captions::{headline, push_caption, push_legend};
+use crate::claim::ShownClaim;
 use crate::columns::{Columns, Lane, MOST_DRAWN, columns_of, digits, lanes_of, threads_of};
 use crate::line::{Piece, place, push_all, push_line};
 use crate::lookup::{called_at, place_in, under_way};
@@ -18,7 +19,6 @@ use event_records::Event;
 use history_merge::{History, OpKind, Operation};
 use itoa::Buffer;
 use std::alloc::{AllocError, Global};
-use crate::claim::ShownClaim;
 use verdicts::ViolationKind;
 
 /// Adds a number to a line at a column.

@@ -5,12 +5,12 @@ ghost use Rattle.drawing.specs.Claim.{operations_in};
 ghost use Rattle.text_lines.specs.Writing.{AppendsFront, IsWritten, IsRefused};
 ghost use Rattle.drawing.specs.Terminal.{terminal_picture};
 
+use crate::claim::ShownClaim;
 use crate::columns::MOST_DRAWN;
 use crate::terminal::terminal_picture;
 use history_merge::History;
 use history_text::{TextSink, WriteFault, write_piece};
 use std::alloc::{AllocError, Global};
-use crate::claim::ShownClaim;
 
 /// Writes the picture of a history and what is claimed of it, in lines of ASCII for a terminal.
 ///

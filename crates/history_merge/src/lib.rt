@@ -26,4 +26,4 @@ pub use laws::{filled_has_the_same_orders, filled_is_complete, no_initial_values
 pub use merging::merge;
 pub use operation::{OpId, OpKind, Operation};
 pub use preloaded::{HistoryParts, PreloadedBuilder};
-pub use recorded::{complete_history, merged_history};
+pub use recorded::{complete_history, merged_from, merged_history};

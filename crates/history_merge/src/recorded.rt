@@ -1,9 +1,11 @@
 ghost use Rattle.std.specs.Prelude.{◌≡◌, ◌≤◌, List, [], IfOk, flat_map, length, vec_len};
 ghost use Rattle.event_records.specs.declared.event.Event.{Event};
+ghost use Rattle.event_records.specs.declared.limits.TheConstants.{MAX_INITIAL};
 ghost use Rattle.history_merge.specs.Complete.{IsCompleteHistory};
+ghost use Rattle.history_merge.specs.Initial.{IsCompleteFrom};
 ghost use Rattle.history_merge.specs.Merge.{IsMerged};
 
-use crate::build::history;
+use crate::build::{history, history_from};
 use crate::complete::History;
 use crate::fault::HistoryFault;
 use crate::merging::merge;
@@ -22,6 +24,24 @@ pub fn merged_history(alloc: Global, lists: &Lists) -> Result<History, AllocErro
     ensures complete { IfOk result (λ whole. IsCompleteHistory whole.events) }
 {
     complete_history(alloc, merge(alloc, lists)?)
+}
+
+/// The same of a queue that holds these values first, its front first. `AllocError` comes only where a growth was refused.
+pub fn merged_from(alloc: Global, initial: &[u64], lists: &Lists) -> Result<History, AllocError>
+    requires complete { (merged : List Event) → IsMerged lists.now merged → IsCompleteFrom initial.now merged }
+    requires few { length (flat_map (λ list. list) lists.now) ≤ MAX_EVENTS }
+    requires few_initial { length initial.now ≤ MAX_INITIAL }
+    ensures initial { IfOk result (λ whole. whole.initial ≡ initial.now) }
+    ensures merged { IfOk result (λ whole. IsMerged lists.now whole.events) }
+    ensures complete { IfOk result (λ whole. IsCompleteFrom whole.initial whole.events) }
+{
+    let events = merge(alloc, lists)?;
+    let initial = Vec::from_slice(alloc, initial)?;
+    match history_from(alloc, initial, events) {
+        Ok(whole) => Ok(whole),
+        Err(HistoryFault::Memory) => Err(AllocError),
+        Err(_) => unreachable!("a complete history has no fault"),
+    }
 }
 
 /// The history of events that are known to be those of a complete one, of a queue that is empty first.

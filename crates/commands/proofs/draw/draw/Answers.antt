@@ -1,11 +1,11 @@
 use Rattle.std.proofs.Common.{inl}
 use Rattle.commands.specs.Inputs.{IsClaimOf, IsFaultOfClaimInput}
-use Rattle.commands.specs.Judging.{IsFaulty, Draws}
+use Rattle.commands.specs.Judging.{IsFaulty, Draws, said_by}
 use Rattle.commands.specs.Outcomes.{answer_of}
 use Rattle.commands.proofs.Findings.{answers_more}
 use Rattle.commands.proofs.draw.draw.Goals as goal
 
 pub returns-in-Err-clause-found : goal.returns-in-Err-clause-found
 returns-in-Err-clause-found g c =
-    answers_more IsClaimOf IsFaultOfClaimInput (λ claim. IsFaulty claim.events) (Draws c.args.form) (g.S.TextSource.ahead c.args.reader)
+    answers_more IsClaimOf IsFaultOfClaimInput (λ claim. IsFaulty (said_by claim.text)) (Draws c.args.form) (g.S.TextSource.ahead c.args.reader)
     (answer_of c.in-Err.outcome) (λ claim faulty. inl faulty) c.in-Err.ensures.found

@@ -9,7 +9,7 @@ returns-in-Err-clause-fault g c =
 
 pub returns-in-Err-read_verdict-clause-fault : goal.returns-in-Err-read_verdict-clause-fault
 returns-in-Err-read_verdict-clause-fault g c =
-    let events = rw c.new-texts.ensures at c.in-Ok.ensures.events in
+    let text = rw c.new-texts.ensures at c.in-Ok.ensures.text in
     let lines = rw c.new-texts.ensures at c.in-Ok.ensures.lines in
-    verdict_fault (g.S.TextSource.ahead c.args.reader) _ c.in-Ok.events.items _ c.in-Err-read_verdict.fault events.0 events.1
+    verdict_fault (g.S.TextSource.ahead c.args.reader) _ c.in-Ok.text _ c.in-Err-read_verdict.fault text.0 text.1
     (omega (arith, lines)) c.in-Err-read_verdict.ensures.fault
