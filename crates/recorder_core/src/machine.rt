@@ -73,9 +73,9 @@ impl Machine {
         Machine::with_initial(alloc, threads, ring, Vec::new(alloc))
     }
 
-    /// The same with a sequential queue that holds these values first, the front one foremost. They lie above the names of the
-    /// threads' own values, so no operation enqueues one of them. [`are_initial_names`](crate::are_initial_names) tests whether
-    /// values may stand here.
+    /// The same with a sequential queue that holds these values, front first. They lie above the names of the threads' own
+    /// values, so no operation enqueues one of them; [`are_initial_names`](crate::are_initial_names) tells whether values may
+    /// stand here.
     pub fn with_initial(
         alloc: Global,
         threads: usize,
