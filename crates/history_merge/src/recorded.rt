@@ -37,11 +37,8 @@ pub fn merged_from(alloc: Global, initial: &[u64], lists: &Lists) -> Result<Hist
 {
     let events = merge(alloc, lists)?;
     let initial = Vec::from_slice(alloc, initial)?;
-    match history_from(alloc, initial, events) {
-        Ok(whole) => Ok(whole),
-        Err(HistoryFault::Memory) => Err(AllocError),
-        Err(_) => unreachable!("a complete history has no fault"),
-    }
+    // A complete history is refused for want of memory alone.
+    history_from(alloc, initial, events).map_err(|_| AllocError)
 }
 
 /// The history of events that are known to be those of a complete one, of a queue that is empty first.

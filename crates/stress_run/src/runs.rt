@@ -24,7 +24,7 @@ use crate::worker::Worker;
 use collector::Collector;
 use event_records::Lists;
 use event_rings::CloseToken;
-use history_merge::{History, merged_history};
+use history_merge::{History, merged_from};
 use queue_interface::TestQueue;
 use recorder_core::are_initial_names;
 use std::alloc::{AllocError, Global};
@@ -60,7 +60,7 @@ impl Model for Recorded {
 
 impl Recorded {
     ghost use Rattle.std.specs.Prelude.{◌≡◌, IfOk};
-    ghost use Rattle.history_merge.specs.Complete.{IsCompleteHistory};
+    ghost use Rattle.history_merge.specs.Initial.{IsCompleteFrom};
     ghost use Rattle.history_merge.specs.Merge.{IsMerged};
     ghost use Rattle.recorder_core.specs.Initial.{AreInitialNames};
     ghost use Rattle.recorder_core.specs.Replay.{AreRecorded};
@@ -81,14 +81,15 @@ impl Recorded {
         &self.lists
     }
 
-    /// The history of the run: its lists put together by ticket. It is refused for want of memory alone.
+    /// The history of the run: what its queue held first, and its lists put together by ticket. It is refused for want of memory alone.
     ///
     /// Time O(n log n) for n events, memory for them and for the history.
     pub fn history(&self, alloc: Global) -> Result<History, AllocError>
-        ensures merged { IfOk result (IsMerged self.now.lists) }
-        ensures complete { IfOk result IsCompleteHistory }
+        ensures initial { IfOk result (λ history. history.initial ≡ self.now.initial) }
+        ensures merged { IfOk result (λ history. IsMerged self.now.lists history.events) }
+        ensures complete { IfOk result (λ history. IsCompleteFrom history.initial history.events) }
     {
-        merged_history(alloc, &self.lists)
+        merged_from(alloc, self.initial.as_slice(), &self.lists)
     }
 
     /// Gives the lists away, and takes no memory.

@@ -11,11 +11,10 @@ use crate::layout::{Sheet, bar_width, call_y, effect_row, ret_y, row, row_y, thr
 use crate::markup::Attribute::Words;
 use crate::markup::{push_element, push_end, push_number, push_start};
 use crate::words::{corner, kind_word};
-use drawing::{digits, operations_in, place_in, push_label};
+use drawing::{ShownClaim, digits, operations_in, place_in, push_label};
 use history_merge::Operation;
 use itoa::Buffer;
 use std::alloc::{AllocError, Global};
-use drawing::ShownClaim;
 
 fn mark(claimed: &ShownClaim, place: Option<usize>) -> &'static [u8]
     ensures { result.now ≡ mark claimed.now place }

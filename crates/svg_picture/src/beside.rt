@@ -15,11 +15,10 @@ use crate::layout::{
 use crate::lines::head_words;
 use crate::markup::push_number;
 use crate::words::form_class;
-use drawing::{Band, Head, digits, push_label, way};
+use drawing::{Band, Head, ShownClaim, digits, push_label, way};
 use event_records::Event;
 use history_merge::Operation;
 use std::alloc::{AllocError, Global};
-use drawing::ShownClaim;
 use verdicts::ViolationKind;
 
 fn is_time(head: Head) -> bool

@@ -2,10 +2,9 @@
 ghost use Rattle.std.specs.Prelude.{◌≡◌, ◌≤◌, ◌^◌};
 ghost use Rattle.svg_picture.specs.Layout.{page_on, shown, order_width, left, bar_width, lane_width, lane_x, thread_x, right, band_x, width, legend_y, top, row, effect_row, row_y, call_y, ret_y, bottom, height};
 
-use drawing::Band;
+use drawing::{Band, ShownClaim};
 use event_records::Event;
 use history_merge::Operation;
-use drawing::ShownClaim;
 
 /// How wide the parts of a picture are, in characters, and how many there are.
 #[derive(Clone, Copy, Debug, PartialEq, Eq)]

@@ -18,12 +18,11 @@ use crate::markup::{push_element, push_end, push_number, push_start};
 use crate::rows::{push_background, push_threads, push_tickets};
 use crate::words::{legend, push_style};
 use drawing::{
-    Band, MOST_DRAWN, bands_of, digits, headline, label_width, last_ticket, operations_in,
-    order_of, push_caption, threads_of,
+    Band, MOST_DRAWN, ShownClaim, bands_of, digits, headline, label_width, last_ticket,
+    operations_in, order_of, push_caption, threads_of,
 };
 use history_merge::{History, Operation};
 use std::alloc::{AllocError, Global};
-use drawing::ShownClaim;
 
 fn caption_of(alloc: Global, claimed: &ShownClaim) -> Result<Vec<u8>, AllocError>
     requires { length (operations_in claimed.now) ≤ 400 }

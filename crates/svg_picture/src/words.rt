@@ -5,10 +5,9 @@ ghost use Rattle.svg_picture.specs.Markup.{text_of};
 ghost use Rattle.svg_picture.specs.Words.{kind_word, corner, form_class, reading, numbers, forms, claim_forms, legend, light, dark};
 
 use crate::markup::{push_end, push_start};
-use drawing::Head;
+use drawing::{Head, ShownClaim};
 use history_merge::OpKind;
 use std::alloc::{AllocError, Global};
-use drawing::ShownClaim;
 use verdicts::ViolationKind;
 
 /// The word of a kind of operation, which is its class too.

@@ -6,11 +6,10 @@ ghost use Rattle.text_lines.specs.Writing.{AppendsFront, IsWritten, IsRefused};
 ghost use Rattle.svg_picture.specs.Picture.{svg_picture};
 
 use crate::picture::svg_picture;
-use drawing::MOST_DRAWN;
+use drawing::{MOST_DRAWN, ShownClaim};
 use history_merge::History;
 use history_text::{TextSink, WriteFault, write_piece};
 use std::alloc::{AllocError, Global};
-use drawing::ShownClaim;
 
 /// Writes the picture of a history and what is claimed of it, as an SVG 1.1 document of ASCII.
 ///
