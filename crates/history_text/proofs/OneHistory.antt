@@ -14,7 +14,8 @@ use Rattle.history_text.specs.Histories.{header, lines_to_end, event_kind, HasHi
 use Rattle.history_text.specs.Versions.{value_kind, count_fields, count_in, lines_of_initial, header_of, lines_before_events, text_of, HaveValueLines}
 use Rattle.history_text.specs.Versions.{HasText, NoVersionFault, InitialFault, FaultAfterHeader, IsTextFault}
 use Rattle.history_text.proofs.ItemFronts.{header_front}
-use Rattle.history_text.proofs.OneLine.{some_is, none_or_some, one_first_line, one_said, said_or_fault, one_line_fault, as_many_agree, more_or_fault, one_fault_after}
+use Rattle.history_text.proofs.OneLine.{some_is, none_or_some, one_first_line, one_said}
+use Rattle.history_text.proofs.OneLine.{said_or_fault, one_line_fault, as_many_agree, more_or_fault, one_fault_after}
 use Rattle.history_text.proofs.OneText.{events_agree, events_have_no_fault}
 use Rattle.history_text.proofs.ReadBack.{event_front}
 use Rattle.history_text.proofs.ReadValues.{value_says, count_says}
@@ -64,7 +65,8 @@ initial_parts initial rest = append_assoc (count_line (length initial)) (lines_o
 initial_agree : (is js r s : List ℕ) → HaveLines value_kind is → HaveLines value_kind js → lines_of_initial is ++ r ≡ lines_of_initial js ++ s
     → (is ≡ js) × (r ≡ s)
 initial_agree is js r s right_i right_j same =
-    let counts = one_said count_in (length is) (length js) (count_line (length is)) (count_line (length js)) _ _ (count_says (length is) right_i.few) (count_says (length js) right_j.few)
+    let counts = one_said count_in (length is) (length js) (count_line (length is)) (count_line (length js)) _ _
+    (count_says (length is) right_i.few) (count_says (length js) right_j.few)
     (sym (initial_parts is r) ∙ same ∙ initial_parts js s) in
     as_many_agree value_kind value_says is js r s right_i.each right_j.each counts.0 counts.1
 

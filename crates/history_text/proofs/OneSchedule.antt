@@ -59,7 +59,8 @@ one_setting : (threads ring count room : ℕ) (r s : List ℕ) → IsSetting thr
     → lines_before_steps threads ring ++ r ≡ lines_before_steps count room ++ s → IsOneSetting threads ring count room r s
 one_setting threads ring count room r s within_r within_s same =
     let lines = append_cancel_left (line schedule_header) _ _ (sym (first_lines threads ring r) ∙ same ∙ first_lines count room s) in
-    let both = one_said setting_in (threads, ring) (count, room) (setting_line threads ring) (setting_line count room) r s (setting_says threads ring within_r) (setting_says count room within_s) lines in
+    let both = one_said setting_in (threads, ring) (count, room) (setting_line threads ring) (setting_line count room) r s
+    (setting_says threads ring within_r) (setting_says count room within_s) lines in
     record {
       threads_are = ap (λ (p : ℕ × ℕ). p.0) both.0;
       rings_are = ap (λ (p : ℕ × ℕ). p.1) both.0;

@@ -12,7 +12,8 @@ use Rattle.text_lines.specs.declared.fault.TextFault.TheVariants.{Memory}
 use Rattle.text_lines.specs.Lines.{line, front_of, Front, Whole, TooLong, Unfinished, Nothing}
 use Rattle.history_text.specs.Items.{Kind, lines_of, HaveLines, item_at_front, ItemFault}
 use Rattle.history_text.specs.Verdicts.{verdict_text}
-use Rattle.history_text.specs.Claims.{first_line, FirstLineFault, ClaimFault, operation_kind, claim_line_kind, HasVerdictText, IsVerdictTextFault, NoRoomForVerdict}
+use Rattle.history_text.specs.Claims.{first_line, FirstLineFault, ClaimFault, operation_kind}
+use Rattle.history_text.specs.Claims.{claim_line_kind, HasVerdictText, IsVerdictTextFault, NoRoomForVerdict}
 use Rattle.text_lines.specs.Input.{Ahead, Ending, EndOfInput, Takes, IsOver}
 use Rattle.history_text.specs.Reading.{HasVerdictTextFault, IsAll}
 use Rattle.text_lines.specs.Inner.Lines.{IsPartOfLine}

@@ -17,7 +17,8 @@ use Rattle.text_lines.proofs.Numbers.{both}
 use Rattle.text_lines.specs.Lines.{spaced, greatest_value, front_of}
 use Rattle.history_text.specs.Items.{line_of, item_at_front}
 use Rattle.history_text.specs.Verdicts.{kind_fields, operation_fields, claim_line_fields}
-use Rattle.history_text.specs.Claims.{IsKindInRange, HasOperationLine, has_value, kind_of_value, operation_of, is_initial, claim_line_in, claim_line_kind, HasClaimLine, empty_operation, numbered_operation}
+use Rattle.history_text.specs.Claims.{IsKindInRange, HasOperationLine, has_value, kind_of_value, operation_of}
+use Rattle.history_text.specs.Claims.{is_initial, claim_line_in, claim_line_kind, HasClaimLine, empty_operation, numbered_operation}
 use Rattle.history_text.specs.Claims.{operation_kind}
 use Rattle.text_lines.specs.Input.{Ending}
 use Rattle.text_lines.proofs.WrittenLines.{IsField, number_is_field, all_digits, number_read, IsLineOf, line_of_fields, digits_begin_other, HasFields}

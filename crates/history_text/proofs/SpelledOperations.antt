@@ -8,7 +8,8 @@ use Rattle.history_merge.specs.declared.operation.OpKind.{OpKind}
 use Rattle.history_merge.specs.declared.operation.OpKind.TheVariants.{Empty}
 use Rattle.text_lines.specs.Lines.{greatest_value, number_in}
 use Rattle.history_text.specs.Verdicts.{kind_fields}
-use Rattle.history_text.specs.Claims.{IsKindInRange, has_value, kind_of_value, empty_operation, numbered_operation, operation_of, is_initial, operation_in, operation_kind}
+use Rattle.history_text.specs.Claims.{IsKindInRange, has_value, kind_of_value, empty_operation}
+use Rattle.history_text.specs.Claims.{numbered_operation, operation_of, is_initial, operation_in, operation_kind}
 use Rattle.history_text.specs.Claims.{initial_of, claim_line_in, claim_line_kind}
 use Rattle.verdicts.specs.declared.verifying.ClaimLine.{ClaimLine}
 use Rattle.verdicts.specs.declared.verifying.ClaimLine.TheVariants.{Op, Initial}

@@ -105,7 +105,8 @@ version_is_first lines (Some a) fault of_input h = first_is (IsTextFault lines) 
 pub initial_is_first : (lines n : ℕ) (old mid : Option Ahead) (fault : TextFault) → n ≡ lines + 2 → Takes old mid (line (header_of Two))
     → HasInitialFault n mid fault → HasTextFault lines old fault
 initial_is_first lines n old mid fault n_is taken h =
-    later_fault (λ e r f. InitialFault n e f r) (IsTextFault lines) (AfterCount (NoRoomAmong value_kind)) NoRoomForText old mid (line (header_of Two)) fault taken
+    later_fault (λ e r f. InitialFault n e f r) (IsTextFault lines) (AfterCount (NoRoomAmong value_kind)) NoRoomForText old mid
+    (line (header_of Two)) fault taken
     (λ e r f k. inr (Two, (r, refl, inl (subst (λ (m : ℕ). InitialFault m e f r) n_is k)))) (λ r k. (Two, (r, refl, inl k))) h
 
 -- a later line has it
@@ -118,7 +119,8 @@ event_is_first One initial lines n old mid fault n_is right taken h =
     (λ e r f k. inr (One, (r, refl, subst (λ (m : ℕ). ItemFault event_kind m e f r) place k))) (λ r k. (One, (r, refl, k))) h
 event_is_first Two initial lines n old mid fault n_is right taken h =
     let place : n ≡ lines + 2 + 1 + length initial = omega (arith, n_is) in
-    later_fault (λ e r f. ItemFault event_kind n e f r) (IsTextFault lines) (NoRoom event_kind) NoRoomForText old mid (lines_before_events Two initial) fault taken
+    later_fault (λ e r f. ItemFault event_kind n e f r) (IsTextFault lines) (NoRoom event_kind) NoRoomForText old mid
+    (lines_before_events Two initial) fault taken
     (λ e r f k. inr (
       Two,
       (

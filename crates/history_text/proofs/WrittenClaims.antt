@@ -1,5 +1,6 @@
 -- The claim of a verdict on a history that has a text has a text.
-use Rattle.std.proofs.Common.{◌≡◌, ℕ, zero, suc, ◌+◌, ◌-◌, ◌≤◌, List, [], ◌∷◌, ◌++◌, length, true, false, nat_lt, Option, Some, None, arith, refl, subst, inl, inr}
+use Rattle.std.proofs.Common.{◌≡◌, ℕ, zero, suc, ◌+◌, ◌-◌, ◌≤◌, List, [], ◌∷◌, ◌++◌}
+use Rattle.std.proofs.Common.{length, true, false, nat_lt, Option, Some, None, arith, refl, subst, inl, inr}
 use Rattle.std.specs.Prelude.{Contains, slice_get, filter_map, map, if◌then◌else◌}
 use Rattle.std.specs.List.{cons_option, AllByRecursion}
 use Rattle.event_records.specs.declared.event.Event.{Event}

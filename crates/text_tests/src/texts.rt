@@ -1,9 +1,9 @@
-ghost use Rattle.std.specs.Prelude.{◌≡◌, ◌<◌, [], ◌∷◌, length, All, IfOk};
+ghost use Rattle.std.specs.Prelude.{◌≡◌, [], ◌∷◌, length, IfOk};
 ghost use Rattle.history_merge.specs.Operations.{operations_of};
-ghost use Rattle.history_text.specs.Verdicts.{places_of};
+ghost use Rattle.history_text.specs.Verdicts.{IsWithin, places_of};
 
 use event_records::{Event, What};
-use history_merge::{History, OpId, history};
+use history_merge::{History, OpId, history, history_from};
 use history_text::{
     MemorySource, TextFault, TextReader, Watched, WriteFault, at_end, read_history, write_history,
     write_verdict,
@@ -250,7 +250,7 @@ fn history_of(alloc: Global, text: &[u8]) -> Result<History, Fail>
 
 /// The text of a verdict on a history.
 fn written(alloc: Global, history: &History, verdict: &Verdict) -> Result<Vec<u8>, Fail>
-    requires { All (λ place. place < length (operations_of history.now.events)) (places_of verdict.now) }
+    requires { IsWithin history.now.initial (operations_of history.now.events) verdict.now }
 {
     let mut writer = Watched::new(Vec::new(alloc));
     write_verdict(history, verdict, &mut writer)?;
@@ -334,6 +334,44 @@ fn writes_verdicts(rt: HostRuntime) -> Result<(), Fail> {
     assert_eq!(rt;
         text.as_slice(),
         b"NO VWit\n2 9 1 empty\n0 1 0 enq 7\n5 6 0 deq 7\n3 4 0 enq 9\n10 11 0 deq 9\n".as_slice()
+    );
+    Ok(())
+}
+
+/// The history of these initial values and of a dequeue of one value.
+fn one_dequeue(alloc: Global, initial: [u64; 2], value: u64) -> Result<History, Fail>
+    ensures initial { IfOk result (λ whole. whole.initial ≡ initial) }
+    ensures operations { IfOk result (λ whole. length (operations_of whole.events) ≡ 1) }
+{
+    let events = [(0, What::CallDeq), (1, What::RetDeq(value))].map(|(ticket, what)| Event {
+        ticket,
+        thread: 0,
+        what,
+    });
+    let whole = history_from(
+        alloc,
+        Vec::from_array(alloc, initial)?,
+        Vec::from_array(alloc, events)?,
+    )?;
+    if whole.operations().len() != 1 {
+        return Err(Fail::from("another count of operations"));
+    }
+    Ok(whole)
+}
+
+#[test]
+fn writes_initial_values(rt: HostRuntime) -> Result<(), Fail> {
+    let whole = one_dequeue(rt.alloc(), [5, 6], 6)?;
+    let verdict = Verdict::No(Violation::Order {
+        enq_a: OpId::new(0),
+        enq_b: OpId::new(1),
+        deq_b: OpId::new(2),
+        deq_a: None,
+    });
+    let text = written(rt.alloc(), &whole, &verdict)?;
+    assert_eq!(rt;
+        text.as_slice(),
+        b"NO VOrd\ninit 5\ninit 6\n0 1 0 deq 6\n".as_slice()
     );
     Ok(())
 }

@@ -2,7 +2,7 @@ use history_merge::{OpKind, Operation};
 use history_text::{MemorySource, TextFault, TextReader, read_history, read_verdict};
 use std::alloc::{AllocError, Global};
 use std::test::Fail;
-use verdicts::{Claimed, ViolationKind};
+use verdicts::{ClaimLine, Claimed, ViolationKind};
 
 /// How many operations the verdict of an input lists, or the fault. Want of memory is an error of its own.
 fn outcome(
@@ -65,8 +65,29 @@ fn reads_each_kind(rt: HostRuntime) -> Result<(), Fail> {
 }
 
 #[test]
+fn reads_initial_values(rt: HostRuntime) -> Result<(), Fail> {
+    let text = b"NO VWit\n0 1 0 empty\ninit 18446744073709551615\n";
+    match read_verdict(rt.alloc(), &mut TextReader::new(MemorySource::new(text)))? {
+        Claimed::No(_, lines) => {
+            let empty = ClaimLine::Op(Operation {
+                call: 0,
+                ret: 1,
+                thread: 0,
+                kind: OpKind::Empty,
+            });
+            assert_eq!(rt;
+                lines.as_slice(),
+                [empty, ClaimLine::Initial(u64::MAX)].as_slice()
+            );
+        }
+        Claimed::Yes(_) => return Err(Fail::from("a yes")),
+    }
+    Ok(())
+}
+
+#[test]
 fn first_faults(rt: HostRuntime) -> Result<(), Fail> {
-    let cases: [(&[u8], Result<usize, TextFault>); 19] = [
+    let cases: [(&[u8], Result<usize, TextFault>); 29] = [
         (b"", Err(TextFault::Cut)),
         (b"YES", Err(TextFault::Cut)),
         (b"YES\n", Ok(0)),
@@ -86,6 +107,19 @@ fn first_faults(rt: HostRuntime) -> Result<(), Fail> {
         (b"YES\n0 1 0 not -1\n", Err(TextFault::Number(2))),
         (b"YES\n1000000000000 x 0 enq 7\n", Err(TextFault::Limit(2))),
         (b"YES\n0 1000000000000 0 empty\n", Err(TextFault::Limit(2))),
+        (b"NO VOrd\ninit 5\ninit 6\n0 1 0 deq 6\n", Ok(3)),
+        (b"NO VOrd\ninit\n", Err(TextFault::Line(2))),
+        (b"NO VOrd\ninit 5 6\n", Err(TextFault::Line(2))),
+        (b"NO VOrd\ninit 5 0 enq 7\n", Err(TextFault::Line(2))),
+        (b"NO VOrd\ninit \n", Err(TextFault::Number(2))),
+        (b"NO VOrd\ninit 07\n", Err(TextFault::Number(2))),
+        (
+            b"NO VOrd\ninit 18446744073709551616\n",
+            Err(TextFault::Limit(2)),
+        ),
+        (b"NO VOrd\n0 1 0 init 5\n", Err(TextFault::Line(2))),
+        (b"YES\ninit 5\n", Err(TextFault::Line(2))),
+        (b"YES\ninit 5 0 enq 7\n", Err(TextFault::Line(2))),
     ];
     for (text, expected) in cases {
         assert_eq!(rt;

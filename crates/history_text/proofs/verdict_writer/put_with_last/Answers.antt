@@ -8,7 +8,8 @@ use Rattle.history_text.proofs.verdict_writer.put_with_last.Goals as goal
 
 pub returns-in_err-put_places-clause-err : goal.returns-in_err-put_places-clause-err
 returns-in_err-put_places-clause-err g c =
-    on_err c.from_residual.result _ (first_stops (line_text c.args.initial.now c.args.operations.now) c.args.first.now (option_to_list c.args.last) _ _ _ c.in_err-put_places.ensures.err)
+    on_err c.from_residual.result _ (first_stops (line_text c.args.initial.now c.args.operations.now) c.args.first.now
+    (option_to_list c.args.last) _ _ _ c.in_err-put_places.ensures.err)
 
 pub returns-clause-ok : goal.returns-clause-ok
 returns-clause-ok g c = on_ok_weaker c.put_maybe.result (both_put (line_text c.args.initial.now c.args.operations.now) c.args.first.now
