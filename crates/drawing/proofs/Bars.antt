@@ -7,6 +7,7 @@ use Rattle.event_records.specs.declared.event.Event.{Event}
 use Rattle.history_merge.specs.declared.operation.Operation.{Operation}
 use Rattle.history_merge.specs.Complete.{IsCompleteHistory, AreComplete}
 use Rattle.history_merge.specs.Operations.{operations_of}
+use Rattle.history_merge.proofs.Completeness.{operations_are_complete}
 use Rattle.history_merge.proofs.Distinct.{contains_cons, not_in_none, contains_at, pairs_at, one_at, found_first, IsTraced, traced, same_call}
 use Rattle.history_merge.proofs.Distinct.{return_differs_from_call}
 use Rattle.drawing.specs.Layout.{is_under_way}
@@ -44,7 +45,7 @@ no_other_bars operations thread ticket o is =
 
 module _ (events : List Event) (complete : IsCompleteHistory events) where
   all : AreComplete (operations_of events)
-  all = (events, complete, refl)
+  all = operations_are_complete events complete
 
   -- an operation of a thread that is called after another is so after its return
   not_both : (x y : Operation) (tx : IsTraced events x) (ty : IsTraced events y) (c : ℕ) → Contains (operations_of events) x

@@ -14,6 +14,7 @@ use Rattle.std.proofs.lemmas.List.Sorted.{Contains-permutation, IsPermutation-sy
 use Rattle.history_merge.specs.declared.operation.Operation.{Operation}
 use Rattle.history_merge.specs.Complete.{AreComplete}
 use Rattle.history_merge.specs.Operations.{operations_of, Precedes}
+use Rattle.history_merge.proofs.Completeness.{operations_are_complete}
 use Rattle.history_merge.proofs.Distinct.{pairs_at, one_at, contains_at, return_differs_from_call, call_before_return, same_call, found_first}
 use Rattle.drawing.specs.Layout.{point}
 use Rattle.drawing.specs.Laws.{EffectsAreInBars, EffectsRise, NumbersAreOfLines, LinesHaveNumbers}
@@ -65,7 +66,7 @@ pub effects_are_in_bars : EffectsAreInBars
 effects_are_in_bars events order i o complete legal at = (called, below)
   where
     all : AreComplete (operations_of events)
-    all = (events, complete, refl)
+    all = operations_are_complete events complete
 
     listed : (x : Operation) (j : ℕ) → slice_get order j ≡ Some x → Contains (operations_of events) x
     listed x j here = Contains-permutation order (operations_of events) x (IsPermutation-sym (operations_of events) order legal.holds_each_once)
@@ -123,7 +124,7 @@ pub numbers_are_of_lines : NumbersAreOfLines
 numbers_are_of_lines events lines o i complete all_among among at =
     let h = place_if lines (λ line. nat_eq line.call o.call) i at in
     let line_among = All-contains (Contains (operations_of events)) lines h.0 all_among (contains_at lines i h.0 h.1) in
-    let same = same_call (operations_of events) h.0 o (events, complete, refl) line_among among (eqb-true h.0.call o.call h.2) in
+    let same = same_call (operations_of events) h.0 o (operations_are_complete events complete) line_among among (eqb-true h.0.call o.call h.2) in
     h.1 ∙ ap (λ x. Some x) same
 
 -- each line has a number
