@@ -1,5 +1,5 @@
 -- From the fault of a list of events, or of an input, to what is answered of it.
-use Rattle.std.proofs.Common.{◌≡◌, ℕ, ◌≤◌, ◌⊎◌, List, [], length, arith, Option, Some, None, IfSome, inl, inr, refl}
+use Rattle.std.proofs.Common.{◌≡◌, ℕ, ◌≤◌, ◌⊎◌, List, [], length, arith, Option, Some, None, IfSome, inl, inr, refl, sym, ap, subst}
 use Rattle.history_merge.specs.declared.fault.HistoryFault.{HistoryFault}
 use Rattle.history_merge.specs.declared.fault.HistoryFault.TheVariants.{TicketOrder, BadThread, CallWhilePending, ReturnWithoutCall, WrongReturn}
 use Rattle.history_merge.specs.declared.fault.HistoryFault.TheVariants.{DuplicateValue, Pending, Memory, InitialTwice}
@@ -11,15 +11,19 @@ use Rattle.event_records.specs.declared.limits.TheConstants.{MAX_INITIAL}
 use Rattle.history_text.specs.declared.version.HistoryText.{HistoryText}
 use Rattle.history_text.specs.declared.version.Version.{Version}
 use Rattle.history_text.specs.declared.version.Version.TheVariants.{One, Two}
-use Rattle.history_text.specs.Versions.{HasText, HaveValueLines}
+use Rattle.history_text.specs.Versions.{HasText, HaveValueLines, said_in}
 use Rattle.verdicts.specs.declared.verdict.Verdict.{Verdict}
 use Rattle.verdicts.specs.Claiming.{claim_of}
 use Rattle.verdicts.specs.Verdicts.{HasOperationsFrom, IsEvidence, IsExactFrom, IsVerdictOf, filled_of}
-use Rattle.verdicts.proofs.DecidedFrom.{history_has}
-use Rattle.commands.specs.Answers.{Answer, memory_fault, answer_of_history_fault}
+use Rattle.verdicts.specs.declared.verdict.Verdict.TheVariants.{Yes, No}
+use Rattle.verdicts.proofs.DecidedFrom.{history_has, none_filled}
+use Rattle.history_merge.specs.Legal.{IsLinearizableFrom}
+use Rattle.value_match.specs.declared.violation.Violation.{Violation}
+use Rattle.value_match.specs.Outcome.{IsChosenViolation}
+use Rattle.commands.specs.Answers.{Answer, judged, memory_fault, answer_of_history_fault}
 use Rattle.text_lines.specs.declared.fault.TextFault.{TextFault}
 use Rattle.text_lines.specs.Input.{Ahead}
-use Rattle.commands.specs.Judging.{IsFaulty, IsVerdictClaim, AnswersFor, from_none, said_by}
+use Rattle.commands.specs.Judging.{IsFaulty, IsJudged, IsShrunk, IsVerdictClaim, AnswersFor, AnswersOrNoMemory, Shrinks, from_none, said_by}
 
 -- the first fault is answered, and want of memory as such
 pub fault_found : (history : HistoryView) (fault : HistoryFault) → IsFirstFaultFrom history.initial history.events fault
@@ -68,6 +72,38 @@ decided_claim history verdict chosen evidence exact =
 -- a history of a queue that is empty first, by its events
 pub is_from_none : (history : HistoryView) → history.initial ≡ [] → history ≡ from_none history.events
 is_from_none history none = λ i. record { initial = none i; events = history.events }
+
+-- ---- a history of a queue that is empty first
+
+-- the chosen violation of the filled history is that of the history
+pub chosen_of_none : (history : HistoryView) (violation : Violation) → history.initial ≡ [] → IsVerdictOf (filled_of history) (No violation)
+    → IsChosenViolation (operations_of history.events) violation
+chosen_of_none history violation none chosen =
+    subst (λ os. IsChosenViolation os violation) (none_filled history.initial (operations_of history.events) none) chosen
+
+-- a yes of `shrink` is its verdict
+pub shrunk_yes : (text : HistoryText) (version : Version) (history : HistoryView) (order : List ℕ) → said_in version history ≡ text → history.initial ≡ []
+    → IsCompleteFrom history.initial history.events → IsVerdictOf (filled_of history) (Yes order) → IsEvidence (filled_of history) (Yes order)
+    → IsExactFrom history.initial (operations_of history.events) (Yes order)
+    → AnswersOrNoMemory Shrinks text (judged (claim_of [] (operations_of history.events) (Yes order)))
+shrunk_yes text version history order same none complete chosen evidence exact =
+    subst (λ t. AnswersOrNoMemory Shrinks t (judged (claim_of [] (operations_of history.events) (Yes order)))) same
+    (inl (inr (inr (none, inl (subst (λ i. IsLinearizableFrom i (operations_of history.events)) none exact, judged_is)))))
+  where
+    judged_is : IsJudged history (judged (claim_of [] (operations_of history.events) (Yes order)))
+    judged_is = record {
+      complete = complete;
+      claimed = claim_of history.initial (operations_of history.events) (Yes order);
+      right = decided_claim history (Yes order) chosen evidence exact;
+      is = ap (λ (i : List ℕ). judged (claim_of i (operations_of history.events) (Yes order))) (sym none);
+    }
+
+-- what shows a no is what `shrink` answers
+pub shrunk_no : (text : HistoryText) (version : Version) (history : HistoryView) (answer : Answer) → said_in version history ≡ text → history.initial ≡ []
+    → AnswersOrNoMemory IsShrunk (said_in version history) answer → AnswersOrNoMemory Shrinks text answer
+shrunk_no text version history answer same none (inl shrunk) =
+    subst (λ t. AnswersOrNoMemory Shrinks t answer) same (inl (inr (inr (none, inr shrunk))))
+shrunk_no text version history answer same none (inr memory) = inr memory
 
 -- ---- from what is answered of a value to what is answered of an input
 

@@ -64,9 +64,9 @@ text_fault_name fault = named (text_names.name_of fault) (text_names.line_in fau
 abbrev pub history_fault_name : HistoryFault → List ℕ
 history_fault_name fault = named (history_names.name_of fault) (history_names.place_in fault)
 
--- the name of a run's fault, and its thread where it has one
+-- the name of a run's fault, and its thread or its place where it has one
 abbrev pub run_fault_name : RunFault → List ℕ
-run_fault_name fault = named (run_names.name_of fault) (run_names.thread_in fault)
+run_fault_name fault = named (run_names.name_of fault) (run_names.place_in fault)
 
 -- how the line of a refusal begins, or that of a failure
 abbrev pub beginning : Bool → List ℕ

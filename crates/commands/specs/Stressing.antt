@@ -49,7 +49,7 @@ pub record IsFailedRun (may : Question → Told → Type 0) (settings : Settings
   pub plan : List (List Kind)
   pub seeded : IsSeeded settings.seed settings.threads settings.operations settings.percent plan
   pub fault : RunFault
-  pub of_run : IsFaultOfRun may plan (record { ring = settings.ring; tries = TRIES }) fault
+  pub of_run : IsFaultOfRun may [] plan (record { ring = settings.ring; tries = TRIES }) fault
   pub within : fault ≢ Limit
   pub is : answer ≡ run_fault fault
 

@@ -1,4 +1,4 @@
-ghost use Rattle.std.specs.Prelude.{IfOk};
+ghost use Rattle.std.specs.Prelude.{◌≡◌, [], IfOk};
 ghost use Rattle.history_merge.specs.Complete.{IsCompleteHistory};
 ghost use Rattle.history_merge.specs.Operations.{operations_of};
 ghost use Rattle.value_match.specs.Outcome.{IsChosenViolation};
@@ -33,6 +33,7 @@ pub fn shrink(
     ensures minimal { IfOk result (λ small. IsMinimal (operations_of small.events)) }
     ensures shortest { IfOk result (λ _. HasShortestCover (operations_of history.now.events) violation.now) }
     ensures events { IfOk result (λ small. ArePartOf history.now.events small.events) }
+    ensures initial { IfOk result (λ small. small.initial ≡ []) }
     ensures complete { IfOk result (λ small. IsCompleteHistory small.events) }
 {
     // A history is complete, and has no more than `MAX_EVENTS`, as its accessor says.

@@ -31,5 +31,6 @@ returns c =
       shortest = IfOk-weaker small (λ s. s.events ≡ selected) _ (λ s same. has_shortest_cover (operations_of events) violation
           (operations_are_complete events complete) c.requires) c.complete_history.ensures.events;
       events = IfOk-weaker small (λ s. s.events ≡ selected) _ (λ s same. (is s same).part) c.complete_history.ensures.events;
+      initial = c.complete_history.ensures.initial;
       complete = c.complete_history.ensures.complete;
     }
