@@ -1,9 +1,9 @@
-use crate::small_histories::{by, history_of, op};
+use crate::small_histories::{by, history_of, lines_of, op};
 use history_merge::OpKind::{Deq, Empty, Enq, Not};
 use history_merge::Operation;
 use std::process::Abort;
 use std::test::Fail;
-use verdicts::{Claimed, Lines, ViolationKind, claim, decide, verify};
+use verdicts::{Claimed, ViolationKind, claim, decide, verify};
 
 /// What the verdict on the history of these operations claims, which is verified.
 fn claimed(rt: &(impl Abort + AllocGlobal), operations: &[Operation]) -> Result<Claimed, Fail> {
@@ -39,7 +39,7 @@ fn expect_no(
         Claimed::Yes(_) => panic!(rt; "a yes is claimed"),
         Claimed::No(claimed, lines) => {
             assert_eq!(rt; claimed, kind);
-            assert_eq!(rt; lines.as_slice(), shown);
+            assert_eq!(rt; lines.as_slice(), lines_of(rt.alloc(), shown)?.as_slice());
         }
     }
     Ok(())

@@ -67,17 +67,29 @@ fn names_the_first_fault_of_initial_values_and_events(rt: HostRuntime) -> Result
             &[at(1_000_000_000_000, 0, What::CallDeq)],
             HistoryFault::InitialTwice(1),
         ),
-        (&[5, 5], &[at(0, 0, call_enq)], HistoryFault::InitialTwice(1)),
+        (
+            &[5, 5],
+            &[at(0, 0, call_enq)],
+            HistoryFault::InitialTwice(1),
+        ),
         (
             &[7],
             &[at(0, 0, call_enq), at(1, 0, What::RetEnq)],
             HistoryFault::DuplicateValue(0),
         ),
-        (&[6, 7, 8], &[at(0, 0, call_enq)], HistoryFault::DuplicateValue(0)),
+        (
+            &[6, 7, 8],
+            &[at(0, 0, call_enq)],
+            HistoryFault::DuplicateValue(0),
+        ),
         (&[7], &[at(0, 64, call_enq)], HistoryFault::BadThread(0)),
         (
             &[7],
-            &[at(1, 0, What::CallDeq), at(0, 1, What::CallDeq), at(2, 2, call_enq)],
+            &[
+                at(1, 0, What::CallDeq),
+                at(0, 1, What::CallDeq),
+                at(2, 2, call_enq),
+            ],
             HistoryFault::TicketOrder(1),
         ),
         (

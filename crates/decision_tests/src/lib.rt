@@ -11,6 +11,8 @@ mod histories;
 #[cfg(test)]
 mod initial;
 #[cfg(test)]
+mod initial_verdicts;
+#[cfg(test)]
 mod matching;
 #[cfg(test)]
 mod pieces;

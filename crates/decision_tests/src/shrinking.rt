@@ -1,10 +1,10 @@
-use crate::small_histories::{by, history_of, op};
+use crate::small_histories::{by, history_of, lines_of, op};
 use history_merge::OpKind::{Deq, Empty, Enq, Not};
 use history_merge::{History, Operation};
 use std::alloc::Global;
 use std::process::Abort;
 use std::test::Fail;
-use verdicts::{Claimed, Lines, Verdict, claim, decide, shrink};
+use verdicts::{ClaimLines, Claimed, Verdict, claim, decide, shrink};
 
 /// Decides the history of these operations, and shrinks it by the violation that is found.
 fn shrunk(alloc: Global, operations: &[Operation]) -> Result<History, Fail> {
@@ -16,7 +16,7 @@ fn shrunk(alloc: Global, operations: &[Operation]) -> Result<History, Fail> {
 }
 
 /// The lines of the no on a history.
-fn named(alloc: Global, history: &History) -> Result<Lines, Fail> {
+fn named(alloc: Global, history: &History) -> Result<ClaimLines, Fail> {
     let verdict = decide(alloc, history)?;
     match claim(alloc, history, &verdict)? {
         Claimed::No(_, lines) => Ok(lines),
@@ -34,7 +34,10 @@ fn expect(
     let small = shrunk(rt.alloc(), operations)?;
     assert_eq!(rt; small.operations(), kept);
     assert_eq!(rt; small.events().len(), 2 * kept.len());
-    assert_eq!(rt; named(rt.alloc(), &small)?.as_slice(), lines);
+    assert_eq!(rt;
+        named(rt.alloc(), &small)?.as_slice(),
+        lines_of(rt.alloc(), lines)?.as_slice()
+    );
     Ok(())
 }
 

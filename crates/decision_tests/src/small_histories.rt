@@ -1,9 +1,11 @@
 //! Small histories for tests, written as their operations.
+ghost use Rattle.std.specs.Prelude.{◌≡◌, [], IfOk};
 
 use event_records::{Event, MAX_EVENTS, What};
 use history_merge::{History, OpKind, Operation, history};
-use std::alloc::Global;
+use std::alloc::{AllocError, Global};
 use std::test::Fail;
+use verdicts::ClaimLine;
 
 /// An operation of thread 0.
 pub fn op(call: u64, ret: u64, kind: OpKind) -> Operation {
@@ -21,7 +23,9 @@ pub fn by(thread: u8, call: u64, ret: u64, kind: OpKind) -> Operation {
 }
 
 /// The history of these operations.
-pub fn history_of(alloc: Global, operations: &[Operation]) -> Result<History, Fail> {
+pub fn history_of(alloc: Global, operations: &[Operation]) -> Result<History, Fail>
+    ensures { IfOk result (λ history. history.initial ≡ []) }
+{
     let mut events = Vec::new(alloc);
     for operation in operations {
         events.push(call_of(operation))?;
@@ -32,6 +36,14 @@ pub fn history_of(alloc: Global, operations: &[Operation]) -> Result<History, Fa
         return Err("too many events")?;
     }
     Ok(history(alloc, events)?)
+}
+
+/// Lines of a claim that show these operations.
+pub fn lines_of(alloc: Global, operations: &[Operation]) -> Result<Vec<ClaimLine>, AllocError> {
+    operations
+        .iter()
+        .map(|operation| ClaimLine::Op(*operation))
+        .collect(alloc)
 }
 
 fn call_of(operation: &Operation) -> Event {

@@ -1,10 +1,10 @@
-use crate::small_histories::{by, history_of, op};
+use crate::small_histories::{by, history_of, lines_of, op};
 use history_merge::OpKind::{Deq, Empty, Enq, Not};
 use history_merge::Operation;
 use std::process::Abort;
 use std::test::Fail;
 use verdicts::ViolationKind::{VFresh, VOrd, VRepeat, VWit};
-use verdicts::{Claimed, Lines, ViolationKind, verify};
+use verdicts::{ClaimLines, Claimed, Lines, ViolationKind, verify};
 
 /// Lines, and whether they are evidence.
 type Case<'a> = (&'a [Operation], bool);
@@ -36,7 +36,7 @@ fn expect_no(
 ) -> Result<(), Fail> {
     let history = history_of(rt.alloc(), operations)?;
     for (lines, valid) in cases {
-        let claimed = Claimed::No(kind, Lines::from_vec(Vec::from_slice(rt.alloc(), lines)?));
+        let claimed = Claimed::No(kind, ClaimLines::from_vec(lines_of(rt.alloc(), lines)?));
         assert_eq!(rt;
             verify(rt.alloc(), &history, &claimed)?,
             *valid,

@@ -5,6 +5,8 @@
 //! them makes, and the number from which the plan is made. The status is 0 for a yes and 1 for a no.
 #![tactic(auto)]
 
+ghost use Rattle.std.specs.Prelude.{◌≡◌, []};
+
 mod two_stacks;
 
 use anyhow::{Result, bail};
@@ -42,8 +44,10 @@ fn number_or(word: Option<String>, other: u64) -> Result<u64> {
     }
 }
 
-/// Judges a history, and writes it with the verdict.
-fn show<R: Print>(rt: &R, alloc: Global, history: &History) -> Result<Verdict> {
+/// Judges the history of a queue that was empty first, and writes it with the verdict.
+fn show<R: Print>(rt: &R, alloc: Global, history: &History) -> Result<Verdict>
+    requires { history.now.initial ≡ [] }
+{
     let verdict = decide(alloc, history)?;
     let mut output = Watched::new(io::writer(rt));
     write_history(history, &mut output)?;

@@ -3,7 +3,7 @@ ghost use Rattle.std.specs.Prelude.{IfOk};
 ghost use Rattle.history_merge.specs.Operations.{operations_of};
 ghost use Rattle.value_match.specs.Outcome.{IsChosenViolation};
 ghost use Rattle.verdicts.specs.Claiming.{IsWithin};
-ghost use Rattle.verdicts.specs.Verdicts.{IsVerdictOf};
+ghost use Rattle.verdicts.specs.Verdicts.{IsVerdictOf, filled_of};
 
 use crate::histories::{by, history_of};
 use history_merge::OpKind::{Deq, Empty, Enq};
@@ -13,7 +13,10 @@ use std::process::Abort;
 use std::test::Fail;
 use std::thread::Threads;
 use value_match::Violation;
-use verdicts::{Claimed, Lines, Verdict, ViolationKind, claim, decide, decide_par, shrink, verify};
+use verdicts::{
+    ClaimLine, ClaimLines, Claimed, Lines, Verdict, ViolationKind, claim, decide, decide_par,
+    shrink, verify,
+};
 
 /// A history with the answer that it gets, the lines of its verdict, and its operations where it is shrunk.
 #[derive(Drop)]
@@ -93,8 +96,8 @@ fn of_a_legal_order(rt: HostRuntime) -> Result<(), Fail> {
 
 /// The verdict on a history.
 pub fn decided(alloc: Global, history: &History) -> Result<Verdict, AllocError>
-    ensures chosen { IfOk result (λ verdict. IsVerdictOf (operations_of history.now) verdict) }
-    ensures places { IfOk result (λ verdict. IsWithin (operations_of history.now) verdict) }
+    ensures chosen { IfOk result (λ verdict. IsVerdictOf (filled_of history.now) verdict) }
+    ensures places { IfOk result (λ verdict. IsWithin history.now.initial (operations_of history.now.events) verdict) }
 {
     match decide(alloc, history) {
         Ok(verdict) => Ok(verdict),
@@ -107,7 +110,7 @@ fn decided_in_pieces<R: AllocGlobal + Threads + Sync>(
     rt: &R,
     history: &History,
 ) -> Result<Verdict, AllocError>
-    ensures { IfOk result (λ verdict. IsWithin (operations_of history.now) verdict) }
+    ensures { IfOk result (λ verdict. IsWithin history.now.initial (operations_of history.now.events) verdict) }
 {
     match decide_par(rt, rt.alloc(), history, 4) {
         Ok(verdict) => Ok(verdict),
@@ -117,7 +120,7 @@ fn decided_in_pieces<R: AllocGlobal + Threads + Sync>(
 
 /// What a verdict claims.
 fn claim_of(alloc: Global, history: &History, verdict: &Verdict) -> Result<Claimed, AllocError>
-    requires { IsWithin (operations_of history.now) verdict.now }
+    requires { IsWithin history.now.initial (operations_of history.now.events) verdict.now }
 {
     match claim(alloc, history, verdict) {
         Ok(claimed) => Ok(claimed),
@@ -129,8 +132,28 @@ fn claim_of(alloc: Global, history: &History, verdict: &Verdict) -> Result<Claim
 fn is_wanted(case: &Case, claimed: &Claimed) -> bool {
     match claimed {
         Claimed::Yes(lines) => case.kind.is_none() && lines.as_slice() == case.lines,
-        Claimed::No(kind, lines) => case.kind == Some(*kind) && lines.as_slice() == case.lines,
+        Claimed::No(kind, lines) => {
+            case.kind == Some(*kind) && are_operations(lines.as_slice(), case.lines)
+        }
     }
+}
+
+/// Whether the lines show these operations, one by one.
+fn are_operations(lines: &[ClaimLine], operations: &[Operation]) -> bool {
+    lines.len() == operations.len()
+        && lines
+            .iter()
+            .zip(operations)
+            .all(|(line, operation)| *line == ClaimLine::Op(*operation))
+}
+
+/// Lines that show these operations.
+fn lines_of(alloc: Global, operations: &[Operation]) -> Result<ClaimLines, AllocError> {
+    let lines = operations
+        .iter()
+        .map(|operation| ClaimLine::Op(*operation))
+        .collect(alloc)?;
+    Ok(ClaimLines::from_vec(lines))
 }
 
 /// Whether these lines are evidence of this kind in a history.
@@ -140,10 +163,9 @@ fn is_evidence(
     kind: Option<ViolationKind>,
     lines: &[Operation],
 ) -> Result<bool, AllocError> {
-    let lines = Lines::from_vec(Vec::from_slice(alloc, lines)?);
     let claimed = match kind {
-        None => Claimed::Yes(lines),
-        Some(kind) => Claimed::No(kind, lines),
+        None => Claimed::Yes(Lines::from_vec(Vec::from_slice(alloc, lines)?)),
+        Some(kind) => Claimed::No(kind, lines_of(alloc, lines)?),
     };
     verify(alloc, history, &claimed)
 }
@@ -163,7 +185,7 @@ fn is_evidence_again(
 
 /// The history of a violation alone.
 fn shrunk(alloc: Global, history: &History, violation: &Violation) -> Result<History, AllocError>
-    requires { IsChosenViolation (operations_of history.now) violation.now }
+    requires { IsChosenViolation (operations_of history.now.events) violation.now }
 {
     match shrink(alloc, history, violation) {
         Ok(small) => Ok(small),

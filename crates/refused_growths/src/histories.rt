@@ -1,4 +1,5 @@
 //! Small histories.
+ghost use Rattle.std.specs.Prelude.{◌≡◌, [], IfOk};
 
 use event_records::{Event, MAX_EVENTS, What};
 use history_merge::{History, HistoryFault, OpKind, Operation, history};
@@ -35,7 +36,9 @@ fn events_of(operation: &Operation) -> [Event; 2] {
 fn history_or_none(
     alloc: Global,
     operations: &[Operation],
-) -> Result<Result<History, HistoryFault>, AllocError> {
+) -> Result<Result<History, HistoryFault>, AllocError>
+    ensures { IfOk result (λ judged. IfOk judged (λ history. history.initial ≡ [])) }
+{
     let mut events = Vec::new(alloc);
     for operation in operations {
         events.extend_from_slice(&events_of(operation))?;
@@ -51,7 +54,9 @@ fn history_or_none(
 }
 
 /// The history of these operations.
-pub fn history_of(alloc: Global, operations: &[Operation]) -> Result<History, Fail> {
+pub fn history_of(alloc: Global, operations: &[Operation]) -> Result<History, Fail>
+    ensures { IfOk result (λ history. history.initial ≡ []) }
+{
     let judged = match history_or_none(alloc, operations) {
         Ok(judged) => judged,
         Err(_) => history_or_none(alloc, operations)?,
