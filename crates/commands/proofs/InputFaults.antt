@@ -1,5 +1,5 @@
 -- From the faults of calls on the reader to the fault of the input.
-use Rattle.std.proofs.Common.{◌≡◌, ℕ, ◌+◌, List, ◌++◌, length, ◌⊎◌, Option, Some, None, inl, inr, ap, sym, ◌∙◌, refl, append-nil, IfSome, subst}
+use Rattle.std.proofs.Common.{◌≡◌, ℕ, List, ◌++◌, ◌⊎◌, Option, Some, None, inl, inr, ap, sym, ◌∙◌, refl, append-nil, IfSome, subst}
 use Rattle.history_text.specs.declared.version.HistoryText.{HistoryText}
 use Rattle.text_lines.specs.declared.fault.TextFault.{TextFault}
 use Rattle.text_lines.specs.declared.fault.TextFault.TheVariants.{Read, Header, Line, Number, Limit, Count, Cut, Trailing, Memory}

@@ -1,5 +1,5 @@
 -- The text of a history and of its verdict, read again, is a claim that is true.
-use Rattle.std.proofs.Common.{◌≡◌, ◌⊎◌, List, ◌++◌, arith, refl, sym, ◌∙◌, ap, subst, inl, inr}
+use Rattle.std.proofs.Common.{◌≡◌, ◌⊎◌, ◌++◌, arith, refl, sym, ◌∙◌, ap, subst, inl, inr}
 use Rattle.history_merge.specs.Operations.{operations_of}
 use Rattle.history_merge.specs.declared.fault.HistoryFault.{HistoryFault}
 use Rattle.history_merge.specs.declared.fault.HistoryFault.TheVariants as history

@@ -3,7 +3,10 @@ use Rattle.std.specs.Prelude.{◌≡◌, ◌≢◌, ◌≤◌, Bool, false, IsTr
 use Rattle.event_records.specs.declared.event.Event.{Event}
 use Rattle.history_merge.specs.declared.fault.HistoryFault.{HistoryFault}
 use Rattle.history_merge.specs.declared.fault.HistoryFault.TheVariants.{Memory}
+use Rattle.event_records.specs.declared.limits.TheConstants.{MAX_EVENTS, MAX_INITIAL}
+use Rattle.history_merge.specs.declared.preloaded.PreloadedBuilder.{PreloadedBuilder}
 use Rattle.history_merge.specs.Faults.{IsFirstFaultFrom}
+use Rattle.history_merge.specs.Gathering.{HasGatheredFrom}
 use Rattle.history_merge.specs.Initial.{HistoryView, IsCompleteFrom}
 use Rattle.history_merge.specs.Complete.{IsCompleteHistory}
 use Rattle.history_merge.specs.Legal.{IsLinearizable}
@@ -73,9 +76,19 @@ pub record IsJudged (history : HistoryView) (answer : Answer) : Type 0 where
   pub right : IsVerdictClaim history claimed
   pub is : answer ≡ judged claimed
 
--- `check`: the first fault of the history, or its verdict
+-- the first fault of a history, or its verdict
+abbrev pub JudgesHistory : HistoryView → Answer → Type 0
+JudgesHistory history answer = IsFaulty history answer ⊎ IsJudged history answer
+
+-- `check`: the first fault of the history that a text says, or its verdict
 abbrev pub Judges : HistoryText → Answer → Type 0
-Judges text answer = IsFaulty (said_by text) answer ⊎ IsJudged (said_by text) answer
+Judges text answer = JudgesHistory (said_by text) answer
+
+-- the initial values and the events of this history were gathered, and there are no more than a history may have
+pub record IsGathered (history : HistoryView) (builder : PreloadedBuilder) : Type 0 where
+  pub gathered : HasGatheredFrom history.initial history.events builder
+  pub few_initial : length history.initial ≤ MAX_INITIAL
+  pub few_events : length history.events ≤ MAX_EVENTS
 
 -- it is a complete history, but its queue holds some values first
 pub record HasInitial (text : HistoryText) (answer : Answer) : Type 0 where

@@ -1,12 +1,10 @@
 //! What the commands find in a text in memory, all in the caller's thread: nothing is read, printed or started.
 ghost use Rattle.std.specs.Prelude.{◌≡◌, IfOk};
-ghost use Rattle.history_merge.specs.Gathering.{HasGatheredFrom};
-ghost use Rattle.history_text.specs.declared.version.HistoryText.{HistoryText};
-ghost use Rattle.history_text.specs.Versions.{HasText};
+ghost use Rattle.history_merge.specs.Initial.{HistoryView};
 ghost use Rattle.command_words.specs.Commands.{check, shrink, verify};
 ghost use Rattle.commands.specs.Answers.{answer_text, answer_status};
 ghost use Rattle.commands.specs.Evidence.{input_of};
-ghost use Rattle.commands.specs.Judging.{Judges, AnswersOrNoMemory};
+ghost use Rattle.commands.specs.Judging.{JudgesHistory, IsGathered, AnswersOrNoMemory};
 ghost use Rattle.commands.specs.Outcomes.{answer_of, NamesPlaces};
 ghost use Rattle.commands.specs.Running.{AnswersOf};
 
@@ -49,8 +47,8 @@ pub fn verify_text(alloc: Global, text: &[u8]) -> Outcome
 
 /// What `check` finds in the history that a history in the making was given.
 pub fn judge_gathered(alloc: Global, builder: PreloadedBuilder) -> Outcome
-    requires { (text : HistoryText) × HasGatheredFrom text.initial text.events builder × HasText text }
-    ensures found { (text : HistoryText) → HasText text → HasGatheredFrom text.initial text.events builder → AnswersOrNoMemory Judges text (answer_of result) }
+    requires { (history : HistoryView) × IsGathered history builder }
+    ensures found { (history : HistoryView) → IsGathered history builder → AnswersOrNoMemory JudgesHistory history (answer_of result) }
     ensures places { NamesPlaces result }
 {
     let parts = match builder.finish() {

@@ -1,5 +1,4 @@
-use Rattle.std.proofs.Common.{inl, inr, refl}
-use Rattle.commands.proofs.Findings.{decided_claim, fault_or, gathered_has}
+use Rattle.commands.proofs.Findings.{fault_or}
 use Rattle.commands.specs.Judging.{said_by}
 use Rattle.commands.proofs.check.judge.Goals as goal
 

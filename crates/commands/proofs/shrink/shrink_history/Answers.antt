@@ -1,9 +1,8 @@
-use Rattle.std.proofs.Common.{◌≡◌, [], inl, refl, sym, ap, subst}
+use Rattle.std.proofs.Common.{inl, subst}
 use Rattle.history_merge.specs.Operations.{operations_of}
-use Rattle.history_text.specs.declared.version.HistoryText.{HistoryText}
 use Rattle.verdicts.specs.Claiming.{claim_of}
 use Rattle.commands.specs.Answers.{shown}
-use Rattle.commands.specs.Judging.{IsVerdictClaim, from_none}
+use Rattle.commands.specs.Judging.{IsVerdictClaim}
 use Rattle.commands.proofs.Findings.{decided_claim, is_from_none}
 use Rattle.commands.proofs.shrink.shrink_history.Goals as goal
 
