@@ -16,7 +16,7 @@ ghost use Rattle.event_records.specs.declared.limits.TheConstants.{MAX_EVENTS};
 ghost use Rattle.command_words.specs.Commands.{check, shrink, verify};
 ghost use Rattle.commands.specs.Answers.{refused_limit, memory_fault};
 ghost use Rattle.commands.specs.Evidence.{input_of};
-ghost use Rattle.commands.specs.Judging.{AnswersOrNoMemory, Judges};
+ghost use Rattle.commands.specs.Judging.{AnswersOrNoMemory, JudgesHistory, from_none};
 ghost use Rattle.commands.specs.Running.{AnswersOf};
 ghost use Rattle.fifobench_c.specs.Filling.{Tells, TellsAnswer, TellsOneOf};
 ghost use Rattle.fifobench_c.specs.Recorded.{AreEvents, IsFirstUnknown, bad_what_line};
@@ -73,7 +73,7 @@ pub extern "C" fn fifobench_verify(
     tell(alloc, &verify_text(alloc, text), answer, needed)
 }
 
-/// What `check` answers of the events.
+/// What `check` answers of the events, of a queue that is empty first.
 ///
 /// More events than a history may have are refused; then the first that is none of the six kinds, by its place from 0.
 #[unsafe(no_mangle)]
@@ -83,9 +83,9 @@ pub extern "C" fn fifobench_check_events(
     answer: &mut [u8],
     needed: &mut usize,
 ) -> u8
-    // Events of known kinds are judged as `check` judges them.
+    // Events of known kinds are judged as `check` judges a history, of a queue that is empty first.
     ensures judged { (list : List Event) → AreEvents events.now list → length list ≤ MAX_EVENTS
-        → TellsOneOf (AnswersOrNoMemory Judges list) answer.old answer.new needed.new result }
+        → TellsOneOf (AnswersOrNoMemory JudgesHistory (from_none list)) answer.old answer.new needed.new result }
     ensures unknown { (place : ℕ) → length events.now ≤ MAX_EVENTS → IsFirstUnknown events.now place
         → Tells (bad_what_line place) 2 answer.old answer.new needed.new result ⊎ TellsAnswer memory_fault answer.old answer.new needed.new result }
     ensures many { MAX_EVENTS < length events.now

@@ -1,13 +1,26 @@
-use Rattle.std.proofs.Common.{inl, inr, refl}
+use Rattle.std.proofs.Common.{List, inl, inr, refl}
+use Rattle.event_records.specs.declared.event.Event.{Event}
+use Rattle.history_text.specs.declared.version.HistoryText.{HistoryText}
+use Rattle.history_text.specs.declared.version.Version.TheVariants.{One}
 use Rattle.history_text.specs.Histories.{history_text}
+use Rattle.history_text.specs.Versions.{said_in}
 use Rattle.commands.specs.Evidence.{input_of}
+use Rattle.commands.specs.Judging.{from_none}
 use Rattle.commands.proofs.OneAnswer.{check_has_one}
 use Rattle.fifobench_c.proofs.laws.events_and_their_text_agree.Goals as goal
+
+-- what the text of these events says
+abbrev said : List Event → HistoryText
+said events = said_in One (from_none events)
 
 pub returns : goal.returns
 returns c = λ events a b has of_events of_text.
     elim of_text [
       | inl answered ↦ check_has_one (input_of (history_text events)) a b
-          (inl (record { value = events; input_of = (has, record { bytes = refl; ending = refl }); answered = of_events })) answered
+          (inl (record {
+            value = said events;
+            input_of = (record { initial = refl; events = has }, record { bytes = refl; ending = refl });
+            answered = of_events;
+          })) answered
       | inr memory ↦ inr (inr memory)
     ]
