@@ -6,6 +6,8 @@
 //! violation alone, with its verdict too: texts that `fifobench` reads. The status is 1 then, and 0 where no run shows one.
 #![tactic(auto)]
 
+ghost use Rattle.std.specs.Prelude.{◌≡◌, []};
+
 mod sized_apart;
 
 use anyhow::{Result, bail};
@@ -43,8 +45,11 @@ fn number_or(word: Option<String>, other: u64) -> Result<u64> {
     }
 }
 
-/// Whether a history shows a violation. If so, it is written with its verdict, and then what shows the violation alone.
-fn shows_violation<R: Print>(rt: &R, alloc: Global, history: &History) -> Result<bool> {
+/// Whether a history of a queue that was empty first shows a violation. If so, it is written with its verdict, and then
+/// what shows the violation alone.
+fn shows_violation<R: Print>(rt: &R, alloc: Global, history: &History) -> Result<bool>
+    requires { history.now.initial ≡ [] }
+{
     let verdict = decide(alloc, history)?;
     let Verdict::No(violation) = &verdict else {
         return Ok(false);

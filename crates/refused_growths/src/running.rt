@@ -19,7 +19,7 @@ fn is_allowed(fault: RunFault) -> bool {
     match fault {
         RunFault::Memory => true,
         RunFault::CloseLost(thread) | RunFault::Stalled(thread) => thread < 2,
-        RunFault::Limit | RunFault::Uncertified(_) => false,
+        RunFault::Limit | RunFault::Uncertified(_) | RunFault::Preload(_) => false,
     }
 }
 

@@ -2,8 +2,9 @@ use super::{assert_answer, run};
 use history_text::MemorySource;
 use std::test::Fail;
 
-pub const ORDERS: [(&str, &str); 9] = [
+pub const ORDERS: [(&str, &str); 10] = [
     ("fifo-history 1\nend 0\n", "YES\n"),
+    ("fifo-history 2\ninitial 0\nend 0\n", "YES\n"),
     (
         "fifo-history 1\n0 0 call-enq 7\n1 0 ret-enq\nend 2\n",
         "YES\n0 1 0 enq 7\n",
@@ -160,7 +161,7 @@ const REFUSALS: [(&str, &str); 19] = [
         "fifo-history 1\n0 0 call-enq 7\n1 0 ret-empty\nend 2\n",
         "REFUSED WrongReturn 1\n",
     ),
-    ("fifo-history 2\ninitial 0\nend 0\n", "REFUSED Header\n"),
+    ("fifo-history 2\nend 0\n", "REFUSED Line 2\n"),
     ("fifo-history 1\n0 0 call-e", "REFUSED Cut\n"),
     ("fifo-history 1\r\nend 0\n", "REFUSED Header\n"),
 ];

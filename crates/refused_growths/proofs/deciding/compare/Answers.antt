@@ -1,0 +1,14 @@
+use Rattle.std.proofs.Common.{subst}
+use Rattle.history_merge.specs.Initial.{filled}
+use Rattle.history_merge.specs.Operations.{operations_of}
+use Rattle.verdicts.specs.declared.verdict.Verdict.TheVariants.{No}
+use Rattle.verdicts.specs.Verdicts.{IsVerdictOf}
+use Rattle.verdicts.proofs.DecidedFrom.{none_filled}
+use Rattle.refused_growths.proofs.deciding.compare.Goals as goal
+
+pub shrunk-requires : goal.shrunk-requires
+shrunk-requires g c =
+    let initial = c.in_ok-history.history.initial in
+    let operations = operations_of c.in_ok-history.history.events in
+    let chosen = subst (IsVerdictOf (filled initial operations)) c.in-No.is c.in_ok-verdict.ensures.chosen in
+    subst (λ os. IsVerdictOf os (No c.in-No.violation)) (none_filled initial operations c.in_ok-history.ensures) chosen
