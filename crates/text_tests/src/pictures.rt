@@ -1,6 +1,7 @@
-use drawing::write_terminal_picture;
+use drawing::{ShownClaim, write_terminal_picture};
 use history_merge::history;
 use history_text::{MemorySource, TextReader, Watched, read_history, read_verdict};
+use std::alloc::Global;
 use std::test::Fail;
 use svg_picture::write_svg_picture;
 use verdicts::Claimed;
@@ -24,15 +25,23 @@ effect. They rise from top to bottom, and each stands within its bar.\n\
 \x20             1                                 1 enq 18446744073709551615\n\
 999999999999  ]\n";
 
+/// The claim as it is drawn.
+fn shown(alloc: Global, claimed: Claimed) -> Result<ShownClaim, Fail> {
+    match ShownClaim::of(alloc, claimed)? {
+        Some(shown) => Ok(shown),
+        None => Err(Fail::from("a line of an initial value")),
+    }
+}
+
 #[test]
 fn draws_the_greatest_numbers_whole(rt: HostRuntime) -> Result<(), Fail> {
     let mut reader = TextReader::new(MemorySource::new(TEXT));
     let events = read_history(rt.alloc(), &mut reader)?;
     let history = history(rt.alloc(), events)?;
-    let claimed = read_verdict(rt.alloc(), &mut reader)?;
+    let claimed = shown(rt.alloc(), read_verdict(rt.alloc(), &mut reader)?)?;
     let few = match &claimed {
-        Claimed::Yes(lines) => lines.as_slice().len() == 1,
-        Claimed::No(_, _) => false,
+        ShownClaim::Yes(lines) => lines.as_slice().len() == 1,
+        ShownClaim::No(_, _) => false,
     };
     if !few {
         return Err(Fail::from("another claim"));
@@ -101,9 +110,9 @@ fn svg_of<R: AllocGlobal>(rt: &R, text: &[u8]) -> Result<Vec<u8>, Fail> {
     let mut reader = TextReader::new(MemorySource::new(text));
     let events = read_history(rt.alloc(), &mut reader)?;
     let history = history(rt.alloc(), events)?;
-    let claimed = read_verdict(rt.alloc(), &mut reader)?;
+    let claimed = shown(rt.alloc(), read_verdict(rt.alloc(), &mut reader)?)?;
     let few = match &claimed {
-        Claimed::Yes(lines) | Claimed::No(_, lines) => lines.as_slice().len() == 1,
+        ShownClaim::Yes(lines) | ShownClaim::No(_, lines) => lines.as_slice().len() == 1,
     };
     if !few {
         return Err(Fail::from("another claim"));
