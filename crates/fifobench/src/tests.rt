@@ -1,6 +1,7 @@
 ghost use Rattle.std.specs.Prelude.{◌≡◌, false};
 
 mod checks;
+mod initial;
 mod lying;
 mod one_byte;
 mod recorded;

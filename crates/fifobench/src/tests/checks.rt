@@ -104,7 +104,7 @@ fn violations_of_the_order_and_of_empty_answers(rt: HostRuntime) -> Result<(), F
     Ok(())
 }
 
-const REFUSALS: [(&str, &str); 19] = [
+const REFUSALS: [(&str, &str); 18] = [
     ("", "REFUSED Cut\n"),
     ("fifo-history 3\nend 0\n", "REFUSED Header\n"),
     (
@@ -160,7 +160,6 @@ const REFUSALS: [(&str, &str); 19] = [
         "fifo-history 1\n0 0 call-enq 7\n1 0 ret-empty\nend 2\n",
         "REFUSED WrongReturn 1\n",
     ),
-    ("fifo-history 2\ninitial 0\nend 0\n", "REFUSED Header\n"),
     ("fifo-history 1\n0 0 call-e", "REFUSED Cut\n"),
     ("fifo-history 1\r\nend 0\n", "REFUSED Header\n"),
 ];

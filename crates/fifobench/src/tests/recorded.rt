@@ -1,3 +1,5 @@
+ghost use Rattle.std.specs.Prelude.{◌≡◌, [], IfOk};
+
 use super::run;
 use commands::built_ins;
 use history_text::{MemorySource, Watched, write_history};
@@ -14,7 +16,9 @@ use workloads::Plan;
 fn checked<R: AllocGlobal + Threads + Sync>(
     rt: &R,
     recorded: &Recorded,
-) -> Result<(Vec<u8>, u8), Fail> {
+) -> Result<(Vec<u8>, u8), Fail>
+    requires { recorded.now.initial ≡ [] }
+{
     let history = recorded.history(rt.alloc())?;
     let mut text = Watched::new(Vec::new(rt.alloc()));
     write_history(&history, &mut text)?;
@@ -104,11 +108,13 @@ fn a_sound_queue_over_small_rings_is_not_reported(rt: HostRuntime) -> Result<(),
 fn ends_well<R: AllocGlobal + Threads + Sync>(
     rt: &R,
     ended: Result<Recorded, RunFault>,
-) -> Result<bool, Fail> {
+) -> Result<bool, Fail>
+    requires { IfOk ended (λ recorded. recorded.initial ≡ []) }
+{
     match ended {
         Ok(recorded) => Ok(checked(rt, &recorded)?.1 == 0),
         Err(RunFault::Memory | RunFault::CloseLost(_) | RunFault::Stalled(_)) => Ok(true),
-        Err(RunFault::Limit | RunFault::Uncertified(_)) => Ok(false),
+        Err(RunFault::Limit | RunFault::Uncertified(_) | RunFault::Preload(_)) => Ok(false),
     }
 }
 
