@@ -17,7 +17,7 @@ returns-in-Ok-clause-judged c = λ list are few.
     let same = one_list c.args.events.now read.0 list read.1 are in
     let few_read = subst (λ events. length events ≤ MAX_EVENTS) (sym same) few in
     let gathered : IsGathered (from_none read.0) c.in-Ok.builder =
-        record { gathered = read.2; few_initial = omega arith; few_events = few_read } in
+    record { gathered = read.2; few_initial = omega arith; few_events = few_read } in
     let answered = c.judge_gathered.ensures.found (from_none read.0) gathered in
     let found = subst (λ events. AnswersOrNoMemory JudgesHistory (from_none events) (answer_of c.judge_gathered.result)) same answered in
     told_one JudgesHistory (from_none list) _ _ _ _ _ found c.tell-in-Ok.ensures
