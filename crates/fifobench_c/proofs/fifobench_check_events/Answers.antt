@@ -9,7 +9,8 @@ use Rattle.fifobench_c.proofs.fifobench_check_events.Goals as goal
 pub judge_gathered-requires : goal.judge_gathered-requires
 judge_gathered-requires c =
     let read = c.in-Ok.ensures.events in
-    (from_none read.0, record { gathered = read.2; few_initial = omega arith; few_events = omega (arith, as_many c.args.events.now read.0 read.1, c.if-events-gt-MAX_EVENTS.false) })
+    let few : length read.0 ≤ MAX_EVENTS = omega (arith, as_many c.args.events.now read.0 read.1, c.if-events-gt-MAX_EVENTS.false) in
+    (from_none read.0, record { gathered = read.2; few_initial = omega arith; few_events = few })
 
 pub returns-in-Ok-clause-judged : goal.returns-in-Ok-clause-judged
 returns-in-Ok-clause-judged c = λ list are few.
