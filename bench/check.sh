@@ -6,7 +6,7 @@
 # Settings by environment:
 #   BENCH_SIZES    numbers of events (default "20000 200000 2000000")
 #   BENCH_KINDS    kinds of history, as bench/generate.rs has them (default "yes names wide never
-#                  refused empty fresh repeat order witness long")
+#                  refused empty initial fresh repeat order witness initial-witness long")
 #   BENCH_ROUNDS   runs of each program on each history (default 9)
 #
 # Needs rustc and python3. The figures mean something on an idle machine alone: the last line says how busy it was.

@@ -5,8 +5,9 @@
 //!
 //! KIND is `yes`; or a yes of another shape: `names`, with values in no order and gaps between tickets; `wide`, where each of 64
 //! threads has an operation under way nearly all the time; `never`, enqueues alone; `refused`, enqueues that aren't taken;
-//! `empty`, dequeues that find nothing; or a fault near the end: `fresh`, `repeat`, `order`, `witness`; or `long`, an empty answer
-//! over nearly the whole history.
+//! `empty`, dequeues that find nothing; `initial`, a queue that holds one value for each 20 events first; or a fault near the end:
+//! `fresh`, `repeat`, `order`, `witness`, and `initial-witness` of such a queue; or `long`, an empty answer over nearly the whole
+//! history.
 
 use std::collections::{HashMap, VecDeque};
 use std::env;
@@ -53,35 +54,43 @@ struct Operation {
 type Event = (usize, bool);
 
 struct History {
+    initial: Vec<u64>,
     operations: Vec<Operation>,
     events: Vec<Event>,
 }
 
-/// What the threads do: how many they are, how many of a hundred operations are enqueues, and whether these are taken.
+/// What the threads do: how many they are, how many of a hundred operations are enqueues, and whether these are taken; and how
+/// many values the queue holds first.
 struct Plan {
     threads: usize,
     percent: usize,
     takes: bool,
+    initial: usize,
 }
 
+/// The first of the values that a queue holds first.
+const FIRST: u64 = 1 << 38;
+
 impl Plan {
-    fn of(kind: &str, threads: usize) -> Plan {
+    fn of(kind: &str, threads: usize, events: usize) -> Plan {
         let percent = match kind {
             "long" => 53,
             "never" | "refused" => 100,
             "empty" => 0,
             _ => 50,
         };
-        Plan { threads: if kind == "wide" { 64 } else { threads }, percent, takes: kind != "refused" }
+        let initial = if kind.starts_with("initial") { events / 20 } else { 0 };
+        Plan { threads: if kind == "wide" { 64 } else { threads }, percent, takes: kind != "refused", initial }
     }
 }
 
 /// Calls of threads under way, in turns that chance gives: a call begins, takes effect, or returns.
 fn play(events: usize, plan: &Plan, random: &mut Random) -> History {
-    let &Plan { threads, percent, takes } = plan;
+    let &Plan { threads, percent, takes, initial } = plan;
     let total = events / 2;
-    let mut history = History { operations: Vec::with_capacity(total), events: Vec::with_capacity(2 * total) };
-    let mut queue = VecDeque::new();
+    let initial: Vec<u64> = (FIRST..FIRST + initial as u64).collect();
+    let mut queue = VecDeque::from(initial.clone());
+    let mut history = History { initial, operations: Vec::with_capacity(total), events: Vec::with_capacity(2 * total) };
     let mut asked = vec![0u64; threads];
     let mut idle: Vec<usize> = (0..threads).collect();
     let mut under_way: Vec<usize> = Vec::new();
@@ -181,12 +190,12 @@ fn is_covered(history: &History) -> Vec<bool> {
             _ => {}
         }
     }
-    let mut values_in = 0;
+    let mut values_in = history.initial.len();
     let mut covered = Vec::with_capacity(history.events.len());
     for (rank, &(place, is_return)) in history.events.iter().enumerate() {
         match (history.operations[place].answer, is_return) {
             (Some(Answer::Taken(value)), true) if dequeue_call.get(&value).map_or(true, |&call| call > rank) => values_in += 1,
-            (Some(Answer::Got(value)), false) if enqueue_return[&value] < rank => values_in -= 1,
+            (Some(Answer::Got(value)), false) if enqueue_return.get(&value).map_or(true, |&ret| ret < rank) => values_in -= 1,
             _ => {}
         }
         covered.push(values_in > 0);
@@ -216,7 +225,12 @@ fn write(history: &History, has_gaps: bool, random: &mut Random) -> io::Result<(
     let mut to = BufWriter::with_capacity(1 << 17, io::stdout().lock());
     let name = |value: u64| if has_gaps { mixed(value) } else { value };
     let mut ticket = 0;
-    writeln!(to, "fifo-history 1")?;
+    if history.initial.is_empty() {
+        writeln!(to, "fifo-history 1")?;
+    } else {
+        writeln!(to, "fifo-history 2\ninitial {}", history.initial.len())?;
+        history.initial.iter().try_for_each(|value| writeln!(to, "{value}"))?;
+    }
     for &(place, is_return) in &history.events {
         let operation = &history.operations[place];
         write!(to, "{ticket} {} ", operation.thread)?;
@@ -243,9 +257,9 @@ fn main() -> io::Result<()> {
     };
     let mut random = Random(mixed(*seed as u64));
     let is_long = kind == "long";
-    let is_witness = is_long || kind == "witness";
+    let is_witness = is_long || kind.ends_with("witness");
     let played = events - if is_witness { 2 } else { 0 };
-    let mut history = play(played, &Plan::of(kind, *threads), &mut random);
+    let mut history = play(played, &Plan::of(kind, *threads, *events), &mut random);
     spoil(&mut history, kind);
     if is_witness {
         add_empty_answer(&mut history, *threads, is_long);

@@ -13,7 +13,7 @@ import sys
 
 FOLDER, PROGRAM = sys.argv[1:3]
 SIZES = [int(word) for word in os.environ.get("BENCH_SIZES", "20000 200000 2000000").split()]
-KINDS = os.environ.get("BENCH_KINDS", "yes names wide never refused empty fresh repeat order witness long").split()
+KINDS = os.environ.get("BENCH_KINDS", "yes names wide never refused empty initial fresh repeat order witness initial-witness long").split()
 ROUNDS = int(os.environ.get("BENCH_ROUNDS", 9))
 THREADS, SEED = 4, 1
 
@@ -63,7 +63,7 @@ def first_line(path):
 
 def ratios():
     """The table of ratios; gives the median time of each program, kind and size."""
-    print("%-8s %8s  %-10s %10s %8s %7s  %10s %8s %7s" % (
+    print("%-15s %8s  %-10s %10s %8s %7s  %10s %8s %7s" % (
         "kind", "events", "answer", "fifobench", "plain", "ratio", "fifobench", "plain", "ratio"))
     times = {}
     for kind in KINDS:
@@ -79,7 +79,7 @@ def ratios():
                 times[who, kind, size] = median(run.time for run in runs[who])
             memory = [median(run.peak for run in each) for each in (mine, plain)]
             ratio = median(a.time / b.time for a, b in zip(mine, plain))
-            print("%-8s %8d  %-10s %7.1f ms %5.1f ms %7.2f  %6.1f MiB %4.1f MiB %7.2f" % (
+            print("%-15s %8d  %-10s %7.1f ms %5.1f ms %7.2f  %6.1f MiB %4.1f MiB %7.2f" % (
                 kind, size, first_line(at("fifobench")), times["fifobench", kind, size],
                 times["plain", kind, size], ratio, *memory, memory[0] / memory[1]))
             sys.stdout.flush()
@@ -95,7 +95,7 @@ def growth(times):
     for kind in KINDS:
         powers = [math.log(times[who, kind, large] / times[who, kind, small]) / math.log(large / small)
                   for who in PROGRAMS]
-        print("%-8s fifobench %.2f, plain %.2f" % (kind, *powers))
+        print("%-15s fifobench %.2f, plain %.2f" % (kind, *powers))
 
 
 def stages():
@@ -103,7 +103,7 @@ def stages():
     the first write is refused (/dev/full) nothing is written."""
     size = SIZES[-1]
     print("\nstages at %d events, in ms and in ns for each event" % size)
-    print("%-8s %-10s  %18s %18s %18s" % ("kind", "", "reading", "deciding", "writing"))
+    print("%-15s %-10s  %18s %18s %18s" % ("kind", "", "reading", "deciding", "writing"))
     for kind in KINDS:
         source = generated(kind, size)
         with open(source, "rb") as text:
@@ -118,7 +118,7 @@ def stages():
                 sys.exit("%s, %s: statuses %s" % (kind, who, statuses))
             until = [median(run.time for run in runs[who]) for runs in (read, decided, written)]
             parts = [until[0], until[1] - until[0], until[2] - until[1]]
-            print("%-8s %-10s  %s" % (kind, who, " ".join(
+            print("%-15s %-10s  %s" % (kind, who, " ".join(
                 "%8.1f ms (%3.0f ns)" % (part, part * 1e6 / size) for part in parts)))
         sys.stdout.flush()
         os.unlink(source)

@@ -1,6 +1,7 @@
 //! A plain checker of histories, nothing proved, that `check` is measured beside: it reads the same text, finds the same faults
 //! and gives the same verdict, by the rules of docs/FORMATS.md. It is made to be fast: tickets are replaced by the places of
-//! their events, so after reading every list by ticket is a pass and nothing is sorted.
+//! their events, so after reading every list by ticket is a pass and nothing is sorted. Values that a queue holds first are
+//! enqueued by operations before all others, at places of their own.
 
 use std::collections::{HashMap, VecDeque};
 use std::fmt::{self, Display};
@@ -8,6 +9,7 @@ use std::hash::{BuildHasherDefault, Hasher};
 use std::io::{self, Read, Write};
 
 const MAX_EVENTS: u32 = 2_000_000;
+const MAX_INITIAL: u64 = 100_000;
 const MAX_TICKET: u64 = 999_999_999_999;
 const MAX_LINE: usize = 80;
 const NONE: u32 = u32::MAX;
@@ -22,6 +24,7 @@ enum Fault {
     Count,
     Cut,
     Trailing,
+    InitialTwice(u32),
     TicketOrder(u32),
     CallWhilePending(u32),
     ReturnWithoutCall(u32),
@@ -41,6 +44,7 @@ impl Display for Fault {
             Fault::Count => write!(f, "Count"),
             Fault::Cut => write!(f, "Cut"),
             Fault::Trailing => write!(f, "Trailing"),
+            Fault::InitialTwice(place) => write!(f, "InitialTwice {place}"),
             Fault::TicketOrder(event) => write!(f, "TicketOrder {event}"),
             Fault::CallWhilePending(event) => write!(f, "CallWhilePending {event}"),
             Fault::ReturnWithoutCall(event) => write!(f, "ReturnWithoutCall {event}"),
@@ -132,6 +136,8 @@ impl Tickets {
 }
 
 struct History {
+    /// How many values the queue holds first: as many operations, at twice as many places.
+    initial: u32,
     tickets: Tickets,
     operations: Vec<Operation>,
     by_return: Vec<u32>,
@@ -146,6 +152,7 @@ struct History {
 impl History {
     fn new() -> Self {
         History {
+            initial: 0,
             tickets: Tickets::default(),
             operations: Vec::new(),
             by_return: Vec::new(),
@@ -156,6 +163,23 @@ impl History {
             repeat: None,
             fault: None,
         }
+    }
+
+    /// A value that the queue holds first.
+    fn fill(&mut self, value: u64) {
+        let place = self.initial;
+        if self.unnamed.insert(value, place).is_some() && self.fault.is_none() {
+            self.fault = Some(Fault::InitialTwice(place));
+        }
+        self.operations.push(Operation { value, call: 2 * place, ret: 2 * place + 1, mate: NONE, thread: 0, kind: Kind::Enq });
+        self.by_return.push(place);
+        self.initial += 1;
+    }
+
+    /// The ticket of a place behind those of the values that the queue holds first.
+    #[inline(always)]
+    fn ticket(&self, place: u32) -> u64 {
+        self.tickets.at(place - 2 * self.initial)
     }
 
     /// The enqueue of a value: first where a recorder's name would have it.
@@ -176,9 +200,10 @@ impl History {
         if self.fault.is_some() {
             return;
         }
-        let place = self.tickets.count;
+        let event = self.tickets.count;
+        let place = 2 * self.initial + event;
         let fault = if !self.tickets.push(ticket) {
-            Some(Fault::TicketOrder(place))
+            Some(Fault::TicketOrder(event))
         } else if matches!(what, What::CallEnq | What::CallDeq) {
             self.call(place, thread, what, value)
         } else {
@@ -192,13 +217,13 @@ impl History {
     #[inline(always)]
     fn call(&mut self, place: u32, thread: u8, what: What, value: u64) -> Option<Fault> {
         if self.pending[thread as usize] != NONE {
-            return Some(Fault::CallWhilePending(place));
+            return Some(Fault::CallWhilePending(place - 2 * self.initial));
         }
         let operation = self.operations.len() as u32;
         let kind = if what == What::CallEnq { Kind::Enq } else { Kind::Deq };
         if kind == Kind::Enq {
             if self.enqueue_of(value) != NONE {
-                return Some(Fault::DuplicateValue(place));
+                return Some(Fault::DuplicateValue(place - 2 * self.initial));
             }
             if value != u64::from(thread) << 32 | self.of_thread[thread as usize].len() as u64 {
                 self.unnamed.insert(value, operation);
@@ -214,11 +239,11 @@ impl History {
     fn answer(&mut self, place: u32, thread: u8, what: What, value: u64) -> Option<Fault> {
         let pending = self.pending[thread as usize];
         if pending == NONE {
-            return Some(Fault::ReturnWithoutCall(place));
+            return Some(Fault::ReturnWithoutCall(place - 2 * self.initial));
         }
         let operation = &mut self.operations[pending as usize];
         if matches!(what, What::RetEnq | What::RetNot) != (operation.kind == Kind::Enq) {
-            return Some(Fault::WrongReturn(place));
+            return Some(Fault::WrongReturn(place - 2 * self.initial));
         }
         operation.ret = place;
         self.pending[thread as usize] = NONE;
@@ -267,7 +292,7 @@ impl History {
             return Err(fault);
         }
         if let Some(first) = self.pending.iter().filter(|&&operation| operation != NONE).min() {
-            return Err(Fault::Pending(self.tickets.at(self.operations[*first as usize].call)));
+            return Err(Fault::Pending(self.ticket(self.operations[*first as usize].call)));
         }
         self.of_thread = Vec::new();
         Ok(self)
@@ -416,12 +441,30 @@ impl<R: Read> Lines<R> {
     }
 }
 
+/// The values that the queue holds first, in the lines from the second on; gives how many they are.
+fn read_initial(lines: &mut Lines<impl Read>, history: &mut History) -> Result<u32, Fault> {
+    let count = match lines.next(Fault::Line(2))?.strip_prefix(b"initial ") {
+        Some(told) if !told.contains(&b' ') => number(told, MAX_INITIAL, 2)? as u32,
+        _ => return Err(Fault::Line(2)),
+    };
+    for line in 3..count + 3 {
+        let text = lines.next(Fault::Line(line))?;
+        if text.is_empty() || text.contains(&b' ') {
+            return Err(Fault::Line(line));
+        }
+        history.fill(number(text, u64::MAX, line)?);
+    }
+    Ok(count)
+}
+
 fn read(source: impl Read) -> Result<History, Fault> {
     let mut lines = Lines::new(source);
     let mut history = History::new();
-    if lines.next(Fault::Header)? != b"fifo-history 1" {
-        return Err(Fault::Header);
-    }
+    let before = match lines.next(Fault::Header)? {
+        b"fifo-history 1" => 2,
+        b"fifo-history 2" => 3 + read_initial(&mut lines, &mut history)?,
+        _ => return Err(Fault::Header),
+    };
     let mut count = 0;
     loop {
         while let Some(text) = lines.ahead().filter(|_| count < MAX_EVENTS) {
@@ -430,7 +473,7 @@ fn read(source: impl Read) -> Result<History, Fault> {
             lines.from += length;
             count += 1;
         }
-        let line = count + 2;
+        let line = count + before;
         let text = lines.next(Fault::Line(line))?;
         if let Some(told) = text.strip_prefix(b"end ") {
             return match number(told, count.into(), line) {
@@ -483,7 +526,7 @@ impl History {
         let (mut least, mut longest) = (NONE, (0, NONE));
         let (mut values_in, mut waiting) = (0u32, Vec::new());
         let (mut calls, mut returns) = (0, self.by_return.iter());
-        for at in 0..self.tickets.count {
+        for at in 0..2 * self.initial + self.tickets.count {
             if let Some(operation) = self.operations.get(calls).filter(|operation| operation.call == at) {
                 let place = calls as u32;
                 calls += 1;
@@ -637,9 +680,17 @@ impl History {
                 at = 0;
             }
             let operation = self.operation(place);
-            at = put_number(&mut text, at, self.tickets.at(operation.call));
+            if place < self.initial {
+                if *answer != "YES" {
+                    at = put(&mut text, at, b"init ");
+                    at = put_number(&mut text, at, operation.value);
+                    at = put(&mut text, at, b"\n");
+                }
+                continue;
+            }
+            at = put_number(&mut text, at, self.ticket(operation.call));
             text[at] = b' ';
-            at = put_number(&mut text, at + 1, self.tickets.at(operation.ret));
+            at = put_number(&mut text, at + 1, self.ticket(operation.ret));
             at = put(&mut text, at, &middles[operation.kind as usize * 64 + operation.thread as usize]);
             if operation.kind != Kind::Empty {
                 at = put_number(&mut text, at, operation.value);

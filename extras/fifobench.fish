@@ -6,17 +6,20 @@ complete -c fifobench -n __fish_use_subcommand -s V -l version -d 'Print version
 complete -c fifobench -n __fish_use_subcommand -a check -d 'Read a history and write its verdict'
 complete -c fifobench -n __fish_use_subcommand -a shrink -d 'Read a history and write what shows its violation'
 complete -c fifobench -n __fish_use_subcommand -a verify -d 'Read a history and a verdict, and tell whether it is evidence'
-complete -c fifobench -n __fish_use_subcommand -a draw -d 'Read a history and a verdict, and draw them'
+complete -c fifobench -n __fish_use_subcommand -a draw -d 'Read a history, and a verdict if one follows, and draw them'
+complete -c fifobench -n __fish_use_subcommand -a convert -d 'Read a history and write it in version 2 of its text'
 complete -c fifobench -n __fish_use_subcommand -a sim -d 'Play a schedule of the steps of the recorder'
 complete -c fifobench -n __fish_use_subcommand -a stress -d 'Run threads on a built-in queue'
 complete -c fifobench -n __fish_use_subcommand -a help -d 'Print a help'
-complete -c fifobench -n '__fish_seen_subcommand_from help' -a 'check shrink verify draw sim stress help'
+complete -c fifobench -n '__fish_seen_subcommand_from help' -a 'check shrink verify draw convert sim stress help'
 complete -c fifobench -n '__fish_seen_subcommand_from draw' -l text -d 'Draw in lines of characters, and not as SVG'
 complete -c fifobench -n '__fish_seen_subcommand_from stress' -l queue -x -d 'Name of the queue' \
     -a 'locked two-lock array seg lifo doubling inventing shy losing'
-complete -c fifobench -n '__fish_seen_subcommand_from stress' -l threads -x -d 'Workers, 1 to 16'
+complete -c fifobench -n '__fish_seen_subcommand_from stress' -l threads -x -d 'Workers, 1 to 32'
 complete -c fifobench -n '__fish_seen_subcommand_from stress' -l ops -x -d 'Operations of each worker, 0 to 100000'
 complete -c fifobench -n '__fish_seen_subcommand_from stress' -l seed -x -d 'Seed of the plan, 0 to 4294967295'
 complete -c fifobench -n '__fish_seen_subcommand_from stress' -l percent -x -d 'Enqueues among a hundred operations, 0 to 100'
 complete -c fifobench -n '__fish_seen_subcommand_from stress' -l ring -x \
     -d 'Events that the ring of each worker holds, 2 to 65536'
+complete -c fifobench -n '__fish_seen_subcommand_from stress' -l initial -x \
+    -d 'Values that the queue holds before the run, 0 to 1000'

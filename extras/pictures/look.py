@@ -12,7 +12,7 @@ NAME = "{http://www.w3.org/2000/svg}"
 
 
 def history(rng):
-    """The text of a history of some threads, whose answers are mostly a queue's."""
+    """The text of a history of some threads, whose answers are mostly a queue's, and how many values that holds first."""
     threads, operations = rng.randint(1, 8), rng.randint(1, 24)
     digits = rng.choice([1, 2, 5, 11, 20])
     wrong = rng.choice([0.0, 0.0, 0.1, 0.3])
@@ -20,6 +20,13 @@ def history(rng):
     threads = sorted(set(names))
     values = rng.sample(range(10 ** (digits - 1), min(10 ** digits, 2 ** 64)), min(9, operations)) if digits == 1 else None
     lines, pending, queue, given, ticket, left = [], {}, [], [], rng.choice([0, 999_999_990_000]), operations
+    for _ in range(rng.choice([0, 0, 0, 1, 2, 5])):
+        value = values.pop() if values else rng.randrange(10 ** (digits - 1), min(10 ** digits, 2 ** 64))
+        if value not in given and (values is None or values):
+            given.append(value)
+    queue.extend(given)
+    first = ["fifo-history 2", f"initial {len(given)}"] + [str(value) for value in given] if given else ["fifo-history 1"]
+    held = len(given)
     while left or pending:
         thread = rng.choice(threads)
         ticket += rng.choice([1, 1, 1, 7])
@@ -52,7 +59,7 @@ def history(rng):
             lines.append(f"{ticket} {thread} ret-deq {queue.pop(0)}")
         else:
             lines.append(f"{ticket} {thread} ret-empty")
-    return "\n".join(["fifo-history 1"] + lines + [f"end {len(lines)}", ""])
+    return "\n".join(first + lines + [f"end {len(lines)}", ""]), held
 
 
 def mistake(rng, queue, given, digits):
@@ -88,8 +95,8 @@ def within(a, b):
     return b[0] <= a[0] and b[1] <= a[1] and a[2] <= b[2] and a[3] <= b[3]
 
 
-def faults(picture, operations):
-    """What is wrong with a picture."""
+def faults(picture, operations, held):
+    """What is wrong with a picture of so many operations, and of so many values that the queue holds first."""
     root = tree.fromstring(picture)
     whole = (0, 0, int(root.get("width")), int(root.get("height")))
     found = []
@@ -103,8 +110,12 @@ def faults(picture, operations):
             if meet(place, other):
                 found.append(f"meet: {words} and {more}")
     bars = [g for g in root.iter(NAME + "g")]
-    if len(bars) != operations:
-        found.append(f"{len(bars)} bars of {operations} operations")
+    if len(bars) != held + operations:
+        found.append(f"{len(bars)} bars of {held} values and {operations} operations")
+    rows = [box(next(g.iter(NAME + "rect"))) for g in bars]
+    for i in range(held):
+        if any(rows[i][3] > later[1] for later in rows[i + 1:]):
+            found.append(f"value {i} doesn't stand above what comes later")
     for group in bars:
         bar, *pill = [box(r) for r in group.iter(NAME + "rect")]
         label, *number = [(box(t), t.text) for t in group.iter(NAME + "text")]
@@ -125,7 +136,7 @@ def faults(picture, operations):
 def main():
     program, looked, wrong, answers = sys.argv[1], 0, 0, {}
     for seed in range(400):
-        text = history(random.Random(seed))
+        text, held = history(random.Random(seed))
         answer, status = run(program, "check", text)
         if status > 1:
             answers["refused"] = answers.get("refused", 0) + 1
@@ -133,7 +144,7 @@ def main():
         kind = answer.splitlines()[0].strip()
         answers[kind] = answers.get(kind, 0) + 1
         picture, status = run(program, "draw", text + answer)
-        found = faults(picture, text.count(" call-")) if status == 0 else [f"status {status}"]
+        found = faults(picture, text.count(" call-"), held) if status == 0 else [f"status {status}"]
         looked += 1
         if found:
             wrong += 1

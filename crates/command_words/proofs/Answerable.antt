@@ -22,7 +22,7 @@ use Rattle.clap.specs.declared.builder.value_parser.ValueParser.TheVariants as v
 use Rattle.clap.specs.declared.error.kind.ErrorKind.TheVariants as kind
 use Rattle.clap.specs.declared.parser.matches.ValueSource.TheVariants.{CommandLine}
 use Rattle.clap.proofs.ValueTestLemmas.{accepts-Accepts}
-use Rattle.event_records.specs.declared.limits.TheConstants.{MAX_RING, MAX_SEED, MAX_THREAD_OPERATIONS, MAX_WORKERS, MIN_RING}
+use Rattle.event_records.specs.declared.limits.TheConstants.{MAX_RING, MAX_SEED, MAX_STRESS_INITIAL, MAX_THREAD_OPERATIONS, MAX_WORKERS, MIN_RING}
 use Rattle.command_words.specs.Commands.{the_program}
 use Rattle.command_words.specs.Inner.Commands.{IsAnswerable}
 use Rattle.command_words.specs.Options.{number_rule, queue_rule, stress_rules}
@@ -92,7 +92,10 @@ all_use_well = (
         number_uses (codes "seed") 0 MAX_SEED (codes "1") (λ v e. e),
         (
           number_uses (codes "percent") 0 100 (codes "50") (λ v e. e),
-          (number_uses (codes "ring") MIN_RING MAX_RING (codes "1024") (λ v e. e), (help_uses, tt)),
+          (
+            number_uses (codes "ring") MIN_RING MAX_RING (codes "1024") (λ v e. e),
+            (number_uses (codes "initial") 0 MAX_STRESS_INITIAL (codes "0") (λ v e. e), (help_uses, tt)),
+          ),
         ),
       ),
     ),
@@ -100,7 +103,7 @@ all_use_well = (
 )
 
 defaults_do : DefaultsPass test stress_built.rules
-defaults_do = (tt, (refl, (refl, (refl, (refl, (refl, (tt, tt)))))))
+defaults_do = (tt, (refl, (refl, (refl, (refl, (refl, (refl, (tt, tt))))))))
 
 any_text : (o : Option Text) (P : Text → Type 0) → IsSomeAnd o P → IsSome o
 any_text None P h = absurd h
@@ -142,6 +145,7 @@ module _ (rest : List Text) (none : level_fault stress_built [] nothing_held res
     seed = number (codes "seed") 0 MAX_SEED (λ v e. e) (inr (inr (inr (inl (refl, tt)))));
     percent = number (codes "percent") 0 100 (λ v e. e) (inr (inr (inr (inr (inl (refl, tt))))));
     ring = number (codes "ring") MIN_RING MAX_RING (λ v e. e) (inr (inr (inr (inr (inr (inl (refl, tt)))))));
+    initial = number (codes "initial") 0 MAX_STRESS_INITIAL (λ v e. e) (inr (inr (inr (inr (inr (inr (inl (refl, tt))))))));
   }
 
 -- ---- the program
@@ -228,8 +232,11 @@ all_answer_well = (
         (
           (λ name rest a n e. inr (inr (inr (inr (inl refl))))),
           (
-            (λ name rest a n e. inr (inr (inr (inr (inr (refl, has_settings rest e)))))),
-            ((λ name rest a n e. absurd (not_help name a n)), tt),
+            (λ name rest a n e. inr (inr (inr (inr (inr (inl refl)))))),
+            (
+              (λ name rest a n e. inr (inr (inr (inr (inr (inr (refl, has_settings rest e))))))),
+              ((λ name rest a n e. absurd (not_help name a n)), tt),
+            ),
           ),
         ),
       ),

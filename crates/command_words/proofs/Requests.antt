@@ -4,7 +4,7 @@ use Rattle.std.specs.Prelude.{IsSomeAnd}
 use Rattle.std.specs.Str.Parse.{digits_value, without_leading_plus}
 use Rattle.clap.specs.Values.{IsUnsignedIn}
 use Rattle.clap.specs.Walk.{Row, Text, first_of}
-use Rattle.event_records.specs.declared.limits.TheConstants.{MAX_RING, MAX_SEED, MAX_THREAD_OPERATIONS, MAX_WORKERS, MIN_RING}
+use Rattle.event_records.specs.declared.limits.TheConstants.{MAX_RING, MAX_SEED, MAX_STRESS_INITIAL, MAX_THREAD_OPERATIONS, MAX_WORKERS, MIN_RING}
 use Rattle.command_words.specs.Commands.{IsInRange, request_named, request_of_subcommand}
 use Rattle.command_words.specs.Inner.Commands.{IsAnswerable}
 use Rattle.command_words.specs.Options.{IsWithinRanges, number_in, settings_in}
@@ -26,6 +26,7 @@ within_ranges rows h = record {
   seed = (in_range (codes "seed") 0 MAX_SEED rows h.seed).1;
   percent = (in_range (codes "percent") 0 100 rows h.percent).1;
   ring = in_range (codes "ring") MIN_RING MAX_RING rows h.ring;
+  initial = (in_range (codes "initial") 0 MAX_STRESS_INITIAL rows h.initial).1;
 }
 
 named : (name : Text) (rows : List Row) → IsAnswerable (Some (name, rows)) → IsSomeAnd (request_named name rows) IsInRange
@@ -34,7 +35,8 @@ named name rows (inr (inl is)) = rw is tt
 named name rows (inr (inr (inl is))) = rw is tt
 named name rows (inr (inr (inr (inl is)))) = rw is tt
 named name rows (inr (inr (inr (inr (inl is))))) = rw is tt
-named name rows (inr (inr (inr (inr (inr stress))))) = rw stress.0 (within_ranges rows stress.1)
+named name rows (inr (inr (inr (inr (inr (inl is)))))) = rw is tt
+named name rows (inr (inr (inr (inr (inr (inr stress)))))) = rw stress.0 (within_ranges rows stress.1)
 
 -- what can be answered is a request in its ranges
 pub answerable_is_asked : (met : Option (Text × List Row)) → IsAnswerable met → IsSomeAnd (request_of_subcommand met) IsInRange

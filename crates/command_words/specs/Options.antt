@@ -6,7 +6,7 @@ use Rattle.clap.specs.Simple.{Shape, new_rule, new_shape}
 use Rattle.clap.specs.Walk.{Row, Rule, Text, first_of}
 use Rattle.clap.specs.declared.builder.action.ArgAction.TheVariants.{SetTrue}
 use Rattle.clap.specs.declared.builder.value_parser.ValueParser.TheVariants as vp
-use Rattle.event_records.specs.declared.limits.TheConstants.{MAX_RING, MAX_SEED, MAX_THREAD_OPERATIONS, MAX_WORKERS, MIN_RING}
+use Rattle.event_records.specs.declared.limits.TheConstants.{MAX_RING, MAX_SEED, MAX_STRESS_INITIAL, MAX_THREAD_OPERATIONS, MAX_WORKERS, MIN_RING}
 use Rattle.command_words.specs.declared.options.PictureForm.{PictureForm}
 use Rattle.command_words.specs.declared.options.PictureForm.TheVariants.{Svg, Terminal}
 use Rattle.command_words.specs.declared.options.StressOptions.{StressOptions}
@@ -47,7 +47,8 @@ stress_rules = queue_rule ∷ number_rule (codes "threads") 1 MAX_WORKERS (codes
     ∷ number_rule (codes "ops") 0 MAX_THREAD_OPERATIONS (codes "1000")
     ∷ number_rule (codes "seed") 0 MAX_SEED (codes "1")
     ∷ number_rule (codes "percent") 0 100 (codes "50")
-    ∷ number_rule (codes "ring") MIN_RING MAX_RING (codes "1024") ∷ []
+    ∷ number_rule (codes "ring") MIN_RING MAX_RING (codes "1024")
+    ∷ number_rule (codes "initial") 0 MAX_STRESS_INITIAL (codes "0") ∷ []
 
 -- the subcommand with its options
 abbrev pub the_stress : Shape
@@ -63,6 +64,7 @@ pub record Settings : Type 0 where
   pub seed : ℕ
   pub percent : ℕ
   pub ring : ℕ
+  pub initial : ℕ
 
 -- the settings that a value of the program stands for
 abbrev pub settings_of : StressOptions → Settings
@@ -73,6 +75,7 @@ settings_of o = record {
   seed = o.seed;
   percent = o.percent;
   ring = o.ring;
+  initial = o.initial;
 }
 
 -- the text of an option; there is one in all words that are a command
@@ -101,6 +104,7 @@ settings_in rows = record {
   seed = number_in (codes "seed") rows;
   percent = number_in (codes "percent") rows;
   ring = number_in (codes "ring") rows;
+  initial = number_in (codes "initial") rows;
 }
 
 -- each number lies in the range of its option
@@ -110,3 +114,4 @@ pub record IsWithinRanges (s : Settings) : Type 0 where
   pub seed : s.seed ≤ MAX_SEED
   pub percent : s.percent ≤ 100
   pub ring : (MIN_RING ≤ s.ring) × (s.ring ≤ MAX_RING)
+  pub initial : s.initial ≤ MAX_STRESS_INITIAL

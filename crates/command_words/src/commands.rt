@@ -9,7 +9,9 @@ ghost use Rattle.command_words.specs.Options.{number_rule, queue_rule, text_rule
 use crate::help;
 use clap::builder::ValueParser;
 use clap::{Arg, ArgAction, Command};
-use event_records::{MAX_RING, MAX_SEED, MAX_THREAD_OPERATIONS, MAX_WORKERS, MIN_RING};
+use event_records::{
+    MAX_RING, MAX_SEED, MAX_STRESS_INITIAL, MAX_THREAD_OPERATIONS, MAX_WORKERS, MIN_RING,
+};
 use std::alloc::{AllocError, Global};
 
 /// The program with its subcommands.
@@ -26,6 +28,7 @@ pub(crate) fn the_command<'a>(alloc: Global) -> Result<Command<'a>, AllocError>
         .subcommand(plain_command(alloc, "shrink", help::SHRINK_ABOUT, help::SHRINK_HELP))?
         .subcommand(plain_command(alloc, "verify", help::VERIFY_ABOUT, help::VERIFY_HELP))?
         .subcommand(draw)?
+        .subcommand(plain_command(alloc, "convert", help::CONVERT_ABOUT, help::CONVERT_HELP))?
         .subcommand(plain_command(alloc, "sim", help::SIM_ABOUT, help::SIM_HELP))?
         .subcommand(stress)
 }
@@ -83,6 +86,13 @@ fn stress_command<'a>(alloc: Global) -> Result<Command<'a>, AllocError>
             (MIN_RING as u64, MAX_RING as u64),
             "1024",
             help::RING_HELP,
+        ))?
+        .arg(number_option(
+            alloc,
+            "initial",
+            (0, MAX_STRESS_INITIAL),
+            "0",
+            help::INITIAL_HELP,
         ))
 }
 

@@ -41,7 +41,7 @@ fn form_of(text: &str) -> PictureForm
 pub struct StressOptions<'a> {
     /// The queue's name as it was written, which may be no queue's.
     pub queue: &'a str,
-    /// Workers, 1 to 16.
+    /// Workers, 1 to 32.
     pub threads: usize,
     /// Operations of each worker, 0 to 100,000.
     pub operations: usize,
@@ -51,6 +51,8 @@ pub struct StressOptions<'a> {
     pub percent: u8,
     /// Events that the ring of each worker holds, 2 to 65,536.
     pub ring: usize,
+    /// Values that the queue holds before the run, 0 to 1,000.
+    pub initial: usize,
 }
 
 /// The options in the matches of `stress`.
@@ -69,6 +71,7 @@ pub(crate) fn stress_options<'a>(matches: &ArgMatches<'a>) -> StressOptions<'a>
         seed: number(matches, "seed"),
         percent: number(matches, "percent") as u8,
         ring: number(matches, "ring") as usize,
+        initial: number(matches, "initial") as usize,
     }
 }
 

@@ -22,6 +22,8 @@ pub enum Task<'a> {
     Verify,
     /// Read a history and a claimed verdict, and print a picture of both in this form.
     Draw(PictureForm),
+    /// Read a history of either version of the text, and write it in version 2.
+    Convert,
     /// Read a schedule, run it on the recorder's machine, and print what it recorded and the verdict.
     Sim,
     /// Run workers on a queue, and print what was recorded and the verdict.
@@ -60,6 +62,7 @@ fn task_of<'a>(matches: &ArgMatches<'a>) -> Task<'a>
         "shrink" => Task::Shrink,
         "verify" => Task::Verify,
         "draw" => Task::Draw(picture_form(options)),
+        "convert" => Task::Convert,
         "sim" => Task::Sim,
         "stress" => Task::Stress(stress_options(options)),
         _ => unreachable!(),

@@ -1,5 +1,5 @@
 -- From the fault of a list of events, or of an input, to what is answered of it.
-use Rattle.std.proofs.Common.{◌≡◌, ℕ, ◌≤◌, ◌⊎◌, List, [], length, arith, Option, Some, None, IfSome, inl, inr, refl, sym, ap, subst, suc, ◌∷◌, ◌∙◌}
+use Rattle.std.proofs.Common.{◌≡◌, ◌∙◌, ℕ, ◌≤◌, ◌⊎◌, List, [], length, arith, Option, Some, None, IfSome, inl, inr, refl, sym, ap, subst}
 use Rattle.history_merge.specs.declared.fault.HistoryFault.{HistoryFault}
 use Rattle.history_merge.specs.declared.fault.HistoryFault.TheVariants.{TicketOrder, BadThread, CallWhilePending, ReturnWithoutCall, WrongReturn}
 use Rattle.history_merge.specs.declared.fault.HistoryFault.TheVariants.{DuplicateValue, Pending, Memory, InitialTwice}
@@ -18,24 +18,14 @@ use Rattle.verdicts.specs.declared.verdict.Verdict.{Verdict}
 use Rattle.verdicts.specs.Claiming.{claim_of}
 use Rattle.verdicts.specs.Verdicts.{HasOperationsFrom, IsEvidence, IsExactFrom, IsVerdictOf, filled_of}
 use Rattle.verdicts.specs.declared.verdict.Verdict.TheVariants as verdict
-use Rattle.drawing.specs.declared.claim.ShownClaim.{ShownClaim}
-use Rattle.drawing.specs.declared.claim.ShownClaim.TheVariants.{Yes, No}
-use Rattle.drawing.specs.Claim.{operations_in, operations_of_lines, shown_of}
 use Rattle.history_merge.specs.declared.operation.Operation.{Operation}
-use Rattle.verdicts.specs.declared.verifying.Claimed.{Claimed}
-use Rattle.verdicts.specs.declared.verifying.Claimed.TheVariants as claim
-use Rattle.verdicts.specs.declared.verifying.ClaimLine.{ClaimLine}
-use Rattle.verdicts.specs.declared.verifying.ViolationKind.{ViolationKind}
-use Rattle.verdicts.specs.declared.verifying.ClaimLine.TheVariants.{Op, Initial}
-use Rattle.std.specs.Prelude.{option_map}
-use Rattle.verdicts.proofs.DecidedFrom.{history_has, none_filled}
-use Rattle.history_merge.specs.Legal.{IsLinearizableFrom}
-use Rattle.value_match.specs.declared.violation.Violation.{Violation}
-use Rattle.value_match.specs.Outcome.{IsChosenViolation}
+use Rattle.std.specs.Prelude.{filter}
+use Rattle.verdicts.specs.Selection.{ArePartOf}
+use Rattle.verdicts.proofs.DecidedFrom.{history_has}
 use Rattle.commands.specs.Answers.{Answer, judged, memory_fault, answer_of_history_fault}
 use Rattle.text_lines.specs.declared.fault.TextFault.{TextFault}
 use Rattle.text_lines.specs.Input.{Ahead}
-use Rattle.commands.specs.Judging.{count_of_lines, IsFaulty, IsJudged, IsShrunk, IsVerdictClaim, AnswersFor, AnswersOrNoMemory, IsGathered, Shrinks, from_none, said_by}
+use Rattle.commands.specs.Judging.{IsFaulty, IsShrunk, IsVerdictClaim, AnswersFor, AnswersOrNoMemory, IsGathered, Shrinks, from_none, said_by}
 
 -- the first fault is answered, and want of memory as such
 pub fault_found : (history : HistoryView) (fault : HistoryFault) → IsFirstFaultFrom history.initial history.events fault
@@ -97,66 +87,41 @@ decided_claim history verdict chosen evidence exact =
 pub is_from_none : (history : HistoryView) → history.initial ≡ [] → history ≡ from_none history.events
 is_from_none history none = λ i. record { initial = none i; events = history.events }
 
--- ---- a history of a queue that is empty first
-
--- the chosen violation of the filled history is that of the history
-pub chosen_of_none : (history : HistoryView) (violation : Violation) → history.initial ≡ [] → IsVerdictOf (filled_of history) (verdict.No violation)
-    → IsChosenViolation (operations_of history.events) violation
-chosen_of_none history violation none chosen =
-    subst (λ os. IsChosenViolation os violation) (none_filled history.initial (operations_of history.events) none) chosen
+-- ---- what is shrunk
 
 -- a yes of `shrink` is its verdict
-pub shrunk_yes : (text : HistoryText) (version : Version) (history : HistoryView) (order : List ℕ) → said_in version history ≡ text → history.initial ≡ []
+pub shrunk_yes : (text : HistoryText) (version : Version) (history : HistoryView) (initial : List ℕ) (operations : List Operation) (order : List ℕ)
+    → said_in version history ≡ text → initial ≡ history.initial → operations ≡ operations_of history.events
     → IsCompleteFrom history.initial history.events → IsVerdictOf (filled_of history) (verdict.Yes order) → IsEvidence (filled_of history) (verdict.Yes order)
     → IsExactFrom history.initial (operations_of history.events) (verdict.Yes order)
-    → AnswersOrNoMemory Shrinks text (judged (claim_of [] (operations_of history.events) (verdict.Yes order)))
-shrunk_yes text version history order same none complete chosen evidence exact =
-    subst (λ t. AnswersOrNoMemory Shrinks t (judged (claim_of [] (operations_of history.events) (verdict.Yes order)))) same
-    (inl (inr (inr (none, inl (subst (λ i. IsLinearizableFrom i (operations_of history.events)) none exact, judged_is)))))
-  where
-    judged_is : IsJudged history (judged (claim_of [] (operations_of history.events) (verdict.Yes order)))
-    judged_is = record {
-      complete = complete;
-      claimed = claim_of history.initial (operations_of history.events) (verdict.Yes order);
-      right = decided_claim history (verdict.Yes order) chosen evidence exact;
-      is = ap (λ (i : List ℕ). judged (claim_of i (operations_of history.events) (verdict.Yes order))) (sym none);
-    }
+    → AnswersOrNoMemory Shrinks text (judged (claim_of initial operations (verdict.Yes order)))
+shrunk_yes text version history initial operations order same same_initial same_operations complete chosen evidence exact =
+    subst (λ t. AnswersOrNoMemory Shrinks t (judged (claim_of initial operations (verdict.Yes order)))) same
+    (inl (inr (inl (
+      exact,
+      record {
+        complete = complete;
+        claimed = claim_of history.initial (operations_of history.events) (verdict.Yes order);
+        right = decided_claim history (verdict.Yes order) chosen evidence exact;
+        is = λ i. judged (claim_of (same_initial i) (same_operations i) (verdict.Yes order));
+      },
+    ))))
 
 -- what shows a no is what `shrink` answers
-pub shrunk_no : (text : HistoryText) (version : Version) (history : HistoryView) (answer : Answer) → said_in version history ≡ text → history.initial ≡ []
+pub shrunk_no : (text : HistoryText) (version : Version) (history : HistoryView) (answer : Answer) → said_in version history ≡ text
     → AnswersOrNoMemory IsShrunk (said_in version history) answer → AnswersOrNoMemory Shrinks text answer
-shrunk_no text version history answer same none (inl shrunk) =
-    subst (λ t. AnswersOrNoMemory Shrinks t answer) same (inl (inr (inr (none, inr shrunk))))
-shrunk_no text version history answer same none (inr memory) = inr memory
+shrunk_no text version history answer same (inl shrunk) = subst (λ t. AnswersOrNoMemory Shrinks t answer) same (inl (inr (inr shrunk)))
+shrunk_no text version history answer same (inr memory) = inr memory
 
--- ---- claims as they are drawn
+-- a text of the first version has no initial values
+pub none_of_first : (text : HistoryText) (version : Version) (history : HistoryView) → HasText text → said_in version history ≡ text → version ≡ One
+    → history.initial ≡ []
+none_of_first text version history has same first =
+    subst (λ v. HaveValueLines v history.initial) first (subst (λ (t : HistoryText). HaveValueLines t.version t.initial) (sym same) has.initial)
 
--- one operation more
-one_more : (o : Operation) (lines : List ClaimLine) (operations : List Operation) (found : Option (List Operation))
-    → ((later : List Operation) → found ≡ Some later → length later ≡ length lines) → option_map (λ later. o ∷ later) found ≡ Some operations
-    → length operations ≡ suc (length lines)
-one_more o lines operations None many e = cc
-one_more o lines operations (Some later) many e =
-    let whole : o ∷ later ≡ operations = cc in ap length (sym whole) ∙ ap suc (many later refl)
-
--- as many operations as lines
-as_many : (lines : List ClaimLine) (operations : List Operation) → operations_of_lines lines ≡ Some operations → length operations ≡ length lines
-as_many [] operations same = let none : [] ≡ operations = cc in ap length (sym none)
-as_many (Op o ∷ lines) operations same =
-    one_more o lines operations (operations_of_lines lines) (λ later is. as_many lines later is) same
-as_many (Initial v ∷ lines) operations same = cc
-
-no_drawn : (kind : ViolationKind) (lines : List ClaimLine) (drawn : ShownClaim) (found : Option (List Operation))
-    → ((operations : List Operation) → found ≡ Some operations → length operations ≡ length lines) → option_map (No kind) found ≡ Some drawn
-    → length (operations_in drawn) ≡ length lines
-no_drawn kind lines drawn None many e = cc
-no_drawn kind lines drawn (Some operations) many e =
-    let same : No kind operations ≡ drawn = cc in ap (λ d. length (operations_in d)) (sym same) ∙ many operations refl
-
--- a claim as it is drawn has as many operations as the claim has lines
-pub drawn_lines : (claimed : Claimed) (drawn : ShownClaim) → shown_of claimed ≡ Some drawn → length (operations_in drawn) ≡ count_of_lines claimed
-drawn_lines (claim.Yes operations) drawn is = let same : Yes operations ≡ drawn = cc in ap (λ d. length (operations_in d)) (sym same)
-drawn_lines (claim.No kind lines) drawn is = no_drawn kind lines drawn (operations_of_lines lines) (as_many lines) is
+-- nor has a part of none
+pub part_of_none : (whole part : List ℕ) → ArePartOf whole part → whole ≡ [] → part ≡ []
+part_of_none whole part is none = is.1 ∙ ap (filter is.0) none
 
 -- ---- from what is answered of a value to what is answered of an input
 

@@ -1,14 +1,16 @@
 -- From the faults of calls on the reader to the fault of the input.
-use Rattle.std.proofs.Common.{◌≡◌, ℕ, List, ◌++◌, ◌⊎◌, Option, Some, None, inl, inr, ap, sym, ◌∙◌, refl, append-nil, IfSome, subst}
+use Rattle.std.proofs.Common.{◌≡◌, ◌≢◌, ℕ, List, [], ◌∷◌, ◌++◌, ◌⊎◌, Option, Some, None, inl, inr, ap, sym, ◌∙◌, refl, append-nil, IfSome, subst}
 use Rattle.history_text.specs.declared.version.HistoryText.{HistoryText}
 use Rattle.text_lines.specs.declared.fault.TextFault.{TextFault}
 use Rattle.text_lines.specs.declared.fault.TextFault.TheVariants.{Read, Header, Line, Number, Limit, Count, Cut, Trailing, Memory}
-use Rattle.text_lines.proofs.MemoryOrNot.{follows}
+use Rattle.text_lines.proofs.MemoryOrNot.{follows, is_memory, known_fault}
+use Rattle.text_lines.proofs.Consuming.{Takes-append}
 use Rattle.history_text.specs.Versions.{text_of, line_count, HasText, IsTextFault, NoRoomForText}
 use Rattle.history_text.specs.Claims.{IsVerdictTextFault, NoRoomForVerdict}
 use Rattle.text_lines.specs.Input.{Ahead, Ending, Takes}
-use Rattle.history_text.specs.Reading.{HasFirstFault, HasEndFault, HasTextFault, HasVerdictTextFault}
-use Rattle.commands.specs.Inputs.{IsFaultOfOneText, IsFaultAfter, AfterHistory, IsFaultOfClaimInput}
+use Rattle.history_text.specs.Reading.{HasFirstFault, HasEndFault, HasTextFault, HasVerdictTextFault, HasMore}
+use Rattle.history_text.proofs.OneHistory as histories
+use Rattle.commands.specs.Inputs.{IsFaultOfOneText, IsFaultAfter, AfterHistory, IsFaultOfClaimInput, IsFaultOfDrawableInput, IsHistoryOf}
 
 -- ---- one text
 
@@ -83,3 +85,43 @@ verdict_fault (Some a) (Some b) text lines fault has taken is h =
     (λ room. inr (record { text = text; rest = b.bytes; history = has; front = taken.0; after = room }))
     (λ f first. inr (record { text = text; rest = b.bytes; history = has; front = taken.0; after = later text a b lines f taken.1 is first }))
     h
+
+-- ---- a history, and a verdict on it where anything follows
+
+-- a known fault of a history's text isn't that of a history alone
+no_history_alone : (a : Ahead) (fault : TextFault) (history : HistoryText) → IsHistoryOf a history → fault ≢ Memory → HasTextFault 0 (Some a) fault → ⊥
+no_history_alone a fault history is known first =
+    let bytes : a.bytes ≡ text_of history ++ [] = is.1.bytes ∙ sym (append-nil (text_of history)) in
+    histories.text_has_no_fault 0 a.ending history [] fault is.0
+    (subst (λ (b : List ℕ). IsTextFault 0 a.ending b fault) bytes (known_fault (NoRoomForText a.bytes) (IsTextFault 0 a.ending a.bytes) fault known first))
+
+-- a fault of the history's text
+pub drawable_history_fault : (input : Option Ahead) (fault : TextFault) → HasTextFault 0 input fault → IfSome input (λ a. IsFaultOfDrawableInput a fault)
+drawable_history_fault None fault h = tt
+drawable_history_fault (Some a) fault h = (
+  history_fault (Some a) fault h,
+  λ history is. elim (is_memory fault) [
+    | inl memory ↦ memory
+    | inr known ↦ absurd (no_history_alone a fault history is known h)
+  ],
+)
+
+-- more stands behind the history's text, so it isn't alone
+no_more_alone : (a b : Ahead) (text history : HistoryText) → HasText text → a.bytes ≡ text_of text ++ b.bytes → HasMore b → IsHistoryOf a history → ⊥
+no_more_alone a b text history has bytes more is =
+    let parts = histories.texts_agree history text [] b.bytes is.0 has (append-nil (text_of history) ∙ sym is.1.bytes ∙ bytes) in
+    let none : [] ≡ more.0 ∷ more.1 = parts.1 ∙ more.2 in cc
+
+-- a fault of what follows the history, as the text of a verdict
+pub drawable_verdict_fault : (input mid left : Option Ahead) (text : HistoryText) (lines : ℕ) (fault : TextFault) → HasText text
+    → Takes input mid (text_of text) → Takes mid left [] → IfSome left HasMore → lines ≡ line_count text → HasVerdictTextFault lines left fault
+    → IfSome input (λ a. IsFaultOfDrawableInput a fault)
+drawable_verdict_fault None mid left text lines fault has before taken more is h = tt
+drawable_verdict_fault (Some a) None left text lines fault has before taken more is h = absurd before
+drawable_verdict_fault (Some a) (Some m) None text lines fault has before taken more is h = absurd taken
+drawable_verdict_fault (Some a) (Some m) (Some b) text lines fault has before taken more is h =
+    let through : Takes (Some a) (Some b) (text_of text) =
+    subst (λ (t : List ℕ). Takes (Some a) (Some b) t) (append-nil (text_of text)) (Takes-append (Some a) (Some m) (Some b) (text_of text) [] before taken) in (
+      verdict_fault (Some a) (Some b) text lines fault has through is h,
+      λ history is_history. absurd (no_more_alone a b text history has through.0 more is_history),
+    )

@@ -1,50 +1,71 @@
 -- Want of memory aside, an input has one answer.
-use Rattle.std.proofs.Common.{◌≡◌, ◌≢◌, ◌↔◌, ◌⊎◌, Bool, true, false, IsTrue, List, [], Some, arith, refl, sym, ◌∙◌, ap, subst, inl, inr}
+use Rattle.std.proofs.Common.{◌≡◌, ◌≢◌, ◌↔◌, ◌⊎◌, Bool, true, false, IsTrue, ◌≤◌, List, [], length, arith, refl, sym, ◌∙◌, ap, subst, inl, inr}
 use Rattle.std.specs.Prelude.{Contains, flat_map}
 use Rattle.std.proofs.lemmas.List.Sorted.{Contains-permutation, IsPermutation-sym}
 use Rattle.event_records.specs.declared.event.Event.{Event}
+use Rattle.event_records.specs.declared.limits.TheConstants.{MAX_INITIAL}
 use Rattle.history_merge.specs.Complete.{IsCompleteHistory}
 use Rattle.history_merge.specs.Merge.{IsMerged}
 use Rattle.history_merge.specs.Operations.{operations_of}
 use Rattle.history_merge.specs.Initial.{HistoryView, IsCompleteFrom}
-use Rattle.history_merge.proofs.Completeness.{operations_are_complete}
+use Rattle.history_merge.proofs.Filled.{filled_are_complete}
 use Rattle.history_merge.proofs.InitialFaults.{complete_from_has_no_fault, complete_from_nothing}
 use Rattle.history_merge.proofs.OneFaultFrom.{one_first_fault_from}
 use Rattle.recorder_core.specs.Setting.{Setting}
 use Rattle.recorder_core.specs.Laws.{collected_lists}
 use Rattle.simulation.specs.Simulations.{rejections, schedule_of}
+use Rattle.verdicts.specs.declared.verifying.Claimed.{Claimed}
 use Rattle.verdicts.specs.Claims.{IsTrueClaim}
 use Rattle.verdicts.proofs.EventsHeld.{part_is_one}
 use Rattle.verdicts.proofs.OneSelection.{selection_is_one}
 use Rattle.verdicts.proofs.OneVerdict.{chosen_violation_is_one}
 use Rattle.verdicts.proofs.SameLists.{same_lists}
-use Rattle.verdicts.specs.Selection.{KeepsViolation, StaysChosen}
+use Rattle.verdicts.specs.Selection.{ArePartOf, Contents, KeepsViolation, StaysChosen}
+use Rattle.verdicts.specs.Verdicts.{filled_of}
+use Rattle.verdicts.proofs.ShrunkEvents.{no_longer}
+use Rattle.verdicts.proofs.ShrunkHistories.{IsWhole}
 use Rattle.text_lines.specs.declared.fault.TextFault.{TextFault}
 use Rattle.text_lines.specs.declared.fault.TextFault.TheVariants as text
 use Rattle.history_text.specs.declared.schedule.Schedule.{Schedule}
 use Rattle.history_text.specs.declared.version.HistoryText.{HistoryText}
-use Rattle.history_text.specs.Versions.{text_of, HasText, IsTextFault, NoRoomForText}
+use Rattle.history_text.specs.Versions.{text_of, HasText, IsTextFault, NoRoomForText, said_in}
 use Rattle.history_text.specs.Schedules.{schedule_text, HasScheduleText, IsScheduleTextFault, NoRoomForSchedule}
 use Rattle.text_lines.specs.Input.{Ahead}
 use Rattle.text_lines.proofs.MemoryOrNot.{is_memory}
 use Rattle.history_text.proofs.OneHistory as histories
 use Rattle.history_text.proofs.OneSchedule as schedules
 use Rattle.command_words.specs.declared.options.PictureForm.{PictureForm}
-use Rattle.command_words.specs.Commands.{check, shrink, verify, draw, sim}
-use Rattle.commands.specs.Answers.{Answer, judged, shown, played, verified, drawn, memory_fault, answer_of_text_fault, answer_of_history_fault}
+use Rattle.command_words.specs.Commands.{check, shrink, verify, draw, convert, sim}
+use Rattle.commands.specs.Answers.{Answer, judged, shown, played, verified, memory_fault, answer_of_text_fault, answer_of_history_fault}
 use Rattle.commands.specs.Inputs.{ClaimOnText, IsHistoryOf, IsFaultOfHistoryInput, IsScheduleOf, IsFaultOfScheduleInput, IsClaimOf, IsFaultOfClaimInput}
-use Rattle.commands.specs.Judging.{IsVerdictClaim, IsFaulty, IsJudged, IsShrunk, IsSound, Judges, Shrinks, ShrinksFromNone, Verifies, Draws, Simulates, AnswersFor}
-use Rattle.commands.specs.Judging.{IsTooLarge, IsRefuted, IsDrawn, from_none, picture_in, said_by}
+use Rattle.commands.specs.Inputs.{Drawable, alone, with_claim, IsDrawableOf, IsFaultOfDrawableInput}
+use Rattle.commands.specs.Judging.{IsVerdictClaim, IsFaulty, IsJudged, IsShrunk, IsSound, Judges, Shrinks, Verifies, Draws, DrawsAlone, DrawsClaim}
+use Rattle.commands.specs.Judging.{Converts, Simulates, AnswersFor, IsTooLarge, IsRefuted, IsDrawn, IsDrawnDecided, from_none, said_by}
 use Rattle.commands.specs.Judging.{AnswersOrNoMemory, IsOfFault}
 use Rattle.commands.specs.OneAnswer.{SameOrNoMemory, HasOneAnswer}
-use Rattle.commands.proofs.OneInput.{one_value, only_memory, one_known_fault, one_claim, only_memory_of_claim, one_known_fault_of_claim}
+use Rattle.commands.proofs.OneInput.{one_value, only_memory, one_known_fault, one_history, one_claim, only_memory_of_claim, one_known_fault_of_claim}
+use Rattle.commands.proofs.OneInput.{one_drawable, only_memory_of_drawable, one_known_fault_of_drawable}
 use Rattle.commands.proofs.Findings.{few_values}
 use Rattle.commands.proofs.ShrunkTexts.{one_verdict_claim}
 
 -- ---- from what is answered of values and faults to what is answered of inputs
 
-answers_memory : (answer : Answer) (fault : TextFault) → answer ≡ answer_of_text_fault fault → fault ≡ text.Memory → answer ≡ memory_fault
+pub answers_memory : (answer : Answer) (fault : TextFault) → answer ≡ answer_of_text_fault fault → fault ≡ text.Memory → answer ≡ memory_fault
 answers_memory answer fault is same = is ∙ ap answer_of_text_fault same
+
+module _ {A : Type 0} (IsInputOf : Ahead → A → Type 0) (IsFaultOf : Ahead → TextFault → Type 0) (OfValue : A → Answer → Type 0)
+    (one_input : (input : Ahead) (x y : A) → IsInputOf input x → IsInputOf input y → x ≡ y)
+    (no_fault : (input : Ahead) (x : A) (fault : TextFault) → IsInputOf input x → fault ≢ text.Memory → IsFaultOf input fault → ⊥) where
+  of_value_and_fault : (input : Ahead) (a : Answer) → IsOfFault IsFaultOf input a → (x : A) → IsInputOf input x → a ≡ memory_fault
+  of_value_and_fault input a faulty x is = elim (is_memory faulty.fault) [
+    | inl memory ↦ answers_memory a faulty.fault faulty.is memory
+    | inr known ↦ absurd (no_fault input x faulty.fault is known faulty.first)
+  ]
+
+  -- what is answered of an input is answered of the value that it says
+  answered_of : (input : Ahead) (x : A) (a : Answer) → IsInputOf input x → AnswersFor IsInputOf IsFaultOf OfValue input a → AnswersOrNoMemory OfValue x a
+  answered_of input x a is (inl read) = subst (λ v. AnswersOrNoMemory OfValue v a) (one_input input read.value x read.input_of is) read.answered
+  answered_of input x a is (inr faulty) = inr (of_value_and_fault input a faulty x is)
 
 module _ {A : Type 0} (IsInputOf : Ahead → A → Type 0) (IsFaultOf : Ahead → TextFault → Type 0) (OfValue : A → Answer → Type 0)
     (one_input : (input : Ahead) (x y : A) → IsInputOf input x → IsInputOf input y → x ≡ y)
@@ -55,12 +76,6 @@ module _ {A : Type 0} (IsInputOf : Ahead → A → Type 0) (IsFaultOf : Ahead �
   of_value x a b (inl is_a) (inl is_b) = inl (one_of_value x a b is_a is_b)
   of_value x a b (inr none) is_b = inr (inl none)
   of_value x a b (inl is_a) (inr none) = inr (inr none)
-
-  of_value_and_fault : (input : Ahead) (a : Answer) → IsOfFault IsFaultOf input a → (x : A) → IsInputOf input x → a ≡ memory_fault
-  of_value_and_fault input a faulty x is = elim (is_memory faulty.fault) [
-    | inl memory ↦ answers_memory a faulty.fault faulty.is memory
-    | inr known ↦ absurd (no_fault input x faulty.fault is known faulty.first)
-  ]
 
   of_faults : (input : Ahead) (a b : Answer) → IsOfFault IsFaultOf input a → IsOfFault IsFaultOf input b → SameOrNoMemory a b
   of_faults input a b x y = elim (is_memory x.fault) [
@@ -75,8 +90,8 @@ module _ {A : Type 0} (IsInputOf : Ahead → A → Type 0) (IsFaultOf : Ahead �
       → SameOrNoMemory a b
   of_input input a b (inl x) (inl y) = of_value y.value a b (subst (λ v. AnswersOrNoMemory OfValue v a)
       (one_input input x.value y.value x.input_of y.input_of) x.answered) y.answered
-  of_input input a b (inl x) (inr y) = inr (inr (of_value_and_fault input b y x.value x.input_of))
-  of_input input a b (inr x) (inl y) = inr (inl (of_value_and_fault input a x y.value y.input_of))
+  of_input input a b (inl x) (inr y) = inr (inr (of_value_and_fault IsInputOf IsFaultOf OfValue one_input no_fault input b y x.value x.input_of))
+  of_input input a b (inr x) (inl y) = inr (inl (of_value_and_fault IsInputOf IsFaultOf OfValue one_input no_fault input a x y.value y.input_of))
   of_input input a b (inr x) (inr y) = of_faults input a b x y
 
 -- ---- histories
@@ -93,7 +108,7 @@ one_judged : (text : HistoryText) (a b : Answer) → HasText text → IsJudged (
 one_judged text a b has x y = x.is ∙ ap (λ c. judged c)
     (one_verdict_claim (said_by text) x.claimed y.claimed x.complete (few_values text has) x.right y.right) ∙ sym y.is
 
-one_judgement : (text : HistoryText) (a b : Answer) → HasText text → Judges text a → Judges text b → a ≡ b
+pub one_judgement : (text : HistoryText) (a b : Answer) → HasText text → Judges text a → Judges text b → a ≡ b
 one_judgement text a b has (inl x) (inl y) = one_faulty (said_by text) a b x y
 one_judgement text a b has (inl x) (inr y) = absurd (not_both (said_by text) a x y.complete)
 one_judgement text a b has (inr x) (inl y) = absurd (not_both (said_by text) b y x.complete)
@@ -105,44 +120,46 @@ one_judgement text a b has (inr x) (inr y) = one_judged text a b has x y
 from_nothing : (events : List Event) → IsCompleteHistory events → IsCompleteFrom [] events
 from_nothing events complete = (complete_from_nothing events).1 complete
 
-one_small : (text : HistoryText) (a b : Answer) (x : IsShrunk text a) (y : IsShrunk text b) → x.small ≡ y.small
-one_small text a b x y =
-    let operations = operations_of text.events in
-    let violations = chosen_violation_is_one operations y.violation x.violation (operations_are_complete text.events x.complete) y.chosen x.chosen in
-    let kept = subst (λ v. KeepsViolation operations v (operations_of y.small)) violations y.kept in
-    let same = subst (λ v. StaysChosen operations v (operations_of y.small)) violations y.same in
-    let selected = selection_is_one operations (operations_of x.small) (operations_of y.small) x.violation (operations_are_complete x.small x.small_is_complete)
-    (operations_are_complete y.small y.small_is_complete) x.kept kept x.same same x.minimal y.minimal in
-    part_is_one text.events x.small y.small x.complete x.part y.part x.small_is_complete y.small_is_complete selected
+one_small : (text : HistoryText) (a b : Answer) → HasText text → (x : IsShrunk text a) (y : IsShrunk text b) → x.small ≡ y.small
+one_small text a b has x y =
+    let whole = said_by text in
+    let few = few_values text has in
+    let violations = chosen_violation_is_one (filled_of whole) y.violation x.violation (filled_are_complete text.initial text.events x.complete few)
+    y.chosen x.chosen in
+    let kept = subst (λ v. KeepsViolation whole v y.small) violations y.kept in
+    let same = subst (λ v. StaysChosen whole v y.small) violations y.same in
+    let selected = selection_is_one whole x.small y.small x.violation (is_whole x.small few x.initial x.small_is_complete)
+    (is_whole y.small few y.initial y.small_is_complete) x.kept kept x.same same x.minimal y.minimal in
+    let events = part_is_one text.events x.small.events y.small.events x.complete.complete x.events y.events x.small_is_complete.complete
+    y.small_is_complete.complete (ap (λ (c : Contents). c.operations) selected) in
+    λ i. record { initial = ap (λ (c : Contents). c.initial) selected i; events = events i }
+  where
+    is_whole : (small : HistoryView) → length text.initial ≤ MAX_INITIAL → ArePartOf text.initial small.initial → IsSound small → IsWhole small
+    is_whole small few part complete = record {
+      complete = complete;
+      few = let shorter = no_longer part.0 text.initial in let long = ap length part.1 in omega arith;
+    }
 
-one_shrunk : (text : HistoryText) (a b : Answer) → IsShrunk text a → IsShrunk text b → a ≡ b
-one_shrunk text a b x y =
-    let smalls = one_small text a b x y in
-    let moved = subst (λ es. IsVerdictClaim (from_none es) x.claimed) smalls x.right in
-    let claims = one_verdict_claim (from_none y.small) x.claimed y.claimed (from_nothing y.small y.small_is_complete) (omega arith) moved y.right in
-    x.is ∙ ap (λ (es : List Event). shown (record { version = text.version; initial = []; events = es }) x.claimed) smalls
-    ∙ ap (λ c. shown (record { version = text.version; initial = []; events = y.small }) c) claims ∙ sym y.is
-
-one_shrinking_from_none : (text : HistoryText) (a b : Answer) → HasText text → ShrinksFromNone text a → ShrinksFromNone text b → a ≡ b
-one_shrinking_from_none text a b has (none, inl x) (other, inl y) = one_judged text a b has x.1 y.1
-one_shrinking_from_none text a b has (none, inl x) (other, inr y) = absurd (y.not_linearizable x.0)
-one_shrinking_from_none text a b has (none, inr x) (other, inl y) = absurd (x.not_linearizable y.0)
-one_shrinking_from_none text a b has (none, inr x) (other, inr y) = one_shrunk text a b x y
-
-sound_from_none : (text : HistoryText) (a : Answer) → ShrinksFromNone text a → IsSound (said_by text)
-sound_from_none text a (none, inl x) = x.1.complete
-sound_from_none text a (none, inr x) = subst (λ i. IsCompleteFrom i text.events) (sym none) (from_nothing text.events x.complete)
+one_shrunk : (text : HistoryText) (a b : Answer) → HasText text → IsShrunk text a → IsShrunk text b → a ≡ b
+one_shrunk text a b has x y =
+    let smalls = one_small text a b has x y in
+    let moved = subst (λ (h : HistoryView). IsVerdictClaim h x.claimed) smalls x.right in
+    let shorter = no_longer y.initial.0 text.initial in
+    let long = ap length y.initial.1 in
+    let few = few_values text has in
+    let claims = one_verdict_claim y.small x.claimed y.claimed y.small_is_complete (omega arith) moved y.right in
+    x.is ∙ (λ i. shown (said_in text.version (smalls i)) (claims i)) ∙ sym y.is
 
 one_shrinking : (text : HistoryText) (a b : Answer) → HasText text → Shrinks text a → Shrinks text b → a ≡ b
 one_shrinking text a b has (inl x) (inl y) = one_faulty (said_by text) a b x y
-one_shrinking text a b has (inl x) (inr (inl y)) = absurd (not_both (said_by text) a x y.complete)
-one_shrinking text a b has (inl x) (inr (inr y)) = absurd (not_both (said_by text) a x (sound_from_none text b y))
-one_shrinking text a b has (inr (inl x)) (inl y) = absurd (not_both (said_by text) b y x.complete)
-one_shrinking text a b has (inr (inr x)) (inl y) = absurd (not_both (said_by text) b y (sound_from_none text a x))
-one_shrinking text a b has (inr (inl x)) (inr (inl y)) = x.is ∙ sym y.is
-one_shrinking text a b has (inr (inl x)) (inr (inr y)) = absurd (x.some y.0)
-one_shrinking text a b has (inr (inr x)) (inr (inl y)) = absurd (y.some x.0)
-one_shrinking text a b has (inr (inr x)) (inr (inr y)) = one_shrinking_from_none text a b has x y
+one_shrinking text a b has (inl x) (inr (inl y)) = absurd (not_both (said_by text) a x y.1.complete)
+one_shrinking text a b has (inl x) (inr (inr y)) = absurd (not_both (said_by text) a x y.complete)
+one_shrinking text a b has (inr (inl x)) (inl y) = absurd (not_both (said_by text) b y x.1.complete)
+one_shrinking text a b has (inr (inr x)) (inl y) = absurd (not_both (said_by text) b y x.complete)
+one_shrinking text a b has (inr (inl x)) (inr (inl y)) = one_judged text a b has x.1 y.1
+one_shrinking text a b has (inr (inl x)) (inr (inr y)) = absurd (y.not_linearizable x.0)
+one_shrinking text a b has (inr (inr x)) (inr (inl y)) = absurd (x.not_linearizable y.0)
+one_shrinking text a b has (inr (inr x)) (inr (inr y)) = one_shrunk text a b has x y
 
 -- ---- claims
 
@@ -152,7 +169,7 @@ one_truth false false P is_x is_y = refl
 one_truth true false P is_x is_y = sym (is_y.1 (is_x.0 refl))
 one_truth false true P is_x is_y = is_x.1 (is_y.0 refl)
 
-one_verification : (claim : ClaimOnText) (a b : Answer) → Verifies claim a → Verifies claim b → a ≡ b
+pub one_verification : (claim : ClaimOnText) (a b : Answer) → Verifies claim a → Verifies claim b → a ≡ b
 one_verification claim a b (inl x) (inl y) = one_faulty (said_by claim.text) a b x y
 one_verification claim a b (inl x) (inr y) = absurd (not_both (said_by claim.text) a x y.complete)
 one_verification claim a b (inr x) (inl y) = absurd (not_both (said_by claim.text) b y x.complete)
@@ -162,42 +179,63 @@ one_verification claim a b (inr x) (inr y) =
 
 -- ---- pictures
 
--- what is answered of a complete history of a queue that is empty first
-abbrev DrawsFromNone : PictureForm → ClaimOnText → Answer → Type 0
-DrawsFromNone form claim answer = IsTooLarge claim answer ⊎ (IsRefuted claim answer ⊎ IsDrawn form claim answer)
+-- what is answered of a complete history
+abbrev DrawsComplete : PictureForm → ClaimOnText → Answer → Type 0
+DrawsComplete form claim answer = IsTooLarge claim answer ⊎ (IsRefuted claim answer ⊎ IsDrawn form claim answer)
 
-drawn_from : (form : PictureForm) (claim : ClaimOnText) (a : Answer) → DrawsFromNone form claim a → IsSound (said_by claim.text) × (claim.text.initial ≡ [])
-drawn_from form claim a (inl x) = (x.complete, x.none)
-drawn_from form claim a (inr (inl x)) = (x.complete, x.none)
-drawn_from form claim a (inr (inr x)) = (x.complete, x.none)
+drawn_of : (form : PictureForm) (claim : ClaimOnText) (a : Answer) → DrawsComplete form claim a → IsSound (said_by claim.text)
+drawn_of form claim a (inl x) = x.complete
+drawn_of form claim a (inr (inl x)) = x.complete
+drawn_of form claim a (inr (inr x)) = x.complete
 
-one_drawn : (form : PictureForm) (claim : ClaimOnText) (a b : Answer) → IsDrawn form claim a → IsDrawn form claim b → a ≡ b
-one_drawn form claim a b x y =
-    let same : Some x.drawn_claim ≡ Some y.drawn_claim = sym x.as_drawn ∙ y.as_drawn in
-    let one : x.drawn_claim ≡ y.drawn_claim = cc in
-    x.is ∙ ap (λ c. drawn (picture_in form claim.text.events c)) one ∙ sym y.is
+one_picture_of_complete : (form : PictureForm) (claim : ClaimOnText) (a b : Answer) → DrawsComplete form claim a → DrawsComplete form claim b → a ≡ b
+one_picture_of_complete form claim a b (inl x) (inl y) = x.is ∙ sym y.is
+one_picture_of_complete form claim a b (inl x) (inr (inl y)) = absurd (x.large y.small)
+one_picture_of_complete form claim a b (inl x) (inr (inr y)) = absurd (x.large y.small)
+one_picture_of_complete form claim a b (inr (inl x)) (inl y) = absurd (y.large x.small)
+one_picture_of_complete form claim a b (inr (inr x)) (inl y) = absurd (y.large x.small)
+one_picture_of_complete form claim a b (inr (inl x)) (inr (inl y)) = x.is ∙ sym y.is
+one_picture_of_complete form claim a b (inr (inl x)) (inr (inr y)) = absurd (x.untrue y.evidence)
+one_picture_of_complete form claim a b (inr (inr x)) (inr (inl y)) = absurd (y.untrue x.evidence)
+one_picture_of_complete form claim a b (inr (inr x)) (inr (inr y)) = x.is ∙ sym y.is
 
-one_picture_from_none : (form : PictureForm) (claim : ClaimOnText) (a b : Answer) → DrawsFromNone form claim a → DrawsFromNone form claim b → a ≡ b
-one_picture_from_none form claim a b (inl x) (inl y) = x.is ∙ sym y.is
-one_picture_from_none form claim a b (inl x) (inr (inl y)) = absurd (x.large y.small)
-one_picture_from_none form claim a b (inl x) (inr (inr y)) = absurd (x.large y.small)
-one_picture_from_none form claim a b (inr (inl x)) (inl y) = absurd (y.large x.small)
-one_picture_from_none form claim a b (inr (inr x)) (inl y) = absurd (y.large x.small)
-one_picture_from_none form claim a b (inr (inl x)) (inr (inl y)) = x.is ∙ sym y.is
-one_picture_from_none form claim a b (inr (inl x)) (inr (inr y)) = absurd (x.untrue y.evidence)
-one_picture_from_none form claim a b (inr (inr x)) (inr (inl y)) = absurd (y.untrue x.evidence)
-one_picture_from_none form claim a b (inr (inr x)) (inr (inr y)) = one_drawn form claim a b x y
+pub one_picture_of_claim : (form : PictureForm) (claim : ClaimOnText) (a b : Answer) → DrawsClaim form claim a → DrawsClaim form claim b → a ≡ b
+one_picture_of_claim form claim a b (inl x) (inl y) = one_faulty (said_by claim.text) a b x y
+one_picture_of_claim form claim a b (inl x) (inr y) = absurd (not_both (said_by claim.text) a x (drawn_of form claim b y))
+one_picture_of_claim form claim a b (inr x) (inl y) = absurd (not_both (said_by claim.text) b y (drawn_of form claim a x))
+one_picture_of_claim form claim a b (inr x) (inr y) = one_picture_of_complete form claim a b x y
 
-one_picture : (form : PictureForm) (claim : ClaimOnText) (a b : Answer) → Draws form claim a → Draws form claim b → a ≡ b
-one_picture form claim a b (inl x) (inl y) = one_faulty (said_by claim.text) a b x y
-one_picture form claim a b (inl x) (inr (inl y)) = absurd (not_both (said_by claim.text) a x y.complete)
-one_picture form claim a b (inl x) (inr (inr y)) = absurd (not_both (said_by claim.text) a x (drawn_from form claim b y).0)
-one_picture form claim a b (inr (inl x)) (inl y) = absurd (not_both (said_by claim.text) b y x.complete)
-one_picture form claim a b (inr (inr x)) (inl y) = absurd (not_both (said_by claim.text) b y (drawn_from form claim a x).0)
-one_picture form claim a b (inr (inl x)) (inr (inl y)) = x.is ∙ sym y.is
-one_picture form claim a b (inr (inl x)) (inr (inr y)) = absurd (x.some (drawn_from form claim b y).1)
-one_picture form claim a b (inr (inr x)) (inr (inl y)) = absurd (y.some (drawn_from form claim a x).1)
-one_picture form claim a b (inr (inr x)) (inr (inr y)) = one_picture_from_none form claim a b x y
+-- what is answered of a history alone is answered of it with the claim of its verdict
+pub alone_as_claimed : (form : PictureForm) (text : HistoryText) (claimed : Claimed) (a : Answer) → HasText text → IsSound (said_by text)
+    → IsVerdictClaim (said_by text) claimed → DrawsAlone form text a → DrawsClaim form (record { text = text; claimed = claimed }) a
+alone_as_claimed form text claimed a has complete right (inl x) = inl x
+alone_as_claimed form text claimed a has complete right (inr (inl x)) =
+    inr (inl (record { complete = x.complete; large = (λ small. x.large small.history); is = x.is }))
+alone_as_claimed form text claimed a has complete right (inr (inr x)) = inr (elim x.answered [
+  | inl large ↦ inl (subst (λ c. IsTooLarge (record { text = text; claimed = c }) a) same large)
+  | inr drawn ↦ inr (inr (subst (λ c. IsDrawn form (record { text = text; claimed = c }) a) same drawn))
+])
+  where
+    same : x.claimed ≡ claimed
+    same = one_verdict_claim (said_by text) x.claimed claimed complete (few_values text has) x.right right
+
+decided_of : (form : PictureForm) (text : HistoryText) (a : Answer) → IsDrawnDecided form text a → IsSound (said_by text)
+decided_of form text a x = elim x.answered [ inl large ↦ large.complete | inr drawn ↦ drawn.complete ]
+
+one_picture_alone : (form : PictureForm) (text : HistoryText) (a b : Answer) → HasText text → DrawsAlone form text a → DrawsAlone form text b → a ≡ b
+one_picture_alone form text a b has (inr (inr x)) y =
+    let complete = decided_of form text a x in
+    one_picture_of_claim form (record { text = text; claimed = x.claimed }) a b
+    (alone_as_claimed form text x.claimed a has complete x.right (inr (inr x))) (alone_as_claimed form text x.claimed b has complete x.right y)
+one_picture_alone form text a b has (inl x) (inr (inr y)) = absurd (not_both (said_by text) a x (decided_of form text b y))
+one_picture_alone form text a b has (inl x) (inl y) = one_faulty (said_by text) a b x y
+one_picture_alone form text a b has (inl x) (inr (inl y)) = absurd (not_both (said_by text) a x y.complete)
+one_picture_alone form text a b has (inr (inl x)) (inl y) = absurd (not_both (said_by text) b y x.complete)
+one_picture_alone form text a b has (inr (inl x)) (inr (inl y)) = x.is ∙ sym y.is
+one_picture_alone form text a b has (inr (inl x)) (inr (inr y)) =
+    let complete = decided_of form text b y in
+    one_picture_of_claim form (record { text = text; claimed = y.claimed }) a b
+    (alone_as_claimed form text y.claimed a has complete y.right (inr (inl x))) (alone_as_claimed form text y.claimed b has complete y.right (inr (inr y)))
 
 -- ---- schedules
 
@@ -225,14 +263,26 @@ one_simulation schedule a b (inr x) (inr y) =
 
 -- ---- inputs
 
+only_memory_of_history : (input : Ahead) (x : HistoryText) (fault : TextFault) → IsHistoryOf input x → fault ≢ text.Memory
+    → IsFaultOfHistoryInput input fault → ⊥
+only_memory_of_history =
+    only_memory HasText text_of (IsTextFault 0) NoRoomForText histories.texts_agree (histories.text_has_no_fault 0) (histories.one_first_fault 0)
+
+-- what is answered of an input is answered of the history's text that it is
+pub answered_of_history : (OfText : HistoryText → Answer → Type 0) (input : Ahead) (text : HistoryText) (a : Answer) → IsHistoryOf input text
+    → AnswersFor IsHistoryOf IsFaultOfHistoryInput OfText input a → AnswersOrNoMemory OfText text a
+answered_of_history OfText = answered_of IsHistoryOf IsFaultOfHistoryInput OfText one_history only_memory_of_history
+
+-- and of the claim on a text that it is
+pub answered_of_claim : (OfClaim : ClaimOnText → Answer → Type 0) (input : Ahead) (claim : ClaimOnText) (a : Answer) → IsClaimOf input claim
+    → AnswersFor IsClaimOf IsFaultOfClaimInput OfClaim input a → AnswersOrNoMemory OfClaim claim a
+answered_of_claim OfClaim = answered_of IsClaimOf IsFaultOfClaimInput OfClaim one_claim only_memory_of_claim
+
 of_history : (OfText : HistoryText → Answer → Type 0) → ((text : HistoryText) (a b : Answer) → HasText text → OfText text a → OfText text b → a ≡ b)
     → (input : Ahead) (a b : Answer)
     → AnswersFor IsHistoryOf IsFaultOfHistoryInput OfText input a → AnswersFor IsHistoryOf IsFaultOfHistoryInput OfText input b → SameOrNoMemory a b
 of_history OfText one input a b answers_a answers_b = go answers_a answers_b
   where
-    one_input : (input : Ahead) (x y : HistoryText) → IsHistoryOf input x → IsHistoryOf input y → x ≡ y
-    one_input = one_value HasText text_of (IsTextFault 0) NoRoomForText histories.texts_agree (histories.text_has_no_fault 0) (histories.one_first_fault 0)
-
     OfWritten : HistoryText → Answer → Type 0
     OfWritten text answer = HasText text × OfText text answer
 
@@ -245,8 +295,7 @@ of_history OfText one input a b answers_a answers_b = go answers_a answers_b
     })
 
     go : AnswersFor IsHistoryOf IsFaultOfHistoryInput OfText input a → AnswersFor IsHistoryOf IsFaultOfHistoryInput OfText input b → SameOrNoMemory a b
-    go x y = of_input IsHistoryOf IsFaultOfHistoryInput OfWritten one_input
-        (only_memory HasText text_of (IsTextFault 0) NoRoomForText histories.texts_agree (histories.text_has_no_fault 0) (histories.one_first_fault 0))
+    go x y = of_input IsHistoryOf IsFaultOfHistoryInput OfWritten one_history only_memory_of_history
         (one_known_fault HasText text_of (IsTextFault 0) NoRoomForText histories.texts_agree (histories.text_has_no_fault 0) (histories.one_first_fault 0))
         (λ text c d of_c of_d. one text c d of_c.0 of_c.1 of_d.1) input a b (written a x) (written b y)
 
@@ -264,8 +313,43 @@ verify_has_one = of_input IsClaimOf IsFaultOfClaimInput Verifies one_claim only_
 
 -- `draw` has one answer
 pub draw_has_one : (form : PictureForm) → HasOneAnswer (draw form)
-draw_has_one form =
-    of_input IsClaimOf IsFaultOfClaimInput (Draws form) one_claim only_memory_of_claim one_known_fault_of_claim (one_picture form)
+draw_has_one form input a b x y =
+    of_input IsDrawableOf IsFaultOfDrawableInput OfWritten one_drawable only_memory_of_drawable one_known_fault_of_drawable one_of_written input a b
+    (written input a x) (written input b y)
+  where
+    HasTexts : Drawable → Type 0
+    HasTexts (alone text) = HasText text
+    HasTexts (with_claim claim) = HasText claim.text
+
+    have_texts : (input : Ahead) (read : Drawable) → IsDrawableOf input read → HasTexts read
+    have_texts input (alone text) is = is.0
+    have_texts input (with_claim claim) is = is.history
+
+    OfWritten : Drawable → Answer → Type 0
+    OfWritten read answer = HasTexts read × Draws form read answer
+
+    written : (input : Ahead) (answer : Answer) → AnswersFor IsDrawableOf IsFaultOfDrawableInput (Draws form) input answer
+        → AnswersFor IsDrawableOf IsFaultOfDrawableInput OfWritten input answer
+    written input answer (inr faulty) = inr faulty
+    written input answer (inl read) = inl (record {
+      value = read.value;
+      input_of = read.input_of;
+      answered = elim read.answered [ inl is ↦ inl (have_texts input read.value read.input_of, is) | inr none ↦ inr none ];
+    })
+
+    one_of_written : (read : Drawable) (a b : Answer) → OfWritten read a → OfWritten read b → a ≡ b
+    one_of_written (alone text) a b of_a of_b = one_picture_alone form text a b of_a.0 of_a.1 of_b.1
+    one_of_written (with_claim claim) a b of_a of_b = one_picture_of_claim form claim a b of_a.1 of_b.1
+
+one_conversion : (text : HistoryText) (a b : Answer) → HasText text → Converts text a → Converts text b → a ≡ b
+one_conversion text a b has (inl x) (inl y) = one_faulty (said_by text) a b x y
+one_conversion text a b has (inl x) (inr y) = absurd (not_both (said_by text) a x y.complete)
+one_conversion text a b has (inr x) (inl y) = absurd (not_both (said_by text) b y x.complete)
+one_conversion text a b has (inr x) (inr y) = x.is ∙ sym y.is
+
+-- `convert` has one answer
+pub convert_has_one : HasOneAnswer convert
+convert_has_one = of_history Converts one_conversion
 
 -- `sim` has one answer
 pub sim_has_one : HasOneAnswer sim

@@ -4,12 +4,16 @@ use Rattle.text_lines.specs.declared.fault.TextFault.{TextFault}
 use Rattle.text_lines.specs.declared.fault.TextFault.TheVariants as text
 use Rattle.text_lines.specs.Input.{Ahead, Ending, EndOfInput, Failure}
 use Rattle.text_lines.proofs.MemoryOrNot.{known_fault}
-use Rattle.history_text.specs.Versions.{text_of, line_count, IsTextFault, NoRoomForText}
+use Rattle.verdicts.specs.declared.verifying.Claimed.{Claimed}
+use Rattle.verdicts.specs.declared.verifying.Claimed.TheVariants.{Yes, No}
+use Rattle.history_text.specs.declared.version.HistoryText.{HistoryText}
+use Rattle.history_text.specs.Versions.{text_of, line_count, HasText, IsTextFault, NoRoomForText}
 use Rattle.history_text.specs.Verdicts.{verdict_text}
 use Rattle.history_text.specs.Claims.{IsVerdictTextFault, NoRoomForVerdict}
 use Rattle.history_text.proofs.OneHistory as histories
 use Rattle.history_text.proofs.OneVerdict as verdict_texts
 use Rattle.commands.specs.Inputs.{IsWhole, IsFaultAfter, IsFaultOfOneText, ClaimOnText, IsClaimOf, AfterHistory, IsFaultOfClaimInput}
+use Rattle.commands.specs.Inputs.{Drawable, alone, with_claim, IsHistoryOf, IsDrawableOf, IsFaultOfDrawableInput}
 
 -- ---- one text
 
@@ -140,3 +144,39 @@ pub one_known_fault_of_claim : (input : Ahead) (f g : TextFault) → f ≢ text.
     → IsFaultOfClaimInput input g → f ≡ g
 one_known_fault_of_claim input f g known_f known_g is_f is_g =
     one_fault_of_claim input f g (is_claim_fault input f known_f is_f) (is_claim_fault input g known_g is_g)
+
+-- ---- a history, and a verdict on it where anything follows
+
+-- an input has one history
+pub one_history : (input : Ahead) (x y : HistoryText) → IsHistoryOf input x → IsHistoryOf input y → x ≡ y
+one_history = one_value HasText text_of (IsTextFault 0) NoRoomForText histories.texts_agree (histories.text_has_no_fault 0) (histories.one_first_fault 0)
+
+-- a verdict has some text
+no_empty_verdict : (claimed : Claimed) → [] ≡ verdict_text claimed → ⊥
+no_empty_verdict (Yes operations) same = cc
+no_empty_verdict (No kind lines) same = cc
+
+-- a history alone has no verdict behind it
+alone_without_claim : (input : Ahead) (text : HistoryText) (claim : ClaimOnText) → IsHistoryOf input text → IsClaimOf input claim → ⊥
+alone_without_claim input text claim is_text is_claim =
+    let parts = histories.texts_agree text claim.text [] (verdict_text claim.claimed) is_text.0 is_claim.history
+    (append-nil (text_of text) ∙ sym is_text.1.bytes ∙ is_claim.whole.bytes) in
+    no_empty_verdict claim.claimed parts.1
+
+-- an input has one history with a claim, or one alone
+pub one_drawable : (input : Ahead) (x y : Drawable) → IsDrawableOf input x → IsDrawableOf input y → x ≡ y
+one_drawable input (alone x) (alone y) is_x is_y = ap (λ t. alone t) (one_history input x y is_x is_y)
+one_drawable input (alone x) (with_claim y) is_x is_y = absurd (alone_without_claim input x y is_x is_y)
+one_drawable input (with_claim x) (alone y) is_x is_y = absurd (alone_without_claim input y x is_y is_x)
+one_drawable input (with_claim x) (with_claim y) is_x is_y = ap (λ c. with_claim c) (one_claim input x y is_x is_y)
+
+-- such an input has no fault but want of memory
+pub only_memory_of_drawable : (input : Ahead) (x : Drawable) (fault : TextFault) → IsDrawableOf input x → fault ≢ text.Memory
+    → IsFaultOfDrawableInput input fault → ⊥
+only_memory_of_drawable input (alone x) fault is known faulty = known (faulty.1 x is)
+only_memory_of_drawable input (with_claim x) fault is known faulty = only_memory_of_claim input x fault is known faulty.0
+
+-- another input has one fault, but for want of memory
+pub one_known_fault_of_drawable : (input : Ahead) (f g : TextFault) → f ≢ text.Memory → g ≢ text.Memory → IsFaultOfDrawableInput input f
+    → IsFaultOfDrawableInput input g → f ≡ g
+one_known_fault_of_drawable input f g known_f known_g is_f is_g = one_known_fault_of_claim input f g known_f known_g is_f.0 is_g.0

@@ -9,21 +9,23 @@ use Rattle.history_merge.proofs.Filled.{filled_are_complete, linearizable_from_e
 use Rattle.history_merge.specs.Operations.{operations_of}
 use Rattle.history_merge.specs.declared.fault.HistoryFault.{HistoryFault}
 use Rattle.history_merge.specs.declared.fault.HistoryFault.TheVariants as history
-use Rattle.history_merge.proofs.InitialFaults.{complete_from_has_no_fault, complete_from_nothing}
+use Rattle.history_merge.proofs.InitialFaults.{complete_from_has_no_fault}
 use Rattle.verdicts.specs.declared.verifying.Claimed.{Claimed}
 use Rattle.verdicts.specs.declared.verdict.Verdict.{Verdict}
 use Rattle.verdicts.specs.declared.verdict.Verdict.TheVariants.{Yes, No}
 use Rattle.verdicts.specs.Claiming.{claim_of}
 use Rattle.verdicts.specs.Verdicts.{IsDecided, IsExact, IsExactFrom, filled_of}
 use Rattle.verdicts.proofs.OneVerdict.{verdict_is_one}
+use Rattle.verdicts.proofs.ShrunkEvents.{no_longer}
 use Rattle.text_lines.specs.declared.fault.TextFault.{TextFault}
 use Rattle.text_lines.specs.declared.fault.TextFault.TheVariants as text
+use Rattle.text_lines.specs.Lines.{greatest_value}
 use Rattle.text_lines.specs.Input.{Ahead, EndOfInput, Failure}
 use Rattle.history_text.specs.declared.version.HistoryText.{HistoryText}
 use Rattle.history_text.specs.declared.version.Version.{Version}
 use Rattle.history_text.specs.declared.version.Version.TheVariants.{One, Two}
 use Rattle.history_text.specs.Histories.{HasHistoryText, HasEventLine}
-use Rattle.history_text.specs.Versions.{text_of, HasText, HaveValueLines, IsTextFault}
+use Rattle.history_text.specs.Versions.{text_of, HasText, HaveValueLines, IsTextFault, said_in}
 use Rattle.history_text.proofs.OneHistory as histories
 use Rattle.commands.specs.Answers.{Answer, judged, shown, memory_fault, answer_of_text_fault, answer_of_history_fault}
 use Rattle.commands.specs.Inputs.{IsHistoryOf, IsFaultOfHistoryInput, IsFaultAfter}
@@ -58,24 +60,26 @@ shown_is_no_history_fault small claimed (history.InitialTwice j) same = cc
 
 -- ---- some of the events of a text have a text
 
-lines_kept : (keeps : Event → Bool) (events : List Event) → AllByRecursion HasEventLine events → AllByRecursion HasEventLine (filter keeps events)
-lines_kept keeps [] each = tt
-lines_kept keeps (e ∷ events) each = pick (keeps e) (lines_kept keeps events each.1)
+lines_kept : {X : Type 0} (HasLine : X → Type 0) (keeps : X → Bool) (xs : List X) → AllByRecursion HasLine xs → AllByRecursion HasLine (filter keeps xs)
+lines_kept HasLine keeps [] each = tt
+lines_kept HasLine keeps (x ∷ xs) each = pick (keeps x) (lines_kept HasLine keeps xs each.1)
   where
-    pick : (b : Bool) → AllByRecursion HasEventLine (filter keeps events) → AllByRecursion HasEventLine (cond b (e ∷ filter keeps events) (filter keeps events))
+    pick : (b : Bool) → AllByRecursion HasLine (filter keeps xs) → AllByRecursion HasLine (cond b (x ∷ filter keeps xs) (filter keeps xs))
     pick true later = (each.0, later)
     pick false later = later
 
-no_longer : (keeps : Event → Bool) (events : List Event) → length (filter keeps events) ≤ length events
-no_longer keeps [] = omega arith
-no_longer keeps (e ∷ events) = pick (keeps e) (no_longer keeps events)
-  where
-    pick : (b : Bool) → length (filter keeps events) ≤ length events → length (cond b (e ∷ filter keeps events) (filter keeps events)) ≤ length (e ∷ events)
-    pick true later = omega arith
-    pick false later = omega arith
-
 part_has_text : (keeps : Event → Bool) (events : List Event) → HasHistoryText events → HasHistoryText (filter keeps events)
-part_has_text keeps events is = let few = no_longer keeps events in let most = is.few in record { each = lines_kept keeps events is.each; few = omega arith }
+part_has_text keeps events is =
+    let few = no_longer keeps events in
+    let most = is.few in
+    record { each = lines_kept HasEventLine keeps events is.each; few = omega arith }
+
+values_have_lines : (version : Version) (keeps : ℕ → Bool) (initial : List ℕ) → HaveValueLines version initial → HaveValueLines version (filter keeps initial)
+values_have_lines One keeps initial none = ap (filter keeps) none
+values_have_lines Two keeps initial have =
+    let few = no_longer keeps initial in
+    let most = have.few in
+    record { each = lines_kept (λ v. v ≤ greatest_value) keeps initial have.each; few = omega arith }
 
 -- ---- what is shown
 
@@ -86,26 +90,23 @@ shown_is_written input small claimed (inl read) = by_answer read.answered
     by_answer : AnswersOrNoMemory Shrinks read.value (shown small claimed) → IsWritten small claimed
     by_answer (inr none) = absurd (cc)
     by_answer (inl (inl faulty)) = absurd (shown_is_no_history_fault small claimed faulty.fault faulty.is)
-    by_answer (inl (inr (inl some))) = let other = some.is in absurd (cc)
-    by_answer (inl (inr (inr (none, inl linear)))) = let other = linear.1.is in absurd (cc)
-    by_answer (inl (inr (inr (none, inr is)))) =
-        let whole : HistoryText = record { version = read.value.version; initial = []; events = is.small } in
+    by_answer (inl (inr (inl linear))) = let other = linear.1.is in absurd (cc)
+    by_answer (inl (inr (inr is))) =
+        let whole : HistoryText = said_in read.value.version is.small in
         let smalls : small ≡ whole = one_small whole is.claimed is.is in
         let claims : claimed ≡ is.claimed = one_claim whole is.claimed is.is in
-        let has_events = subst HasHistoryText (sym is.part.1) (part_has_text is.part.0 read.value.events read.input_of.0.events) in
-        let has_text : HasText whole = record { initial = no_values read.value.version; events = has_events } in
+        let has_initial = subst (HaveValueLines read.value.version) (sym is.initial.1)
+        (values_have_lines read.value.version is.initial.0 read.value.initial read.input_of.0.initial) in
+        let has_events = subst HasHistoryText (sym is.events.1) (part_has_text is.events.0 read.value.events read.input_of.0.events) in
+        let has_text : HasText whole = record { initial = has_initial; events = has_events } in
         subst (λ es. IsWritten es claimed) (sym smalls) (subst (IsWritten whole) (sym claims)
-        (record { complete = (complete_from_nothing is.small).1 is.small_is_complete; history = has_text; right = is.right }))
+        (record { complete = is.small_is_complete; history = has_text; right = is.right }))
       where
         one_small : (es : HistoryText) (other : Claimed) → shown small claimed ≡ shown es other → small ≡ es
         one_small es other e = cc
 
         one_claim : (es : HistoryText) (other : Claimed) → shown small claimed ≡ shown es other → claimed ≡ other
         one_claim es other e = cc
-
-        no_values : (version : Version) → HaveValueLines version []
-        no_values One = refl
-        no_values Two = record { each = tt; few = omega arith }
 shown_is_written input small claimed (inr faulty) = absurd (shown_is_no_text_fault small claimed faulty.fault faulty.is)
 
 -- what `shrink` writes is valid

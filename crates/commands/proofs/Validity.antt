@@ -56,7 +56,7 @@ pub record IsWritten (t : HistoryText) (claimed : Claimed) : Type 0 where
   pub history : HasText t
   pub right : IsVerdictClaim (said_by t) claimed
 
-claim_is_written : (t : HistoryText) (claimed : Claimed) → IsWritten t claimed → HasVerdictText claimed
+pub claim_is_written : (t : HistoryText) (claimed : Claimed) → IsWritten t claimed → HasVerdictText claimed
 claim_is_written t claimed is =
     let few_initial = few_values t is.history in
     let few = verdict_has_few_lines t.initial t.events is.right.verdict is.complete few_initial is.history.events.few is.right.chosen in
@@ -117,7 +117,7 @@ written_is_valid t claimed answer is (inr faulty) = inr (faulty.is
     ∙ only_memory t claimed faulty.fault is.history (claim_is_written t claimed is) faulty.first)
 
 -- what is judged is the verdict on the history of the input
-judged_is_written : (input : Ahead) (claimed : Claimed) → AnswersFor IsHistoryOf IsFaultOfHistoryInput Judges input (judged claimed)
+pub judged_is_written : (input : Ahead) (claimed : Claimed) → AnswersFor IsHistoryOf IsFaultOfHistoryInput Judges input (judged claimed)
     → (t : HistoryText) × (input.bytes ≡ text_of t) × IsWritten t claimed
 judged_is_written input claimed (inl read) = by_answer read.answered
   where

@@ -32,6 +32,8 @@ pub data Answer : Type 0 where
   played : List Rejection → List Event → Claimed → Answer
   -- whether a verdict is evidence
   verified : Bool → Answer
+  -- a history alone
+  converted : HistoryText → Answer
   -- a picture, in lines of characters
   drawn : List ℕ → Answer
   -- the input is refused
@@ -39,8 +41,6 @@ pub data Answer : Type 0 where
   refused_history : HistoryFault → Answer
   -- the history or the verdict is too large to be drawn
   refused_size : Answer
-  -- the command takes no history whose queue holds some values first
-  refused_initial : Answer
   -- the words are refused: no queue has this name, or there are too many operations
   refused_queue : Answer
   refused_limit : Answer
@@ -95,11 +95,11 @@ answer_text (shown text claimed) = text_of text ++ verdict_text claimed
 answer_text (left_open rejections) = rejection_lines rejections ++ line (codes "OPEN")
 answer_text (played rejections events claimed) = rejection_lines rejections ++ (history_text events ++ verdict_text claimed)
 answer_text (verified valid) = line (validity valid)
+answer_text (converted text) = text_of text
 answer_text (drawn picture) = picture
 answer_text (refused_text fault) = line (beginning true ++ text_fault_name fault)
 answer_text (refused_history fault) = line (beginning true ++ history_fault_name fault)
 answer_text refused_size = line (beginning true ++ codes "Size")
-answer_text refused_initial = line (beginning true ++ codes "Initial")
 answer_text refused_queue = line (beginning true ++ codes "Queue")
 answer_text refused_limit = line (beginning true ++ codes "Limit")
 answer_text read_fault = line (beginning false ++ codes "Read")
@@ -130,11 +130,11 @@ answer_status (shown text claimed) = claim_status claimed
 answer_status (left_open rejections) = 0
 answer_status (played rejections events claimed) = claim_status claimed
 answer_status (verified valid) = validity_status valid
+answer_status (converted text) = 0
 answer_status (drawn picture) = 0
 answer_status (refused_text fault) = fault_status true
 answer_status (refused_history fault) = fault_status true
 answer_status refused_size = fault_status true
-answer_status refused_initial = fault_status true
 answer_status refused_queue = fault_status true
 answer_status refused_limit = fault_status true
 answer_status read_fault = fault_status false

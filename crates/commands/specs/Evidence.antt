@@ -3,10 +3,12 @@ use Rattle.std.specs.Prelude.{◌≡◌, ℕ, List, ◌++◌, ◌⊎◌, true}
 use Rattle.history_text.specs.declared.version.HistoryText.{HistoryText}
 use Rattle.verdicts.specs.declared.verifying.Claimed.{Claimed}
 use Rattle.text_lines.specs.Input.{Ahead, EndOfInput}
-use Rattle.command_words.specs.Commands.{check, shrink, verify}
+use Rattle.command_words.specs.declared.options.PictureForm.{PictureForm}
+use Rattle.command_words.specs.Commands.{check, shrink, verify, draw}
 use Rattle.history_text.specs.Versions.{text_of}
 use Rattle.commands.specs.Answers.{Answer, judged, shown, verified, memory_fault, answer_text}
 use Rattle.commands.specs.Running.{AnswersOf}
+use Rattle.commands.specs.OneAnswer.{SameOrNoMemory}
 
 -- an input of these bytes and nothing more
 abbrev pub input_of : List ℕ → Ahead
@@ -30,3 +32,9 @@ ShrunkIsValid = (bytes : List ℕ) (small : HistoryText) (claimed : Claimed) (an
 abbrev pub ShrunkIsChecked : Type 0
 ShrunkIsChecked = (bytes : List ℕ) (small : HistoryText) (claimed : Claimed) (answer : Answer) → AnswersOf shrink (input_of bytes) (shown small claimed)
     → AnswersOf check (input_of (text_of small)) answer → (answer ≡ judged claimed) ⊎ (answer ≡ memory_fault)
+
+-- where `check` answers an input with a verdict, `draw` answers that input as it answers it with the verdict's text behind it, or
+-- memory runs out
+abbrev pub DrawnAsChecked : PictureForm → Type 0
+DrawnAsChecked form = (bytes : List ℕ) (claimed : Claimed) (a b : Answer) → AnswersOf check (input_of bytes) (judged claimed)
+    → AnswersOf (draw form) (input_of bytes) a → AnswersOf (draw form) (input_of (bytes ++ answer_text (judged claimed))) b → SameOrNoMemory a b

@@ -1,5 +1,5 @@
 -- Inputs that should be one text, or one after another.
-use Rattle.std.specs.Prelude.{◌≡◌, ℕ, List, ◌∷◌, ◌++◌, ◌⊎◌}
+use Rattle.std.specs.Prelude.{◌≡◌, ℕ, List, ◌∷◌, ◌++◌, ◌⊎◌, Option, Some, None}
 use Rattle.verdicts.specs.declared.verifying.Claimed.{Claimed}
 use Rattle.text_lines.specs.declared.fault.TextFault.{TextFault}
 use Rattle.text_lines.specs.declared.fault.TextFault.TheVariants as text
@@ -90,3 +90,25 @@ IsFaultOfClaimInput input fault =
     MemoryOr (NoRoomForText input.bytes ⊎ AfterHistory (λ lines rest. NoRoomForVerdict rest) input.bytes)
     (λ f. IsTextFault 0 input.ending input.bytes f ⊎ AfterHistory (λ lines rest. IsVerdictTextFault lines input.ending rest f) input.bytes)
     fault
+
+-- ---- a history, and a verdict on it where anything follows
+
+-- the text of a history, alone or with what is claimed of it
+pub data Drawable : Type 0 where
+  alone : HistoryText → Drawable
+  with_claim : ClaimOnText → Drawable
+
+-- this text, with the claim where there is one
+abbrev pub drawable : HistoryText → Option Claimed → Drawable
+drawable text None = alone text
+drawable text (Some claimed) = with_claim (record { text = text; claimed = claimed })
+
+-- the input is the text of the history, then that of the verdict where there is one, and nothing more
+abbrev pub IsDrawableOf : Ahead → Drawable → Type 0
+IsDrawableOf input (alone text) = IsHistoryOf input text
+IsDrawableOf input (with_claim claim) = IsClaimOf input claim
+
+-- the fault of input that should be a history, and a verdict where anything follows: that of a history and a verdict; but the text
+-- of a history alone has none beside want of memory
+abbrev pub IsFaultOfDrawableInput : Ahead → TextFault → Type 0
+IsFaultOfDrawableInput input fault = IsFaultOfClaimInput input fault × ((history : HistoryText) → IsHistoryOf input history → fault ≡ text.Memory)

@@ -1,5 +1,5 @@
 -- What the commands that read answer of what they read.
-use Rattle.std.specs.Prelude.{◌≡◌, ◌≢◌, ◌≤◌, Bool, false, IsTrue, List, [], length, ◌⊎◌, ◌↔◌, ℕ, Some}
+use Rattle.std.specs.Prelude.{◌≡◌, ◌≢◌, ◌≤◌, Bool, false, IsTrue, List, [], length, ◌⊎◌, ◌↔◌, ℕ}
 use Rattle.event_records.specs.declared.event.Event.{Event}
 use Rattle.history_merge.specs.declared.fault.HistoryFault.{HistoryFault}
 use Rattle.history_merge.specs.declared.fault.HistoryFault.TheVariants.{Memory}
@@ -9,7 +9,7 @@ use Rattle.history_merge.specs.Faults.{IsFirstFaultFrom}
 use Rattle.history_merge.specs.Gathering.{HasGatheredFrom}
 use Rattle.history_merge.specs.Initial.{HistoryView, IsCompleteFrom}
 use Rattle.history_merge.specs.Complete.{IsCompleteHistory}
-use Rattle.history_merge.specs.Legal.{IsLinearizable}
+use Rattle.history_merge.specs.Legal.{IsLinearizableFrom}
 use Rattle.history_merge.specs.Merge.{IsMerged}
 use Rattle.history_merge.specs.Operations.{operations_of}
 use Rattle.value_match.specs.declared.violation.Violation.{Violation}
@@ -21,23 +21,23 @@ use Rattle.simulation.specs.Simulations.{schedule_of, rejections}
 use Rattle.verdicts.specs.declared.verifying.Claimed.{Claimed}
 use Rattle.verdicts.specs.declared.verdict.Verdict.{Verdict}
 use Rattle.verdicts.specs.Claims.{IsTrueClaim}
-use Rattle.verdicts.specs.declared.verifying.Claimed.TheVariants as claim
 use Rattle.verdicts.specs.Claiming.{claim_of}
 use Rattle.verdicts.specs.Verdicts.{IsVerdictOf, IsEvidence, IsExactFrom, filled_of}
-use Rattle.verdicts.specs.Selection.{KeepsViolation, StaysChosen, IsMinimal, HasShortestCover, ArePartOf}
+use Rattle.verdicts.specs.Selection.{KeepsViolation, StaysChosen, IsMinimal, HasShortestCover, ArePartOf, contents_of}
 use Rattle.history_text.specs.declared.version.HistoryText.{HistoryText}
+use Rattle.history_text.specs.declared.version.Version.TheVariants.{Two}
+use Rattle.history_text.specs.Versions.{said_in}
 use Rattle.command_words.specs.declared.options.PictureForm.{PictureForm}
 use Rattle.command_words.specs.declared.options.PictureForm.TheVariants.{Svg, Terminal}
-use Rattle.drawing.specs.declared.claim.ShownClaim.{ShownClaim}
-use Rattle.drawing.specs.Claim.{shown_of}
+use Rattle.drawing.specs.Claim.{count_of_lines}
 use Rattle.drawing.specs.Terminal.{terminal_picture}
 use Rattle.svg_picture.specs.Picture.{svg_picture}
 use Rattle.drawing.specs.declared.columns.TheConstants.{MOST_DRAWN}
 use Rattle.text_lines.specs.declared.fault.TextFault.{TextFault}
 use Rattle.history_text.specs.declared.schedule.Schedule.{Schedule}
 use Rattle.text_lines.specs.Input.{Ahead}
-use Rattle.commands.specs.Inputs.{ClaimOnText}
-use Rattle.commands.specs.Answers.{Answer, judged, shown, left_open, played, verified, drawn, refused_size, refused_initial, memory_fault, answer_of_text_fault}
+use Rattle.commands.specs.Inputs.{ClaimOnText, Drawable, alone, with_claim}
+use Rattle.commands.specs.Answers.{Answer, judged, shown, left_open, played, verified, converted, drawn, refused_size, memory_fault, answer_of_text_fault}
 use Rattle.commands.specs.Answers.{answer_of_history_fault}
 
 -- ---- histories
@@ -90,37 +90,30 @@ pub record IsGathered (history : HistoryView) (builder : PreloadedBuilder) : Typ
   pub few_initial : length history.initial ≤ MAX_INITIAL
   pub few_events : length history.events ≤ MAX_EVENTS
 
--- it is a complete history, but its queue holds some values first
-pub record HasInitial (text : HistoryText) (answer : Answer) : Type 0 where
-  pub complete : IsSound (said_by text)
-  pub some : text.initial ≢ []
-  pub is : answer ≡ refused_initial
-
--- the events are a complete history that isn't linearizable; those of the chosen violation are shown, with their own verdict. They
--- are a complete history: values with all their operations, and an empty answer; nothing can be left out of them, and no shorter cover exists
+-- it is a complete history that isn't linearizable; of the chosen violation the initial values and the events are shown, with their own
+-- verdict. They are a complete history: values with all their operations, and an empty answer; nothing can be left out of them, and no
+-- shorter cover exists
 pub record IsShrunk (text : HistoryText) (answer : Answer) : Type 0 where
-  pub complete : IsCompleteHistory text.events
-  pub not_linearizable : ¬ (IsLinearizable (operations_of text.events))
+  pub complete : IsSound (said_by text)
+  pub not_linearizable : ¬ (IsLinearizableFrom text.initial (operations_of text.events))
   pub violation : Violation
-  pub chosen : IsChosenViolation (operations_of text.events) violation
-  pub small : List Event
-  pub small_is_complete : IsCompleteHistory small
-  pub part : ArePartOf text.events small
-  pub kept : KeepsViolation (operations_of text.events) violation (operations_of small)
-  pub same : StaysChosen (operations_of text.events) violation (operations_of small)
-  pub minimal : IsMinimal (operations_of small)
-  pub shortest : HasShortestCover (operations_of text.events) violation
+  pub chosen : IsChosenViolation (filled_of (said_by text)) violation
+  pub small : HistoryView
+  pub small_is_complete : IsSound small
+  pub initial : ArePartOf text.initial small.initial
+  pub events : ArePartOf text.events small.events
+  pub kept : KeepsViolation (said_by text) violation small
+  pub same : StaysChosen (said_by text) violation small
+  pub minimal : IsMinimal (contents_of small)
+  pub shortest : HasShortestCover (filled_of (said_by text)) violation
   pub claimed : Claimed
-  pub right : IsVerdictClaim (from_none small) claimed
-  pub is : answer ≡ shown (record { version = text.version; initial = []; events = small }) claimed
+  pub right : IsVerdictClaim small claimed
+  pub is : answer ≡ shown (said_in text.version small) claimed
 
--- the queue is empty first, and this is its verdict where that is a yes, or what shows the no
-abbrev pub ShrinksFromNone : HistoryText → Answer → Type 0
-ShrinksFromNone text answer = (text.initial ≡ []) × ((IsLinearizable (operations_of text.events) × IsJudged (said_by text) answer) ⊎ IsShrunk text answer)
-
--- `shrink`: the first fault of the history, or that its queue holds some values first, or its verdict, or what shows the no
+-- `shrink`: the first fault of the history, or its verdict where that is a yes, or what shows the no
 abbrev pub Shrinks : HistoryText → Answer → Type 0
-Shrinks text answer = IsFaulty (said_by text) answer ⊎ (HasInitial text answer ⊎ ShrinksFromNone text answer)
+Shrinks text answer = IsFaulty (said_by text) answer
+    ⊎ ((IsLinearizableFrom text.initial (operations_of text.events) × IsJudged (said_by text) answer) ⊎ IsShrunk text answer)
 
 -- ---- claims
 
@@ -137,50 +130,80 @@ Verifies claim answer = IsFaulty (said_by claim.text) answer ⊎ IsVerified clai
 
 -- ---- pictures
 
--- how many lines a claim has
-abbrev pub count_of_lines : Claimed → ℕ
-count_of_lines (claim.Yes operations) = length operations
-count_of_lines (claim.No kind lines) = length lines
+-- the history has few enough initial values and operations to be drawn
+pub record IsSmallHistory (history : HistoryView) : Type 0 where
+  pub few_initial : length history.initial ≤ MOST_DRAWN
+  pub few_operations : length (operations_of history.events) ≤ MOST_DRAWN
 
--- the history and the claim have few enough operations to be drawn
-abbrev pub IsSmall : ClaimOnText → Type 0
-IsSmall claim = (length (operations_of claim.text.events) ≤ MOST_DRAWN) × (count_of_lines claim.claimed ≤ MOST_DRAWN)
+-- and the claim has few enough lines
+pub record IsSmall (claim : ClaimOnText) : Type 0 where
+  pub history : IsSmallHistory (said_by claim.text)
+  pub few_lines : count_of_lines claim.claimed ≤ MOST_DRAWN
 
--- it is a complete history of a queue that is empty first, which is too large to be drawn, or the claim is
+-- it is a complete history, which is too large to be drawn, or the claim is
 pub record IsTooLarge (claim : ClaimOnText) (answer : Answer) : Type 0 where
   pub complete : IsSound (said_by claim.text)
-  pub none : claim.text.initial ≡ []
   pub large : ¬ (IsSmall claim)
   pub is : answer ≡ refused_size
 
--- it is a complete history of a queue that is empty first, and the claim is no evidence in it
+-- it is a complete history, and the claim is no evidence in it
 pub record IsRefuted (claim : ClaimOnText) (answer : Answer) : Type 0 where
   pub complete : IsSound (said_by claim.text)
-  pub none : claim.text.initial ≡ []
   pub small : IsSmall claim
   pub untrue : ¬ (IsTrueClaim claim.text.initial (operations_of claim.text.events) claim.claimed)
   pub is : answer ≡ verified false
 
--- the picture of events and a claim, in a form
-abbrev pub picture_in : PictureForm → List Event → ShownClaim → List ℕ
-picture_in Svg events claimed = svg_picture events claimed
-picture_in Terminal events claimed = terminal_picture events claimed
+-- the picture of a history and a claim, in a form
+abbrev pub picture_in : PictureForm → HistoryView → Claimed → List ℕ
+picture_in Svg history claimed = svg_picture history claimed
+picture_in Terminal history claimed = terminal_picture history claimed
 
--- it is a complete history of a queue that is empty first, the claim is evidence in it, and this is the picture of both in that form
+-- it is a complete history, the claim is evidence in it, and this is the picture of both in that form
 pub record IsDrawn (form : PictureForm) (claim : ClaimOnText) (answer : Answer) : Type 0 where
   pub complete : IsSound (said_by claim.text)
-  pub none : claim.text.initial ≡ []
   pub small : IsSmall claim
   pub evidence : IsTrueClaim claim.text.initial (operations_of claim.text.events) claim.claimed
-  pub drawn_claim : ShownClaim
-  pub as_drawn : shown_of claim.claimed ≡ Some drawn_claim
-  pub is : answer ≡ drawn (picture_in form claim.text.events drawn_claim)
+  pub is : answer ≡ drawn (picture_in form (said_by claim.text) claim.claimed)
 
--- `draw`: the first fault of the history, or that its queue holds some values first, or the picture in a form with the claim, where
--- they are small and the claim is evidence
-abbrev pub Draws : PictureForm → ClaimOnText → Answer → Type 0
-Draws form claim answer = IsFaulty (said_by claim.text) answer
-    ⊎ (HasInitial claim.text answer ⊎ (IsTooLarge claim answer ⊎ (IsRefuted claim answer ⊎ IsDrawn form claim answer)))
+-- the first fault of the history, or the picture in a form with the claim, where they are small and the claim is evidence
+abbrev pub DrawsClaim : PictureForm → ClaimOnText → Answer → Type 0
+DrawsClaim form claim answer = IsFaulty (said_by claim.text) answer ⊎ (IsTooLarge claim answer ⊎ (IsRefuted claim answer ⊎ IsDrawn form claim answer))
+
+-- it is a complete history, which is too large to be drawn, whatever is claimed of it
+pub record IsTooLargeAlone (text : HistoryText) (answer : Answer) : Type 0 where
+  pub complete : IsSound (said_by text)
+  pub large : ¬ (IsSmallHistory (said_by text))
+  pub is : answer ≡ refused_size
+
+-- this is the picture in that form of a complete history and the claim of its verdict, or they are too large to be drawn
+pub record IsDrawnDecided (form : PictureForm) (text : HistoryText) (answer : Answer) : Type 0 where
+  pub claimed : Claimed
+  pub right : IsVerdictClaim (said_by text) claimed
+  pub answered : IsTooLarge (record { text = text; claimed = claimed }) answer ⊎ IsDrawn form (record { text = text; claimed = claimed }) answer
+
+-- the first fault of the history, or the picture in a form with the claim of its verdict, where they are small
+abbrev pub DrawsAlone : PictureForm → HistoryText → Answer → Type 0
+DrawsAlone form text answer = IsFaulty (said_by text) answer ⊎ (IsTooLargeAlone text answer ⊎ IsDrawnDecided form text answer)
+
+-- `draw`: what is answered of a history with a claim; and of a history alone, which is decided
+abbrev pub Draws : PictureForm → Drawable → Answer → Type 0
+Draws form (alone text) answer = DrawsAlone form text answer
+Draws form (with_claim claim) answer = DrawsClaim form claim answer
+
+-- ---- conversions
+
+-- a history as it is said in version 2
+abbrev pub in_version_2 : HistoryText → HistoryText
+in_version_2 text = said_in Two (said_by text)
+
+-- it is a complete history, and this is its text of version 2
+pub record IsConverted (text : HistoryText) (answer : Answer) : Type 0 where
+  pub complete : IsSound (said_by text)
+  pub is : answer ≡ converted (in_version_2 text)
+
+-- `convert`: the first fault of the history, or its text of version 2
+abbrev pub Converts : HistoryText → Answer → Type 0
+Converts text answer = IsFaulty (said_by text) answer ⊎ IsConverted text answer
 
 -- ---- schedules
 

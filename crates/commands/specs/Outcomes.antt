@@ -1,13 +1,13 @@
 -- What a command found, as the answer that it prints.
 use Rattle.std.specs.Prelude.{◌≡◌, [], ⊤}
-use Rattle.history_text.specs.declared.version.Version.TheVariants.{One}
+use Rattle.history_text.specs.declared.version.Version.TheVariants.{One, Two}
 use Rattle.history_text.specs.Versions.{said_in}
 use Rattle.history_merge.specs.Operations.{operations_of}
 use Rattle.verdicts.specs.Claiming.{claim_of, IsWithin}
 use Rattle.commands.specs.declared.outcome.Outcome.{Outcome}
-use Rattle.commands.specs.declared.outcome.Outcome.TheVariants.{Judged, Shown, LeftOpen, Played, Verified, Drawn, TextFailed, HistoryFailed}
-use Rattle.commands.specs.declared.outcome.Outcome.TheVariants.{InitialRefused, SizeRefused, QueueRefused, LimitRefused, MemoryFault, RunFailed}
-use Rattle.commands.specs.Answers.{Answer, judged, shown, left_open, played, verified, drawn, refused_size, refused_initial}
+use Rattle.commands.specs.declared.outcome.Outcome.TheVariants.{Judged, Shown, LeftOpen, Played, Verified, Converted, Drawn, TextFailed, HistoryFailed}
+use Rattle.commands.specs.declared.outcome.Outcome.TheVariants.{SizeRefused, QueueRefused, LimitRefused, MemoryFault, RunFailed}
+use Rattle.commands.specs.Answers.{Answer, judged, shown, left_open, played, verified, converted, drawn, refused_size}
 use Rattle.commands.specs.Answers.{refused_queue, refused_limit, memory_fault, run_fault, answer_of_text_fault, answer_of_history_fault}
 
 -- the answer that an outcome prints: of a verdict what it claims, of a fault what is answered of it, of the rest the same
@@ -19,11 +19,11 @@ answer_of (LeftOpen rejections) = left_open rejections
 answer_of (Played rejections history verdict) =
     played rejections history.events (claim_of history.initial (operations_of history.events) verdict)
 answer_of (Verified valid) = verified valid
+answer_of (Converted history) = converted (said_in Two history)
 answer_of (Drawn picture) = drawn picture.items
 answer_of (TextFailed fault) = answer_of_text_fault fault
 answer_of (HistoryFailed fault) = answer_of_history_fault fault
 answer_of SizeRefused = refused_size
-answer_of InitialRefused = refused_initial
 answer_of QueueRefused = refused_queue
 answer_of LimitRefused = refused_limit
 answer_of MemoryFault = memory_fault

@@ -1,13 +1,16 @@
 -- What `stress` answers: it reads nothing, and runs the first queue of a name.
-use Rattle.std.specs.Prelude.{◌≡◌, ◌≢◌, ℕ, ◌*◌, ◌<◌, ◌≤◌, List, [], ◌∷◌, ◌++◌, All, ◌⊎◌}
+use Rattle.std.specs.Prelude.{◌≡◌, ◌≢◌, ℕ, ◌*◌, ◌==◌, ◌<◌, ◌≤◌, if◌then◌else◌, List, ◌∷◌, ◌++◌, All, ◌⊎◌}
+use Rattle.std.specs.List.{range_with_len}
 use Rattle.event_records.specs.declared.event.Event.{Event}
 use Rattle.event_records.specs.declared.kind.Kind.{Kind}
 use Rattle.event_records.specs.declared.kind.Answer.{Answer as Told}
-use Rattle.event_records.specs.declared.limits.TheConstants.{MAX_OPERATIONS}
+use Rattle.event_records.specs.declared.limits.TheConstants.{LEAST_INITIAL_NAME, MAX_OPERATIONS}
 use Rattle.event_records.specs.Question.{Question}
-use Rattle.history_merge.specs.Complete.{IsCompleteHistory}
+use Rattle.history_merge.specs.Initial.{HistoryView, IsCompleteFrom}
 use Rattle.history_merge.specs.Merge.{IsMerged}
-use Rattle.history_text.specs.declared.version.Version.TheVariants.{One}
+use Rattle.history_text.specs.declared.version.Version.{Version}
+use Rattle.history_text.specs.declared.version.Version.TheVariants.{One, Two}
+use Rattle.history_text.specs.Versions.{said_in}
 use Rattle.recorder_core.specs.Replay.{AreRecorded, Replays}
 use Rattle.workloads.specs.Seeds.{IsSeeded}
 use Rattle.stress_run.specs.declared.faults.RunFault.{RunFault}
@@ -18,7 +21,7 @@ use Rattle.verdicts.specs.declared.verifying.Claimed.{Claimed}
 use Rattle.command_words.specs.Options.{Settings}
 use Rattle.commands.specs.declared.stress.TheConstants.{TRIES}
 use Rattle.commands.specs.Answers.{Answer, shown, refused_queue, refused_limit, memory_fault, run_fault}
-use Rattle.commands.specs.Judging.{IsVerdictClaim, from_none}
+use Rattle.commands.specs.Judging.{IsVerdictClaim}
 
 -- x is the first element of the list that this name fits
 pub record IsFirstNamed {X : Type 0} (name_of : X → List ℕ) (name : List ℕ) (xs : List X) (x : X) : Type 0 where
@@ -28,6 +31,18 @@ pub record IsFirstNamed {X : Type 0} (name_of : X → List ℕ) (name : List ℕ
   pub named : name_of x ≡ name
   pub others : All (λ y. name_of y ≢ name) before
 
+-- so many values, which a queue is given before a run: from the least name of an initial value on, one after another
+abbrev pub first_values : ℕ → List ℕ
+first_values count = range_with_len LEAST_INITIAL_NAME count
+
+-- the history of a run of a queue that was given so many values
+abbrev pub run_history : ℕ → List Event → HistoryView
+run_history count events = record { initial = first_values count; events = events }
+
+-- the version in which it is written: version 1 where the queue was empty first
+abbrev pub run_version : ℕ → Version
+run_version count = if count == 0 then One else Two
+
 -- a run of the seed's plan on a queue that may answer so: its lists by ticket, with their verdict
 pub record IsRecordedRun (may : Question → Told → Type 0) (settings : Settings) (answer : Answer) : Type 0 where
   pub plan : List (List Kind)
@@ -36,20 +51,20 @@ pub record IsRecordedRun (may : Question → Told → Type 0) (settings : Settin
   pub total : ℕ
   pub run : IsRun may plan lists total
   pub recorded : AreRecorded lists
-  pub replays : Replays settings.ring [] lists
+  pub replays : Replays settings.ring (first_values settings.initial) lists
   pub events : List Event
   pub merged : IsMerged lists events
-  pub complete : IsCompleteHistory events
+  pub complete : IsCompleteFrom (first_values settings.initial) events
   pub claimed : Claimed
-  pub right : IsVerdictClaim (from_none events) claimed
-  pub is : answer ≡ shown (record { version = One; initial = []; events = events }) claimed
+  pub right : IsVerdictClaim (run_history settings.initial events) claimed
+  pub is : answer ≡ shown (said_in (run_version settings.initial) (run_history settings.initial events)) claimed
 
 -- no history: a fault that a run of the seed's plan may have, on a queue that may answer so, with rings and tries of these sizes
 pub record IsFailedRun (may : Question → Told → Type 0) (settings : Settings) (answer : Answer) : Type 0 where
   pub plan : List (List Kind)
   pub seeded : IsSeeded settings.seed settings.threads settings.operations settings.percent plan
   pub fault : RunFault
-  pub of_run : IsFaultOfRun may [] plan (record { ring = settings.ring; tries = TRIES }) fault
+  pub of_run : IsFaultOfRun may (first_values settings.initial) plan (record { ring = settings.ring; tries = TRIES }) fault
   pub within : fault ≢ Limit
   pub is : answer ≡ run_fault fault
 

@@ -10,6 +10,7 @@ ghost use Rattle.commands.specs.Stressing.{Stresses};
 ghost use Rattle.clap.specs.Values.{kind_of};
 
 use crate::check::check;
+use crate::convert::convert;
 use crate::draw::draw;
 use crate::outcome::Outcome;
 use crate::print::{print_outcome, print_text};
@@ -48,14 +49,17 @@ where
 
     // Words that are a command which reads: what it answers of the input is printed, or want of memory for the words.
     ensures reads { (request : Request) → faults_in (map T.text words.entry.now) ≡ [] → request_in (map T.text words.entry.now) ≡ Some request
-        → IfSome (S.ahead reader) (λ input. PrintsOneOf (AnswersOrNoMemory (AnswersOf request) input) (W.contents writer.old) (W.contents writer.new) (W.has_refused writer.new) result) }
+        → IfSome (S.ahead reader) (λ input. PrintsOneOf (AnswersOrNoMemory (AnswersOf request) input) (W.contents writer.old) (W.contents writer.new)
+        (W.has_refused writer.new) result) }
 
     // Words that are `stress`: what a run on the shelf gives is printed.
     ensures stresses { (settings : Settings) → faults_in (map T.text words.entry.now) ≡ [] → request_in (map T.text words.entry.now) ≡ Some (stress settings)
-        → PrintsOneOf (AnswersOrNoMemory (Stresses (λ s. s.name.now) (λ s. may s.queue) shelf.now) settings) (W.contents writer.old) (W.contents writer.new) (W.has_refused writer.new) result }
+        → PrintsOneOf (AnswersOrNoMemory (Stresses (λ s. s.name.now) (λ s. may s.queue) shelf.now) settings) (W.contents writer.old)
+        (W.contents writer.new) (W.has_refused writer.new) result }
 
     // Other words are answered by a text about the use of the program.
-    ensures usage { (faults_in (map T.text words.entry.now) ≢ []) → ExplainsUse (faults_in (map T.text words.entry.now)) (W.contents writer.old) (W.contents writer.new) (W.has_refused writer.new) result }
+    ensures usage { (faults_in (map T.text words.entry.now) ≢ [])
+        → ExplainsUse (faults_in (map T.text words.entry.now)) (W.contents writer.old) (W.contents writer.new) (W.has_refused writer.new) result }
 
     // Whatever the words: the writer is written to and then flushed, once; or it refuses, and is asked for nothing more.
     ensures asked { WritesAndFlushes W.goes (W.has_refused writer.new) writer.old writer.new }
@@ -104,6 +108,7 @@ where
         Task::Shrink => return shrink(rt.alloc(), reader),
         Task::Verify => return verify(rt.alloc(), reader),
         Task::Draw(form) => return draw(rt.alloc(), reader, form),
+        Task::Convert => return convert(rt.alloc(), reader),
         Task::Sim => return sim(rt.alloc(), reader),
         Task::Stress(options) => return stress(rt, rt.alloc(), shelf, &options),
     }

@@ -1,55 +1,106 @@
 //! `draw`: the picture of a history and a verdict on it.
-ghost use Rattle.std.specs.Prelude.{◌≡◌, ◌≤◌, IfOk, IfSome, length};
-ghost use Rattle.drawing.specs.Claim.{operations_in};
+ghost use Rattle.std.specs.Prelude.{◌≡◌, ◌≤◌, IfOk, IfSome};
+ghost use Rattle.history_merge.specs.Operations.{operations_of};
+ghost use Rattle.verdicts.specs.Claims.{IsTrueClaim};
+ghost use Rattle.drawing.specs.Claim.{count_of_lines};
 ghost use Rattle.history_text.specs.declared.version.Version.{Version};
 ghost use Rattle.history_text.specs.Versions.{said_in};
-ghost use Rattle.commands.specs.Inputs.{IsClaimOf, IsFaultOfClaimInput};
-ghost use Rattle.commands.specs.Judging.{Draws, AnswersFor, AnswersOrNoMemory, count_of_lines, picture_in};
+ghost use Rattle.commands.specs.Inputs.{IsDrawableOf, IsFaultOfDrawableInput, drawable};
+ghost use Rattle.commands.specs.Judging.{Draws, DrawsAlone, DrawsClaim, IsDrawn, IsSmallHistory, IsSound, AnswersFor, AnswersOrNoMemory, picture_in};
 ghost use Rattle.commands.specs.Outcomes.{answer_of, NamesPlaces};
 
+use crate::input::{drawable_of, history_of};
 use crate::outcome::Outcome;
-use crate::verify::claimed_history;
 use command_words::PictureForm;
-use drawing::{MOST_DRAWN, ShownClaim, terminal_picture};
+use drawing::{MOST_DRAWN, count_of_lines, terminal_picture};
 use history_merge::History;
 use history_text::TextSource;
 use std::alloc::{AllocError, Global};
 use svg_picture::svg_picture;
-use verdicts::Claimed;
+use verdicts::{Claimed, claim, decide};
 
 /// What `draw` finds in what the reader gives, for a picture in this form.
 pub fn draw<S: TextSource>(alloc: Global, reader: S, form: PictureForm) -> Outcome
 where
     S: Drop,
-    ensures found { IfSome (S.ahead reader) (λ input. AnswersFor IsClaimOf IsFaultOfClaimInput (Draws form) input (answer_of result)) }
+    ensures found { IfSome (S.ahead reader) (λ input. AnswersFor IsDrawableOf IsFaultOfDrawableInput (Draws form) input (answer_of result)) }
     ensures places { NamesPlaces result }
 {
-    match claimed_history(alloc, reader) {
-        Ok((_version, history, claimed)) => draw_history(alloc, &history, claimed, form),
-        Err(outcome) => outcome,
+    let (text, claimed) = match drawable_of(alloc, reader) {
+        Ok(read) => read,
+        Err(fault) => return Outcome::TextFailed(fault),
+    };
+    match history_of(alloc, text) {
+        Ok(history) => draw_history(alloc, &history, &claimed, form),
+        Err(fault) => Outcome::HistoryFailed(fault),
     }
 }
 
-/// The picture of this history with the claim, where both are small and the claim is evidence.
-fn draw_history(alloc: Global, history: &History, claimed: Claimed, form: PictureForm) -> Outcome
-    ensures found { (version : Version) → AnswersOrNoMemory (Draws form) (record { text = said_in version history.now; claimed = claimed }) (answer_of result) }
+/// The picture of this history with the claim, or with its verdict where there is none.
+fn draw_history(
+    alloc: Global,
+    history: &History,
+    claimed: &Option<Claimed>,
+    form: PictureForm,
+) -> Outcome
+    ensures found { (version : Version) → AnswersOrNoMemory (Draws form) (drawable (said_in version history.now) claimed.now) (answer_of result) }
     ensures places { NamesPlaces result }
 {
-    if !history.initial().is_empty() {
-        return Outcome::InitialRefused;
-    }
-    if history.operations().len() > MOST_DRAWN || count_of_lines(&claimed) > MOST_DRAWN {
+    if history.initial().len() > MOST_DRAWN || history.operations().len() > MOST_DRAWN {
         return Outcome::SizeRefused;
     }
-    match verdicts::verify(alloc, history, &claimed) {
-        Ok(true) => {}
-        Ok(false) => return Outcome::Verified(false),
-        Err(_) => return Outcome::MemoryFault,
+    match claimed {
+        Some(claimed) => draw_claim(alloc, history, claimed, form),
+        None => draw_verdict(alloc, history, form),
     }
-    let Ok(Some(shown)) = ShownClaim::of(alloc, claimed) else {
+}
+
+/// The picture of a small history with the claim, where that is small and evidence.
+fn draw_claim(alloc: Global, history: &History, claimed: &Claimed, form: PictureForm) -> Outcome
+    requires complete { IsSound history.now }
+    requires small { IsSmallHistory history.now }
+    ensures found { (version : Version) → AnswersOrNoMemory (DrawsClaim form) (record { text = said_in version history.now; claimed = claimed.now }) (answer_of result) }
+    ensures places { NamesPlaces result }
+{
+    if count_of_lines(claimed) > MOST_DRAWN {
+        return Outcome::SizeRefused;
+    }
+    match verdicts::verify(alloc, history, claimed) {
+        Ok(true) => draw_evidence(alloc, history, claimed, form),
+        Ok(false) => Outcome::Verified(false),
+        Err(_) => Outcome::MemoryFault,
+    }
+}
+
+/// The picture of a small history with its verdict, where that is small.
+fn draw_verdict(alloc: Global, history: &History, form: PictureForm) -> Outcome
+    requires complete { IsSound history.now }
+    requires small { IsSmallHistory history.now }
+    ensures found { (version : Version) → AnswersOrNoMemory (DrawsAlone form) (said_in version history.now) (answer_of result) }
+    ensures places { NamesPlaces result }
+{
+    let Ok(verdict) = decide(alloc, history) else {
         return Outcome::MemoryFault;
     };
-    match picture_in(alloc, history, &shown, form) {
+    let Ok(claimed) = claim(alloc, history, &verdict) else {
+        return Outcome::MemoryFault;
+    };
+    if count_of_lines(&claimed) > MOST_DRAWN {
+        return Outcome::SizeRefused;
+    }
+    draw_evidence(alloc, history, &claimed, form)
+}
+
+/// The picture of a small history with a small claim that is evidence in it.
+fn draw_evidence(alloc: Global, history: &History, claimed: &Claimed, form: PictureForm) -> Outcome
+    requires complete { IsSound history.now }
+    requires small { IsSmallHistory history.now }
+    requires few_lines { count_of_lines claimed.now ≤ MOST_DRAWN }
+    requires evidence { IsTrueClaim history.now.initial (operations_of history.now.events) claimed.now }
+    ensures found { (version : Version) → AnswersOrNoMemory (IsDrawn form) (record { text = said_in version history.now; claimed = claimed.now }) (answer_of result) }
+    ensures places { NamesPlaces result }
+{
+    match picture_in(alloc, history, claimed, form) {
         Ok(picture) => Outcome::Drawn(picture),
         Err(_) => Outcome::MemoryFault,
     }
@@ -59,24 +110,14 @@ fn draw_history(alloc: Global, history: &History, claimed: Claimed, form: Pictur
 fn picture_in(
     alloc: Global,
     history: &History,
-    claimed: &ShownClaim,
+    claimed: &Claimed,
     form: PictureForm,
 ) -> Result<Vec<u8>, AllocError>
-    requires { length (operations_in claimed.now) ≤ MOST_DRAWN }
-    ensures { IfOk result (λ picture. picture.items ≡ picture_in form history.now.events claimed.now) }
+    requires { count_of_lines claimed.now ≤ MOST_DRAWN }
+    ensures { IfOk result (λ picture. picture.items ≡ picture_in form history.now claimed.now) }
 {
     match form {
         PictureForm::Svg => svg_picture(alloc, history, claimed),
         PictureForm::Terminal => terminal_picture(alloc, history, claimed),
-    }
-}
-
-/// How many lines a claim has.
-fn count_of_lines(claimed: &Claimed) -> usize
-    ensures { result ≡ count_of_lines claimed.now }
-{
-    match claimed {
-        Claimed::Yes(lines) => lines.as_slice().len(),
-        Claimed::No(_, lines) => lines.as_slice().len(),
     }
 }

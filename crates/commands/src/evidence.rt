@@ -1,6 +1,7 @@
 //! Laws of what one command writes and another answers of it. These functions do nothing; the law is what each of them
 //! ensures.
-ghost use Rattle.commands.specs.Evidence.{CheckedIsValid, ShrunkIsValid, ShrunkIsChecked};
+ghost use Rattle.command_words.specs.declared.options.PictureForm.{PictureForm};
+ghost use Rattle.commands.specs.Evidence.{CheckedIsValid, ShrunkIsValid, ShrunkIsChecked, DrawnAsChecked};
 
 /// Every verdict that `check` writes is evidence: `verify` answers the input, with the verdict behind it, with `VALID`, or
 /// memory runs out.
@@ -13,4 +14,10 @@ pub fn a_checked_verdict_is_valid()
 pub fn what_is_shrunk_is_valid()
     ensures valid { ShrunkIsValid }
     ensures checked { ShrunkIsChecked }
+{}
+
+/// `draw` decides a history as `check` does: it answers a history alone as it answers the history with the verdict of `check`
+/// behind it, or memory runs out.
+pub fn a_history_is_drawn_with_its_verdict()
+    ensures { (form : PictureForm) → DrawnAsChecked form }
 {}

@@ -6,12 +6,12 @@ ghost use Rattle.history_merge.specs.Faults.{IsFirstFaultFrom};
 ghost use Rattle.history_merge.specs.Initial.{IsCompleteFrom};
 ghost use Rattle.history_text.specs.Versions.{HasText, said_in};
 ghost use Rattle.history_text.specs.Schedules.{IsSetting};
-ghost use Rattle.commands.specs.Inputs.{IsHistoryOf, IsFaultOfHistoryInput, IsScheduleOf, IsFaultOfScheduleInput, IsClaimOf, IsFaultOfClaimInput};
+ghost use Rattle.commands.specs.Inputs.{IsHistoryOf, IsFaultOfHistoryInput, IsScheduleOf, IsFaultOfScheduleInput, IsClaimOf, IsFaultOfClaimInput, IsDrawableOf, IsFaultOfDrawableInput, drawable};
 
 use history_merge::{History, HistoryFault, PreloadedBuilder, history_from};
 use history_text::{
-    HistoryText, Schedule, TextFault, TextReader, TextSource, at_end, gather_any, read_any,
-    read_schedule, read_verdict,
+    HistoryText, Schedule, TextFault, TextReader, TextSource, at_end, gather_any, is_at_end,
+    read_any, read_schedule, read_verdict,
 };
 use std::alloc::Global;
 use verdicts::Claimed;
@@ -91,6 +91,33 @@ where
     };
     match read_verdict(alloc, &mut texts) {
         Ok(claimed) => return Ok((text, claimed)),
+        Err(fault) => return Err(fault),
+    }
+}
+
+/// What the text of a history says, and where anything follows what the verdict text after it claims of it.
+pub fn drawable_of<S: TextSource>(
+    alloc: Global,
+    reader: S,
+) -> Result<(HistoryText, Option<Claimed>), TextFault>
+where
+    S: Drop,
+    ensures drawable { IfOk result (λ read. IfSome (S.ahead reader) (λ input. IsDrawableOf input (drawable read.0 read.1))) }
+    ensures has { IfOk result (λ read. HasText read.0) }
+    ensures fault { IfErr result (λ fault. IfSome (S.ahead reader) (λ input. IsFaultOfDrawableInput input fault)) }
+{
+    let mut texts = TextReader::new(reader);
+    let text = match read_any(alloc, &mut texts) {
+        Ok(text) => text,
+        Err(fault) => return Err(fault),
+    };
+    match is_at_end(&mut texts) {
+        Ok(true) => return Ok((text, None)),
+        Ok(false) => {}
+        Err(fault) => return Err(fault),
+    }
+    match read_verdict(alloc, &mut texts) {
+        Ok(claimed) => return Ok((text, Some(claimed))),
         Err(fault) => return Err(fault),
     }
 }

@@ -13,7 +13,7 @@ ghost use Rattle.commands.specs.Answers.{Answer, played};
 ghost use Rattle.commands.specs.Judging.{SimulatesIn};
 ghost use Rattle.commands.specs.OneAnswer.{HasOneAnswer};
 ghost use Rattle.command_words.specs.declared.options.PictureForm.{PictureForm};
-ghost use Rattle.command_words.specs.Commands.{check, shrink, verify, draw, sim};
+ghost use Rattle.command_words.specs.Commands.{check, shrink, verify, draw, convert, sim};
 
 /// No false alarm: what is answered of an honest schedule that is done is a yes.
 pub fn honest_schedules_get_a_yes()
@@ -29,5 +29,6 @@ pub fn one_answer()
     ensures shrink { HasOneAnswer shrink }
     ensures verify { HasOneAnswer verify }
     ensures draw { (form : PictureForm) → HasOneAnswer (draw form) }
+    ensures convert { HasOneAnswer convert }
     ensures sim { HasOneAnswer sim }
 {}

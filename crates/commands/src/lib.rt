@@ -3,6 +3,8 @@
 
 mod check;
 mod command;
+mod conversion;
+mod convert;
 mod draw;
 mod evidence;
 mod faults;
@@ -20,7 +22,10 @@ mod verify;
 mod words;
 
 pub use command::{run_command, run_over};
-pub use evidence::{a_checked_verdict_is_valid, what_is_shrunk_is_valid};
+pub use conversion::conversion_keeps_answers;
+pub use evidence::{
+    a_checked_verdict_is_valid, a_history_is_drawn_with_its_verdict, what_is_shrunk_is_valid,
+};
 pub use laws::{honest_schedules_get_a_yes, one_answer};
 pub use outcome::Outcome;
 pub use shelf::{BuiltIn, built_ins};

@@ -18,16 +18,16 @@ pub enum Outcome {
     Played(Rejections, History, Verdict),
     /// Whether a verdict is evidence.
     Verified(bool),
+    /// A history alone, to be shown in version 2.
+    Converted(History),
     /// A picture, in lines of characters.
     Drawn(Vec<u8>),
     /// The input is not the text that it should be, or it wasn't read whole.
     TextFailed(TextFault),
     /// The events are no complete history, or there was no memory for one.
     HistoryFailed(HistoryFault),
-    /// The history or the verdict has more operations than are drawn.
+    /// The history or the verdict has more initial values, operations or lines than are drawn.
     SizeRefused,
-    /// The history's queue holds some values first, and the command takes no such history.
-    InitialRefused,
     /// No queue has the name that was asked for.
     QueueRefused,
     /// More operations were asked for than a run may have.

@@ -11,7 +11,7 @@ ghost use Rattle.commands.specs.Running.{Prints, PrintsAnswer, WritesAndFlushes}
 use crate::faults::{refuses_events, refuses_text, status_of_fault, write_fault};
 use crate::outcome::Outcome;
 use crate::show::{write_left_open, write_played, write_shown};
-use history_text::{TextSink, WriteFault, write_piece, write_verdict_on};
+use history_text::{TextSink, WriteFault, write_history_2, write_piece, write_verdict_on};
 use verdicts::Verdict;
 
 /// Writes what a command found.
@@ -34,6 +34,7 @@ pub fn write_outcome<W: TextSink>(writer: &mut W, outcome: &Outcome) -> Result<(
         Outcome::Played(rejections, history, verdict) => {
             return write_played(writer, rejections, history, verdict);
         }
+        Outcome::Converted(history) => return write_history_2(history, writer),
         Outcome::Verified(true) => return write_piece(writer, b"VALID\n"),
         Outcome::Verified(false) => return write_piece(writer, b"INVALID\n"),
         Outcome::Drawn(picture) => return write_piece(writer, picture.as_slice()),
@@ -44,7 +45,6 @@ pub fn write_outcome<W: TextSink>(writer: &mut W, outcome: &Outcome) -> Result<(
             return write_fault(writer, refuses_events(*fault), fault.name(), fault.place());
         }
         Outcome::SizeRefused => return write_fault(writer, true, "Size", None),
-        Outcome::InitialRefused => return write_fault(writer, true, "Initial", None),
         Outcome::QueueRefused => return write_fault(writer, true, "Queue", None),
         Outcome::LimitRefused => return write_fault(writer, true, "Limit", None),
         Outcome::MemoryFault => return write_fault(writer, false, "Memory", None),
@@ -72,13 +72,13 @@ pub fn status_of(outcome: &Outcome) -> u8
         Outcome::Shown(_, _, verdict) => return status_of_verdict(verdict),
         Outcome::LeftOpen(_) => return 0,
         Outcome::Played(_, _, verdict) => return status_of_verdict(verdict),
+        Outcome::Converted(_) => return 0,
         Outcome::Verified(true) => return 0,
         Outcome::Verified(false) => return 1,
         Outcome::Drawn(_) => return 0,
         Outcome::TextFailed(fault) => return status_of_fault(refuses_text(*fault)),
         Outcome::HistoryFailed(fault) => return status_of_fault(refuses_events(*fault)),
         Outcome::SizeRefused => return status_of_fault(true),
-        Outcome::InitialRefused => return status_of_fault(true),
         Outcome::QueueRefused => return status_of_fault(true),
         Outcome::LimitRefused => return status_of_fault(true),
         Outcome::MemoryFault => return status_of_fault(false),

@@ -47,9 +47,11 @@ impl<R: Wait + Drop> BuiltIn<R> {
 }
 
 impl<R: Wait + Drop + Send + Sync> TestQueue for BuiltIn<R> {
-    ghost use Rattle.queue_interface.specs.Answers.{AnswersInKind};
+    ghost use Rattle.queue_interface.specs.Answers.{AnswersInKind, TakesOrRefuses};
 
     ghost may = { λ _. AnswersInKind };
+
+    ghost may_preload = { λ _. TakesOrRefuses };
 
     fn enqueue(&self, ask: AskEnq) -> AnsweredEnq {
         match self {

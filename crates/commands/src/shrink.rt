@@ -1,10 +1,11 @@
 //! `shrink`: what shows that a history is not linearizable, and no more.
-ghost use Rattle.std.specs.Prelude.{◌≡◌, [], IfSome};
-ghost use Rattle.history_merge.specs.Complete.{IsCompleteHistory};
-ghost use Rattle.history_merge.specs.Legal.{IsLinearizable};
+ghost use Rattle.std.specs.Prelude.{◌≡◌, [], IfOk, IfSome};
+ghost use Rattle.history_merge.specs.Legal.{IsLinearizableFrom};
 ghost use Rattle.history_merge.specs.Operations.{operations_of};
+ghost use Rattle.history_text.specs.declared.version.Version.TheVariants.{One};
 ghost use Rattle.history_text.specs.Versions.{HasText, said_in};
 ghost use Rattle.value_match.specs.Outcome.{IsChosenViolation};
+ghost use Rattle.verdicts.specs.Verdicts.{filled_of};
 ghost use Rattle.commands.specs.Inputs.{IsHistoryOf, IsFaultOfHistoryInput};
 ghost use Rattle.commands.specs.Judging.{Shrinks, IsShrunk, AnswersFor, AnswersOrNoMemory};
 ghost use Rattle.commands.specs.Outcomes.{answer_of, NamesPlaces};
@@ -13,7 +14,7 @@ use crate::input::{history_of, text_of};
 use crate::outcome::Outcome;
 use history_merge::{History, HistoryParts};
 use history_text::{HistoryText, TextSource, Version};
-use std::alloc::Global;
+use std::alloc::{AllocError, Global};
 use value_match::Violation;
 use verdicts::{Verdict, decide};
 
@@ -41,41 +42,46 @@ fn shrink_text(alloc: Global, text: HistoryText) -> Outcome
         Ok(history) => history,
         Err(fault) => return Outcome::HistoryFailed(fault),
     };
-    if !history.initial().is_empty() {
-        return Outcome::InitialRefused;
-    }
     match decide(alloc, &history) {
-        Ok(Verdict::Yes(order)) => Outcome::Judged(
-            HistoryParts {
-                initial: Vec::new(alloc),
-                operations: history.into_operations(),
-            },
-            Verdict::Yes(order),
-        ),
+        Ok(Verdict::Yes(order)) => match parts_of(alloc, history) {
+            Ok(parts) => Outcome::Judged(parts, Verdict::Yes(order)),
+            Err(_) => Outcome::MemoryFault,
+        },
         Ok(Verdict::No(violation)) => shrink_history(alloc, version, &history, &violation),
         Err(_) => Outcome::MemoryFault,
     }
 }
 
-/// What shows the chosen violation of a history of a queue that is empty first.
+/// The initial values and the operations of a history.
+fn parts_of(alloc: Global, history: History) -> Result<HistoryParts, AllocError>
+    ensures { IfOk result (λ parts. (parts.initial.items ≡ history.initial) × (parts.operations.items ≡ operations_of history.events)) }
+{
+    let initial = Vec::from_slice(alloc, history.initial())?;
+    let operations = history.into_operations();
+    Ok(HistoryParts {
+        initial,
+        operations,
+    })
+}
+
+/// What shows the chosen violation of a history, of a text of this version.
 fn shrink_history(
     alloc: Global,
     version: Version,
     history: &History,
     violation: &Violation,
 ) -> Outcome
-    requires none { history.now.initial ≡ [] }
-    requires complete { IsCompleteHistory history.now.events }
-    requires chosen { IsChosenViolation (operations_of history.now.events) violation.now }
-    requires no { ¬ (IsLinearizable (operations_of history.now.events)) }
+    requires version { version ≡ One → history.now.initial ≡ [] }
+    requires chosen { IsChosenViolation (filled_of history.now) violation.now }
+    requires no { ¬ (IsLinearizableFrom history.now.initial (operations_of history.now.events)) }
     ensures found { AnswersOrNoMemory IsShrunk (said_in version history.now) (answer_of result) }
     ensures places { NamesPlaces result }
 {
+    // A history is complete, as its accessor says.
+    let _events = history.events();
     let Ok(small) = verdicts::shrink(alloc, history, violation) else {
         return Outcome::MemoryFault;
     };
-    // A history is complete, as its accessor says.
-    let _events = small.events();
     match decide(alloc, &small) {
         Ok(verdict) => Outcome::Shown(version, small, verdict),
         Err(_) => Outcome::MemoryFault,

@@ -1,19 +1,19 @@
 //! `stress`: a recorded run of a queue, and its verdict.
-ghost use Rattle.std.specs.Prelude.{◌≡◌, ◌≢◌, ◌≤◌, ◌*◌, IfSome, IfNone, All};
-ghost use Rattle.event_records.specs.declared.limits.TheConstants.{MAX_OPERATIONS};
+ghost use Rattle.std.specs.Prelude.{◌≡◌, ◌≢◌, ◌≤◌, ◌*◌, IfOk, IfSome, IfNone, All};
+ghost use Rattle.event_records.specs.declared.limits.TheConstants.{MAX_OPERATIONS, MAX_STRESS_INITIAL};
 ghost use Rattle.command_words.specs.Options.{settings_of, IsWithinRanges};
 ghost use Rattle.commands.specs.Outcomes.{answer_of, NamesPlaces};
-ghost use Rattle.commands.specs.Stressing.{IsFirstNamed, RunsOrFails, Stresses, StressesQueue};
+ghost use Rattle.commands.specs.Stressing.{IsFirstNamed, RunsOrFails, Stresses, StressesQueue, first_values, run_version};
 
 use crate::check::PIECES;
 use crate::outcome::Outcome;
 use command_words::StressOptions;
-use event_records::MAX_OPERATIONS;
+use event_records::{LEAST_INITIAL_NAME, MAX_OPERATIONS};
 use history_text::Version;
 use queue_interface::TestQueue;
-use std::alloc::Global;
+use std::alloc::{AllocError, Global};
 use std::thread::Threads;
-use stress_run::run;
+use stress_run::run_from;
 use verdicts::decide_par;
 use workloads::Plan;
 
@@ -97,7 +97,10 @@ fn run_plan<'a, R: Threads + Sync>(
     ) else {
         return Outcome::MemoryFault;
     };
-    let recorded = match run(rt, alloc, queue, &plan, options.ring, TRIES) {
+    let Ok(initial) = first_values(alloc, options.initial) else {
+        return Outcome::MemoryFault;
+    };
+    let recorded = match run_from(rt, alloc, queue, &initial, &plan, options.ring, TRIES) {
         Ok(recorded) => recorded,
         Err(fault) => return Outcome::RunFailed(fault),
     };
@@ -105,7 +108,26 @@ fn run_plan<'a, R: Threads + Sync>(
         return Outcome::MemoryFault;
     };
     match decide_par(rt, alloc, &history, PIECES) {
-        Ok(verdict) => Outcome::Shown(Version::One, history, verdict),
+        Ok(verdict) => Outcome::Shown(run_version(options.initial), history, verdict),
         Err(_) => Outcome::MemoryFault,
+    }
+}
+
+/// So many values for a queue, which are names of initial values.
+fn first_values(alloc: Global, count: usize) -> Result<Vec<u64>, AllocError>
+    requires { count ≤ MAX_STRESS_INITIAL }
+    ensures { IfOk result (λ values. values.items ≡ first_values count) }
+{
+    (LEAST_INITIAL_NAME..LEAST_INITIAL_NAME + count as u64).collect(alloc)
+}
+
+/// The version in which the history of a run is written.
+fn run_version(count: usize) -> Version
+    ensures { result ≡ run_version count }
+{
+    if count == 0 {
+        Version::One
+    } else {
+        Version::Two
     }
 }

@@ -27,7 +27,7 @@ where
 }
 
 /// The history that the reader gives, and what is claimed of it; or what is found where there is none.
-pub fn claimed_history<S: TextSource>(
+fn claimed_history<S: TextSource>(
     alloc: Global,
     reader: S,
 ) -> Result<(Version, History, Claimed), Outcome>

@@ -7,9 +7,12 @@ use history_merge::{History, Operation, history_from};
 use std::alloc::{AllocError, Global};
 use std::process::Abort;
 use std::test::Fail;
+use std::thread::Threads;
 use verdicts::ClaimLine::{Initial, Op};
 use verdicts::ViolationKind::{VOrd, VRepeat, VWit};
-use verdicts::{ClaimLine, ClaimLines, Claimed, Lines, ViolationKind, claim, decide, verify};
+use verdicts::{
+    ClaimLine, ClaimLines, Claimed, Lines, ViolationKind, claim, decide, decide_par, verify,
+};
 
 /// An event of thread 0.
 fn at(ticket: u64, what: What) -> Event {
@@ -28,11 +31,30 @@ fn history_of(alloc: Global, initial: &[u64], events: &[Event]) -> Result<Histor
     Ok(history_from(alloc, initial.to_vec(alloc)?, events.to_vec(alloc)?)?)
 }
 
-/// What the verdict on the history claims, which is verified.
-fn claimed(rt: &(impl Abort + AllocGlobal), history: &History) -> Result<Claimed, Fail> {
-    let verdict = decide(rt.alloc(), history)?;
-    let claimed = claim(rt.alloc(), history, &verdict)?;
-    assert!(rt; verify(rt.alloc(), history, &claimed)?);
+/// Whether two claims are of the same kind and list the same lines.
+fn are_same(one: &Claimed, other: &Claimed) -> bool {
+    match (one, other) {
+        (Claimed::Yes(lines), Claimed::Yes(others)) => lines.as_slice() == others.as_slice(),
+        (Claimed::No(kind, lines), Claimed::No(other_kind, others)) => {
+            kind == other_kind && lines.as_slice() == others.as_slice()
+        }
+        _ => false,
+    }
+}
+
+/// What the verdict on the history claims, which is verified. Searches in pieces claim the same.
+fn claimed<R>(rt: &R, history: &History) -> Result<Claimed, Fail>
+where
+    R: Abort + AllocGlobal + Threads + Sync,
+{
+    let alloc = rt.alloc();
+    let verdict = decide(alloc, history)?;
+    let claimed = claim(alloc, history, &verdict)?;
+    assert!(rt; verify(alloc, history, &claimed)?);
+    for pieces in [1, 3, 64] {
+        let verdict = decide_par(rt, alloc, history, pieces)?;
+        assert!(rt; are_same(&claimed, &claim(alloc, history, &verdict)?));
+    }
     Ok(claimed)
 }
 
@@ -43,8 +65,8 @@ fn is_order(alloc: Global, history: &History, lines: &[Operation]) -> Result<boo
 }
 
 /// Claims a yes that lists these operations, where the others aren't evidence.
-fn expect_yes(
-    rt: &(impl Abort + AllocGlobal),
+fn expect_yes<R: Abort + AllocGlobal + Threads + Sync>(
+    rt: &R,
     history: &History,
     order: &[Operation],
     other: &[Operation],
@@ -58,8 +80,8 @@ fn expect_yes(
 }
 
 /// Claims a no of this kind that shows these lines, where the others aren't evidence.
-fn expect_no(
-    rt: &(impl Abort + AllocGlobal),
+fn expect_no<R: Abort + AllocGlobal + Threads + Sync>(
+    rt: &R,
     history: &History,
     kind: ViolationKind,
     shown: &[ClaimLine],

@@ -1,16 +1,16 @@
-use crate::small_histories::{by, history_of, lines_of, op};
+use crate::small_histories::{by, history_behind, lines_of, op};
 use history_merge::OpKind::{Deq, Empty, Enq, Not};
 use history_merge::{History, Operation};
 use std::alloc::Global;
 use std::process::Abort;
 use std::test::Fail;
-use verdicts::{ClaimLines, Claimed, Verdict, claim, decide, shrink};
+use verdicts::ClaimLine::{Initial, Op};
+use verdicts::{ClaimLine, ClaimLines, Claimed, Verdict, claim, decide, shrink};
 
-/// Decides the history of these operations, and shrinks it by the violation that is found.
-fn shrunk(alloc: Global, operations: &[Operation]) -> Result<History, Fail> {
-    let history = history_of(alloc, operations)?;
-    match decide(alloc, &history)? {
-        Verdict::No(violation) => Ok(shrink(alloc, &history, &violation)?),
+/// Shrinks a history by the violation that is found.
+fn shrunk(alloc: Global, history: &History) -> Result<History, Fail> {
+    match decide(alloc, history)? {
+        Verdict::No(violation) => Ok(shrink(alloc, history, &violation)?),
         Verdict::Yes(_) => Err("there is no violation")?,
     }
 }
@@ -31,13 +31,23 @@ fn expect(
     kept: &[Operation],
     lines: &[Operation],
 ) -> Result<(), Fail> {
-    let small = shrunk(rt.alloc(), operations)?;
+    let lines = lines_of(rt.alloc(), lines)?;
+    expect_behind(rt, (&[], operations), (&[], kept), lines.as_slice())
+}
+
+/// The same of a queue that starts with some values, some of which are kept: each pair is of values and operations.
+fn expect_behind(
+    rt: &(impl Abort + AllocGlobal),
+    (initial, operations): (&[u64], &[Operation]),
+    (kept_initial, kept): (&[u64], &[Operation]),
+    lines: &[ClaimLine],
+) -> Result<(), Fail> {
+    let history = history_behind(rt.alloc(), initial, operations)?;
+    let small = shrunk(rt.alloc(), &history)?;
+    assert_eq!(rt; small.initial(), kept_initial);
     assert_eq!(rt; small.operations(), kept);
     assert_eq!(rt; small.events().len(), 2 * kept.len());
-    assert_eq!(rt;
-        named(rt.alloc(), &small)?.as_slice(),
-        lines_of(rt.alloc(), lines)?.as_slice()
-    );
+    assert_eq!(rt; named(rt.alloc(), &small)?.as_slice(), lines);
     Ok(())
 }
 
@@ -84,4 +94,44 @@ fn keeps_a_refused_enqueue(rt: HostRuntime) -> Result<(), Fail> {
     let (refused, deq) = (op(0, 1, Not(7)), by(63, 4, 5, Deq(7)));
     let operations = [refused, op(2, 3, Enq(9)), deq, op(6, 7, Deq(9))];
     expect(&rt, &operations, &[refused, deq], &[deq, refused])
+}
+
+#[test]
+fn keeps_initial_values_out_of_order(rt: HostRuntime) -> Result<(), Fail> {
+    let deq = op(0, 1, Deq(6));
+    expect_behind(
+        &rt,
+        (&[4, 5, 6], &[deq]),
+        (&[4, 6], &[deq]),
+        &[Initial(4), Initial(6), Op(deq)],
+    )
+}
+
+#[test]
+fn keeps_an_initial_value_dequeued_twice(rt: HostRuntime) -> Result<(), Fail> {
+    let (first, second) = (op(0, 1, Deq(5)), op(2, 3, Deq(5)));
+    expect_behind(
+        &rt,
+        (&[3, 5], &[first, second, op(4, 5, Deq(3))]),
+        (&[5], &[first, second]),
+        &[Initial(5), Op(first), Op(second)],
+    )
+}
+
+#[test]
+fn keeps_no_initial_value_that_shows_nothing(rt: HostRuntime) -> Result<(), Fail> {
+    let deq = op(0, 1, Deq(7));
+    expect_behind(&rt, (&[5], &[deq]), (&[], &[deq]), &[Op(deq)])
+}
+
+#[test]
+fn keeps_the_initial_values_of_a_cover(rt: HostRuntime) -> Result<(), Fail> {
+    let (empty, enq) = (by(1, 0, 9, Empty), op(1, 2, Enq(7)));
+    let (deq_5, deq_6) = (op(3, 4, Deq(5)), op(5, 6, Deq(6)));
+    expect_behind(
+        &rt,
+        (&[5, 6], &[empty, enq, deq_5, deq_6]),
+        (&[6], &[empty, enq, deq_6]),
+        &[Op(empty), Initial(6), Op(deq_6), Op(enq)],
+    )
 }

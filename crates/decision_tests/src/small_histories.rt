@@ -1,8 +1,7 @@
 //! Small histories for tests, written as their operations.
-ghost use Rattle.std.specs.Prelude.{◌≡◌, [], IfOk};
 
-use event_records::{Event, MAX_EVENTS, What};
-use history_merge::{History, OpKind, Operation, history};
+use event_records::{Event, MAX_EVENTS, MAX_INITIAL, What};
+use history_merge::{History, OpKind, Operation, history_from};
 use std::alloc::{AllocError, Global};
 use std::test::Fail;
 use verdicts::ClaimLine;
@@ -23,19 +22,26 @@ pub fn by(thread: u8, call: u64, ret: u64, kind: OpKind) -> Operation {
 }
 
 /// The history of these operations.
-pub fn history_of(alloc: Global, operations: &[Operation]) -> Result<History, Fail>
-    ensures { IfOk result (λ history. history.initial ≡ []) }
-{
+pub fn history_of(alloc: Global, operations: &[Operation]) -> Result<History, Fail> {
+    history_behind(alloc, &[], operations)
+}
+
+/// The history of these operations, of a queue that starts with these values.
+pub fn history_behind(
+    alloc: Global,
+    initial: &[u64],
+    operations: &[Operation],
+) -> Result<History, Fail> {
     let mut events = Vec::new(alloc);
     for operation in operations {
         events.push(call_of(operation))?;
         events.push(return_of(operation))?;
     }
     events.sort_by_key(|event| event.ticket)?;
-    if events.len() > MAX_EVENTS {
-        return Err("too many events")?;
+    if initial.len() > MAX_INITIAL || events.len() > MAX_EVENTS {
+        return Err("too many values or events")?;
     }
-    Ok(history(alloc, events)?)
+    Ok(history_from(alloc, initial.to_vec(alloc)?, events)?)
 }
 
 /// Lines of a claim that show these operations.

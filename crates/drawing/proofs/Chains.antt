@@ -3,7 +3,7 @@ use Rattle.std.proofs.Common.{◌≡◌, ℕ, ◌+◌, ◌-◌, ◌≤◌, List,
 use Rattle.std.specs.Prelude.{OnOk}
 use Rattle.std.specs.declared.result.Result.{Result}
 use Rattle.std.proofs.lemmas.List.{take_all}
-use Rattle.history_merge.specs.declared.operation.Operation.{Operation}
+use Rattle.verdicts.specs.declared.verifying.ClaimLine.{ClaimLine}
 use Rattle.drawing.specs.Captions.{one_of_cover, cover_caption}
 
 -- two pieces in turn
@@ -18,11 +18,11 @@ same_more (Ok x) first last a b e h = h ∙ ap (λ (t : List _). first ++ t) e
 same_more (Err x) first last a b e h = tt
 
 -- the first value of a cover, and the rest
-pub cover_more : (number : ℕ) (lines : List Operation) (d e : Operation) → 2 ≤ length lines
+pub cover_more : (number : ℕ) (lines : List ClaimLine) (d e : ClaimLine) → 2 ≤ length lines
     → one_of_cover number (get_or lines 0 d) (get_or lines 1 e) ++ cover_caption (number + 2)
     (take (length lines - 2) (drop 2 lines)) ≡ cover_caption number lines
 cover_more number [] d e h = absurd (omega arith)
 cover_more number (x ∷ []) d e h = absurd (omega arith)
 cover_more number (x ∷ y ∷ rest) d e h =
     let whole : take (length (x ∷ y ∷ rest) - 2) rest ≡ rest = take_all _ _ (omega arith) in
-    ap (λ (r : List Operation). one_of_cover number x y ++ cover_caption (number + 2) r) whole
+    ap (λ (r : List ClaimLine). one_of_cover number x y ++ cover_caption (number + 2) r) whole

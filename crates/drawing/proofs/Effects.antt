@@ -1,23 +1,16 @@
 -- The effects of a yes, and the numbers of a claim.
-use Rattle.std.proofs.Common.{◌≡◌, ℕ, zero, suc, ◌+◌, ◌<◌, ◌≤◌, inl, inr, max, Bool, true, false, List, [], ◌∷◌, length, take, get_or, Some, None}
-use Rattle.std.proofs.Common.{refl, sym, ap, subst, ◌∙◌, arith, add-one, cond, eq-eqb, eqb-true}
-use Rattle.std.specs.Prelude.{Contains, fold, nat_eq, slice_get}
-use Rattle.std.specs.List.{position, position_or_len, find}
-use Rattle.std.proofs.lemmas.List.Folds.{find_at}
-use Rattle.std.specs.Prelude.{nat_lt}
-use Rattle.history_merge.specs.declared.operation.OpKind.TheVariants.{Empty}
-use Rattle.drawing.proofs.Bars.{found}
-use Rattle.std.proofs.lemmas.List.Elements.{All-contains}
-use Rattle.std.proofs.lemmas.Bool.{cases_lt, ltb-true, lt-ltb}
-use Rattle.std.proofs.lemmas.Option.{slice_get-get_or, slice_get_within}
+use Rattle.std.proofs.Common.{◌≡◌, ℕ, zero, suc, ◌+◌, ◌<◌, ◌≤◌, inl, inr, max, List, [], ◌∷◌, take, Some}
+use Rattle.std.proofs.Common.{refl, ap, subst, arith, add-one}
+use Rattle.std.specs.Prelude.{Contains, fold, slice_get}
+use Rattle.std.proofs.lemmas.Bool.{cases_lt}
 use Rattle.std.proofs.lemmas.List.Sorted.{Contains-permutation, IsPermutation-sym}
 use Rattle.history_merge.specs.declared.operation.Operation.{Operation}
 use Rattle.history_merge.specs.Complete.{AreComplete}
 use Rattle.history_merge.specs.Operations.{operations_of, Precedes}
 use Rattle.history_merge.proofs.Completeness.{operations_are_complete}
-use Rattle.history_merge.proofs.Distinct.{pairs_at, one_at, contains_at, return_differs_from_call, call_before_return, same_call, found_first}
+use Rattle.history_merge.proofs.Distinct.{pairs_at, one_at, contains_at, return_differs_from_call, call_before_return}
 use Rattle.drawing.specs.Layout.{point}
-use Rattle.drawing.specs.Laws.{EffectsAreInBars, EffectsRise, NumbersAreOfLines, LinesHaveNumbers}
+use Rattle.drawing.specs.Laws.{EffectsAreInBars, EffectsRise}
 
 -- the greatest so far
 abbrev greatest_from : ℕ → List Operation → ℕ
@@ -63,7 +56,7 @@ all_below g n (x ∷ rest) (suc k) below each =
 
 -- effects of a legal order lie within the bars
 pub effects_are_in_bars : EffectsAreInBars
-effects_are_in_bars events order i o complete legal at = (called, below)
+effects_are_in_bars initial events order i o complete legal at = (called, below)
   where
     all : AreComplete (operations_of events)
     all = operations_are_complete events complete
@@ -91,42 +84,3 @@ effects_are_in_bars events order i o complete legal at = (called, below)
 
     below : point order i < o.ret
     below = all_below 0 o.ret order (i + 1) (let rises = call_before_return (operations_of events) o all (listed o i at) in omega arith) each
-
--- ---- numbers
-
--- the first place at which a line passes, where it is within the lines
-place_if : (lines : List Operation) (p : Operation → Bool) (i : ℕ) → position p lines ≡ Some i → (x : Operation) × (slice_get lines i ≡ Some x) × (p x ≡ true)
-place_if lines p i at = join (nat_lt (position_or_len p lines) (length lines)) refl at
-  where
-    one : (k : ℕ) → k ≡ position_or_len p lines → k < length lines → (x : Operation) × (slice_get lines k ≡ Some x) × (p x ≡ true)
-    one k is within =
-        let x = get_or lines k (record { call = 0; ret = 0; thread = 0; kind = Empty }) in
-        let here : slice_get lines k ≡ Some x = slice_get-get_or lines k _ within in
-        let found_here : find p lines ≡ Some x = find_at p lines ∙ ap (slice_get lines) (sym is) ∙ here in
-        (x, here, (found_first p lines x found_here).passes)
-
-    join : (b : Bool) → nat_lt (position_or_len p lines) (length lines) ≡ b → cond b (Some (position_or_len p lines)) None ≡ Some i
-        → (x : Operation) × (slice_get lines i ≡ Some x) × (p x ≡ true)
-    join true is here = let same : position_or_len p lines ≡ i = cc in
-        one i (sym same) (let less : position_or_len p lines < length lines = ltb-true _ _ is in omega arith)
-    join false is here = cc
-
--- where a line passes, there is a first place at which one does
-place_of_one : (lines : List Operation) (p : Operation → Bool) (x : Operation) → Contains lines x → p x ≡ true → (i : ℕ) × (position p lines ≡ Some i)
-place_of_one lines p x among passes =
-    let some = found p lines x among passes in
-    let at : slice_get lines (position_or_len p lines) ≡ Some some.0 = sym (find_at p lines) ∙ some.1 in
-    let within = slice_get_within lines (position_or_len p lines) some.0 at in
-    (position_or_len p lines, ap (λ (b : Bool). cond b (Some (position_or_len p lines)) None) (lt-ltb _ _ within))
-
--- a number is that of the line
-pub numbers_are_of_lines : NumbersAreOfLines
-numbers_are_of_lines events lines o i complete all_among among at =
-    let h = place_if lines (λ line. nat_eq line.call o.call) i at in
-    let line_among = All-contains (Contains (operations_of events)) lines h.0 all_among (contains_at lines i h.0 h.1) in
-    let same = same_call (operations_of events) h.0 o (operations_are_complete events complete) line_among among (eqb-true h.0.call o.call h.2) in
-    h.1 ∙ ap (λ x. Some x) same
-
--- each line has a number
-pub lines_have_numbers : LinesHaveNumbers
-lines_have_numbers lines o among = place_of_one lines (λ line. nat_eq line.call o.call) o among (eq-eqb o.call o.call refl)

@@ -1,8 +1,11 @@
 -- The way of the argument: Loops, Chains: what one more element adds to a line, and one more piece to a text.
 -- Lanes: lanes are of the threads that have events, and stand apart. Bars: the bars in them are the operations.
--- Effects: the effects of a yes rise within the bars, and the numbers are those of the claim.
+-- Effects: the effects of a yes rise within the bars. Numbers: the numbers are those of the claim. Evidence: the lines
+-- of evidence are of the history.
 pub mod Loops
 pub mod Chains
 pub mod Bars
 pub mod Effects
+pub mod Numbers
+pub mod Evidence
 pub mod Lanes

@@ -1,12 +1,13 @@
 -- Bands beside the lanes of a no: when a value surely was in the queue, or was not, and the time that contradicts it.
-use Rattle.std.specs.Prelude.{ℕ, ◌&&◌, Bool, true, nat_lt, nat_le, Option, Some, None, List, [], ◌∷◌, ◌++◌, codes, decimal}
+use Rattle.std.specs.Prelude.{ℕ, ◌&&◌, Bool, true, false, nat_lt, nat_le, Option, Some, None, List, [], ◌∷◌, ◌++◌, codes, decimal}
 use Rattle.std.specs.List.{concat}
-use Rattle.history_merge.specs.declared.operation.Operation.{Operation}
 use Rattle.history_merge.specs.declared.operation.OpKind.{OpKind}
 use Rattle.history_merge.specs.declared.operation.OpKind.TheVariants as kind
-use Rattle.drawing.specs.declared.claim.ShownClaim.{ShownClaim}
-use Rattle.drawing.specs.declared.claim.ShownClaim.TheVariants.{Yes, No}
+use Rattle.verdicts.specs.declared.verifying.ClaimLine.{ClaimLine}
+use Rattle.verdicts.specs.declared.verifying.Claimed.{Claimed}
+use Rattle.verdicts.specs.declared.verifying.Claimed.TheVariants.{Yes, No}
 use Rattle.verdicts.specs.declared.verifying.ViolationKind.TheVariants.{VFresh, VRepeat, VOrd, VWit}
+use Rattle.drawing.specs.Claim.{line_kind, line_call, line_return}
 use Rattle.drawing.specs.declared.bands.Band.{Band}
 use Rattle.drawing.specs.declared.bands.Head.{Head}
 use Rattle.drawing.specs.declared.bands.Head.TheVariants.{SurelyIn, NotIn, Dequeued, InAndOut, SaidEmpty, InOrOut}
@@ -18,56 +19,62 @@ value_of (kind.Deq v) = v
 value_of (kind.Not v) = v
 value_of kind.Empty = 0
 
--- the value surely is in the queue from the return of its enqueue to the call of its dequeue, or on where it has none
-abbrev pub sure_until : Operation → Option ℕ → Band
-sure_until enq last = record { head = SurelyIn (value_of enq.kind); first = Some enq.ret; last = last }
+-- the value of a line
+abbrev pub line_value : ClaimLine → ℕ
+line_value line = value_of (line_kind line)
 
--- the time of these two events
-abbrev pub time_of : Head → ℕ → ℕ → Band
-time_of head first last = record { head = head; first = Some first; last = Some last }
+-- the value surely is in the queue from the return of its enqueue, or from the top on where it was there first, to the call of its
+-- dequeue, or to the bottom where it has none
+abbrev pub sure_until : ClaimLine → Option ℕ → Band
+sure_until enq last = record { head = SurelyIn (line_value enq); first = line_return enq; last = last }
+
+-- the time from one event to another; from the top on, where the first is none
+abbrev pub time_of : Head → Option ℕ → Option ℕ → Band
+time_of head first last = record { head = head; first = first; last = last }
 
 -- the value surely isn't in the queue before this call; never, where there is none
 abbrev pub absent_until : ℕ → Option ℕ → Band
 absent_until value last = record { head = NotIn value; first = None; last = last }
 
 -- the call of an enqueue that was taken
-abbrev pub call_if_taken : Operation → OpKind → Option ℕ
-call_if_taken o (kind.Enq v) = Some o.call
-call_if_taken o _ = None
+abbrev pub call_if_taken : ClaimLine → OpKind → Option ℕ
+call_if_taken line (kind.Enq v) = line_call line
+call_if_taken line _ = None
 
 -- a value for each enqueue of a cover, which its dequeue follows if it has one
-abbrev pub cover_bands : List Operation → List Band
+abbrev pub cover_bands : List ClaimLine → List Band
 cover_bands [] = []
 cover_bands (enq ∷ []) = sure_until enq None ∷ []
-cover_bands (enq ∷ deq ∷ rest) = sure_until enq (Some deq.call) ∷ cover_bands rest
+cover_bands (enq ∷ deq ∷ rest) = sure_until enq (line_call deq) ∷ cover_bands rest
 
 -- when the value of a dequeue surely was not in the queue, and when it was dequeued
-abbrev pub fresh_bands : List Operation → List Band
+abbrev pub fresh_bands : List ClaimLine → List Band
 fresh_bands [] = []
-fresh_bands (deq ∷ []) = absent_until (value_of deq.kind) None ∷ time_of (Dequeued (value_of deq.kind)) deq.call deq.ret ∷ []
+fresh_bands (deq ∷ []) =
+    absent_until (line_value deq) None ∷ time_of (Dequeued (line_value deq)) (line_call deq) (line_return deq) ∷ []
 fresh_bands (deq ∷ enq ∷ rest) =
-    absent_until (value_of deq.kind) (call_if_taken enq enq.kind) ∷ time_of (Dequeued (value_of deq.kind)) deq.call deq.ret ∷ []
+    absent_until (line_value deq) (call_if_taken enq (line_kind enq)) ∷ time_of (Dequeued (line_value deq)) (line_call deq) (line_return deq) ∷ []
 
 -- when a surely was in the queue, and when b went in and out
-abbrev pub order_bands : List Operation → List Band
+abbrev pub order_bands : List ClaimLine → List Band
 order_bands (enq_a ∷ enq_b ∷ deq_b ∷ []) =
-    sure_until enq_a None ∷ time_of (InAndOut (value_of enq_b.kind)) enq_b.call deq_b.ret ∷ []
+    sure_until enq_a None ∷ time_of (InAndOut (line_value enq_b)) (line_call enq_b) (line_return deq_b) ∷ []
 order_bands (enq_a ∷ enq_b ∷ deq_b ∷ deq_a ∷ rest) =
-    sure_until enq_a (Some deq_a.call) ∷ time_of (InAndOut (value_of enq_b.kind)) enq_b.call deq_b.ret ∷ []
+    sure_until enq_a (line_call deq_a) ∷ time_of (InAndOut (line_value enq_b)) (line_call enq_b) (line_return deq_b) ∷ []
 order_bands _ = []
 
 -- when the values of the cover surely were in the queue, and when it was said to be empty
-abbrev pub witness_bands : List Operation → List Band
+abbrev pub witness_bands : List ClaimLine → List Band
 witness_bands [] = []
-witness_bands (empty ∷ cover) = cover_bands cover ++ time_of SaidEmpty empty.call empty.ret ∷ []
+witness_bands (empty ∷ cover) = cover_bands cover ++ time_of SaidEmpty (line_call empty) (line_return empty) ∷ []
 
 -- a value that was dequeued twice: a column for its words, with no band
-abbrev pub repeat_bands : List Operation → List Band
+abbrev pub repeat_bands : List ClaimLine → List Band
 repeat_bands [] = []
-repeat_bands (enq ∷ rest) = record { head = InOrOut (value_of enq.kind); first = None; last = None } ∷ []
+repeat_bands (enq ∷ rest) = record { head = InOrOut (line_value enq); first = None; last = None } ∷ []
 
 -- the bands of a claim, left to right
-abbrev pub bands_of : ShownClaim → List Band
+abbrev pub bands_of : Claimed → List Band
 bands_of (Yes order) = []
 bands_of (No VFresh lines) = fresh_bands lines
 bands_of (No VRepeat lines) = repeat_bands lines
@@ -92,16 +99,18 @@ form (InAndOut v) = codes ":::"
 form SaidEmpty = codes ":::"
 form (InOrOut v) = []
 
--- the band has begun by this ticket
-abbrev pub has_begun : Option ℕ → ℕ → Bool
-has_begun None ticket = true
-has_begun (Some first) ticket = nat_le first ticket
+-- the band has begun at this gap: that just after a ticket, or none for that before all tickets
+abbrev pub has_begun : Option ℕ → Option ℕ → Bool
+has_begun None gap = true
+has_begun (Some first) None = false
+has_begun (Some first) (Some ticket) = nat_le first ticket
 
--- the band goes on after this ticket
-abbrev pub goes_on : Option ℕ → ℕ → Bool
-goes_on None ticket = true
-goes_on (Some last) ticket = nat_lt ticket last
+-- the band goes on at this gap
+abbrev pub goes_on : Option ℕ → Option ℕ → Bool
+goes_on None gap = true
+goes_on (Some last) None = true
+goes_on (Some last) (Some ticket) = nat_lt ticket last
 
--- the band holds the gap just after this ticket
-abbrev pub holds_gap : Band → ℕ → Bool
-holds_gap band ticket = has_begun band.first ticket && goes_on band.last ticket
+-- the band holds this gap
+abbrev pub holds_gap : Band → Option ℕ → Bool
+holds_gap band gap = has_begun band.first gap && goes_on band.last gap

@@ -1,26 +1,28 @@
 -- The words of a picture: its headline, what it shows in a sentence, and how to read it.
-use Rattle.std.specs.Prelude.{ℕ, ◌+◌, List, [], ◌∷◌, ◌++◌, codes, decimal}
+use Rattle.std.specs.Prelude.{ℕ, ◌+◌, Option, Some, None, List, [], ◌∷◌, ◌++◌, codes, decimal}
 use Rattle.std.specs.List.{concat}
-use Rattle.history_merge.specs.declared.operation.Operation.{Operation}
 use Rattle.history_merge.specs.declared.operation.OpKind.{OpKind}
 use Rattle.history_merge.specs.declared.operation.OpKind.TheVariants as kind
-use Rattle.drawing.specs.declared.claim.ShownClaim.{ShownClaim}
-use Rattle.drawing.specs.declared.claim.ShownClaim.TheVariants.{Yes, No}
+use Rattle.verdicts.specs.declared.verifying.ClaimLine.{ClaimLine}
+use Rattle.verdicts.specs.declared.verifying.ClaimLine.TheVariants.{Op, Initial}
+use Rattle.verdicts.specs.declared.verifying.Claimed.{Claimed}
+use Rattle.verdicts.specs.declared.verifying.Claimed.TheVariants.{Yes, No}
 use Rattle.verdicts.specs.declared.verifying.ViolationKind.TheVariants.{VFresh, VRepeat, VOrd, VWit}
 use Rattle.text_lines.specs.Lines.{line}
-use Rattle.drawing.specs.Bands.{value_of}
+use Rattle.drawing.specs.Claim.{line_kind, line_call, line_return}
+use Rattle.drawing.specs.Bands.{line_value}
 
 -- what a picture shows, in a line
-abbrev pub headline : ShownClaim → List ℕ
+abbrev pub headline : Claimed → List ℕ
 headline (Yes order) = codes "YES: a FIFO queue can have answered so"
 headline (No VFresh lines) = codes "NO: a value was dequeued that was not there"
 headline (No VRepeat lines) = codes "NO: a value was dequeued twice"
 headline (No VOrd lines) = codes "NO: values were dequeued against the order of their enqueues"
 headline (No VWit lines) = codes "NO: an empty answer while the queue was never empty"
 
--- the value of an operation, in its digits
-abbrev pub value_text : Operation → List ℕ
-value_text o = decimal (value_of o.kind)
+-- the value of a line, in its digits
+abbrev pub value_text : ClaimLine → List ℕ
+value_text l = decimal (line_value l)
 
 -- why a value was not there, where its enqueue is shown
 abbrev pub fresh_reason : OpKind → List ℕ
@@ -28,41 +30,55 @@ fresh_reason (kind.Enq v) = line (codes " was dequeued (1), but its enqueue (2) 
 fresh_reason _ = line (codes " was dequeued (1), but its enqueue (2) was not taken.")
 
 -- the caption of a value that was not there
-abbrev pub fresh_caption : List Operation → List ℕ
+abbrev pub fresh_caption : List ClaimLine → List ℕ
 fresh_caption [] = []
 fresh_caption (deq ∷ []) = concat (value_text deq ∷ line (codes " was dequeued (1), but nobody ever enqueued it.") ∷ [])
-fresh_caption (deq ∷ enq ∷ rest) = concat (value_text deq ∷ fresh_reason enq.kind ∷ [])
+fresh_caption (deq ∷ enq ∷ rest) = concat (value_text deq ∷ fresh_reason (line_kind enq) ∷ [])
+
+-- how a value came in that was dequeued twice
+abbrev pub repeat_words : ClaimLine → List ℕ
+repeat_words (Op enq) = line (codes " was enqueued once (1), but dequeued twice (2 and 3).")
+repeat_words (Initial v) = line (codes " was in the queue first (1), but dequeued twice (2 and 3).")
 
 -- the caption of a value that was dequeued twice
-abbrev pub repeat_caption : List Operation → List ℕ
+abbrev pub repeat_caption : List ClaimLine → List ℕ
 repeat_caption [] = []
-repeat_caption (enq ∷ rest) = concat (value_text enq ∷ line (codes " was enqueued once (1), but dequeued twice (2 and 3).") ∷ [])
+repeat_caption (enq ∷ rest) = concat (value_text enq ∷ repeat_words enq ∷ [])
 
--- that a was enqueued before b, and b dequeued before or without a
-unfoldable pub overtaking_caption : Operation → Operation → List ℕ → List ℕ → List ℕ
+-- how a came in before b
+abbrev pub before_words : ClaimLine → List ℕ
+before_words (Op enq) = codes " was enqueued (1) before "
+before_words (Initial v) = codes " was in the queue (1) before "
+
+-- that a came in before b, and b was dequeued before or without a
+unfoldable pub overtaking_caption : ClaimLine → ClaimLine → List ℕ → List ℕ → List ℕ
 overtaking_caption a b between end =
-    concat (value_text a ∷ codes " was enqueued (1) before " ∷ value_text b ∷ line (codes " (2),")
-    ∷ codes "but " ∷ value_text b ∷ between ∷ value_text a ∷ end ∷ [])
+    concat (value_text a ∷ before_words a ∷ value_text b ∷ line (codes " (2),") ∷ codes "but " ∷ value_text b ∷ between ∷ value_text a ∷ end ∷ [])
 
 -- the caption of values that were dequeued against the order of their enqueues
-abbrev pub order_caption : List Operation → List ℕ
+abbrev pub order_caption : List ClaimLine → List ℕ
 order_caption (a ∷ b ∷ deq_b ∷ []) = overtaking_caption a b (codes " was dequeued (3) and ") (line (codes " never was."))
 order_caption (a ∷ b ∷ deq_b ∷ deq_a ∷ rest) = overtaking_caption a b (codes " was dequeued (3) before ") (line (codes " (4)."))
 order_caption _ = []
 
+-- a moment: that of a ticket, or the one before all tickets
+abbrev pub moment_text : Option ℕ → List ℕ
+moment_text None = codes "the start"
+moment_text (Some ticket) = codes "ticket " ++ decimal ticket
+
 -- from when to when a value of a cover surely was in the queue, with the numbers of its enqueue and its dequeue
-unfoldable pub one_of_cover : ℕ → Operation → Operation → List ℕ
+unfoldable pub one_of_cover : ℕ → ClaimLine → ClaimLine → List ℕ
 one_of_cover number enq deq =
-    concat (value_text enq ∷ codes " from ticket " ∷ decimal enq.ret ∷ codes " (" ∷ decimal number
-    ∷ codes ") to ticket " ∷ decimal deq.call ∷ codes " (" ∷ decimal (number + 1) ∷ line (codes ")") ∷ [])
+    concat (value_text enq ∷ codes " from " ∷ moment_text (line_return enq) ∷ codes " (" ∷ decimal number
+    ∷ codes ") to " ∷ moment_text (line_call deq) ∷ codes " (" ∷ decimal (number + 1) ∷ line (codes ")") ∷ [])
 
 -- from when on the last value of a cover surely was in the queue
-unfoldable pub last_of_cover : ℕ → Operation → List ℕ
+unfoldable pub last_of_cover : ℕ → ClaimLine → List ℕ
 last_of_cover number enq =
-    concat (value_text enq ∷ codes " from ticket " ∷ decimal enq.ret ∷ codes " (" ∷ decimal number ∷ line (codes ") on") ∷ [])
+    concat (value_text enq ∷ codes " from " ∷ moment_text (line_return enq) ∷ codes " (" ∷ decimal number ∷ line (codes ") on") ∷ [])
 
 -- the lines of the values of a cover, numbered from here on
-abbrev pub cover_caption : ℕ → List Operation → List ℕ
+abbrev pub cover_caption : ℕ → List ClaimLine → List ℕ
 cover_caption number [] = []
 cover_caption number (enq ∷ []) = last_of_cover number enq
 cover_caption number (enq ∷ deq ∷ rest) = one_of_cover number enq deq ++ cover_caption (number + 2) rest
@@ -73,7 +89,7 @@ witness_words =
     concat (line (codes "A dequeue found the queue empty (1), but at each moment of it") ∷ line (codes "some value surely was in the queue:") ∷ [])
 
 -- the caption of an empty answer
-abbrev pub witness_caption : List Operation → List ℕ
+abbrev pub witness_caption : List ClaimLine → List ℕ
 witness_caption [] = []
 witness_caption (empty ∷ cover) = witness_words ++ cover_caption 2 cover
 
@@ -84,7 +100,7 @@ yes_caption =
     ∷ line (codes "effect. They rise from top to bottom, and each stands within its bar.") ∷ [])
 
 -- what a claim says, in sentences
-unfoldable pub caption : ShownClaim → List ℕ
+unfoldable pub caption : Claimed → List ℕ
 caption (Yes order) = yes_caption
 caption (No VFresh lines) = fresh_caption lines
 caption (No VRepeat lines) = repeat_caption lines
@@ -95,10 +111,16 @@ caption (No VWit lines) = witness_caption lines
 unfoldable pub lane_meanings : List ℕ
 lane_meanings = concat (line (codes "[    call of an operation") ∷ line (codes "]    its return") ∷ [])
 
--- what a number in a lane means
-abbrev pub number_meaning : ShownClaim → List ℕ
-number_meaning (Yes order) = line (codes "1    number 1 in the order, where it takes effect")
-number_meaning (No kind lines) = line (codes "1    number 1 of the operations that show it")
+-- what a number means
+abbrev pub number_meaning : Claimed → List ℕ → List ℕ
+number_meaning (Yes order) initial = line (codes "1    number 1 in the order, where it takes effect")
+number_meaning (No kind lines) [] = line (codes "1    number 1 of the operations that show it")
+number_meaning (No kind lines) (v ∷ initial) = line (codes "1    number 1 of the values and operations that show it")
+
+-- what the rows of initial values mean, where there are some
+abbrev pub initial_meaning : List ℕ → List ℕ
+initial_meaning [] = []
+initial_meaning (v ∷ initial) = line (codes "init a value that was in the queue first, the front one on top")
 
 -- what a band of values surely in the queue means, and what the time beside it means
 unfoldable pub sure_and : List ℕ → List ℕ
@@ -110,7 +132,7 @@ fresh_meanings =
     concat (line (codes "xxx  the value surely was not in the queue.") ∷ line (codes ":::  within this time it was dequeued nevertheless.") ∷ [])
 
 -- what the forms of the bands mean
-abbrev pub form_meanings : ShownClaim → List ℕ
+abbrev pub form_meanings : Claimed → List ℕ
 form_meanings (Yes order) = []
 form_meanings (No VFresh lines) = fresh_meanings
 form_meanings (No VRepeat lines) = []
@@ -118,5 +140,5 @@ form_meanings (No VOrd lines) = sure_and (line (codes ":::  within this time the
 form_meanings (No VWit lines) = sure_and (line (codes ":::  within this time the queue was said to be empty."))
 
 -- how to read a picture of characters
-unfoldable pub legend : ShownClaim → List ℕ
-legend claimed = lane_meanings ++ (number_meaning claimed ++ form_meanings claimed)
+unfoldable pub legend : List ℕ → Claimed → List ℕ
+legend initial claimed = lane_meanings ++ (initial_meaning initial ++ (number_meaning claimed initial ++ form_meanings claimed))

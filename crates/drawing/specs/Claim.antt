@@ -1,25 +1,44 @@
--- What is claimed of a history, as it is drawn: by operations alone.
-use Rattle.std.specs.Prelude.{List, [], ◌∷◌, Option, Some, None, option_map}
+-- What a claim lists: operations, and of a no also values that the queue holds first.
+use Rattle.std.specs.Prelude.{ℕ, Option, Some, None, List, [], map, length}
 use Rattle.history_merge.specs.declared.operation.Operation.{Operation}
+use Rattle.history_merge.specs.declared.operation.OpKind.{OpKind}
+use Rattle.history_merge.specs.declared.operation.OpKind.TheVariants.{Enq}
 use Rattle.verdicts.specs.declared.verifying.ClaimLine.{ClaimLine}
 use Rattle.verdicts.specs.declared.verifying.ClaimLine.TheVariants.{Op, Initial}
 use Rattle.verdicts.specs.declared.verifying.Claimed.{Claimed}
-use Rattle.verdicts.specs.declared.verifying.Claimed.TheVariants as claimed
-use Rattle.drawing.specs.declared.claim.ShownClaim.{ShownClaim}
-use Rattle.drawing.specs.declared.claim.ShownClaim.TheVariants.{Yes, No}
+use Rattle.verdicts.specs.declared.verifying.Claimed.TheVariants.{Yes, No}
 
--- the operations that a claim lists
-abbrev pub operations_in : ShownClaim → List Operation
-operations_in (Yes operations) = operations
-operations_in (No kind operations) = operations
+-- how many lines a claim has
+abbrev pub count_of_lines : Claimed → ℕ
+count_of_lines (Yes order) = length order
+count_of_lines (No kind lines) = length lines
 
--- the operations of lines, where none is that of an initial value
-abbrev pub operations_of_lines : List ClaimLine → Option (List Operation)
-operations_of_lines [] = Some []
-operations_of_lines (Op o ∷ lines) = option_map (λ later. o ∷ later) (operations_of_lines lines)
-operations_of_lines (Initial v ∷ lines) = None
+-- the lines of a claim: those of a yes are operations
+abbrev pub lines_in : Claimed → List ClaimLine
+lines_in (Yes order) = map Op order
+lines_in (No kind lines) = lines
 
--- the claim as it is drawn, where its lines are operations
-abbrev pub shown_of : Claimed → Option ShownClaim
-shown_of (claimed.Yes operations) = Some (Yes operations)
-shown_of (claimed.No kind lines) = option_map (No kind) (operations_of_lines lines)
+-- the order of a yes
+abbrev pub order_of : Claimed → List Operation
+order_of (Yes order) = order
+order_of (No kind lines) = []
+
+-- the lines that show a no
+abbrev pub shown_by : Claimed → List ClaimLine
+shown_by (Yes order) = []
+shown_by (No kind lines) = lines
+
+-- what a line says that was done: an initial value stands where its enqueue would
+abbrev pub line_kind : ClaimLine → OpKind
+line_kind (Op o) = o.kind
+line_kind (Initial v) = Enq v
+
+-- the ticket of a line's call; an initial value was there before all tickets
+abbrev pub line_call : ClaimLine → Option ℕ
+line_call (Op o) = Some o.call
+line_call (Initial v) = None
+
+-- the ticket of a line's return; an initial value was there before all tickets
+abbrev pub line_return : ClaimLine → Option ℕ
+line_return (Op o) = Some o.ret
+line_return (Initial v) = None

@@ -1,12 +1,17 @@
 -- What holds of pictures.
-use Rattle.std.specs.Prelude.{◌≡◌, ℕ, ◌+◌, ◌<◌, ◌≤◌, List, Some, Contains, All, slice_get}
+use Rattle.std.specs.Prelude.{◌≡◌, ℕ, ◌+◌, ◌<◌, ◌≤◌, List, Some, Contains, slice_get}
 use Rattle.event_records.specs.declared.event.Event.{Event}
 use Rattle.history_merge.specs.declared.operation.Operation.{Operation}
 use Rattle.history_merge.specs.Complete.{IsCompleteHistory}
-use Rattle.history_merge.specs.Legal.{IsLegalOrder}
+use Rattle.history_merge.specs.Legal.{IsLegalOrderFrom}
 use Rattle.history_merge.specs.Operations.{IsInWindow, operations_of}
+use Rattle.verdicts.specs.declared.verifying.ClaimLine.{ClaimLine}
+use Rattle.verdicts.specs.declared.verifying.ClaimLine.TheVariants.{Op, Initial}
+use Rattle.verdicts.specs.declared.verifying.Claimed.TheVariants.{No}
+use Rattle.verdicts.specs.declared.verifying.ViolationKind.{ViolationKind}
+use Rattle.verdicts.specs.Claims.{IsTrueClaim}
 use Rattle.drawing.specs.declared.columns.Columns.{Columns}
-use Rattle.drawing.specs.Layout.{threads_of, lane_of, under_way, place_in, point}
+use Rattle.drawing.specs.Layout.{threads_of, lane_of, under_way, place_in, initial_place_in, point}
 
 -- ---- lanes
 
@@ -41,8 +46,8 @@ NoOtherBars =
 -- an operation of a yes takes effect within its bar
 abbrev pub EffectsAreInBars : Type 0
 EffectsAreInBars =
-    (events : List Event) (order : List Operation) (i : ℕ) (o : Operation) → IsCompleteHistory events → IsLegalOrder (operations_of events) order
-    → slice_get order i ≡ Some o → IsInWindow o (point order i)
+    (initial : List ℕ) (events : List Event) (order : List Operation) (i : ℕ) (o : Operation) → IsCompleteHistory events
+    → IsLegalOrderFrom initial (operations_of events) order → slice_get order i ≡ Some o → IsInWindow o (point order i)
 
 -- the effects of a yes rise in its order
 abbrev pub EffectsRise : Type 0
@@ -50,12 +55,30 @@ EffectsRise = (order : List Operation) (i j : ℕ) → i ≤ j → point order i
 
 -- ---- numbers
 
+-- the lines list no other operations
+abbrev pub AreOperationsOf : List Operation → List ClaimLine → Type 0
+AreOperationsOf operations lines = (o : Operation) → Contains lines (Op o) → Contains operations o
+
 -- an operation with a number is the line of that number
 abbrev pub NumbersAreOfLines : Type 0
 NumbersAreOfLines =
-    (events : List Event) (lines : List Operation) (o : Operation) (i : ℕ) → IsCompleteHistory events → All (Contains (operations_of events)) lines
-    → Contains (operations_of events) o → place_in lines o ≡ Some i → slice_get lines i ≡ Some o
+    (events : List Event) (lines : List ClaimLine) (o : Operation) (i : ℕ) → IsCompleteHistory events → AreOperationsOf (operations_of events) lines
+    → Contains (operations_of events) o → place_in lines o ≡ Some i → slice_get lines i ≡ Some (Op o)
 
--- each line has a number
+-- each line of an operation has a number
 abbrev pub LinesHaveNumbers : Type 0
-LinesHaveNumbers = (lines : List Operation) (o : Operation) → Contains lines o → (i : ℕ) × (place_in lines o ≡ Some i)
+LinesHaveNumbers = (lines : List ClaimLine) (o : Operation) → Contains lines (Op o) → (i : ℕ) × (place_in lines o ≡ Some i)
+
+-- an initial value with a number is the line of that number
+abbrev pub InitialNumbersAreOfLines : Type 0
+InitialNumbersAreOfLines = (lines : List ClaimLine) (v i : ℕ) → initial_place_in lines v ≡ Some i → slice_get lines i ≡ Some (Initial v)
+
+-- each line of an initial value has a number
+abbrev pub InitialLinesHaveNumbers : Type 0
+InitialLinesHaveNumbers = (lines : List ClaimLine) (v : ℕ) → Contains lines (Initial v) → (i : ℕ) × (initial_place_in lines v ≡ Some i)
+
+-- the lines of evidence are operations and initial values of the history, so each has its bar or its row
+abbrev pub LinesAreOfHistory : Type 0
+LinesAreOfHistory =
+    (initial : List ℕ) (operations : List Operation) (kind : ViolationKind) (lines : List ClaimLine) → IsTrueClaim initial operations (No kind lines)
+    → AreOperationsOf operations lines × ((v : ℕ) → Contains lines (Initial v) → Contains initial v)

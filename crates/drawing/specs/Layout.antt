@@ -1,15 +1,17 @@
 -- Where things stand in a picture: lanes for threads, columns, numbers and points of effect.
-use Rattle.std.specs.Prelude.{ℕ, ◌+◌, ◌-◌, ◌*◌, max, ◌&&◌, nat_lt, nat_le, nat_eq, Bool, Option, Some, None, List, [], map, filter, find, count_by}
+use Rattle.std.specs.Prelude.{ℕ, ◌+◌, ◌-◌, ◌*◌, max, ◌&&◌, nat_lt, nat_le, nat_eq, Bool, false, Option, Some, None, List, [], map, filter, find, count_by}
 use Rattle.std.specs.Prelude.{length, take, decimal, slice_get, fold}
 use Rattle.std.specs.List.{list_any, range_with_len, position}
 use Rattle.event_records.specs.declared.event.Event.{Event}
 use Rattle.event_records.specs.declared.limits.TheConstants.{MAX_THREAD}
 use Rattle.history_merge.specs.declared.operation.Operation.{Operation}
 use Rattle.history_merge.specs.declared.operation.OpKind.{OpKind}
-use Rattle.drawing.specs.declared.claim.ShownClaim.{ShownClaim}
-use Rattle.drawing.specs.declared.claim.ShownClaim.TheVariants.{Yes, No}
+use Rattle.verdicts.specs.declared.verifying.ClaimLine.{ClaimLine}
+use Rattle.verdicts.specs.declared.verifying.ClaimLine.TheVariants.{Op, Initial}
+use Rattle.verdicts.specs.declared.verifying.Claimed.{Claimed}
 use Rattle.text_lines.specs.Lines.{spaced}
-use Rattle.history_text.specs.Verdicts.{kind_fields}
+use Rattle.history_text.specs.Verdicts.{kind_fields, claim_line_fields}
+use Rattle.drawing.specs.Claim.{lines_in}
 use Rattle.drawing.specs.declared.columns.Columns.{Columns}
 use Rattle.drawing.specs.declared.columns.Lane.{Lane}
 
@@ -22,6 +24,10 @@ digits n = length (decimal n)
 -- what an operation did, and its value in full
 abbrev pub label : OpKind → List ℕ
 label kind = spaced (kind_fields kind)
+
+-- an initial value, as a line of a verdict says it
+abbrev pub initial_label : ℕ → List ℕ
+initial_label v = spaced (claim_line_fields (Initial v))
 
 -- ---- lanes
 
@@ -48,17 +54,21 @@ ticket_or_zero (Some e) = e.ticket
 abbrev pub last_ticket : List Event → ℕ
 last_ticket events = ticket_or_zero (slice_get events (length events - 1))
 
--- the length of the longest label, or of `empty`
-abbrev pub label_width : List Operation → ℕ
-label_width operations = fold (λ widest o. max widest (length (label o.kind))) 5 operations
+-- the length of the longest label of initial values, or of `empty`
+abbrev pub initial_width : List ℕ → ℕ
+initial_width initial = fold (λ widest v. max widest (length (initial_label v))) 5 initial
+
+-- the length of the longest label of initial values and operations, or of `empty`
+abbrev pub label_width : List ℕ → List Operation → ℕ
+label_width initial operations = fold (λ widest o. max widest (length (label o.kind))) (initial_width initial) operations
 
 -- the columns of a picture: tickets are at least as wide as the word above them, a lane has room for a bracket with a number
-abbrev pub columns_of : List Event → List Operation → List ℕ → ℕ → Columns
-columns_of events operations threads claimed =
+abbrev pub columns_of : List Event → List ℕ → ℕ → ℕ → Columns
+columns_of events threads widest_label claimed =
     let ticket = max 6 (digits (last_ticket events)) in
     let lane = max 2 (digits claimed) + 2 in
     let label = ticket + 4 + max 6 (lane * length threads) in
-    record { ticket = ticket; lane = lane; label = label; beside = label + label_width operations + 2 }
+    record { ticket = ticket; lane = lane; label = label; beside = label + widest_label + 2 }
 
 -- a thread's lane stands to the right of those of lower threads
 abbrev pub lane_of : Columns → List ℕ → ℕ → Lane
@@ -85,28 +95,40 @@ called_at operations ticket = find (λ o. nat_eq o.call ticket) operations
 
 -- ---- the claim
 
--- the place of an operation in a claim, from 0, where it is there; operations are told apart by their calls
-abbrev pub place_in : List Operation → Operation → Option ℕ
-place_in lines o = position (λ line. nat_eq line.call o.call) lines
+-- the line is that of this operation; operations are told apart by their calls
+abbrev pub is_line_of : Operation → ClaimLine → Bool
+is_line_of o (Op listed) = nat_eq listed.call o.call
+is_line_of o (Initial v) = false
+
+-- the line is that of this initial value
+abbrev pub is_line_of_initial : ℕ → ClaimLine → Bool
+is_line_of_initial v (Op o) = false
+is_line_of_initial v (Initial listed) = nat_eq listed v
+
+-- the place of an operation among these lines, from 0, where it is there
+abbrev pub place_in : List ClaimLine → Operation → Option ℕ
+place_in lines o = position (is_line_of o) lines
+
+-- the place of an initial value among these lines, from 0, where it is there
+abbrev pub initial_place_in : List ClaimLine → ℕ → Option ℕ
+initial_place_in lines v = position (is_line_of_initial v) lines
+
+-- the place of an operation in a claim
+abbrev pub place_of : Claimed → Operation → Option ℕ
+place_of claimed o = place_in (lines_in claimed) o
+
+-- the place of an initial value in a claim
+abbrev pub initial_place_of : Claimed → ℕ → Option ℕ
+initial_place_of claimed v = initial_place_in (lines_in claimed) v
 
 -- the number of a place, from 1, in its digits
 abbrev pub number_at : Option ℕ → List ℕ
 number_at None = []
 number_at (Some place) = decimal (place + 1)
 
--- the number of an operation in a claim; nothing where it isn't there
-abbrev pub number_in : List Operation → Operation → List ℕ
+-- the number of an operation among these lines; nothing where it isn't there
+abbrev pub number_in : List ClaimLine → Operation → List ℕ
 number_in lines o = number_at (place_in lines o)
-
--- the order of a yes
-abbrev pub order_of : ShownClaim → List Operation
-order_of (Yes order) = order
-order_of (No kind lines) = []
-
--- the operations that show a no
-abbrev pub shown_by : ShownClaim → List Operation
-shown_by (Yes order) = []
-shown_by (No kind lines) = lines
 
 -- the greatest call of these operations
 abbrev pub greatest_call : List Operation → ℕ

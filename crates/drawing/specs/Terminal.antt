@@ -1,21 +1,23 @@
 -- A picture as lines of characters. Time runs down: a line for each event, and of a yes one for each effect.
 use Rattle.std.specs.Prelude.{ℕ, ◌+◌, ◌-◌, ◌*◌, ◌==◌, if◌then◌else◌, Bool, true, false, Option, Some, None, List, [], ◌∷◌, ◌++◌, map, length, codes, decimal}
 use Rattle.std.specs.List.{flat_map, range_with_len, enumerate_from}
-use Rattle.event_records.specs.declared.event.Event.{Event}
+use Rattle.history_merge.specs.Initial.{HistoryView}
 use Rattle.history_merge.specs.declared.operation.Operation.{Operation}
 use Rattle.history_merge.specs.declared.operation.OpKind.{OpKind}
 use Rattle.history_merge.specs.declared.operation.OpKind.TheVariants as kind
 use Rattle.history_merge.specs.Operations.{operations_of}
-use Rattle.drawing.specs.declared.claim.ShownClaim.{ShownClaim}
-use Rattle.drawing.specs.declared.claim.ShownClaim.TheVariants.{No}
+use Rattle.verdicts.specs.declared.verifying.ClaimLine.{ClaimLine}
+use Rattle.verdicts.specs.declared.verifying.Claimed.{Claimed}
+use Rattle.verdicts.specs.declared.verifying.Claimed.TheVariants.{No}
 use Rattle.verdicts.specs.declared.verifying.ViolationKind.TheVariants.{VRepeat}
 use Rattle.text_lines.specs.Lines.{line}
-use Rattle.drawing.specs.Claim.{operations_in}
+use Rattle.drawing.specs.Claim.{count_of_lines, order_of, shown_by}
 use Rattle.drawing.specs.declared.columns.Columns.{Columns}
 use Rattle.drawing.specs.declared.columns.Lane.{Lane}
 use Rattle.drawing.specs.declared.bands.Band.{Band}
 use Rattle.drawing.specs.declared.bands.Head.{Head}
-use Rattle.drawing.specs.Layout.{digits, label, threads_of, columns_of, lanes_of, under_way, called_at, place_in, number_in, order_of, shown_by, point}
+use Rattle.drawing.specs.Layout.{digits, label, initial_label, label_width, threads_of, columns_of, lanes_of, under_way, called_at}
+use Rattle.drawing.specs.Layout.{place_in, initial_place_in, number_at, number_in, point}
 use Rattle.drawing.specs.Bands.{bands_of, head_text, form, holds_gap}
 use Rattle.drawing.specs.Words.{Word, line_of}
 use Rattle.drawing.specs.Captions.{headline, caption, legend}
@@ -27,13 +29,13 @@ abbrev pub ticket_word : Columns → ℕ → Word
 ticket_word columns ticket = record { column = columns.ticket - digits ticket; bytes = decimal ticket }
 
 -- what stands in a lane in the row of an event: its call with its number, its return, or that it is under way
-abbrev pub sign : List Operation → ℕ → Option Operation → List ℕ
+abbrev pub sign : List ClaimLine → ℕ → Option Operation → List ℕ
 sign shown ticket None = []
 sign shown ticket (Some o) =
     if o.call == ticket then codes "[" ++ number_in shown o else (if o.ret == ticket then codes "]" else codes "|")
 
 -- the words in the lanes in the row of an event
-abbrev pub lane_words : List Operation → List Operation → List Lane → ℕ → List Word
+abbrev pub lane_words : List Operation → List ClaimLine → List Lane → ℕ → List Word
 lane_words operations shown lanes ticket =
     map (λ lane. record { column = lane.column; bytes = sign shown ticket (under_way operations lane.thread ticket) }) lanes
 
@@ -46,17 +48,17 @@ label_if (Some o) = label o.kind
 abbrev pub band_column : Columns → ℕ → ℕ
 band_column columns i = columns.beside + 5 * i
 
--- a band at a column, where it holds the gap just after a ticket
-abbrev pub band_at : ℕ → Band → ℕ → Word
-band_at column band ticket = record { column = column; bytes = if holds_gap band ticket then form band.head else [] }
+-- a band at a column, where it holds a gap: that just after a ticket, or none for that before all tickets
+abbrev pub band_at : ℕ → Band → Option ℕ → Word
+band_at column band gap = record { column = column; bytes = if holds_gap band gap then form band.head else [] }
 
--- band i in the row of an event
-abbrev pub band_word : Columns → ℕ → ℕ × Band → Word
-band_word columns ticket (i, band) = band_at (band_column columns i) band ticket
+-- band i, where it holds a gap
+abbrev pub band_word : Columns → Option ℕ → ℕ × Band → Word
+band_word columns gap (i, band) = band_at (band_column columns i) band gap
 
--- the bands in the row of an event
-abbrev pub band_words : Columns → List Band → ℕ → List Word
-band_words columns bands ticket = map (band_word columns ticket) (enumerate_from 0 bands)
+-- the bands that hold a gap
+abbrev pub band_words : Columns → List Band → Option ℕ → List Word
+band_words columns bands gap = map (band_word columns gap) (enumerate_from 0 bands)
 
 -- whether a value goes in or out
 abbrev pub way : OpKind → List ℕ
@@ -69,21 +71,59 @@ way_at kind None = []
 way_at kind (Some place) = way kind
 
 -- the word of an operation, where the lines have it
-abbrev pub way_of : List Operation → Option Operation → List ℕ
+abbrev pub way_of : List ClaimLine → Option Operation → List ℕ
 way_of lines None = []
 way_of lines (Some o) = way_at o.kind (place_in lines o)
 
 -- the words `in` and `out` where a value was dequeued twice
-abbrev pub way_word : ShownClaim → Option Operation → List ℕ
+abbrev pub way_word : Claimed → Option Operation → List ℕ
 way_word (No VRepeat lines) called = way_of lines called
 way_word _ called = []
 
 -- the words in the row of an event: its ticket, what its thread and the others do, the label of what is called, and the bands
-unfoldable pub event_words : Columns → List Lane → List Band → List Operation → ShownClaim → ℕ → List Word
+unfoldable pub event_words : Columns → List Lane → List Band → List Operation → Claimed → ℕ → List Word
 event_words columns lanes bands operations claimed ticket =
     ticket_word columns ticket ∷ (lane_words operations (shown_by claimed) lanes ticket
     ++ (record { column = columns.label; bytes = label_if (called_at operations ticket) }
-    ∷ record { column = columns.beside; bytes = way_word claimed (called_at operations ticket) } ∷ band_words columns bands ticket))
+    ∷ record { column = columns.beside; bytes = way_word claimed (called_at operations ticket) } ∷ band_words columns bands (Some ticket)))
+
+-- ---- initial values
+
+-- the words above the rows of the initial values, and the bands from the top on
+unfoldable pub first_words : Columns → List Band → List Word
+first_words columns bands = record { column = 0; bytes = codes "in the queue first" } ∷ band_words columns bands None
+
+-- the word of an initial value at this place of a claim
+abbrev pub in_at : Option ℕ → List ℕ
+in_at None = []
+in_at (Some place) = codes "in"
+
+-- the word `in`, where the value was dequeued twice
+abbrev pub initial_way : Claimed → ℕ → List ℕ
+initial_way (No VRepeat lines) v = in_at (initial_place_in lines v)
+initial_way _ v = []
+
+-- the number of an initial value among the lines that show a no, at the right of its column
+abbrev pub initial_number : ℕ → List ℕ → Word
+initial_number width number = record { column = width - length number; bytes = number }
+
+-- the words in the row of an initial value, in a column at the left: its number, if a no names it, and its label; and the bands from
+-- the top on
+unfoldable pub initial_words : Columns → List Band → Claimed → ℕ → List Word
+initial_words columns bands claimed v =
+    initial_number (digits (count_of_lines claimed)) (number_at (initial_place_in (shown_by claimed) v))
+    ∷ record { column = digits (count_of_lines claimed) + 1; bytes = initial_label v }
+    ∷ record { column = columns.beside; bytes = initial_way claimed v } ∷ band_words columns bands None
+
+-- the row of an initial value
+abbrev pub initial_row : Columns → List Band → Claimed → ℕ → List ℕ
+initial_row columns bands claimed v = line (line_of (initial_words columns bands claimed v))
+
+-- the rows of the initial values under their head, the front one first; nothing where there are none
+abbrev pub initial_rows : Columns → List Band → Claimed → List ℕ → List ℕ
+initial_rows columns bands claimed [] = []
+initial_rows columns bands claimed (front ∷ others) =
+    line (line_of (first_words columns bands)) ++ flat_map (initial_row columns bands claimed) (front ∷ others)
 
 -- ---- the order of a yes
 
@@ -126,7 +166,7 @@ effect_rows columns lanes operations order ticket = flat_map (effect_if columns 
 -- ---- the picture
 
 -- the row of the event at a ticket, and of the effects after it
-abbrev pub event_rows : Columns → List Lane → List Band → List Operation → ShownClaim → ℕ → List ℕ
+abbrev pub event_rows : Columns → List Lane → List Band → List Operation → Claimed → ℕ → List ℕ
 event_rows columns lanes bands operations claimed ticket =
     line (line_of (event_words columns lanes bands operations claimed ticket)) ++ effect_rows columns lanes operations (order_of claimed) ticket
 
@@ -159,25 +199,28 @@ unfoldable pub name_words : Columns → List Lane → ℕ → List Word
 name_words columns lanes bands =
     record { column = columns.ticket - 6; bytes = codes "ticket" } ∷ (lane_names lanes ++ strokes columns bands)
 
--- the heads, the rows of the events, and those of the effects
-unfoldable pub rows : Columns → List Lane → List Band → List Event → List Operation → ShownClaim → List ℕ
-rows columns lanes bands events operations claimed =
+-- the heads, the rows of the initial values, and those of the events and effects
+unfoldable pub rows : Columns → List Lane → List Band → HistoryView → List Operation → Claimed → List ℕ
+rows columns lanes bands history operations claimed =
     head_lines columns bands ++ (line (line_of (thread_words columns (length bands))) ++ (line (line_of (name_words columns lanes (length bands)))
-    ++ flat_map (λ e. event_rows columns lanes bands operations claimed e.ticket) events))
+    ++ (initial_rows columns bands claimed history.initial
+    ++ flat_map (λ e. event_rows columns lanes bands operations claimed e.ticket) history.events)))
 
 -- the columns of the picture of a history and what is claimed of it
-abbrev pub columns_in : List Event → ShownClaim → Columns
-columns_in events claimed = columns_of events (operations_of events) (threads_of events) (length (operations_in claimed))
+abbrev pub columns_in : HistoryView → Claimed → Columns
+columns_in history claimed =
+    columns_of history.events (threads_of history.events) (label_width history.initial (operations_of history.events)) (count_of_lines claimed)
 
 -- what stands above the rows
-unfoldable pub words : ShownClaim → List ℕ
-words claimed = line (headline claimed) ++ (caption claimed ++ (line [] ++ (legend claimed ++ line [])))
+unfoldable pub words : List ℕ → Claimed → List ℕ
+words initial claimed = line (headline claimed) ++ (caption claimed ++ (line [] ++ (legend initial claimed ++ line [])))
 
 -- the rows of the picture of a history and what is claimed of it
-abbrev pub rows_in : List Event → ShownClaim → List ℕ
-rows_in events claimed =
-    rows (columns_in events claimed) (lanes_of (columns_in events claimed) (threads_of events)) (bands_of claimed) events (operations_of events) claimed
+abbrev pub rows_in : HistoryView → Claimed → List ℕ
+rows_in history claimed =
+    rows (columns_in history claimed) (lanes_of (columns_in history claimed) (threads_of history.events)) (bands_of claimed) history
+    (operations_of history.events) claimed
 
 -- the picture of a history and what is claimed of it, in lines of characters
-unfoldable pub terminal_picture : List Event → ShownClaim → List ℕ
-terminal_picture events claimed = words claimed ++ rows_in events claimed
+unfoldable pub terminal_picture : HistoryView → Claimed → List ℕ
+terminal_picture history claimed = words history.initial claimed ++ rows_in history claimed

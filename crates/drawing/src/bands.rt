@@ -1,14 +1,15 @@
 //! Bands beside the lanes of a no.
 ghost use Rattle.std.specs.Prelude.{◌≡◌, ◌++◌, ◌∷◌, ◌+◌, ◌≤◌, [], OnOk, IfOk, decimal, length, vec_len};
-ghost use Rattle.drawing.specs.Claim.{operations_in};
+ghost use Rattle.drawing.specs.Claim.{count_of_lines, line_call, line_kind, line_return};
 ghost use Rattle.std.specs.List.{concat};
-ghost use Rattle.drawing.specs.Bands.{value_of, sure_until, time_of, absent_until, call_if_taken, cover_bands, fresh_bands, order_bands, witness_bands, repeat_bands, bands_of, head_text, form, holds_gap};
+ghost use Rattle.drawing.specs.Bands.{value_of, line_value, sure_until, time_of, absent_until, call_if_taken, cover_bands, fresh_bands};
+ghost use Rattle.drawing.specs.Bands.{order_bands, witness_bands, repeat_bands, bands_of, head_text, form, has_begun, goes_on, holds_gap};
 
-use crate::claim::ShownClaim;
+use crate::claim::{line_call, line_kind, line_return};
 use crate::line::{Piece, push_all};
-use history_merge::{OpKind, Operation};
+use history_merge::OpKind;
 use std::alloc::{AllocError, Global};
-use verdicts::ViolationKind;
+use verdicts::{ClaimLine, Claimed, ViolationKind};
 
 /// What stands above a band.
 #[derive(Clone, Copy, Debug, PartialEq, Eq)]
@@ -46,50 +47,54 @@ pub(crate) fn value_of(kind: OpKind) -> u64
     }
 }
 
-fn sure_until(enq: Operation, last: Option<u64>) -> Band
+/// The value of a line.
+pub(crate) fn line_value(line: ClaimLine) -> u64
+    ensures { result ≡ line_value line }
+{
+    value_of(line_kind(line))
+}
+
+fn sure_until(enq: ClaimLine, last: Option<u64>) -> Band
     ensures { result ≡ sure_until enq last }
 {
     Band {
-        head: Head::SurelyIn(value_of(enq.kind)),
-        first: Some(enq.ret),
+        head: Head::SurelyIn(line_value(enq)),
+        first: line_return(enq),
         last,
     }
 }
 
-fn time_of(head: Head, first: u64, last: u64) -> Band
+fn time_of(head: Head, first: Option<u64>, last: Option<u64>) -> Band
     ensures { result ≡ time_of head first last }
 {
-    Band {
-        head,
-        first: Some(first),
-        last: Some(last),
-    }
+    Band { head, first, last }
 }
 
-fn call_if_taken(operation: Operation) -> Option<u64>
-    ensures { result ≡ call_if_taken operation operation.kind }
+fn call_if_taken(line: ClaimLine) -> Option<u64>
+    ensures { result ≡ call_if_taken line (line_kind line) }
 {
-    match operation.kind {
-        OpKind::Enq(_) => Some(operation.call),
+    match line_kind(line) {
+        OpKind::Enq(_) => line_call(line),
         _ => None,
     }
 }
 
-fn push_fresh(bands: &mut Vec<Band>, deq: Operation, last: Option<u64>) -> Result<(), AllocError>
-    ensures bands { OnOk result (bands.new.items ≡ bands.old.items ++ (absent_until (value_of deq.kind) last ∷ time_of (Head.Dequeued (value_of deq.kind)) deq.call deq.ret ∷ [])) }
+fn push_fresh(bands: &mut Vec<Band>, deq: ClaimLine, last: Option<u64>) -> Result<(), AllocError>
+    ensures bands { OnOk result (bands.new.items ≡ bands.old.items ++ (absent_until (line_value deq) last ∷ time_of (Head.Dequeued (line_value deq))
+        (line_call deq) (line_return deq) ∷ [])) }
     ensures few { OnOk result (vec_len bands.new ≤ vec_len bands.old + 2) }
 {
-    let value = value_of(deq.kind);
+    let value = line_value(deq);
     bands.push(Band {
         head: Head::NotIn(value),
         first: None,
         last,
     })?;
-    bands.push(time_of(Head::Dequeued(value), deq.call, deq.ret))?;
+    bands.push(time_of(Head::Dequeued(value), line_call(deq), line_return(deq)))?;
     Ok(())
 }
 
-fn push_fresh_bands(bands: &mut Vec<Band>, lines: &[Operation]) -> Result<(), AllocError>
+fn push_fresh_bands(bands: &mut Vec<Band>, lines: &[ClaimLine]) -> Result<(), AllocError>
     ensures bands { OnOk result (bands.new.items ≡ bands.old.items ++ fresh_bands lines.now) }
     ensures few { OnOk result (vec_len bands.new ≤ vec_len bands.old + 2) }
 {
@@ -102,34 +107,35 @@ fn push_fresh_bands(bands: &mut Vec<Band>, lines: &[Operation]) -> Result<(), Al
 
 fn push_order(
     bands: &mut Vec<Band>,
-    enq_a: Operation,
+    enq_a: ClaimLine,
     last: Option<u64>,
-    enq_b: Operation,
-    deq_b: Operation,
+    enq_b: ClaimLine,
+    deq_b: ClaimLine,
 ) -> Result<(), AllocError>
-    ensures bands { OnOk result (bands.new.items ≡ bands.old.items ++ (sure_until enq_a last ∷ time_of (Head.InAndOut (value_of enq_b.kind)) enq_b.call deq_b.ret ∷ [])) }
+    ensures bands { OnOk result (bands.new.items ≡ bands.old.items ++ (sure_until enq_a last ∷ time_of (Head.InAndOut (line_value enq_b))
+        (line_call enq_b) (line_return deq_b) ∷ [])) }
     ensures few { OnOk result (vec_len bands.new ≤ vec_len bands.old + 2) }
 {
-    let value = value_of(enq_b.kind);
+    let head = Head::InAndOut(line_value(enq_b));
     bands.push(sure_until(enq_a, last))?;
-    bands.push(time_of(Head::InAndOut(value), enq_b.call, deq_b.ret))?;
+    bands.push(time_of(head, line_call(enq_b), line_return(deq_b)))?;
     Ok(())
 }
 
-fn push_order_bands(bands: &mut Vec<Band>, lines: &[Operation]) -> Result<(), AllocError>
+fn push_order_bands(bands: &mut Vec<Band>, lines: &[ClaimLine]) -> Result<(), AllocError>
     ensures bands { OnOk result (bands.new.items ≡ bands.old.items ++ order_bands lines.now) }
     ensures few { OnOk result (vec_len bands.new ≤ vec_len bands.old + 2) }
 {
     match lines {
         [enq_a, enq_b, deq_b] => push_order(bands, *enq_a, None, *enq_b, *deq_b),
         [enq_a, enq_b, deq_b, deq_a, ..] => {
-            push_order(bands, *enq_a, Some(deq_a.call), *enq_b, *deq_b)
+            push_order(bands, *enq_a, line_call(*deq_a), *enq_b, *deq_b)
         }
         _ => Ok(()),
     }
 }
 
-fn push_cover_bands(bands: &mut Vec<Band>, lines: &[Operation]) -> Result<(), AllocError>
+fn push_cover_bands(bands: &mut Vec<Band>, lines: &[ClaimLine]) -> Result<(), AllocError>
     ensures bands { OnOk result (bands.new.items ≡ bands.old.items ++ cover_bands lines.now) }
     ensures few { OnOk result (vec_len bands.new ≤ vec_len bands.old + length lines.now) }
 {
@@ -140,13 +146,13 @@ fn push_cover_bands(bands: &mut Vec<Band>, lines: &[Operation]) -> Result<(), Al
             Ok(())
         }
         [enq, deq, rest @ ..] => {
-            bands.push(sure_until(*enq, Some(deq.call)))?;
+            bands.push(sure_until(*enq, line_call(*deq)))?;
             push_cover_bands(bands, rest)
         }
     }
 }
 
-fn push_witness_bands(bands: &mut Vec<Band>, lines: &[Operation]) -> Result<(), AllocError>
+fn push_witness_bands(bands: &mut Vec<Band>, lines: &[ClaimLine]) -> Result<(), AllocError>
     ensures bands { OnOk result (bands.new.items ≡ bands.old.items ++ witness_bands lines.now) }
     ensures few { OnOk result (vec_len bands.new ≤ vec_len bands.old + length lines.now + 1) }
 {
@@ -154,13 +160,13 @@ fn push_witness_bands(bands: &mut Vec<Band>, lines: &[Operation]) -> Result<(), 
         [] => Ok(()),
         [empty, cover @ ..] => {
             push_cover_bands(bands, cover)?;
-            bands.push(time_of(Head::SaidEmpty, empty.call, empty.ret))?;
+            bands.push(time_of(Head::SaidEmpty, line_call(*empty), line_return(*empty)))?;
             Ok(())
         }
     }
 }
 
-fn push_repeat_bands(bands: &mut Vec<Band>, lines: &[Operation]) -> Result<(), AllocError>
+fn push_repeat_bands(bands: &mut Vec<Band>, lines: &[ClaimLine]) -> Result<(), AllocError>
     ensures bands { OnOk result (bands.new.items ≡ bands.old.items ++ repeat_bands lines.now) }
     ensures few { OnOk result (vec_len bands.new ≤ vec_len bands.old + 1) }
 {
@@ -168,7 +174,7 @@ fn push_repeat_bands(bands: &mut Vec<Band>, lines: &[Operation]) -> Result<(), A
         [] => Ok(()),
         [enq, ..] => {
             bands.push(Band {
-                head: Head::InOrOut(value_of(enq.kind)),
+                head: Head::InOrOut(line_value(*enq)),
                 first: None,
                 last: None,
             })?;
@@ -178,14 +184,14 @@ fn push_repeat_bands(bands: &mut Vec<Band>, lines: &[Operation]) -> Result<(), A
 }
 
 /// The bands of a claim, left to right.
-pub fn bands_of(alloc: Global, claimed: &ShownClaim) -> Result<Vec<Band>, AllocError>
+pub fn bands_of(alloc: Global, claimed: &Claimed) -> Result<Vec<Band>, AllocError>
     ensures bands { IfOk result (λ bands. bands.items ≡ bands_of claimed.now) }
-    ensures few { IfOk result (λ bands. vec_len bands ≤ length (operations_in claimed.now) + 2) }
+    ensures few { IfOk result (λ bands. vec_len bands ≤ count_of_lines claimed.now + 2) }
 {
     let mut bands = Vec::new(alloc);
     match claimed {
-        ShownClaim::Yes(_) => {}
-        ShownClaim::No(kind, lines) => {
+        Claimed::Yes(_) => {}
+        Claimed::No(kind, lines) => {
             let lines = lines.as_slice();
             match kind {
                 ViolationKind::VFresh => push_fresh_bands(&mut bands, lines)?,
@@ -231,9 +237,28 @@ pub(crate) fn form(head: Head) -> &'static [u8]
     }
 }
 
-/// Whether a band holds the gap just after this ticket.
-pub(crate) fn holds_gap(band: Band, ticket: u64) -> bool
-    ensures { result ≡ holds_gap band ticket }
+fn has_begun(first: Option<u64>, gap: Option<u64>) -> bool
+    ensures { result ≡ has_begun first gap }
 {
-    band.first.is_none_or(|first| first <= ticket) && band.last.is_none_or(|last| ticket < last)
+    match (first, gap) {
+        (None, _) => true,
+        (Some(_), None) => false,
+        (Some(first), Some(ticket)) => first <= ticket,
+    }
+}
+
+fn goes_on(last: Option<u64>, gap: Option<u64>) -> bool
+    ensures { result ≡ goes_on last gap }
+{
+    match (last, gap) {
+        (None, _) | (Some(_), None) => true,
+        (Some(last), Some(ticket)) => ticket < last,
+    }
+}
+
+/// Whether a band holds the gap just after this ticket, or for none that before all tickets.
+pub(crate) fn holds_gap(band: Band, gap: Option<u64>) -> bool
+    ensures { result ≡ holds_gap band gap }
+{
+    has_begun(band.first, gap) && goes_on(band.last, gap)
 }

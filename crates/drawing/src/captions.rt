@@ -1,22 +1,22 @@
 //! The words of a picture.
 ghost use Rattle.std.specs.Prelude.{◌≡◌, ◌++◌, ◌+◌, ◌<◌, ◌≤◌, OnOk, length};
-ghost use Rattle.drawing.specs.Claim.{operations_in};
-ghost use Rattle.drawing.specs.Captions.{headline, fresh_reason, fresh_caption, repeat_caption, overtaking_caption, order_caption, one_of_cover, last_of_cover, cover_caption, witness_words, witness_caption, yes_caption, caption, lane_meanings, number_meaning, fresh_meanings, sure_and, form_meanings, legend};
+ghost use Rattle.drawing.specs.Claim.{count_of_lines};
+ghost use Rattle.drawing.specs.Captions.{headline, fresh_reason, fresh_caption, repeat_words, repeat_caption, before_words, overtaking_caption, order_caption, one_of_cover, last_of_cover, cover_caption, witness_words, witness_caption, yes_caption, caption, lane_meanings, number_meaning, initial_meaning, fresh_meanings, sure_and, form_meanings, legend};
 
-use crate::bands::value_of;
-use crate::claim::ShownClaim;
+use crate::bands::line_value;
+use crate::claim::{line_call, line_kind, line_return};
 use crate::line::{Piece, push_all};
-use history_merge::{OpKind, Operation};
+use history_merge::OpKind;
 use std::alloc::AllocError;
-use verdicts::ViolationKind;
+use verdicts::{ClaimLine, Claimed, ViolationKind};
 
 /// What a picture shows, in a line.
-pub fn headline(claimed: &ShownClaim) -> &'static [u8]
+pub fn headline(claimed: &Claimed) -> &'static [u8]
     ensures { result.now ≡ headline claimed.now }
 {
     match claimed {
-        ShownClaim::Yes(_) => b"YES: a FIFO queue can have answered so",
-        ShownClaim::No(kind, _) => match kind {
+        Claimed::Yes(_) => b"YES: a FIFO queue can have answered so",
+        Claimed::No(kind, _) => match kind {
             ViolationKind::VFresh => b"NO: a value was dequeued that was not there",
             ViolationKind::VRepeat => b"NO: a value was dequeued twice",
             ViolationKind::VOrd => b"NO: values were dequeued against the order of their enqueues",
@@ -34,7 +34,7 @@ fn fresh_reason(kind: OpKind) -> &'static [u8]
     }
 }
 
-fn push_fresh_caption(text: &mut Vec<u8>, lines: &[Operation]) -> Result<(), AllocError>
+fn push_fresh_caption(text: &mut Vec<u8>, lines: &[ClaimLine]) -> Result<(), AllocError>
     ensures { OnOk result (text.new.items ≡ text.old.items ++ fresh_caption lines.now) }
 {
     match lines {
@@ -42,21 +42,30 @@ fn push_fresh_caption(text: &mut Vec<u8>, lines: &[Operation]) -> Result<(), All
         [deq] => push_all(
             text,
             &[
-                Piece::Number(value_of(deq.kind)),
+                Piece::Number(line_value(*deq)),
                 Piece::Words(b" was dequeued (1), but nobody ever enqueued it.\n"),
             ],
         ),
         [deq, enq, ..] => push_all(
             text,
             &[
-                Piece::Number(value_of(deq.kind)),
-                Piece::Words(fresh_reason(enq.kind)),
+                Piece::Number(line_value(*deq)),
+                Piece::Words(fresh_reason(line_kind(*enq))),
             ],
         ),
     }
 }
 
-fn push_repeat_caption(text: &mut Vec<u8>, lines: &[Operation]) -> Result<(), AllocError>
+fn repeat_words(enq: ClaimLine) -> &'static [u8]
+    ensures { result.now ≡ repeat_words enq }
+{
+    match enq {
+        ClaimLine::Op(_) => b" was enqueued once (1), but dequeued twice (2 and 3).\n",
+        ClaimLine::Initial(_) => { b" was in the queue first (1), but dequeued twice (2 and 3).\n" }
+    }
+}
+
+fn push_repeat_caption(text: &mut Vec<u8>, lines: &[ClaimLine]) -> Result<(), AllocError>
     ensures { OnOk result (text.new.items ≡ text.old.items ++ repeat_caption lines.now) }
 {
     match lines {
@@ -64,29 +73,38 @@ fn push_repeat_caption(text: &mut Vec<u8>, lines: &[Operation]) -> Result<(), Al
         [enq, ..] => push_all(
             text,
             &[
-                Piece::Number(value_of(enq.kind)),
-                Piece::Words(b" was enqueued once (1), but dequeued twice (2 and 3).\n"),
+                Piece::Number(line_value(*enq)),
+                Piece::Words(repeat_words(*enq)),
             ],
         ),
     }
 }
 
+fn before_words(a: ClaimLine) -> &'static [u8]
+    ensures { result.now ≡ before_words a }
+{
+    match a {
+        ClaimLine::Op(_) => b" was enqueued (1) before ",
+        ClaimLine::Initial(_) => b" was in the queue (1) before ",
+    }
+}
+
 fn push_overtaking_caption<'x>(
     text: &mut Vec<u8>,
-    a: Operation,
-    b: Operation,
+    a: ClaimLine,
+    b: ClaimLine,
     between: &'x [u8],
     end: &'x [u8],
 ) -> Result<(), AllocError>
     ensures { OnOk result (text.new.items ≡ text.old.items ++ overtaking_caption a b between.now end.now) }
 {
-    let first = value_of(a.kind);
-    let second = value_of(b.kind);
+    let first = line_value(a);
+    let second = line_value(b);
     push_all(
         text,
         &[
             Piece::Number(first),
-            Piece::Words(b" was enqueued (1) before "),
+            Piece::Words(before_words(a)),
             Piece::Number(second),
             Piece::Words(b" (2),\n"),
             Piece::Words(b"but "),
@@ -98,7 +116,7 @@ fn push_overtaking_caption<'x>(
     )
 }
 
-fn push_order_caption(text: &mut Vec<u8>, lines: &[Operation]) -> Result<(), AllocError>
+fn push_order_caption(text: &mut Vec<u8>, lines: &[ClaimLine]) -> Result<(), AllocError>
     ensures { OnOk result (text.new.items ≡ text.old.items ++ order_caption lines.now) }
 {
     match lines {
@@ -117,15 +135,15 @@ fn push_order_caption(text: &mut Vec<u8>, lines: &[Operation]) -> Result<(), All
 }
 
 #[tactic(auto, unfolding(crate::specs::Captions::last_of_cover))]
-fn push_last_of_cover(text: &mut Vec<u8>, number: u64, enq: Operation) -> Result<(), AllocError>
+fn push_last_of_cover(text: &mut Vec<u8>, number: u64, enq: ClaimLine) -> Result<(), AllocError>
     ensures { OnOk result (text.new.items ≡ text.old.items ++ last_of_cover number enq) }
 {
     push_all(
         text,
         &[
-            Piece::Number(value_of(enq.kind)),
-            Piece::Words(b" from ticket "),
-            Piece::Number(enq.ret),
+            Piece::Number(line_value(enq)),
+            Piece::Words(b" from "),
+            Piece::Moment(line_return(enq)),
             Piece::Words(b" ("),
             Piece::Number(number),
             Piece::Words(b") on\n"),
@@ -137,8 +155,8 @@ fn push_last_of_cover(text: &mut Vec<u8>, number: u64, enq: Operation) -> Result
 fn push_one_of_cover(
     text: &mut Vec<u8>,
     number: u64,
-    enq: Operation,
-    deq: Operation,
+    enq: ClaimLine,
+    deq: ClaimLine,
 ) -> Result<(), AllocError>
     requires { number < 1000000 }
     ensures { OnOk result (text.new.items ≡ text.old.items ++ one_of_cover number enq deq) }
@@ -146,13 +164,13 @@ fn push_one_of_cover(
     push_all(
         text,
         &[
-            Piece::Number(value_of(enq.kind)),
-            Piece::Words(b" from ticket "),
-            Piece::Number(enq.ret),
+            Piece::Number(line_value(enq)),
+            Piece::Words(b" from "),
+            Piece::Moment(line_return(enq)),
             Piece::Words(b" ("),
             Piece::Number(number),
-            Piece::Words(b") to ticket "),
-            Piece::Number(deq.call),
+            Piece::Words(b") to "),
+            Piece::Moment(line_call(deq)),
             Piece::Words(b" ("),
             Piece::Number(number + 1),
             Piece::Words(b")\n"),
@@ -163,7 +181,7 @@ fn push_one_of_cover(
 fn push_cover_caption(
     text: &mut Vec<u8>,
     number: u64,
-    lines: &[Operation],
+    lines: &[ClaimLine],
 ) -> Result<(), AllocError>
     requires { number + length lines.now < 1000000 }
     ensures { OnOk result (text.new.items ≡ text.old.items ++ cover_caption number lines.now) }
@@ -191,7 +209,7 @@ fn push_witness_words(text: &mut Vec<u8>) -> Result<(), AllocError>
     )
 }
 
-fn push_witness_caption(text: &mut Vec<u8>, lines: &[Operation]) -> Result<(), AllocError>
+fn push_witness_caption(text: &mut Vec<u8>, lines: &[ClaimLine]) -> Result<(), AllocError>
     requires { length lines.now ≤ 400 }
     ensures { OnOk result (text.new.items ≡ text.old.items ++ witness_caption lines.now) }
 {
@@ -221,13 +239,13 @@ fn push_yes_caption(text: &mut Vec<u8>) -> Result<(), AllocError>
 
 /// Adds what a claim says, in sentences, each line with its line feed.
 #[tactic(auto, unfolding(crate::specs::Captions::caption))]
-pub fn push_caption(text: &mut Vec<u8>, claimed: &ShownClaim) -> Result<(), AllocError>
-    requires { length (operations_in claimed.now) ≤ 400 }
+pub fn push_caption(text: &mut Vec<u8>, claimed: &Claimed) -> Result<(), AllocError>
+    requires { count_of_lines claimed.now ≤ 400 }
     ensures { OnOk result (text.new.items ≡ text.old.items ++ caption claimed.now) }
 {
     match claimed {
-        ShownClaim::Yes(_) => push_yes_caption(text),
-        ShownClaim::No(kind, lines) => {
+        Claimed::Yes(_) => push_yes_caption(text),
+        Claimed::No(kind, lines) => {
             let lines = lines.as_slice();
             match kind {
                 ViolationKind::VFresh => push_fresh_caption(text, lines),
@@ -239,12 +257,24 @@ pub fn push_caption(text: &mut Vec<u8>, claimed: &ShownClaim) -> Result<(), Allo
     }
 }
 
-fn number_meaning(claimed: &ShownClaim) -> &'static [u8]
-    ensures { result.now ≡ number_meaning claimed.now }
+fn number_meaning(claimed: &Claimed, initial: &[u64]) -> &'static [u8]
+    ensures { result.now ≡ number_meaning claimed.now initial.now }
 {
     match claimed {
-        ShownClaim::Yes(_) => b"1    number 1 in the order, where it takes effect\n",
-        ShownClaim::No(_, _) => b"1    number 1 of the operations that show it\n",
+        Claimed::Yes(_) => b"1    number 1 in the order, where it takes effect\n",
+        Claimed::No(_, _) => match initial {
+            [] => b"1    number 1 of the operations that show it\n",
+            [_, ..] => b"1    number 1 of the values and operations that show it\n",
+        },
+    }
+}
+
+fn initial_meaning(initial: &[u64]) -> &'static [u8]
+    ensures { result.now ≡ initial_meaning initial.now }
+{
+    match initial {
+        [] => b"",
+        [_, ..] => b"init a value that was in the queue first, the front one on top\n",
     }
 }
 
@@ -287,12 +317,12 @@ fn push_sure_and(text: &mut Vec<u8>, time: &[u8]) -> Result<(), AllocError>
     )
 }
 
-fn push_form_meanings(text: &mut Vec<u8>, claimed: &ShownClaim) -> Result<(), AllocError>
+fn push_form_meanings(text: &mut Vec<u8>, claimed: &Claimed) -> Result<(), AllocError>
     ensures { OnOk result (text.new.items ≡ text.old.items ++ form_meanings claimed.now) }
 {
     match claimed {
-        ShownClaim::Yes(_) => Ok(()),
-        ShownClaim::No(kind, _) => match kind {
+        Claimed::Yes(_) => Ok(()),
+        Claimed::No(kind, _) => match kind {
             ViolationKind::VFresh => push_fresh_meanings(text),
             ViolationKind::VRepeat => Ok(()),
             ViolationKind::VOrd => push_sure_and(
@@ -309,10 +339,15 @@ fn push_form_meanings(text: &mut Vec<u8>, claimed: &ShownClaim) -> Result<(), Al
 
 /// Adds how to read a picture of characters.
 #[tactic(auto, unfolding(crate::specs::Captions::legend))]
-pub(crate) fn push_legend(text: &mut Vec<u8>, claimed: &ShownClaim) -> Result<(), AllocError>
-    ensures { OnOk result (text.new.items ≡ text.old.items ++ legend claimed.now) }
+pub(crate) fn push_legend(
+    text: &mut Vec<u8>,
+    initial: &[u64],
+    claimed: &Claimed,
+) -> Result<(), AllocError>
+    ensures { OnOk result (text.new.items ≡ text.old.items ++ legend initial.now claimed.now) }
 {
     push_lane_meanings(text)?;
-    text.extend_from_slice(number_meaning(claimed))?;
+    text.extend_from_slice(initial_meaning(initial))?;
+    text.extend_from_slice(number_meaning(claimed, initial))?;
     push_form_meanings(text, claimed)
 }

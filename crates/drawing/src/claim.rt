@@ -1,45 +1,67 @@
-//! What is claimed of a history, as it is drawn.
-ghost use Rattle.std.specs.Prelude.{◌≡◌, IfOk, MatchOption, Some, None};
-ghost use Rattle.drawing.specs.Claim.{operations_of_lines, shown_of};
+//! What a claim lists.
+ghost use Rattle.std.specs.Prelude.{◌≡◌, ◌≤◌, length};
+ghost use Rattle.drawing.specs.Claim.{count_of_lines, order_of, shown_by, line_kind, line_call, line_return};
 
-use history_merge::Operation;
-use std::alloc::{AllocError, Global};
-use verdicts::{ClaimLine, ClaimLines, Claimed, Lines, ViolationKind};
+use history_merge::{OpKind, Operation};
+use verdicts::{ClaimLine, Claimed};
 
-/// A claim whose lines are operations: what a picture of a queue that is empty first shows.
-#[derive(Debug, Drop)]
-pub enum ShownClaim {
-    /// The operations in a legal order.
-    Yes(Lines),
-    /// The operations that show a violation of this kind.
-    No(ViolationKind, Lines),
-}
-
-impl ShownClaim {
-    /// The claim as it is drawn; none where a line of it is an initial value. Time and memory linear in the claim of a no.
-    pub fn of(alloc: Global, claimed: Claimed) -> Result<Option<ShownClaim>, AllocError>
-        ensures { IfOk result (λ shown. shown ≡ shown_of claimed) }
-    {
-        match claimed {
-            Claimed::Yes(operations) => Ok(Some(ShownClaim::Yes(operations))),
-            Claimed::No(kind, lines) => {
-                let operations = operations_of(alloc, &lines)?;
-                Ok(operations.map(|operations| ShownClaim::No(kind, Lines::from_vec(operations))))
-            }
-        }
-    }
-}
-
-/// The operations of these lines; none where a line is an initial value.
-fn operations_of(alloc: Global, lines: &ClaimLines) -> Result<Option<Vec<Operation>>, AllocError>
-    ensures { IfOk result (λ operations. MatchOption operations (operations_of_lines lines.now ≡ None) (λ v. operations_of_lines lines.now ≡ Some v.items)) }
+/// How many lines a claim has.
+pub fn count_of_lines(claimed: &Claimed) -> usize
+    ensures { result ≡ count_of_lines claimed.now }
 {
-    let mut operations = Vec::with_capacity(alloc, lines.as_slice().len())?;
-    for line in lines.as_slice() {
-        match line {
-            ClaimLine::Op(operation) => operations.push(*operation)?,
-            ClaimLine::Initial(_) => return Ok(None),
-        }
+    match claimed {
+        Claimed::Yes(order) => order.as_slice().len(),
+        Claimed::No(_, lines) => lines.as_slice().len(),
     }
-    Ok(Some(operations))
+}
+
+/// The order of a yes.
+pub fn order_of(claimed: &Claimed) -> &[Operation]
+    ensures { result.now ≡ order_of claimed.now }
+{
+    match claimed {
+        Claimed::Yes(order) => order.as_slice(),
+        Claimed::No(_, _) => &[],
+    }
+}
+
+/// The lines that show a no.
+pub(crate) fn shown_by(claimed: &Claimed) -> &[ClaimLine]
+    ensures value { result.now ≡ shown_by claimed.now }
+    ensures few { length result.now ≤ count_of_lines claimed.now }
+{
+    match claimed {
+        Claimed::Yes(_) => &[],
+        Claimed::No(_, lines) => lines.as_slice(),
+    }
+}
+
+/// What a line says that was done; an initial value counts as enqueued.
+pub(crate) fn line_kind(line: ClaimLine) -> OpKind
+    ensures { result ≡ line_kind line }
+{
+    match line {
+        ClaimLine::Op(operation) => operation.kind,
+        ClaimLine::Initial(value) => OpKind::Enq(value),
+    }
+}
+
+/// The ticket of a line's call, none of an initial value.
+pub(crate) fn line_call(line: ClaimLine) -> Option<u64>
+    ensures { result ≡ line_call line }
+{
+    match line {
+        ClaimLine::Op(operation) => Some(operation.call),
+        ClaimLine::Initial(_) => None,
+    }
+}
+
+/// The ticket of a line's return, none of an initial value.
+pub(crate) fn line_return(line: ClaimLine) -> Option<u64>
+    ensures { result ≡ line_return line }
+{
+    match line {
+        ClaimLine::Op(operation) => Some(operation.ret),
+        ClaimLine::Initial(_) => None,
+    }
 }

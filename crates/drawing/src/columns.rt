@@ -1,13 +1,13 @@
 //! Columns and lanes.
 ghost use Rattle.std.specs.Prelude.{◌≡◌, ◌+◌, ◌≤◌, ◌<◌, IfOk, length, max, decimal, vec_len, count_by, nat_lt};
-ghost use Rattle.drawing.specs.Layout.{digits, label, has_events, threads_of, last_ticket, label_width, columns_of, lanes_of};
+ghost use Rattle.drawing.specs.Layout.{digits, label, initial_label, has_events, threads_of, last_ticket, initial_width, label_width, columns_of, lanes_of};
 
 use event_records::{Event, MAX_THREAD};
 use history_merge::{OpKind, Operation};
 use itoa::Buffer;
 use std::alloc::{AllocError, Global};
 
-/// The most operations of a history, and of a claim, that are drawn.
+/// The most initial values and the most operations of a history, and the most lines of a claim, that are drawn.
 pub const MOST_DRAWN: usize = 400;
 
 /// Where the columns of a picture of characters stand, from 0.
@@ -70,12 +70,30 @@ fn label_len(kind: OpKind) -> usize
     }
 }
 
-/// The length of the longest label of these operations, or of `empty`.
-pub fn label_width(operations: &[Operation]) -> usize
-    ensures value { result ≡ label_width operations.now }
-    ensures few { result ≤ 24 }
+fn initial_label_len(value: u64) -> usize
+    ensures value { result ≡ length (initial_label value) }
+    ensures few { result ≤ 25 }
+{
+    5 + digits(value)
+}
+
+fn initial_width(initial: &[u64]) -> usize
+    ensures value { result ≡ initial_width initial.now }
+    ensures few { result ≤ 25 }
 {
     let mut widest = 5;
+    for value in initial {
+        widest = widest.max(initial_label_len(*value));
+    }
+    widest
+}
+
+/// The length of the longest label of these initial values and operations, or of `empty`.
+pub fn label_width(initial: &[u64], operations: &[Operation]) -> usize
+    ensures value { result ≡ label_width initial.now operations.now }
+    ensures few { result ≤ 25 }
+{
+    let mut widest = initial_width(initial);
     for operation in operations {
         widest = widest.max(label_len(operation.kind));
     }
@@ -92,18 +110,19 @@ pub fn last_ticket(events: &[Event]) -> u64
     }
 }
 
-/// The columns of a picture of these events, for a claim of so many operations.
+/// The columns of a picture of these events, whose longest label is so wide, for a claim of so many lines.
 pub(crate) fn columns_of(
     events: &[Event],
-    operations: &[Operation],
     threads: &[u8],
+    widest_label: usize,
     claimed: usize,
 ) -> Columns
-    requires { length threads.now ≤ 64 }
-    ensures columns { result ≡ columns_of events.now operations.now threads.now claimed }
+    requires threads { length threads.now ≤ 64 }
+    requires label { widest_label ≤ 25 }
+    ensures columns { result ≡ columns_of events.now threads.now widest_label claimed }
     ensures ticket { result.ticket ≤ 20 }
     ensures lane { result.lane ≤ 22 }
-    ensures beside { result.beside ≤ 1458 }
+    ensures beside { result.beside ≤ 1459 }
     ensures wide { 6 ≤ result.ticket }
 {
     let ticket = digits(last_ticket(events)).max(6);
@@ -113,7 +132,7 @@ pub(crate) fn columns_of(
         ticket,
         lane,
         label,
-        beside: label + label_width(operations) + 2,
+        beside: label + widest_label + 2,
     }
 }
 

@@ -1,4 +1,4 @@
-ghost use Rattle.drawing.specs.Laws.{LanesAreApart, BarsAreOfOperations, NoOtherBars, EffectsAreInBars, EffectsRise, NumbersAreOfLines, LinesHaveNumbers};
+ghost use Rattle.drawing.specs.Laws.{LanesAreApart, BarsAreOfOperations, NoOtherBars, EffectsAreInBars, EffectsRise, NumbersAreOfLines, LinesHaveNumbers, InitialNumbersAreOfLines, InitialLinesHaveNumbers, LinesAreOfHistory};
 
 /// The bars in the lanes are the operations, each in the lane of its thread, from its call to its return. The laws are the
 /// contract; the body is empty.
@@ -19,9 +19,17 @@ pub fn lanes_stand_apart()
     ensures { LanesAreApart }
 {}
 
-/// The operations with a number are those that a claim lists, and the number is that of the line. The laws are the contract;
-/// the body is empty.
+/// The operations and the initial values with a number are those that a claim lists, and the number is that of the line. The laws are
+/// the contract; the body is empty.
 pub fn numbers_are_those_of_the_claim()
     ensures of_lines { NumbersAreOfLines }
     ensures each { LinesHaveNumbers }
+    ensures of_initial_lines { InitialNumbersAreOfLines }
+    ensures each_initial { InitialLinesHaveNumbers }
+{}
+
+/// The lines of evidence are operations and initial values of the history, so each has its bar or its row. The law is the contract;
+/// the body is empty.
+pub fn lines_of_evidence_are_drawn()
+    ensures { LinesAreOfHistory }
 {}

@@ -5,6 +5,7 @@ mod bands;
 mod captions;
 mod claim;
 mod columns;
+mod initial;
 mod laws;
 mod line;
 mod lookup;
@@ -13,13 +14,14 @@ mod writing;
 
 pub use bands::{Band, Head, bands_of, push_head};
 pub use captions::{headline, push_caption};
-pub use claim::ShownClaim;
+pub use claim::{count_of_lines, order_of};
 pub use columns::{Columns, Lane, MOST_DRAWN, digits, label_width, last_ticket, threads_of};
+pub use initial::push_initial_label;
 pub use laws::{
     bars_are_the_operations, effects_rise_within_bars, lanes_stand_apart,
-    numbers_are_those_of_the_claim,
+    lines_of_evidence_are_drawn, numbers_are_those_of_the_claim,
 };
 pub use line::push_line;
-pub use lookup::place_in;
-pub use terminal::{operations_in, order_of, push_label, terminal_picture, way};
+pub use lookup::{initial_place_of, place_of};
+pub use terminal::{push_label, terminal_picture, way};
 pub use writing::write_terminal_picture;

@@ -1,5 +1,5 @@
 //! Text made of pieces, and lines of words that stand at columns.
-ghost use Rattle.std.specs.Prelude.{◌≡◌, ◌++◌, OnOk};
+ghost use Rattle.std.specs.Prelude.{◌≡◌, ◌++◌, OnOk, decimal};
 ghost use Rattle.std.specs.List.{flat_map};
 ghost use Rattle.text_lines.specs.Lines.{line};
 ghost use Rattle.drawing.specs.Words.{placed};
@@ -15,6 +15,8 @@ pub enum Piece<'a> {
     Words(&'a [u8]),
     /// The digits of this number.
     Number(u64),
+    /// The moment of this ticket, or the one before all tickets.
+    Moment(Option<u64>),
 }
 
 /// Adds a word to a line at a column: blanks up to it, and the word. An empty word adds nothing.
@@ -31,15 +33,25 @@ pub(crate) fn place(line: &mut Vec<u8>, column: usize, word: &[u8]) -> Result<()
     }
 }
 
+/// Adds the digits of a number.
+fn push_number(text: &mut Vec<u8>, number: u64) -> Result<(), AllocError>
+    ensures { OnOk result (text.new.items ≡ text.old.items ++ decimal number) }
+{
+    let mut buffer = Buffer::new();
+    text.extend_from_slice(buffer.format(number).as_bytes())
+}
+
 /// Adds a piece.
 fn push_piece(text: &mut Vec<u8>, piece: Piece<'_>) -> Result<(), AllocError>
     ensures { OnOk result (text.new.items ≡ text.old.items ++ piece_text piece.entry) }
 {
     match piece {
         Piece::Words(bytes) => text.extend_from_slice(bytes),
-        Piece::Number(number) => {
-            let mut buffer = Buffer::new();
-            text.extend_from_slice(buffer.format(number).as_bytes())
+        Piece::Number(number) => push_number(text, number),
+        Piece::Moment(None) => text.extend_from_slice(b"the start"),
+        Piece::Moment(Some(ticket)) => {
+            text.extend_from_slice(b"ticket ")?;
+            push_number(text, ticket)
         }
     }
 }

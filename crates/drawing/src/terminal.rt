@@ -1,25 +1,31 @@
 //! A picture as lines of characters.
-ghost use Rattle.std.specs.Prelude.{◌≡◌, ◌==◌, ◌+◌, ◌≤◌, ◌++◌, ◌∷◌, [], IfOk, OnOk, length, map, codes, decimal};
+ghost use Rattle.std.specs.Prelude.{◌≡◌, ◌==◌, ◌+◌, ◌≤◌, ◌++◌, ◌∷◌, [], Some, IfOk, OnOk, length, map, codes, decimal};
 ghost use Rattle.std.specs.List.{flat_map, enumerate_from, range_with_len};
 ghost use Rattle.history_merge.specs.Operations.{operations_of};
-ghost use Rattle.drawing.specs.Claim.{operations_in};
+ghost use Rattle.drawing.specs.Claim.{count_of_lines};
 ghost use Rattle.text_lines.specs.Lines.{line};
-ghost use Rattle.drawing.specs.Layout.{label, threads_of, columns_of, lanes_of, number_in, order_of, shown_by};
+ghost use Rattle.drawing.specs.Layout.{label, label_width, threads_of, columns_of, lanes_of, number_in};
 ghost use Rattle.drawing.specs.Bands.{bands_of, head_text};
 ghost use Rattle.drawing.specs.Words.{placed, with_words, line_of};
-ghost use Rattle.drawing.specs.Terminal.{ticket_word, sign, lane_words, label_if, band_column, band_at, band_words, way, way_of, way_word, event_words, effect_sign, effect_lane_words, effect_words, effect_row_if, effect_rows, event_rows, strokes, head_words, head_lines, thread_words, lane_names, name_words, rows, words, terminal_picture};
+ghost use Rattle.drawing.specs.Terminal.{ticket_word, sign, lane_words, label_if, band_column, band_at, band_words, way, way_of, way_word};
+ghost use Rattle.drawing.specs.Terminal.{event_words, effect_sign, effect_lane_words, effect_words, effect_row_if, effect_rows, event_rows};
+ghost use Rattle.drawing.specs.Terminal.{strokes, head_words, head_lines, thread_words, lane_names, name_words, rows, words};
+ghost use Rattle.drawing.specs.Terminal.{terminal_picture};
 
 use crate::bands::{Band, Head, bands_of, form, holds_gap, push_head};
 use crate::captions::{headline, push_caption, push_legend};
-use crate::claim::ShownClaim;
-use crate::columns::{Columns, Lane, MOST_DRAWN, columns_of, digits, lanes_of, threads_of};
+use crate::claim::{count_of_lines, order_of, shown_by};
+use crate::columns::{
+    Columns, Lane, MOST_DRAWN, columns_of, digits, label_width, lanes_of, threads_of,
+};
+use crate::initial::push_initial_rows;
 use crate::line::{Piece, place, push_all, push_line};
 use crate::lookup::{called_at, place_in, under_way};
 use event_records::Event;
 use history_merge::{History, OpKind, Operation};
 use itoa::Buffer;
 use std::alloc::{AllocError, Global};
-use verdicts::ViolationKind;
+use verdicts::{ClaimLine, Claimed, ViolationKind};
 
 /// Adds a number to a line at a column.
 fn place_number(line: &mut Vec<u8>, column: usize, number: u64) -> Result<(), AllocError>
@@ -39,7 +45,7 @@ fn place_ticket(line: &mut Vec<u8>, columns: Columns, ticket: u64) -> Result<(),
 /// A bracket, and after it the number of an operation in a claim.
 fn numbered_call(
     alloc: Global,
-    shown: &[Operation],
+    shown: &[ClaimLine],
     operation: Operation,
 ) -> Result<Vec<u8>, AllocError>
     requires { length shown.now ≤ 400 }
@@ -55,7 +61,7 @@ fn numbered_call(
 
 fn sign(
     alloc: Global,
-    shown: &[Operation],
+    shown: &[ClaimLine],
     ticket: u64,
     operation: Option<Operation>,
 ) -> Result<Vec<u8>, AllocError>
@@ -80,7 +86,7 @@ fn place_lanes(
     alloc: Global,
     line: &mut Vec<u8>,
     operations: &[Operation],
-    shown: &[Operation],
+    shown: &[ClaimLine],
     lanes: &[Lane],
     ticket: u64,
 ) -> Result<(), AllocError>
@@ -117,30 +123,36 @@ fn label_if(alloc: Global, operation: Option<Operation>) -> Result<Vec<u8>, Allo
     Ok(word)
 }
 
-/// A band at a column, where it holds the gap just after a ticket.
-fn place_band(line: &mut Vec<u8>, column: usize, band: Band, ticket: u64) -> Result<(), AllocError>
-    ensures { OnOk result (line.new.items ≡ placed line.old.items (band_at column band ticket)) }
+/// A band at a column, where it holds a gap.
+fn place_band(
+    line: &mut Vec<u8>,
+    column: usize,
+    band: Band,
+    gap: Option<u64>,
+) -> Result<(), AllocError>
+    ensures { OnOk result (line.new.items ≡ placed line.old.items (band_at column band gap)) }
 {
-    if holds_gap(band, ticket) {
+    if holds_gap(band, gap) {
         place(line, column, form(band.head))
     } else {
         Ok(())
     }
 }
 
+/// The bands that hold a gap: that just after a ticket, or for none that before all tickets.
 #[tactic(auto, using(crate::proofs::Loops::words_enumerated_more))]
-fn place_bands(
+pub(crate) fn place_bands(
     line: &mut Vec<u8>,
     columns: Columns,
     bands: &[Band],
-    ticket: u64,
+    gap: Option<u64>,
 ) -> Result<(), AllocError>
     requires few { length bands.now ≤ 402 }
-    requires beside { columns.beside ≤ 1458 }
-    ensures { OnOk result (line.new.items ≡ with_words line.old.items (band_words columns bands.now ticket)) }
+    requires beside { columns.beside ≤ 1459 }
+    ensures { OnOk result (line.new.items ≡ with_words line.old.items (band_words columns bands.now gap)) }
 {
     for (i, band) in bands.iter().enumerate() {
-        place_band(line, columns.beside + 5 * i, *band, ticket)?;
+        place_band(line, columns.beside + 5 * i, *band, gap)?;
     }
     Ok(())
 }
@@ -155,7 +167,7 @@ pub fn way(kind: OpKind) -> &'static [u8]
     }
 }
 
-fn way_of(lines: &[Operation], operation: Option<Operation>) -> &'static [u8]
+fn way_of(lines: &[ClaimLine], operation: Option<Operation>) -> &'static [u8]
     ensures { result.now ≡ way_of lines.now operation }
 {
     match operation {
@@ -167,11 +179,11 @@ fn way_of(lines: &[Operation], operation: Option<Operation>) -> &'static [u8]
     }
 }
 
-fn way_word(claimed: &ShownClaim, operation: Option<Operation>) -> &'static [u8]
+fn way_word(claimed: &Claimed, operation: Option<Operation>) -> &'static [u8]
     ensures { result.now ≡ way_word claimed.now operation }
 {
     match claimed {
-        ShownClaim::No(ViolationKind::VRepeat, lines) => way_of(lines.as_slice(), operation),
+        Claimed::No(ViolationKind::VRepeat, lines) => way_of(lines.as_slice(), operation),
         _ => b"",
     }
 }
@@ -183,36 +195,17 @@ struct Sheet<'a> {
     lanes: &'a [Lane],
     bands: &'a [Band],
     operations: &'a [Operation],
-    claimed: &'a ShownClaim,
-}
-
-/// The order of a yes.
-pub fn order_of(claimed: &ShownClaim) -> &[Operation]
-    ensures { result.now ≡ order_of claimed.now }
-{
-    match claimed {
-        ShownClaim::Yes(order) => order.as_slice(),
-        ShownClaim::No(_, _) => &[],
-    }
-}
-
-fn shown_by(claimed: &ShownClaim) -> &[Operation]
-    ensures value { result.now ≡ shown_by claimed.now }
-    ensures few { length result.now ≤ length (operations_in claimed.now) }
-{
-    match claimed {
-        ShownClaim::Yes(_) => &[],
-        ShownClaim::No(_, lines) => lines.as_slice(),
-    }
+    claimed: &'a Claimed,
 }
 
 /// The line of an event.
 #[tactic(auto, unfolding(crate::specs::Terminal::event_words))]
 fn event_line(alloc: Global, sheet: &Sheet<'_>, ticket: u64) -> Result<Vec<u8>, AllocError>
-    requires claimed { length (operations_in sheet.now.claimed.now) ≤ 400 }
+    requires claimed { count_of_lines sheet.now.claimed.now ≤ 400 }
     requires few { length sheet.now.bands.now ≤ 402 }
-    requires beside { sheet.now.columns.beside ≤ 1458 }
-    ensures { IfOk result (λ bytes. bytes.items ≡ line_of (event_words sheet.now.columns sheet.now.lanes.now sheet.now.bands.now sheet.now.operations.now sheet.now.claimed.now ticket)) }
+    requires beside { sheet.now.columns.beside ≤ 1459 }
+    ensures { IfOk result (λ bytes. bytes.items ≡ line_of
+        (event_words sheet.now.columns sheet.now.lanes.now sheet.now.bands.now sheet.now.operations.now sheet.now.claimed.now ticket)) }
 {
     let mut bytes = Vec::new(alloc);
     place_ticket(&mut bytes, sheet.columns, ticket)?;
@@ -233,7 +226,7 @@ fn event_line(alloc: Global, sheet: &Sheet<'_>, ticket: u64) -> Result<Vec<u8>, 
         sheet.columns.beside,
         way_word(sheet.claimed, called),
     )?;
-    place_bands(&mut bytes, sheet.columns, sheet.bands, ticket)?;
+    place_bands(&mut bytes, sheet.columns, sheet.bands, Some(ticket))?;
     Ok(bytes)
 }
 
@@ -307,8 +300,9 @@ fn effect_line(
     effect: Effect,
     ticket: u64,
 ) -> Result<Vec<u8>, AllocError>
-    requires beside { sheet.now.columns.beside ≤ 1458 }
-    ensures { IfOk result (λ bytes. bytes.items ≡ line_of (effect_words sheet.now.columns sheet.now.lanes.now sheet.now.operations.now claimed ticket effect.number effect.operation)) }
+    requires beside { sheet.now.columns.beside ≤ 1459 }
+    ensures { IfOk result (λ bytes. bytes.items ≡ line_of
+        (effect_words sheet.now.columns sheet.now.lanes.now sheet.now.operations.now claimed ticket effect.number effect.operation)) }
 {
     let mut bytes = Vec::new(alloc);
     place_effect_lanes(
@@ -334,8 +328,9 @@ fn push_effect_if(
     effect: Effect,
     ticket: u64,
 ) -> Result<(), AllocError>
-    requires beside { sheet.now.columns.beside ≤ 1458 }
-    ensures { OnOk result (text.new.items ≡ text.old.items ++ effect_row_if (effect.point == ticket) sheet.now.columns sheet.now.lanes.now sheet.now.operations.now claimed ticket effect.number effect.operation) }
+    requires beside { sheet.now.columns.beside ≤ 1459 }
+    ensures { OnOk result (text.new.items ≡ text.old.items ++ effect_row_if
+        (effect.point == ticket) sheet.now.columns sheet.now.lanes.now sheet.now.operations.now claimed ticket effect.number effect.operation) }
 {
     if effect.point == ticket {
         let bytes = effect_line(alloc, sheet, claimed, effect, ticket)?;
@@ -354,7 +349,7 @@ fn push_effects(
     order: &[Operation],
     ticket: u64,
 ) -> Result<(), AllocError>
-    requires beside { sheet.now.columns.beside ≤ 1458 }
+    requires beside { sheet.now.columns.beside ≤ 1459 }
     requires few { length order.now ≤ 400 }
     ensures { OnOk result (text.new.items ≡ text.old.items ++ effect_rows sheet.now.columns sheet.now.lanes.now sheet.now.operations.now order.now ticket) }
 {
@@ -378,10 +373,11 @@ fn push_event(
     sheet: &Sheet<'_>,
     ticket: u64,
 ) -> Result<(), AllocError>
-    requires claimed { length (operations_in sheet.now.claimed.now) ≤ 400 }
+    requires claimed { count_of_lines sheet.now.claimed.now ≤ 400 }
     requires few { length sheet.now.bands.now ≤ 402 }
-    requires beside { sheet.now.columns.beside ≤ 1458 }
-    ensures { OnOk result (text.new.items ≡ text.old.items ++ event_rows sheet.now.columns sheet.now.lanes.now sheet.now.bands.now sheet.now.operations.now sheet.now.claimed.now ticket) }
+    requires beside { sheet.now.columns.beside ≤ 1459 }
+    ensures { OnOk result (text.new.items ≡ text.old.items
+        ++ event_rows sheet.now.columns sheet.now.lanes.now sheet.now.bands.now sheet.now.operations.now sheet.now.claimed.now ticket) }
 {
     let bytes = event_line(alloc, sheet, ticket)?;
     push_line(text, bytes.as_slice())?;
@@ -394,10 +390,11 @@ fn push_events(
     sheet: &Sheet<'_>,
     events: &[Event],
 ) -> Result<(), AllocError>
-    requires claimed { length (operations_in sheet.now.claimed.now) ≤ 400 }
+    requires claimed { count_of_lines sheet.now.claimed.now ≤ 400 }
     requires few { length sheet.now.bands.now ≤ 402 }
-    requires beside { sheet.now.columns.beside ≤ 1458 }
-    ensures { OnOk result (text.new.items ≡ text.old.items ++ flat_map (λ e. event_rows sheet.now.columns sheet.now.lanes.now sheet.now.bands.now sheet.now.operations.now sheet.now.claimed.now e.ticket) events.now) }
+    requires beside { sheet.now.columns.beside ≤ 1459 }
+    ensures { OnOk result (text.new.items ≡ text.old.items ++ flat_map
+        (λ e. event_rows sheet.now.columns sheet.now.lanes.now sheet.now.bands.now sheet.now.operations.now sheet.now.claimed.now e.ticket) events.now) }
 {
     for event in events {
         push_event(alloc, text, sheet, event.ticket)?;
@@ -407,7 +404,7 @@ fn push_events(
 
 fn place_strokes(line: &mut Vec<u8>, columns: Columns, bands: usize) -> Result<(), AllocError>
     requires few { bands ≤ 402 }
-    requires beside { columns.beside ≤ 1458 }
+    requires beside { columns.beside ≤ 1459 }
     ensures { OnOk result (line.new.items ≡ with_words line.old.items (strokes columns bands)) }
 {
     for i in 0..bands {
@@ -426,7 +423,7 @@ fn head_word(alloc: Global, head: Head) -> Result<Vec<u8>, AllocError>
 
 fn head_bytes(alloc: Global, columns: Columns, i: usize, head: Head) -> Result<Vec<u8>, AllocError>
     requires few { i ≤ 402 }
-    requires beside { columns.beside ≤ 1458 }
+    requires beside { columns.beside ≤ 1459 }
     ensures { IfOk result (λ bytes. bytes.items ≡ line_of (head_words columns i head)) }
 {
     let mut bytes = Vec::new(alloc);
@@ -444,7 +441,7 @@ fn push_head_line(
     head: Head,
 ) -> Result<(), AllocError>
     requires few { i ≤ 402 }
-    requires beside { columns.beside ≤ 1458 }
+    requires beside { columns.beside ≤ 1459 }
     ensures { OnOk result (text.new.items ≡ text.old.items ++ line (line_of (head_words columns i head))) }
 {
     let bytes = head_bytes(alloc, columns, i, head)?;
@@ -459,7 +456,7 @@ fn push_heads(
     bands: &[Band],
 ) -> Result<(), AllocError>
     requires few { length bands.now ≤ 402 }
-    requires beside { columns.beside ≤ 1458 }
+    requires beside { columns.beside ≤ 1459 }
     ensures { OnOk result (text.new.items ≡ text.old.items ++ head_lines columns bands.now) }
 {
     for (i, band) in bands.iter().enumerate() {
@@ -481,7 +478,7 @@ fn place_lane_names(line: &mut Vec<u8>, lanes: &[Lane]) -> Result<(), AllocError
 fn thread_bytes(alloc: Global, columns: Columns, bands: usize) -> Result<Vec<u8>, AllocError>
     requires few { bands ≤ 402 }
     requires ticket { columns.ticket ≤ 20 }
-    requires beside { columns.beside ≤ 1458 }
+    requires beside { columns.beside ≤ 1459 }
     ensures { IfOk result (λ bytes. bytes.items ≡ line_of (thread_words columns bands)) }
 {
     let mut bytes = Vec::new(alloc);
@@ -498,7 +495,7 @@ fn name_bytes(
     bands: usize,
 ) -> Result<Vec<u8>, AllocError>
     requires few { bands ≤ 402 }
-    requires beside { columns.beside ≤ 1458 }
+    requires beside { columns.beside ≤ 1459 }
     ensures { IfOk result (λ bytes. bytes.items ≡ line_of (name_words columns lanes.now bands)) }
 {
     let mut bytes = Vec::new(alloc);
@@ -513,64 +510,69 @@ fn push_rows(
     alloc: Global,
     text: &mut Vec<u8>,
     sheet: &Sheet<'_>,
-    events: &[Event],
+    history: &History,
 ) -> Result<(), AllocError>
-    requires claimed { length (operations_in sheet.now.claimed.now) ≤ 400 }
+    requires claimed { count_of_lines sheet.now.claimed.now ≤ 400 }
     requires few { length sheet.now.bands.now ≤ 402 }
     requires ticket { sheet.now.columns.ticket ≤ 20 }
-    requires beside { sheet.now.columns.beside ≤ 1458 }
-    ensures { OnOk result (text.new.items ≡ text.old.items ++ rows sheet.now.columns sheet.now.lanes.now sheet.now.bands.now events.now sheet.now.operations.now sheet.now.claimed.now) }
+    requires beside { sheet.now.columns.beside ≤ 1459 }
+    ensures { OnOk result (text.new.items ≡ text.old.items
+        ++ rows sheet.now.columns sheet.now.lanes.now sheet.now.bands.now history.now sheet.now.operations.now sheet.now.claimed.now) }
 {
     push_heads(alloc, text, sheet.columns, sheet.bands)?;
     let threads = thread_bytes(alloc, sheet.columns, sheet.bands.len())?;
     push_line(text, threads.as_slice())?;
     let names = name_bytes(alloc, sheet.columns, sheet.lanes, sheet.bands.len())?;
     push_line(text, names.as_slice())?;
-    push_events(alloc, text, sheet, events)
+    push_initial_rows(
+        alloc,
+        text,
+        sheet.columns,
+        sheet.bands,
+        sheet.claimed,
+        history.initial(),
+    )?;
+    push_events(alloc, text, sheet, history.events())
 }
 
 /// Adds what stands above the rows: what the picture shows, and how to read it.
 #[tactic(auto, unfolding(crate::specs::Terminal::words))]
-fn push_words(text: &mut Vec<u8>, claimed: &ShownClaim) -> Result<(), AllocError>
-    requires { length (operations_in claimed.now) ≤ 400 }
-    ensures { OnOk result (text.new.items ≡ text.old.items ++ words claimed.now) }
+fn push_words(text: &mut Vec<u8>, initial: &[u64], claimed: &Claimed) -> Result<(), AllocError>
+    requires { count_of_lines claimed.now ≤ 400 }
+    ensures { OnOk result (text.new.items ≡ text.old.items ++ words initial.now claimed.now) }
 {
     push_line(text, headline(claimed))?;
     push_caption(text, claimed)?;
     push_line(text, b"")?;
-    push_legend(text, claimed)?;
+    push_legend(text, initial, claimed)?;
     push_line(text, b"")
-}
-
-/// The operations that a claim lists.
-pub fn operations_in(claimed: &ShownClaim) -> &[Operation]
-    ensures { result.now ≡ operations_in claimed.now }
-{
-    match claimed {
-        ShownClaim::Yes(lines) => lines.as_slice(),
-        ShownClaim::No(_, lines) => lines.as_slice(),
-    }
 }
 
 /// The picture of a history and what is claimed of it, in lines of ASCII for a terminal.
 ///
-/// The claim need not be evidence: what stands in the picture follows its lines. Time O(n t n) for n operations of t threads;
-/// memory for the text, of O(n t) bytes. `AllocError` comes only where a growth was refused.
+/// The claim need not be evidence: what stands in the picture follows its lines. Time O(n t n) for n operations of t threads, and
+/// O(k m) for k initial values and m lines; memory for the text, of O(n t + k m) bytes. `AllocError` comes only where a growth was
+/// refused.
 #[tactic(auto, unfolding(crate::specs::Terminal::terminal_picture))]
 pub fn terminal_picture(
     alloc: Global,
     history: &History,
-    claimed: &ShownClaim,
+    claimed: &Claimed,
 ) -> Result<Vec<u8>, AllocError>
     // The claim has few enough lines to be drawn.
-    requires { length (operations_in claimed.now) ≤ MOST_DRAWN }
-    ensures { IfOk result (λ text. text.items ≡ terminal_picture history.now.events claimed.now) }
+    requires { count_of_lines claimed.now ≤ MOST_DRAWN }
+    ensures { IfOk result (λ text. text.items ≡ terminal_picture history.now claimed.now) }
 {
     let events = history.events();
     let operations = history.operations();
     let threads = threads_of(alloc, events)?;
-    let claimed_len = operations_in(claimed).len();
-    let columns = columns_of(events, operations, threads.as_slice(), claimed_len);
+    let widest_label = label_width(history.initial(), operations);
+    let columns = columns_of(
+        events,
+        threads.as_slice(),
+        widest_label,
+        count_of_lines(claimed),
+    );
     let lanes = lanes_of(alloc, columns, threads.as_slice())?;
     let bands = bands_of(alloc, claimed)?;
     let sheet = Sheet {
@@ -581,7 +583,7 @@ pub fn terminal_picture(
         claimed,
     };
     let mut text = Vec::new(alloc);
-    push_words(&mut text, claimed)?;
-    push_rows(alloc, &mut text, &sheet, events)?;
+    push_words(&mut text, history.initial(), claimed)?;
+    push_rows(alloc, &mut text, &sheet, history)?;
     Ok(text)
 }

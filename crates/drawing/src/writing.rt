@@ -1,16 +1,16 @@
 //! Writing a picture.
 ghost use Rattle.std.specs.Prelude.{◌≡◌, ◌≤◌, ◌||◌, OnOk, OnErr, IfOk, length, is_err};
 ghost use Rattle.std.specs.Io.KnownBytes.{Appends};
-ghost use Rattle.drawing.specs.Claim.{operations_in};
+ghost use Rattle.drawing.specs.Claim.{count_of_lines};
 ghost use Rattle.text_lines.specs.Writing.{AppendsFront, IsWritten, IsRefused};
 ghost use Rattle.drawing.specs.Terminal.{terminal_picture};
 
-use crate::claim::ShownClaim;
 use crate::columns::MOST_DRAWN;
 use crate::terminal::terminal_picture;
 use history_merge::History;
 use history_text::{TextSink, WriteFault, write_piece};
 use std::alloc::{AllocError, Global};
+use verdicts::Claimed;
 
 /// Writes the picture of a history and what is claimed of it, in lines of ASCII for a terminal.
 ///
@@ -19,13 +19,13 @@ use std::alloc::{AllocError, Global};
 pub fn write_terminal_picture<W: TextSink>(
     alloc: Global,
     history: &History,
-    claimed: &ShownClaim,
+    claimed: &Claimed,
     writer: &mut W,
 ) -> Result<Result<(), WriteFault>, AllocError>
     // The claim has few enough lines to be drawn.
-    requires { length (operations_in claimed.now) ≤ MOST_DRAWN }
-    ensures ok { IfOk result (λ written. OnOk written (Appends (W.contents writer.old) (W.contents writer.new) (terminal_picture history.now.events claimed.now))) }
-    ensures err { IfOk result (λ written. OnErr written (AppendsFront (W.contents writer.old) (W.contents writer.new) (terminal_picture history.now.events claimed.now))) }
+    requires { count_of_lines claimed.now ≤ MOST_DRAWN }
+    ensures ok { IfOk result (λ written. OnOk written (Appends (W.contents writer.old) (W.contents writer.new) (terminal_picture history.now claimed.now))) }
+    ensures err { IfOk result (λ written. OnErr written (AppendsFront (W.contents writer.old) (W.contents writer.new) (terminal_picture history.now claimed.now))) }
     ensures refused { IfOk result (λ written. W.has_refused writer.new ≡ (W.has_refused writer.old || is_err written)) }
     ensures written { IfOk result (λ written. OnOk written (IsWritten W.goes writer.old writer.new)) }
     ensures stopped { IfOk result (λ written. OnErr written (IsRefused W.goes writer.old writer.new)) }

@@ -11,7 +11,7 @@ pub const MAX_THREADS: usize = 64;
 pub const MAX_THREAD: u8 = MAX_THREADS as u8 - 1;
 
 /// The most workers of a run.
-pub const MAX_WORKERS: usize = 16;
+pub const MAX_WORKERS: usize = 32;
 
 /// How many values each thread has names for.
 pub const NAMES_OF_A_THREAD: u64 = 1 << 32;
@@ -27,6 +27,9 @@ pub const MAX_EVENTS: usize = 2_000_000;
 
 /// The most initial values of a history: what its queue holds before the first event.
 pub const MAX_INITIAL: usize = 100_000;
+
+/// The most initial values that the command `stress` puts into a queue.
+pub const MAX_STRESS_INITIAL: u64 = 1_000;
 
 /// The least name of an initial value of a run: above the names of each thread's values.
 pub const LEAST_INITIAL_NAME: u64 = MAX_THREADS as u64 * NAMES_OF_A_THREAD;

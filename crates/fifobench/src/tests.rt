@@ -1,9 +1,12 @@
 ghost use Rattle.std.specs.Prelude.{◌≡◌, false};
 
 mod checks;
+mod converting;
+mod drawing;
 mod initial;
 mod lying;
 mod one_byte;
+mod pictures;
 mod recorded;
 mod schedules;
 mod shrinking;

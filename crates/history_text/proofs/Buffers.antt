@@ -1,10 +1,10 @@
 -- What is taken from the buffer of a reader.
-use Rattle.std.proofs.Common.{◌≡◌, ℕ, ◌+◌, ◌-◌, ◌≤◌, List, ◌++◌, length, take, drop, arith, ap, sym, ◌∙◌, refl, Option, Some, None, append_assoc}
+use Rattle.std.proofs.Common.{◌≡◌, ℕ, ◌+◌, ◌-◌, ◌≤◌, ◌<◌, List, [], ◌∷◌, ◌++◌, length, take, drop, arith, ap, sym, ◌∙◌, refl, Option, Some, None, IfSome, append_assoc}
 use Rattle.std.proofs.Common.{length-append, length-drop}
 use Rattle.std.proofs.Math.Seq.{drop-append_seam}
 use Rattle.std.proofs.lemmas.List.{length-take-le, drop-drop, drop-take}
 use Rattle.text_lines.specs.Input.{Ahead, Takes}
-use Rattle.history_text.specs.Reading.{with_front}
+use Rattle.history_text.specs.Reading.{with_front, HasMore}
 
 -- the bytes of a buffer from one place to another
 abbrev pub part : List ℕ → ℕ → ℕ → List ℕ
@@ -33,3 +33,15 @@ takes_from_buffer bytes at filled text rest (Some a) begins within is = (
       ∙ ap (λ (r : List ℕ). text ++ (r ++ a.bytes)) (sym (rest_of_part bytes at filled text rest begins within is)),
   refl,
 )
+
+has_more_behind : (front : List ℕ) (a : Ahead) → 0 < length front → HasMore (record { bytes = front ++ a.bytes; ending = a.ending })
+has_more_behind [] a some = absurd (omega (arith, some))
+has_more_behind (b ∷ front) a some = (b, front ++ a.bytes, refl)
+
+-- a byte of the buffer is ahead
+pub has_more_in_buffer : (bytes : List ℕ) (at filled : ℕ) (ahead : Option Ahead) → at < filled → filled ≤ length bytes
+    → IfSome (with_front (part bytes at filled) ahead) HasMore
+has_more_in_buffer bytes at filled None some within = tt
+has_more_in_buffer bytes at filled (Some a) some within =
+    let long : length (part bytes at filled) ≡ filled - at = length-take-le (filled - at) (drop at bytes) (omega (arith, length-drop at bytes, within)) in
+    has_more_behind (part bytes at filled) a (omega (arith, long, some))

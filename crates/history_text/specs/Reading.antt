@@ -1,5 +1,5 @@
 -- What a call on a reader says of the input that the reader had ahead.
-use Rattle.std.specs.Prelude.{◌≡◌, ℕ, Bool, List, ◌∷◌, ◌++◌, Option, Some, None, IfSome}
+use Rattle.std.specs.Prelude.{◌≡◌, ℕ, Bool, true, false, List, ◌∷◌, ◌++◌, Option, Some, None, IfSome}
 use Rattle.text_lines.specs.declared.fault.TextFault.{TextFault}
 use Rattle.text_lines.specs.declared.fault.TextFault.TheVariants.{Read, Trailing}
 use Rattle.text_lines.specs.Faults.{MemoryOr}
@@ -59,3 +59,8 @@ abbrev pub HasEndFault : Option Ahead → TextFault → Type 0
 HasEndFault left Trailing = IfSome left HasMore
 HasEndFault left Read = IsOver Failure left
 HasEndFault left _ = ⊥
+
+-- whether the input is over: it is, and the source didn't fail; or a byte is ahead
+abbrev pub TellsEnd : Option Ahead → Bool → Type 0
+TellsEnd left true = IsOver EndOfInput left
+TellsEnd left false = IfSome left HasMore

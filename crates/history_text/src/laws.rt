@@ -54,22 +54,27 @@ pub fn a_text_has_one_claim()
 ///
 /// So `read_verdict` reads what `write_verdict` wrote of it.
 pub fn a_claim_on_a_text_has_a_text()
-    ensures { (text : HistoryText) (verdict : Verdict) → HasText text → length (places_of verdict) ≤ MAX_CLAIM_LINES → HasVerdictText (claim_of text.initial (operations_of text.events) verdict) }
+    ensures { (text : HistoryText) (verdict : Verdict) → HasText text → length (places_of verdict) ≤ MAX_CLAIM_LINES
+        → HasVerdictText (claim_of text.initial (operations_of text.events) verdict) }
 {}
 
 /// An input has one first fault, as the text of a history of version 1 or of either version, of a schedule or of a verdict.
 pub fn one_first_fault()
     ensures history { (lines : ℕ) (ending : Ending) (bytes : List ℕ) (f g : TextFault) → IsHistoryTextFault lines ending bytes f → IsHistoryTextFault lines ending bytes g → f ≡ g }
     ensures either { (lines : ℕ) (ending : Ending) (bytes : List ℕ) (f g : TextFault) → IsTextFault lines ending bytes f → IsTextFault lines ending bytes g → f ≡ g }
-    ensures schedule { (lines : ℕ) (ending : Ending) (bytes : List ℕ) (f g : TextFault) → IsScheduleTextFault lines ending bytes f → IsScheduleTextFault lines ending bytes g → f ≡ g }
+    ensures schedule { (lines : ℕ) (ending : Ending) (bytes : List ℕ) (f g : TextFault) → IsScheduleTextFault lines ending bytes f
+        → IsScheduleTextFault lines ending bytes g → f ≡ g }
     ensures verdict { (lines : ℕ) (ending : Ending) (bytes : List ℕ) (f g : TextFault) → IsVerdictTextFault lines ending bytes f → IsVerdictTextFault lines ending bytes g → f ≡ g }
 {}
 
 /// Where a text stands at the front of the input, that has no fault of such a text; for a verdict, where the text is all of the
 /// input. So `read_history`, `read_any`, `read_schedule` and `read_verdict` answer a fault exactly where no text stands, or want of memory.
 pub fn a_text_has_no_fault()
-    ensures history { (lines : ℕ) (ending : Ending) (events : List Event) (rest : List ℕ) (fault : TextFault) → HasHistoryText events → IsHistoryTextFault lines ending (history_text events ++ rest) fault → ⊥ }
-    ensures either { (lines : ℕ) (ending : Ending) (text : HistoryText) (rest : List ℕ) (fault : TextFault) → HasText text → IsTextFault lines ending (text_of text ++ rest) fault → ⊥ }
-    ensures schedule { (lines : ℕ) (ending : Ending) (schedule : Schedule) (rest : List ℕ) (fault : TextFault) → HasScheduleText schedule → IsScheduleTextFault lines ending (schedule_text schedule ++ rest) fault → ⊥ }
+    ensures history { (lines : ℕ) (ending : Ending) (events : List Event) (rest : List ℕ) (fault : TextFault) → HasHistoryText events
+        → IsHistoryTextFault lines ending (history_text events ++ rest) fault → ⊥ }
+    ensures either { (lines : ℕ) (ending : Ending) (text : HistoryText) (rest : List ℕ) (fault : TextFault) → HasText text
+        → IsTextFault lines ending (text_of text ++ rest) fault → ⊥ }
+    ensures schedule { (lines : ℕ) (ending : Ending) (schedule : Schedule) (rest : List ℕ) (fault : TextFault) → HasScheduleText schedule
+        → IsScheduleTextFault lines ending (schedule_text schedule ++ rest) fault → ⊥ }
     ensures verdict { (lines : ℕ) (claimed : Claimed) (fault : TextFault) → HasVerdictText claimed → IsVerdictTextFault lines EndOfInput (verdict_text claimed) fault → ⊥ }
 {}

@@ -1,5 +1,6 @@
 //! Reading texts line by line.
-ghost use Rattle.std.specs.Prelude.{◌≡◌, ◌+◌, ◌<◌, ◌^◌, ◌≤◌, ◌∷◌, true, false, IfOk, IfErr, OnErr, OnOk, MatchResult, IfNone, IfSome, option_to_list, is_err, Err, Ok, length, List, []};
+ghost use Rattle.std.specs.Prelude.{◌≡◌, ◌+◌, ◌<◌, ◌^◌, ◌≤◌, ◌∷◌, true, false, IfOk, IfErr, OnErr, OnOk, MatchResult, IfNone, IfSome};
+ghost use Rattle.std.specs.Prelude.{option_to_list, is_err, not, Err, Ok, length, List, []};
 ghost use Rattle.event_records.specs.declared.event.Event.{Event};
 ghost use Rattle.event_records.specs.declared.limits.TheConstants.{MAX_INITIAL};
 ghost use Rattle.history_merge.specs.Gathering.{HasGathered, HasGatheredFrom};
@@ -10,12 +11,15 @@ ghost use Rattle.text_lines.specs.Input.{EndOfInput, Failure, Takes, IsOver};
 ghost use Rattle.text_lines.specs.Lines.{line, spaced};
 ghost use Rattle.history_text.specs.Items.{line_of, lines_of, HaveLines};
 ghost use Rattle.history_text.specs.Histories.{history_text, HasHistoryText};
-ghost use Rattle.history_text.specs.Versions.{value_kind, count_fields, count_in as judged_count, lines_of_initial, header_of, lines_before_events, count_before_events, text_of, line_count, HaveValueLines, HasText};
+ghost use Rattle.history_text.specs.Versions.{value_kind, count_fields, count_in as judged_count, lines_of_initial, header_of};
+ghost use Rattle.history_text.specs.Versions.{lines_before_events, count_before_events, text_of, line_count, HaveValueLines, HasText};
 ghost use Rattle.history_text.specs.Schedules.{schedule_text, setting_fields, setting_in as judged_setting, HasScheduleText, IsSetting};
 ghost use Rattle.history_text.specs.Verdicts.{verdict_text};
 ghost use Rattle.history_text.specs.Claims.{claim_length, HasVerdictText, first_line};
-ghost use Rattle.history_text.specs.Reading.{HasHistoryTextFault, HasTextFault, HasScheduleTextFault, HasVerdictTextFault, HasEndFault, BeginsWith, IsAll};
-ghost use Rattle.history_text.specs.Inner.Taking.{TakesLine, StopsInLine, TakesItem, TakesItems, HasNoLine, HasHeaderFault, HasNoVersion, HasLineFault, HasFirstLineFault, HasItemFault, HasItemsFault, HasFaultAmong, HasInitialFault, IsOfInput};
+ghost use Rattle.history_text.specs.Reading.{HasHistoryTextFault, HasTextFault, HasScheduleTextFault, HasVerdictTextFault, HasEndFault, TellsEnd, BeginsWith, IsAll};
+ghost use Rattle.history_text.specs.Inner.Taking.{TakesLine, StopsInLine, TakesItem, TakesItems, HasNoLine, HasHeaderFault, HasNoVersion};
+ghost use Rattle.history_text.specs.Inner.Taking.{HasLineFault, HasFirstLineFault, HasItemFault, HasItemsFault, HasFaultAmong};
+ghost use Rattle.history_text.specs.Inner.Taking.{HasInitialFault, IsOfInput};
 ghost use Rattle.text_lines.specs.Inner.Lines.{IsPartOfLine};
 
 use crate::collecting::Collects;
@@ -114,6 +118,23 @@ impl<R: TextSource> TextReader<R> {
         }
         self.at = 1;
         Ok(Some(self.buffer[0]))
+    }
+
+    /// Whether there is a next byte, which is not taken.
+    fn has_byte(&mut self) -> Result<bool, ReadFailed>
+        ensures left { Takes self.old.left self.new.left [] }
+        ensures over { IfOk result (λ more. TellsEnd self.new.left (not more)) }
+        ensures failed { OnErr result (IsOver Failure self.new.left) }
+        ensures lines { self.new.lines ≡ self.old.lines }
+        ensures is_stopped { self.new.is_stopped ≡ self.old.is_stopped }
+    {
+        if self.at < self.filled {
+            return Ok(true);
+        }
+        self.at = 0;
+        self.filled = 0;
+        self.filled = self.source.read(&mut self.buffer)?;
+        Ok(self.filled > 0)
     }
 
     /// The next line, as far as it is there.
@@ -528,6 +549,24 @@ pub fn at_end<R: TextSource>(reader: &mut TextReader<R>) -> Result<(), TextFault
     result
 }
 
+/// Tells whether the input is over, and takes nothing of it: what is ahead is read afterwards as if nothing had been asked.
+/// `Read` comes where the source fails; it is asked only where no byte that it gave is left.
+pub fn is_at_end<R: TextSource>(reader: &mut TextReader<R>) -> Result<bool, TextFault>
+    requires { reader.old.is_stopped ≡ false }
+    ensures left { IfOk result (λ _. Takes reader.old.left reader.new.left []) }
+    ensures over { IfOk result (λ is_over. TellsEnd reader.new.left is_over) }
+    ensures fault { IfErr result (λ fault. (fault ≡ TextFault.Read) × IsOver Failure reader.old.left) }
+    ensures lines { reader.new.lines ≡ reader.old.lines }
+    ensures stopped { reader.new.is_stopped ≡ is_err result }
+{
+    let result = match reader.has_byte() {
+        Ok(more) => Ok(!more),
+        Err(ReadFailed) => Err(TextFault::Read),
+    };
+    reader.is_stopped = result.is_err();
+    result
+}
+
 /// Reads the text of a history that the input begins with, up to the line feed of its last line, and gives its events.
 ///
 /// Whether they make a complete history isn't judged here. The time is linear in the bytes read. Memory is taken for the
@@ -543,7 +582,8 @@ pub fn read_history<R: TextSource>(
     ensures events { IfOk result (λ v. HasHistoryText v.items × Takes reader.old.left reader.new.left (history_text v.items)) }
 
     // Where the text of some events stands at the front it is read, unless memory is refused.
-    ensures whole { (events : List Event) → HasHistoryText events → BeginsWith reader.old.left (history_text events) → MatchResult result (λ v. v.items ≡ events) (λ fault. fault ≡ TextFault.Memory) }
+    ensures whole { (events : List Event) → HasHistoryText events → BeginsWith reader.old.left (history_text events)
+        → MatchResult result (λ v. v.items ≡ events) (λ fault. fault ≡ TextFault.Memory) }
 
     // A fault is the first one.
     ensures fault { IfErr result (HasHistoryTextFault reader.old.lines reader.old.left) }
@@ -599,7 +639,8 @@ pub fn gather_history<R: TextSource>(
         × (reader.new.lines ≡ reader.old.lines + 2 + length events) × (HasGathered [] builder.old → HasGathered events builder.new)) }
 
     // Where the text of some events stands at the front it is read, unless memory is refused.
-    ensures whole { (events : List Event) → HasHistoryText events → BeginsWith reader.old.left (history_text events) → MatchResult result (λ _. HasGathered [] builder.old → HasGathered events builder.new) (λ fault. fault ≡ TextFault.Memory) }
+    ensures whole { (events : List Event) → HasHistoryText events → BeginsWith reader.old.left (history_text events)
+        → MatchResult result (λ _. HasGathered [] builder.old → HasGathered events builder.new) (λ fault. fault ≡ TextFault.Memory) }
 
     // A fault is the first one.
     ensures fault { IfErr result (HasHistoryTextFault reader.old.lines reader.old.left) }
@@ -626,7 +667,8 @@ pub fn gather_any<R: TextSource>(
         × ((reader.new.lines ≡ reader.old.lines + line_count text) × HasGatheredFrom text.initial text.events builder)) }
 
     // Where a text of either version stands at the front it is read, unless memory is refused.
-    ensures whole { (text : HistoryText) → HasText text → BeginsWith reader.old.left (text_of text) → MatchResult result (HasGatheredFrom text.initial text.events) (λ fault. fault ≡ TextFault.Memory) }
+    ensures whole { (text : HistoryText) → HasText text → BeginsWith reader.old.left (text_of text)
+        → MatchResult result (HasGatheredFrom text.initial text.events) (λ fault. fault ≡ TextFault.Memory) }
 
     // A fault is the first one.
     ensures fault { IfErr result (HasTextFault reader.old.lines reader.old.left) }
@@ -654,7 +696,8 @@ pub fn read_schedule<R: TextSource>(
     ensures schedule { IfOk result (λ s. HasScheduleText s × Takes reader.old.left reader.new.left (schedule_text s)) }
 
     // Where the text of a schedule stands at the front it is read, unless memory is refused.
-    ensures whole { (schedule : Schedule) → HasScheduleText schedule → BeginsWith reader.old.left (schedule_text schedule) → MatchResult result (λ s. s ≡ schedule) (λ fault. fault ≡ TextFault.Memory) }
+    ensures whole { (schedule : Schedule) → HasScheduleText schedule → BeginsWith reader.old.left (schedule_text schedule)
+        → MatchResult result (λ s. s ≡ schedule) (λ fault. fault ≡ TextFault.Memory) }
 
     // A fault is the first one.
     ensures fault { IfErr result (HasScheduleTextFault reader.old.lines reader.old.left) }
@@ -683,7 +726,8 @@ pub fn read_verdict<R: TextSource>(
     ensures claim { IfOk result (λ c. HasVerdictText c × Takes reader.old.left reader.new.left (verdict_text c) × IsOver EndOfInput reader.new.left) }
 
     // Where the rest of the input is the text of a claim it is read, unless memory is refused.
-    ensures whole { (claimed : Claimed) → HasVerdictText claimed → IsAll reader.old.left (verdict_text claimed) → MatchResult result (λ c. c ≡ claimed) (λ fault. fault ≡ TextFault.Memory) }
+    ensures whole { (claimed : Claimed) → HasVerdictText claimed → IsAll reader.old.left (verdict_text claimed)
+        → MatchResult result (λ c. c ≡ claimed) (λ fault. fault ≡ TextFault.Memory) }
 
     // A fault is the first one.
     ensures fault { IfErr result (HasVerdictTextFault reader.old.lines reader.old.left) }

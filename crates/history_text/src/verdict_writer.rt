@@ -5,7 +5,8 @@ ghost use Rattle.std.specs.Io.KnownBytes.{Appends};
 ghost use Rattle.std.specs.Option.{option_to_list};
 ghost use Rattle.history_merge.specs.Operations.{operations_of};
 ghost use Rattle.text_lines.specs.Lines.{line, spaced};
-ghost use Rattle.history_text.specs.Verdicts.{kind_fields, kind_name, operation_line, claim_line, verdict_text, IsWithin, places_of_violation, places_of_step, violation_kind, claim_of};
+ghost use Rattle.history_text.specs.Verdicts.{kind_fields, kind_name, operation_line, claim_line, verdict_text, IsWithin};
+ghost use Rattle.history_text.specs.Verdicts.{places_of_violation, places_of_step, violation_kind, claim_of};
 ghost use Rattle.history_text.specs.Inner.Verdicts.{operation_text, lines_text};
 ghost use Rattle.verdicts.specs.declared.verifying.ClaimLine.TheVariants.{Op};
 ghost use Rattle.verdicts.specs.Claiming.{lines_of_history, operation_behind};
@@ -187,7 +188,8 @@ fn put_with_last<W: TextSink>(
     last: Option<OpId>,
 ) -> Result<(), WriteFault>
     ensures ok { OnOk result (Puts (W.contents writer.old) (W.contents writer.new) kept.old kept.new (lines_text initial.now operations.now (first.now ++ option_to_list last))) }
-    ensures err { OnErr result (AppendsFront (W.contents writer.old) (W.contents writer.new) (kept.old ++ lines_text initial.now operations.now (first.now ++ option_to_list last))) }
+    ensures err { OnErr result (AppendsFront (W.contents writer.old) (W.contents writer.new)
+        (kept.old ++ lines_text initial.now operations.now (first.now ++ option_to_list last))) }
     ensures refused { W.has_refused writer.new ≡ (W.has_refused writer.old || is_err result) }
     ensures written { OnOk result (IsWritten W.goes writer.old writer.new) }
     ensures stopped { OnErr result (IsRefused W.goes writer.old writer.new) }
@@ -204,7 +206,8 @@ fn put_cover<W: TextSink>(
     steps: &[CoverStep],
 ) -> Result<(), WriteFault>
     ensures ok { OnOk result (Puts (W.contents writer.old) (W.contents writer.new) kept.old kept.new (lines_text initial.now operations.now (flat_map places_of_step steps.now))) }
-    ensures err { OnErr result (AppendsFront (W.contents writer.old) (W.contents writer.new) (kept.old ++ lines_text initial.now operations.now (flat_map places_of_step steps.now))) }
+    ensures err { OnErr result (AppendsFront (W.contents writer.old) (W.contents writer.new)
+        (kept.old ++ lines_text initial.now operations.now (flat_map places_of_step steps.now))) }
     ensures refused { W.has_refused writer.new ≡ (W.has_refused writer.old || is_err result) }
     ensures written { OnOk result (IsWritten W.goes writer.old writer.new) }
     ensures stopped { OnErr result (IsRefused W.goes writer.old writer.new) }
@@ -230,8 +233,10 @@ fn put_witness<W: TextSink>(
     empty: OpId,
     cover: &[CoverStep],
 ) -> Result<(), WriteFault>
-    ensures ok { OnOk result (Puts (W.contents writer.old) (W.contents writer.new) kept.old kept.new (lines_text initial.now operations.now (empty ∷ flat_map places_of_step cover.now))) }
-    ensures err { OnErr result (AppendsFront (W.contents writer.old) (W.contents writer.new) (kept.old ++ lines_text initial.now operations.now (empty ∷ flat_map places_of_step cover.now))) }
+    ensures ok { OnOk result (Puts (W.contents writer.old) (W.contents writer.new) kept.old kept.new
+        (lines_text initial.now operations.now (empty ∷ flat_map places_of_step cover.now))) }
+    ensures err { OnErr result (AppendsFront (W.contents writer.old) (W.contents writer.new)
+        (kept.old ++ lines_text initial.now operations.now (empty ∷ flat_map places_of_step cover.now))) }
     ensures refused { W.has_refused writer.new ≡ (W.has_refused writer.old || is_err result) }
     ensures written { OnOk result (IsWritten W.goes writer.old writer.new) }
     ensures stopped { OnErr result (IsRefused W.goes writer.old writer.new) }
@@ -261,7 +266,8 @@ fn put_violation<W: TextSink>(
     violation: &Violation,
 ) -> Result<(), WriteFault>
     ensures ok { OnOk result (Puts (W.contents writer.old) (W.contents writer.new) kept.old kept.new (lines_text initial.now operations.now (places_of_violation violation.now))) }
-    ensures err { OnErr result (AppendsFront (W.contents writer.old) (W.contents writer.new) (kept.old ++ lines_text initial.now operations.now (places_of_violation violation.now))) }
+    ensures err { OnErr result (AppendsFront (W.contents writer.old) (W.contents writer.new)
+        (kept.old ++ lines_text initial.now operations.now (places_of_violation violation.now))) }
     ensures refused { W.has_refused writer.new ≡ (W.has_refused writer.old || is_err result) }
     ensures written { OnOk result (IsWritten W.goes writer.old writer.new) }
     ensures stopped { OnErr result (IsRefused W.goes writer.old writer.new) }
@@ -336,8 +342,10 @@ pub fn write_verdict<W: TextSink>(
     // The verdict's places are those of this history's initial values and operations.
     requires { IsWithin history.now.initial (operations_of history.now.events) verdict.now }
 
-    ensures ok { OnOk result (Appends (W.contents writer.old) (W.contents writer.new) (verdict_text (claim_of history.now.initial (operations_of history.now.events) verdict.now))) }
-    ensures err { OnErr result (AppendsFront (W.contents writer.old) (W.contents writer.new) (verdict_text (claim_of history.now.initial (operations_of history.now.events) verdict.now))) }
+    ensures ok { OnOk result (Appends (W.contents writer.old) (W.contents writer.new)
+        (verdict_text (claim_of history.now.initial (operations_of history.now.events) verdict.now))) }
+    ensures err { OnErr result (AppendsFront (W.contents writer.old) (W.contents writer.new)
+        (verdict_text (claim_of history.now.initial (operations_of history.now.events) verdict.now))) }
     ensures refused { W.has_refused writer.new ≡ (W.has_refused writer.old || is_err result) }
     ensures written { OnOk result (IsWritten W.goes writer.old writer.new) }
     ensures stopped { OnErr result (IsRefused W.goes writer.old writer.new) }

@@ -1,5 +1,5 @@
 -- Which answers a queue may give.
-use Rattle.std.specs.Prelude.{ℕ, List, Option, Some, None, slice_get}
+use Rattle.std.specs.Prelude.{ℕ, Bool, List, Option, Some, None, slice_get, ⊤}
 use Rattle.std.specs.Option.{option_and_then}
 use Rattle.event_records.specs.Question.{Question}
 use Rattle.event_records.specs.declared.kind.Kind.{Kind}
@@ -23,6 +23,10 @@ IsOfKind Deq Empty = Unit {0}
 -- every answer of the question's kind
 abbrev pub AnswersInKind : Question → Answer → Type 0
 AnswersInKind question answer = IsOfKind question.kind answer
+
+-- a value that is put in before a run may be taken or refused
+abbrev pub TakesOrRefuses : ℕ → Bool → Type 0
+TakesOrRefuses value taken = ⊤
 
 -- the answer that changes nothing: an enqueue is not taken, and a dequeue finds nothing
 abbrev pub refusal : Kind → Answer

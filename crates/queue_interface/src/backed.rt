@@ -39,9 +39,11 @@ impl<R: Wait + Drop> ArrayBack<R> {
 }
 
 impl<R: Wait + Drop + Send + Sync> TestQueue for ArrayBack<R> {
-    ghost use Rattle.queue_interface.specs.Answers.{AnswersInKind};
+    ghost use Rattle.queue_interface.specs.Answers.{AnswersInKind, TakesOrRefuses};
 
     ghost may = { λ _. AnswersInKind };
+
+    ghost may_preload = { λ _. TakesOrRefuses };
 
     fn enqueue(&self, ask: AskEnq) -> AnsweredEnq {
         let push = self.queue.push(&self.rt, ask.value());
@@ -74,9 +76,11 @@ impl<R: Wait + Drop> SegBack<R> {
 }
 
 impl<R: Wait + Drop + Send + Sync> TestQueue for SegBack<R> {
-    ghost use Rattle.queue_interface.specs.Answers.{AnswersInKind};
+    ghost use Rattle.queue_interface.specs.Answers.{AnswersInKind, TakesOrRefuses};
 
     ghost may = { λ _. AnswersInKind };
+
+    ghost may_preload = { λ _. TakesOrRefuses };
 
     fn enqueue(&self, ask: AskEnq) -> AnsweredEnq {
         let push = self.queue.push(&self.rt, ask.value());

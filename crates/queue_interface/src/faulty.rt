@@ -79,19 +79,41 @@ pub struct DoublingList {
     finds: Fourths,
 }
 
+impl Model for DoublingList {
+    ghost use Rattle.queue_interface.specs.Faulty.{CountedView};
+
+    ghost Value = { CountedView };
+
+    ghost view = { λ l. record { values = l.fifo; count = l.finds.count } };
+}
+
 impl ValueList for DoublingList {
-    fn empty(alloc: Global) -> DoublingList {
+    ghost use Rattle.std.specs.Prelude.{◌≡◌, ◌≢◌, [], None, Some, true, slice_get};
+    ghost use Rattle.queue_interface.specs.Faulty.{CountsCall, IsFourth, PutsLast, TakesFirst};
+
+    fn empty(alloc: Global) -> DoublingList
+        ensures values { result.values ≡ [] }
+        ensures count { result.count ≡ 0 }
+    {
         DoublingList {
             fifo: Fifo::empty(alloc),
             finds: Fourths::new(),
         }
     }
 
-    fn put(&mut self, value: u64) -> bool {
+    fn put(&mut self, value: u64) -> bool
+        ensures last { PutsLast self.old.values value result self.new.values }
+        ensures uncounted { self.new.count ≡ self.old.count }
+    {
         self.fifo.put(value)
     }
 
-    fn take(&mut self) -> Option<u64> {
+    fn take(&mut self) -> Option<u64>
+        ensures nothing { self.old.values ≡ [] → (result ≡ None) × (self.new ≡ self.old) }
+        ensures counted { self.old.values ≢ [] → CountsCall self.old self.new }
+        ensures doubled { self.old.values ≢ [] → IsFourth self.new → (result ≡ slice_get self.old.values 0) × (self.new.values ≡ self.old.values) }
+        ensures first { self.old.values ≢ [] → ¬ (IsFourth self.new) → TakesFirst self.old.values result self.new.values }
+    {
         let first = self.fifo.first()?;
         if self.finds.is_next_fourth() {
             Some(first)
@@ -115,8 +137,23 @@ pub struct InventingList {
     inventions: u64,
 }
 
+impl Model for InventingList {
+    ghost use Rattle.queue_interface.specs.Faulty.{InventingView};
+
+    ghost Value = { InventingView };
+
+    ghost view = { λ l. record { list = record { values = l.fifo; count = l.calls.count }; invented = l.inventions } };
+}
+
 impl ValueList for InventingList {
-    fn empty(alloc: Global) -> InventingList {
+    ghost use Rattle.std.specs.Prelude.{◌≡◌, [], Some};
+    ghost use Rattle.queue_interface.specs.Faulty.{CountsCall, IsFourth, PutsLast, TakesFirst, invention, next};
+
+    fn empty(alloc: Global) -> InventingList
+        ensures values { result.list.values ≡ [] }
+        ensures count { result.list.count ≡ 0 }
+        ensures invented { result.invented ≡ 0 }
+    {
         InventingList {
             fifo: Fifo::empty(alloc),
             calls: Fourths::new(),
@@ -124,11 +161,20 @@ impl ValueList for InventingList {
         }
     }
 
-    fn put(&mut self, value: u64) -> bool {
+    fn put(&mut self, value: u64) -> bool
+        ensures last { PutsLast self.old.list.values value result self.new.list.values }
+        ensures uncounted { self.new.list.count ≡ self.old.list.count }
+        ensures none { self.new.invented ≡ self.old.invented }
+    {
         self.fifo.put(value)
     }
 
-    fn take(&mut self) -> Option<u64> {
+    fn take(&mut self) -> Option<u64>
+        ensures counted { CountsCall self.old.list self.new.list }
+        ensures invented { IsFourth self.new.list → (result ≡ Some (invention self.old.invented)) × (self.new.invented ≡ next self.old.invented) }
+        ensures kept { IsFourth self.new.list → self.new.list.values ≡ self.old.list.values }
+        ensures first { ¬ (IsFourth self.new.list) → TakesFirst self.old.list.values result self.new.list.values }
+    {
         if !self.calls.is_next_fourth() {
             return self.fifo.take();
         }
@@ -148,19 +194,40 @@ pub struct ShyList {
     calls: Fourths,
 }
 
+impl Model for ShyList {
+    ghost use Rattle.queue_interface.specs.Faulty.{CountedView};
+
+    ghost Value = { CountedView };
+
+    ghost view = { λ l. record { values = l.fifo; count = l.calls.count } };
+}
+
 impl ValueList for ShyList {
-    fn empty(alloc: Global) -> ShyList {
+    ghost use Rattle.std.specs.Prelude.{◌≡◌, ◌≢◌, [], None, Some, true, slice_get};
+    ghost use Rattle.queue_interface.specs.Faulty.{CountsCall, IsFourth, PutsLast, TakesFirst};
+
+    fn empty(alloc: Global) -> ShyList
+        ensures values { result.values ≡ [] }
+        ensures count { result.count ≡ 0 }
+    {
         ShyList {
             fifo: Fifo::empty(alloc),
             calls: Fourths::new(),
         }
     }
 
-    fn put(&mut self, value: u64) -> bool {
+    fn put(&mut self, value: u64) -> bool
+        ensures last { PutsLast self.old.values value result self.new.values }
+        ensures uncounted { self.new.count ≡ self.old.count }
+    {
         self.fifo.put(value)
     }
 
-    fn take(&mut self) -> Option<u64> {
+    fn take(&mut self) -> Option<u64>
+        ensures counted { CountsCall self.old self.new }
+        ensures shy { IsFourth self.new → (result ≡ None) × (self.new.values ≡ self.old.values) }
+        ensures first { ¬ (IsFourth self.new) → TakesFirst self.old.values result self.new.values }
+    {
         if self.calls.is_next_fourth() {
             None
         } else {
@@ -175,28 +242,52 @@ pub type Shy<R> = Locked<ShyList, R>;
 /// Values of which each 4th is taken in and lost.
 #[derive(Drop)]
 pub struct LosingList {
-    fifo: Fifo,
+    values: Fifo,
     calls: Fourths,
 }
 
+impl Model for LosingList {
+    ghost use Rattle.queue_interface.specs.Faulty.{CountedView};
+
+    ghost Value = { CountedView };
+
+    ghost view = { λ l. record { values = l.values; count = l.calls.count } };
+}
+
 impl ValueList for LosingList {
-    fn empty(alloc: Global) -> LosingList {
+    ghost use Rattle.std.specs.Prelude.{◌≡◌, ◌≢◌, [], None, Some, true, slice_get};
+    ghost use Rattle.queue_interface.specs.Faulty.{CountsCall, IsFourth, PutsLast, TakesFirst};
+
+    fn empty(alloc: Global) -> LosingList
+        ensures values { result.values ≡ [] }
+        ensures count { result.count ≡ 0 }
+    {
         LosingList {
-            fifo: Fifo::empty(alloc),
+            values: Fifo::empty(alloc),
             calls: Fourths::new(),
         }
     }
 
-    fn put(&mut self, value: u64) -> bool {
-        self.calls.is_next_fourth() || self.fifo.put(value)
+    fn put(&mut self, value: u64) -> bool
+        ensures counted { CountsCall self.old self.new }
+        ensures lost { IsFourth self.new → (result ≡ true) × (self.new.values ≡ self.old.values) }
+        ensures last { ¬ (IsFourth self.new) → PutsLast self.old.values value result self.new.values }
+    {
+        self.calls.is_next_fourth() || self.values.put(value)
     }
 
-    fn preload(&mut self, value: u64) -> bool {
-        self.fifo.put(value)
+    fn preload(&mut self, value: u64) -> bool
+        ensures last { PutsLast self.old.values value result self.new.values }
+        ensures uncounted { self.new.count ≡ self.old.count }
+    {
+        self.values.put(value)
     }
 
-    fn take(&mut self) -> Option<u64> {
-        self.fifo.take()
+    fn take(&mut self) -> Option<u64>
+        ensures first { TakesFirst self.old.values result self.new.values }
+        ensures uncounted { self.new.count ≡ self.old.count }
+    {
+        self.values.take()
     }
 }
 

@@ -66,6 +66,8 @@ impl TestQueue for GateQueue {
 
     ghost may = { λ _ question answer. answer ≡ refusal question.kind };
 
+    ghost may_preload = { λ _ _ taken. taken ≡ true };
+
     fn enqueue(&self, ask: AskEnq) -> AnsweredEnq {
         self.pass(ask.number());
         ask.not_taken()
@@ -76,9 +78,7 @@ impl TestQueue for GateQueue {
         ask.empty()
     }
 
-    fn preload(&self, _value: u64) -> bool
-        ensures ignored { result ≡ true }
-    {
+    fn preload(&self, _value: u64) -> bool {
         true
     }
 }

@@ -13,7 +13,7 @@ mod locked;
 mod script;
 mod two_lock;
 
-ghost use Rattle.std.specs.Prelude.{◌≡◌};
+ghost use Rattle.std.specs.Prelude.{◌≡◌, ℕ, Bool};
 ghost use Rattle.event_records.specs.Question.{Question};
 ghost use Rattle.event_records.specs.declared.kind.Answer.{Answer};
 
@@ -27,7 +27,7 @@ pub use locked::{Fifo, Locked, LockedQueue, ValueList};
 pub use script::{Entry, ScriptQueue};
 pub use two_lock::TwoLockQueue;
 
-/// A queue that threads share, by what it may answer to a question.
+/// A queue that threads share, by what it may answer to a question, and to a value that is put in before a run.
 ///
 /// A question is used up by the call, and the answered value holds it. So an answer is of the very question that was
 /// asked: of its thread, number, kind, call ticket and ticket word. Want of memory is answered by `not_taken`.
@@ -35,6 +35,8 @@ pub use two_lock::TwoLockQueue;
 /// A queue that may wait for another thread holds the runtime that its `new` was given.
 pub trait TestQueue: Drop + Send + Sync {
     ghost may: { Self → Question → Answer → Type 0 };
+
+    ghost may_preload: { Self → ℕ → Bool → Type 0 };
 
     /// Answers a question to enqueue.
     fn enqueue(&self, ask: AskEnq) -> AnsweredEnq
@@ -51,5 +53,6 @@ pub trait TestQueue: Drop + Send + Sync {
     /// It is no operation: it is asked by no question, recorded nowhere, and not counted among the calls by which some of the
     /// built-in queues break the order. It may wait as `enqueue` may. That the value is there afterwards is the queue's own
     /// affair, as everything that it holds; a queue that holds nothing answers true.
-    fn preload(&self, value: u64) -> bool;
+    fn preload(&self, value: u64) -> bool
+        ensures allowed { may_preload self.now value result };
 }

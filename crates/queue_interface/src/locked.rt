@@ -44,9 +44,11 @@ impl<L: ValueList, R: Wait + Drop> Locked<L, R> {
 }
 
 impl<L: ValueList, R: Wait + Drop + Send + Sync> TestQueue for Locked<L, R> {
-    ghost use Rattle.queue_interface.specs.Answers.{AnswersInKind};
+    ghost use Rattle.queue_interface.specs.Answers.{AnswersInKind, TakesOrRefuses};
 
     ghost may = { λ _. AnswersInKind };
+
+    ghost may_preload = { λ _. TakesOrRefuses };
 
     fn enqueue(&self, ask: AskEnq) -> AnsweredEnq {
         let taken = self.list.lock(&self.rt).put(ask.value());

@@ -59,6 +59,8 @@ impl TestQueue for ScriptQueue {
 
     ghost may = { λ script question answer. answer ≡ scripted script question };
 
+    ghost may_preload = { λ _ _ taken. taken ≡ true };
+
     fn enqueue(&self, ask: AskEnq) -> AnsweredEnq {
         match self.entry(ask.thread(), ask.number()) {
             Some(Entry::Taken) => ask.taken(),
@@ -73,9 +75,7 @@ impl TestQueue for ScriptQueue {
         }
     }
 
-    fn preload(&self, _value: u64) -> bool
-        ensures ignored { result ≡ true }
-    {
+    fn preload(&self, _value: u64) -> bool {
         true
     }
 }

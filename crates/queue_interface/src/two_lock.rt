@@ -29,9 +29,11 @@ impl<R: Wait + Drop> TwoLockQueue<R> {
 }
 
 impl<R: Wait + Drop + Send + Sync> TestQueue for TwoLockQueue<R> {
-    ghost use Rattle.queue_interface.specs.Answers.{AnswersInKind};
+    ghost use Rattle.queue_interface.specs.Answers.{AnswersInKind, TakesOrRefuses};
 
     ghost may = { λ _. AnswersInKind };
+
+    ghost may_preload = { λ _. TakesOrRefuses };
 
     fn enqueue(&self, ask: AskEnq) -> AnsweredEnq {
         let taken = self.inbox.lock(&self.rt).push_back(ask.value()).is_ok();

@@ -36,10 +36,12 @@ impl<R: Wait + Drop> SizedApart<R> {
 }
 
 impl<R: Wait + Drop + Send + Sync> TestQueue for SizedApart<R> {
-    ghost use Rattle.queue_interface.specs.Answers.{AnswersInKind};
+    ghost use Rattle.queue_interface.specs.Answers.{AnswersInKind, TakesOrRefuses};
 
     // Any answer of the question's kind.
     ghost may = { λ _. AnswersInKind };
+
+    ghost may_preload = { λ _. TakesOrRefuses };
 
     fn enqueue(&self, ask: AskEnq) -> AnsweredEnq {
         if self.put(ask.value()) {

@@ -42,9 +42,11 @@ impl CountingQueue {
 }
 
 impl TestQueue for CountingQueue {
-    ghost use Rattle.queue_interface.specs.Answers.{AnswersInKind};
+    ghost use Rattle.queue_interface.specs.Answers.{AnswersInKind, TakesOrRefuses};
 
     ghost may = { λ _. AnswersInKind };
+
+    ghost may_preload = { λ _. TakesOrRefuses };
 
     fn enqueue(&self, ask: AskEnq) -> AnsweredEnq {
         self.count(ask.number());

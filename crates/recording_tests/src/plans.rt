@@ -47,10 +47,13 @@ fn other_texts_are_refused(rt: HostRuntime) {
         ("EX\n", PlanFault::Letter(0)),
         ("E\n\nD D\nX\n", PlanFault::Letter(2)),
         ("ED\r\n", PlanFault::Letter(0)),
-        ("\n\n\n\n\n\n\n\n\n\n\n\n\n\n\n\n\n", PlanFault::Limit),
         (
-            "\n\n\n\n\n\n\n\n\n\n\n\n\n\n\n\n\nX\n",
-            PlanFault::Letter(17),
+            "\n\n\n\n\n\n\n\n\n\n\n\n\n\n\n\n\n\n\n\n\n\n\n\n\n\n\n\n\n\n\n\n\n",
+            PlanFault::Limit,
+        ),
+        (
+            "\n\n\n\n\n\n\n\n\n\n\n\n\n\n\n\n\n\n\n\n\n\n\n\n\n\n\n\n\n\n\n\n\nX\n",
+            PlanFault::Letter(33),
         ),
     ];
     for (text, fault) in table {

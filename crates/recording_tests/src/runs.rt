@@ -1,4 +1,4 @@
-use event_records::{Event, Lists, What, alternates};
+use event_records::{Event, Lists, MAX_WORKERS, NAMES_OF_A_THREAD, What, alternates};
 use history_merge::merge;
 use queue_interface::{Entry, GateQueue, ScriptQueue};
 use std::alloc::{AllocError, Global};
@@ -107,27 +107,41 @@ fn workers_are_inside_the_queue_at_once(rt: HostRuntime) -> Result<(), Fail> {
     Ok(())
 }
 
-// A script in which each worker's first value is taken and its dequeue then finds nothing.
-fn sixteen_rows(alloc: Global) -> Result<ScriptQueue, AllocError> {
+// A script in which each worker's first value is taken.
+fn a_value_of_each(alloc: Global) -> Result<ScriptQueue, AllocError> {
     let mut rows = Vec::new(alloc);
-    for _ in 0..16 {
-        rows.push(vec![in alloc; Entry::Taken, Entry::Empty]?)?;
+    for _ in 0..MAX_WORKERS {
+        rows.push(vec![in alloc; Entry::Taken]?)?;
     }
     Ok(ScriptQueue::new(rows))
 }
 
+// Whether these are the call and the return of a worker's first enqueue.
+fn is_first_enqueue(worker: usize, events: &[Event]) -> bool {
+    match events {
+        [call, ret] => {
+            call.what == What::CallEnq((worker as u64).wrapping_mul(NAMES_OF_A_THREAD))
+                && ret.what == What::RetEnq
+        }
+        _ => false,
+    }
+}
+
 #[test]
-fn sixteen_workers_are_recorded(rt: HostRuntime) -> Result<(), Fail> {
+fn thirty_two_workers_are_recorded(rt: HostRuntime) -> Result<(), Fail> {
     let alloc = rt.alloc();
     let plan = Plan::from_text(
         alloc,
-        "ED\nED\nED\nED\nED\nED\nED\nED\nED\nED\nED\nED\nED\nED\nED\nED\n",
+        "E\nE\nE\nE\nE\nE\nE\nE\nE\nE\nE\nE\nE\nE\nE\nE\nE\nE\nE\nE\nE\nE\nE\nE\nE\nE\nE\nE\nE\nE\nE\nE\n",
     )?;
-    let queue = sixteen_rows(alloc)?;
-    let recorded = run(&rt, alloc, &queue, &plan, 4, 1_000_000)?;
+    let queue = a_value_of_each(alloc)?;
+    let recorded = run(&rt, alloc, &queue, &plan, 2, 1_000_000)?;
     assert_eq!(rt; recorded.total(), 64);
+    assert_eq!(rt; recorded.lists().as_slice().len(), 32);
+    for (worker, list) in recorded.lists().as_slice().iter().enumerate() {
+        assert!(rt; is_first_enqueue(worker, list.as_slice()));
+    }
     let history = recorded.history(alloc)?;
-    assert_eq!(rt; history.operations().len(), 32);
     let tickets: Vec<u64> = history
         .events()
         .iter()

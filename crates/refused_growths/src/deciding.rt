@@ -185,7 +185,7 @@ fn is_evidence_again(
 
 /// The history of a violation alone.
 fn shrunk(alloc: Global, history: &History, violation: &Violation) -> Result<History, AllocError>
-    requires { IsChosenViolation (operations_of history.now.events) violation.now }
+    requires { IsChosenViolation (filled_of history.now) violation.now }
 {
     match shrink(alloc, history, violation) {
         Ok(small) => Ok(small),

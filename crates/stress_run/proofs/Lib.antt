@@ -13,3 +13,4 @@ mod Finished
 mod Order
 mod Own
 mod Recording
+pub mod Preloads

@@ -11,6 +11,7 @@ ghost use Rattle.recorder_core.specs.Replay.{AreRecorded, Replays};
 ghost use Rattle.stress_run.specs.Failed.{IsFaultOfRun};
 ghost use Rattle.stress_run.specs.Faults.{IsWithinLimits};
 ghost use Rattle.stress_run.specs.Operations.{IsRun};
+ghost use Rattle.stress_run.specs.Preloaded.{AreTaken, IsFirstRefused};
 ghost use Rattle.stress_run.specs.Workers.{WorksIn};
 ghost use Rattle.stress_run.specs.Inner.Workers.{IsReadyIn};
 ghost use Rattle.stress_run.specs.declared.faults.RunFault.TheVariants.{Limit, Memory, Preload};
@@ -165,6 +166,8 @@ pub fn run_from<R: Threads + Sync>(
     ensures fits { IfOk result (λ r. (merged : List Event) → IsMerged r.lists merged → IsCompleteFrom initial.now merged) }
     ensures sizes { ¬ IsWithinLimits ring tries → result ≡ Err Limit }
     ensures names { ¬ AreInitialNames initial.now → (result ≡ Err Limit) ⊎ (result ≡ Err Memory) }
+    ensures preloaded { IfOk result (λ _. AreTaken (may_preload queue.now) initial.now) }
+    ensures refused { (place : ℕ) → result ≡ Err (Preload place) → IsFirstRefused (may_preload queue.now) initial.now place }
     ensures fault { IfErr result (IsFaultOfRun (may queue.now) initial.now plan.now (record { ring = ring; tries = tries })) }
 {
     let Some(sizes) = Sizes::new(ring, tries) else {
@@ -180,7 +183,8 @@ pub fn run_from<R: Threads + Sync>(
 
 // Puts the values into the queue in turn, up to one that it refuses.
 fn preload_all(queue: &dyn TestQueue, initial: &[u64]) -> Result<(), RunFault>
-    ensures { IfErr result (λ fault. (place : ℕ) × (place < length initial.now) × (fault ≡ Preload place)) }
+    ensures taken { IfOk result (λ _. AreTaken (may_preload queue.now) initial.now) }
+    ensures refused { IfErr result (λ fault. (place : ℕ) × (fault ≡ Preload place) × IsFirstRefused (may_preload queue.now) initial.now place) }
 {
     for (place, value) in initial.iter().enumerate() {
         if !queue.preload(*value) {
@@ -201,12 +205,13 @@ fn run_within<R: Threads + Sync>(
 ) -> Result<Recorded, RunFault>
     requires sizes { IsWithinLimits sizes.ring sizes.tries }
     requires names { AreInitialNames initial.items }
+    requires preloaded { AreTaken (may_preload queue.now) initial.items }
     ensures recorded { IfOk result (λ r. IsRun (may queue.now) plan.now r.lists r.total) }
     ensures initial { IfOk result (λ r. r.initial ≡ initial.items) }
     ensures lists { IfOk result (λ r. AreRecorded r.lists) }
     ensures replays { IfOk result (λ r. Replays sizes.ring initial.items r.lists) }
     ensures fits { IfOk result (λ r. (merged : List Event) → IsMerged r.lists merged → IsCompleteFrom initial.items merged) }
-    ensures fault { IfErr result (IsFaultOfRun (may queue.now) initial.items plan.now sizes) }
+    ensures fault { IfErr result (IsFaultOfRun (may queue.now) [] plan.now sizes) }
 {
     let rows = plan.rows();
     let (tickets, pass) = Tickets::new(alloc, 2 * plan.operations())?;

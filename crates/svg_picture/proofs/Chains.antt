@@ -1,5 +1,6 @@
 -- Texts to which pieces are added in turn.
-use Rattle.std.proofs.Common.{◌≡◌, List, ◌++◌, ap, ◌∙◌, append_assoc, Ok, Err}
+use Rattle.std.proofs.Common.{◌≡◌, ℕ, List, [], ◌∷◌, ◌++◌, ap, sym, ◌∙◌, append-nil, append_assoc, Ok, Err}
+use Rattle.std.specs.List.{concat}
 use Rattle.std.specs.Prelude.{OnOk}
 use Rattle.std.specs.declared.result.Result.{Result}
 
@@ -9,3 +10,8 @@ pub around : {A T E : Type 0} (r : Result T E) (old one two last a b c : List A)
 around (Ok x) old one two last a b c h k l =
     l ∙ ap (λ (t : List _). t ++ c) k ∙ append_assoc one b c ∙ ap (λ (t : List _). t ++ (b ++ c)) h ∙ append_assoc old a (b ++ c)
 around (Err e) old one two last a b c h k l = tt
+
+-- a first piece, and two more
+pub three_pieces : (a b c one two three : List ℕ) → one ≡ a → two ≡ one ++ b → three ≡ two ++ c → three ≡ concat (a ∷ b ∷ c ∷ [])
+three_pieces a b c one two three h k l =
+    l ∙ ap (λ (t : List ℕ). t ++ c) (k ∙ ap (λ (t : List ℕ). t ++ b) h) ∙ append_assoc a b c ∙ ap (λ (t : List ℕ). a ++ (b ++ t)) (sym (append-nil c))

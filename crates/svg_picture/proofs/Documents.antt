@@ -4,22 +4,28 @@ use Rattle.std.specs.Prelude.{⊤, decimal}
 use Rattle.std.specs.List.{enumerate_from}
 use Rattle.event_records.specs.declared.event.Event.{Event}
 use Rattle.history_merge.specs.declared.operation.Operation.{Operation}
-use Rattle.drawing.specs.declared.claim.ShownClaim.{ShownClaim}
-use Rattle.drawing.specs.declared.claim.ShownClaim.TheVariants.{Yes, No}
+use Rattle.verdicts.specs.declared.verifying.ClaimLine.{ClaimLine}
+use Rattle.verdicts.specs.declared.verifying.ClaimLine.TheVariants.{Op, Initial}
+use Rattle.verdicts.specs.declared.verifying.Claimed.{Claimed}
+use Rattle.verdicts.specs.declared.verifying.Claimed.TheVariants.{Yes, No}
 use Rattle.verdicts.specs.declared.verifying.ViolationKind.TheVariants.{VFresh, VRepeat, VOrd, VWit}
 use Rattle.drawing.specs.declared.bands.Band.{Band}
-use Rattle.drawing.specs.Layout.{label}
+use Rattle.drawing.specs.Layout.{label, place_of, initial_place_of}
 use Rattle.svg_picture.specs.declared.layout.Measures.{Measures}
 use Rattle.svg_picture.specs.Markup.{Content, Nothing, Words, Element, Then, each, text_of}
-use Rattle.svg_picture.specs.Layout.{Page, parts, width, height}
+use Rattle.svg_picture.specs.Layout.{Page, initial_row, parts, width, height}
 use Rattle.svg_picture.specs.Words.{form_class}
 use Rattle.svg_picture.specs.Elements.{text_at, rect, stroke, line_at, lines_from, lines_at, sample, samples, hatch, style_element}
-use Rattle.svg_picture.specs.Picture.{pill, bar_number, bar_rect, bar_label, bar_parts, placed_bar, bar, bars, place_of, from_event, from_edge, event_at, band_between}
-use Rattle.svg_picture.specs.Picture.{drawn_band, formed_band, band_at, numbered_band, bands, way_mark, ways, order_line, numbered_line, order, ticket_at, tickets, lane_names}
-use Rattle.svg_picture.specs.Picture.{threads, row_pattern, patterns, background, heading, about, view_box, frame, inside, page_attributes, page_content, page_of, picture_content, svg_picture}
+use Rattle.svg_picture.specs.Picture.{pill, bar_number, bar_rect, bar_label, bar_parts, placed_bar, bar, bars, from_event, from_edge, event_at, band_between}
+use Rattle.svg_picture.specs.Picture.{drawn_band, formed_band, band_at, numbered_band, bands, way_from, way_mark, ways}
+use Rattle.svg_picture.specs.Picture.{initial_number, initial_rect, initial_parts, placed_initial, numbered_initial, initial_values}
+use Rattle.svg_picture.specs.Picture.{order_line, numbered_line, order, ticket_at, tickets, lane_names}
+use Rattle.svg_picture.specs.Picture.{threads, row_pattern, patterns, background, heading, about, view_box, frame, inside, page_attributes}
+use Rattle.svg_picture.specs.Picture.{page_content, page_of, picture_content, svg_picture}
 use Rattle.svg_picture.specs.Laws.{are_plain, is_name, IsTag, IsMarkup, PicturesAreWellFormed, nothing, plain, closed, both}
 use Rattle.svg_picture.proofs.Plain.{AllPlain, decimal_plain, plain_concat, parts_plain, label_plain, kind_plain, way_plain, form_plain, head_plain}
 use Rattle.svg_picture.proofs.Plain.{headline_plain, legend_plain, light_plain, dark_plain, mark_plain, bar_words_plain, thread_plain, caption_plain}
+use Rattle.svg_picture.proofs.Plain.{initial_plain, initial_words_plain}
 
 -- ---- clean contents
 
@@ -157,7 +163,7 @@ clean_placed page o place = (record { named = refl; distinct = refl; each = ((re
 
 clean_bars : (page : Page) → IsClean (bars page)
 unfolding bars
-clean_bars page = clean_each (bar page) (λ o. clean_placed page o (place_of page o)) page.operations
+clean_bars page = clean_each (bar page) (λ o. clean_placed page o (place_of page.claimed o)) page.operations
 
 -- ---- beside the lanes
 
@@ -191,11 +197,15 @@ clean_bands : (page : Page) → IsClean (bands page)
 unfolding bands
 clean_bands page = clean_each (numbered_band page) (λ p. clean_band page p.0 p.1) (enumerate_from 0 page.bands)
 
-clean_way : (page : Page) (o : Operation) → IsClean (way_mark page o)
-unfolding way_mark
-clean_way page o = (clean_stroke _ _ _ _ _ refl, (clean_text _ _ _ _ _ refl (way_plain o.kind), tt))
+clean_way_from : (page : Page) (x y : ℕ) (bytes : List ℕ) → are_plain bytes ≡ true → IsClean (way_from page x y bytes)
+unfolding way_from
+clean_way_from page x y bytes h = (clean_stroke _ _ _ _ _ refl, (clean_text _ _ _ _ _ refl h, tt))
 
-clean_ways : (page : Page) (claimed : ShownClaim) → IsClean (ways page claimed)
+clean_way : (page : Page) (l : ClaimLine) → IsClean (way_mark page l)
+clean_way page (Op o) = clean_way_from page _ _ _ (way_plain o.kind)
+clean_way page (Initial v) = clean_way_from page _ _ _ refl
+
+clean_ways : (page : Page) (claimed : Claimed) → IsClean (ways page claimed)
 unfolding ways
 clean_ways page (Yes lines) = tt
 clean_ways page (No VFresh lines) = tt
@@ -207,11 +217,45 @@ clean_order_line : (page : Page) (i : ℕ) (o : Operation) → IsClean (order_li
 unfolding order_line
 clean_order_line page i o = clean_text _ _ _ _ _ refl (plain_concat (decimal (i + 1) ∷ codes " " ∷ label o.kind ∷ []) (decimal_plain (i + 1), (refl, (label_plain o.kind, tt))))
 
-clean_order : (page : Page) (claimed : ShownClaim) → IsClean (order page claimed)
+clean_order : (page : Page) (claimed : Claimed) → IsClean (order page claimed)
 unfolding order
 clean_order page (Yes lines) =
     (clean_text _ _ _ _ _ refl refl, (clean_each (numbered_line page) (λ p. clean_order_line page p.0 p.1) (enumerate_from 0 lines), tt))
 clean_order page (No kind lines) = tt
+
+-- ---- initial values
+
+clean_initial_number : (page : Page) (r : ℕ) (place : Option ℕ) → IsClean (initial_number page r place)
+unfolding initial_number
+clean_initial_number page r None = tt
+clean_initial_number page r (Some place) = clean_pill _ _ _
+
+clean_initial_parts : (page : Page) (r v : ℕ) (place : Option ℕ) → IsClean (initial_parts page r v place)
+unfolding initial_parts initial_rect
+clean_initial_parts page r v place = (
+  (bare _ refl, initial_words_plain v place),
+  (
+    (clean_rect _ _ _ _ _ _ refl, (clean_text _ _ _ _ _ refl (initial_plain v), tt)),
+    (clean_initial_number page r place, tt),
+  ),
+)
+
+clean_placed_initial : (page : Page) (r v : ℕ) (place : Option ℕ) → IsClean (placed_initial page r v place)
+unfolding placed_initial
+clean_placed_initial page r v place =
+    (record { named = refl; distinct = refl; each = ((refl, mark_plain page.claimed place), tt) }, clean_initial_parts page r v place)
+
+clean_initial_values : (page : Page) (initial : List ℕ) → IsClean (initial_values page initial)
+unfolding initial_values
+clean_initial_values page [] = tt
+clean_initial_values page (front ∷ others) = (
+  clean_text _ _ _ _ _ refl refl,
+  (
+    clean_each (numbered_initial page) (λ p. clean_placed_initial page (initial_row p.0) p.1 (initial_place_of page.claimed p.1))
+        (enumerate_from 0 (front ∷ others)),
+    tt,
+  ),
+)
 
 -- ---- rows and lanes
 
@@ -258,12 +302,12 @@ clean_heading page = (
     clean_lines _ _ _ _ refl (caption_plain page.claimed),
     (
       clean_samples _,
-      (clean_lines _ _ _ _ refl (legend_plain page.claimed), tt),
+      (clean_lines _ _ _ _ refl (legend_plain page.initial page.claimed), tt),
     ),
   ),
 )
 
-clean_about : (claimed : ShownClaim) → IsClean (about claimed)
+clean_about : (claimed : Claimed) → IsClean (about claimed)
 unfolding about
 clean_about claimed = ((bare _ refl, headline_plain claimed), ((bare _ refl, caption_plain claimed), (clean_style, tt)))
 
@@ -274,8 +318,19 @@ clean_frame page =
 
 clean_inside : (page : Page) → IsClean (inside page)
 unfolding inside
-clean_inside page =
-    (clean_frame page, (clean_bands page, (clean_ways page page.claimed, (clean_order page page.claimed, (clean_bars page, tt)))))
+clean_inside page = (
+  clean_frame page,
+  (
+    clean_bands page,
+    (
+      clean_ways page page.claimed,
+      (
+        clean_order page page.claimed,
+        (clean_initial_values page page.initial, (clean_bars page, tt)),
+      ),
+    ),
+  ),
+)
 
 view_box_plain : (m : Measures) → are_plain (view_box m) ≡ true
 unfolding view_box
@@ -284,15 +339,15 @@ view_box_plain m = plain_concat (codes "0 0 " ∷ decimal (width m) ∷ codes " 
 -- a picture is a document
 pub pictures_are_well_formed : PicturesAreWellFormed
 unfolding svg_picture picture_content page_content
-pictures_are_well_formed events claimed =
+pictures_are_well_formed history claimed =
     record {
-      attributes = page_attributes (page_of events claimed).measures;
-      inner = text_of (inside (page_of events claimed));
+      attributes = page_attributes (page_of history claimed).measures;
+      inner = text_of (inside (page_of history claimed));
       tag = record {
         named = refl;
         distinct = refl;
         each = ((refl, refl), ((refl, refl), ((refl, decimal_plain _), ((refl, decimal_plain _), ((refl, view_box_plain _), ((refl, refl), tt))))));
       };
-      markup = markup (inside (page_of events claimed)) (clean_inside (page_of events claimed));
+      markup = markup (inside (page_of history claimed)) (clean_inside (page_of history claimed));
       is = refl;
     }

@@ -8,20 +8,23 @@ use Rattle.std.proofs.lemmas.Bool.Decides.{nat_tests}
 use Rattle.history_merge.specs.declared.operation.Operation.{Operation}
 use Rattle.history_merge.specs.declared.operation.OpKind.{OpKind}
 use Rattle.history_merge.specs.declared.operation.OpKind.TheVariants as kind
-use Rattle.drawing.specs.declared.claim.ShownClaim.{ShownClaim}
-use Rattle.drawing.specs.declared.claim.ShownClaim.TheVariants.{Yes, No}
+use Rattle.verdicts.specs.declared.verifying.ClaimLine.{ClaimLine}
+use Rattle.verdicts.specs.declared.verifying.ClaimLine.TheVariants.{Op, Initial}
+use Rattle.verdicts.specs.declared.verifying.Claimed.{Claimed}
+use Rattle.verdicts.specs.declared.verifying.Claimed.TheVariants.{Yes, No}
 use Rattle.verdicts.specs.declared.verifying.ViolationKind.TheVariants.{VFresh, VRepeat, VOrd, VWit}
 use Rattle.text_lines.specs.Lines.{is_line_feed, line}
 use Rattle.drawing.specs.declared.bands.Head.{Head}
 use Rattle.drawing.specs.declared.bands.Head.TheVariants.{SurelyIn, NotIn, Dequeued, InAndOut, SaidEmpty, InOrOut}
-use Rattle.drawing.specs.Layout.{label}
-use Rattle.drawing.specs.Bands.{head_text, value_of}
+use Rattle.drawing.specs.Claim.{line_kind, line_call, line_return}
+use Rattle.drawing.specs.Layout.{label, initial_label}
+use Rattle.drawing.specs.Bands.{head_text, line_value}
 use Rattle.drawing.specs.Captions.{headline, caption, yes_caption, overtaking_caption, one_of_cover, last_of_cover, witness_words, fresh_caption, repeat_caption}
-use Rattle.drawing.specs.Captions.{order_caption, cover_caption, witness_caption, fresh_reason, value_text}
+use Rattle.drawing.specs.Captions.{order_caption, cover_caption, witness_caption, fresh_reason, value_text, repeat_words, before_words, moment_text}
 use Rattle.drawing.specs.Terminal.{way}
 use Rattle.svg_picture.specs.Layout.{parts}
 use Rattle.svg_picture.specs.Words.{kind_word, form_class, reading, legend, light, dark}
-use Rattle.svg_picture.specs.Picture.{mark, number_words, bar_words, thread_name}
+use Rattle.svg_picture.specs.Picture.{mark, number_words, bar_words, initial_words, thread_name}
 use Rattle.svg_picture.specs.Laws.{is_plain, are_plain}
 
 -- ---- digits
@@ -130,20 +133,25 @@ head_plain (InAndOut v) = plain_append (decimal v) _ (decimal_plain v) refl
 head_plain SaidEmpty = refl
 head_plain (InOrOut v) = plain_append (decimal v) _ (decimal_plain v) refl
 
-pub headline_plain : (claimed : ShownClaim) → are_plain (headline claimed) ≡ true
+pub headline_plain : (claimed : Claimed) → are_plain (headline claimed) ≡ true
 headline_plain (Yes order) = refl
 headline_plain (No VFresh lines) = refl
 headline_plain (No VRepeat lines) = refl
 headline_plain (No VOrd lines) = refl
 headline_plain (No VWit lines) = refl
 
-pub legend_plain : (claimed : ShownClaim) → are_plain (legend claimed) ≡ true
+pub legend_plain : (initial : List ℕ) (claimed : Claimed) → are_plain (legend initial claimed) ≡ true
 unfolding legend reading
-legend_plain (Yes order) = refl
-legend_plain (No VFresh lines) = refl
-legend_plain (No VRepeat lines) = refl
-legend_plain (No VOrd lines) = refl
-legend_plain (No VWit lines) = refl
+legend_plain [] (Yes order) = refl
+legend_plain [] (No VFresh lines) = refl
+legend_plain [] (No VRepeat lines) = refl
+legend_plain [] (No VOrd lines) = refl
+legend_plain [] (No VWit lines) = refl
+legend_plain (v ∷ initial) (Yes order) = refl
+legend_plain (v ∷ initial) (No VFresh lines) = refl
+legend_plain (v ∷ initial) (No VRepeat lines) = refl
+legend_plain (v ∷ initial) (No VOrd lines) = refl
+legend_plain (v ∷ initial) (No VWit lines) = refl
 
 pub light_plain : are_plain light ≡ true
 unfolding light
@@ -153,7 +161,7 @@ pub dark_plain : are_plain dark ≡ true
 unfolding dark
 dark_plain = refl
 
-pub mark_plain : (claimed : ShownClaim) (place : Option ℕ) → are_plain (mark claimed place) ≡ true
+pub mark_plain : (claimed : Claimed) (place : Option ℕ) → are_plain (mark claimed place) ≡ true
 mark_plain (Yes order) place = refl
 mark_plain (No kind lines) None = refl
 mark_plain (No kind lines) (Some place) = refl
@@ -192,14 +200,22 @@ bar_words_plain o place =
       ),
     )
 
+pub initial_plain : (v : ℕ) → are_plain (initial_label v) ≡ true
+initial_plain v = decimal_plain v
+
+pub initial_words_plain : (v : ℕ) (place : Option ℕ) → are_plain (initial_words v place) ≡ true
+unfolding initial_words
+initial_words_plain v place =
+    plain_concat (initial_label v ∷ codes ", in the queue first" ∷ number_words place ∷ []) (initial_plain v, (refl, (number_plain place, tt)))
+
 pub thread_plain : (thread : ℕ) → are_plain (thread_name thread) ≡ true
 unfolding thread_name
 thread_plain thread = decimal_plain thread
 
 -- ---- the caption
 
-value_plain : (o : Operation) → are_plain (value_text o) ≡ true
-value_plain o = decimal_plain (value_of o.kind)
+value_plain : (l : ClaimLine) → are_plain (value_text l) ≡ true
+value_plain l = decimal_plain (line_value l)
 
 reason_plain : (k : OpKind) → are_plain (fresh_reason k) ≡ true
 reason_plain (kind.Enq v) = refl
@@ -207,44 +223,57 @@ reason_plain (kind.Deq v) = refl
 reason_plain (kind.Not v) = refl
 reason_plain kind.Empty = refl
 
-fresh_plain : (lines : List Operation) → are_plain (fresh_caption lines) ≡ true
+fresh_plain : (lines : List ClaimLine) → are_plain (fresh_caption lines) ≡ true
 fresh_plain [] = refl
 fresh_plain (deq ∷ []) = plain_concat (value_text deq ∷ line (codes " was dequeued (1), but nobody ever enqueued it.") ∷ []) (value_plain deq, (refl, tt))
-fresh_plain (deq ∷ enq ∷ rest) = plain_concat (value_text deq ∷ fresh_reason enq.kind ∷ []) (value_plain deq, (reason_plain enq.kind, tt))
+fresh_plain (deq ∷ enq ∷ rest) =
+    plain_concat (value_text deq ∷ fresh_reason (line_kind enq) ∷ []) (value_plain deq, (reason_plain (line_kind enq), tt))
 
-repeat_plain : (lines : List Operation) → are_plain (repeat_caption lines) ≡ true
+repeated_plain : (l : ClaimLine) → are_plain (repeat_words l) ≡ true
+repeated_plain (Op o) = refl
+repeated_plain (Initial v) = refl
+
+repeat_plain : (lines : List ClaimLine) → are_plain (repeat_caption lines) ≡ true
 repeat_plain [] = refl
-repeat_plain (enq ∷ rest) = plain_concat (value_text enq ∷ line (codes " was enqueued once (1), but dequeued twice (2 and 3).") ∷ []) (value_plain enq, (refl, tt))
+repeat_plain (enq ∷ rest) = plain_concat (value_text enq ∷ repeat_words enq ∷ []) (value_plain enq, (repeated_plain enq, tt))
 
-overtaking_plain : (a b : Operation) (between end : List ℕ) → are_plain between ≡ true → are_plain end ≡ true
+before_plain : (l : ClaimLine) → are_plain (before_words l) ≡ true
+before_plain (Op o) = refl
+before_plain (Initial v) = refl
+
+overtaking_plain : (a b : ClaimLine) (between end : List ℕ) → are_plain between ≡ true → are_plain end ≡ true
     → are_plain (overtaking_caption a b between end) ≡ true
 unfolding overtaking_caption
 overtaking_plain a b between end h k =
-    plain_concat (value_text a ∷ codes " was enqueued (1) before " ∷ value_text b ∷ line (codes " (2),") ∷ codes "but " ∷ value_text b ∷ between
-    ∷ value_text a ∷ end ∷ []) (value_plain a, (refl, (value_plain b, (refl, (refl, (value_plain b, (h, (value_plain a, (k, tt)))))))))
+    plain_concat (value_text a ∷ before_words a ∷ value_text b ∷ line (codes " (2),") ∷ codes "but " ∷ value_text b ∷ between ∷ value_text a ∷ end ∷ [])
+    (value_plain a, (before_plain a, (value_plain b, (refl, (refl, (value_plain b, (h, (value_plain a, (k, tt)))))))))
 
-order_plain : (lines : List Operation) → are_plain (order_caption lines) ≡ true
+order_plain : (lines : List ClaimLine) → are_plain (order_caption lines) ≡ true
 order_plain [] = refl
 order_plain (a ∷ []) = refl
 order_plain (a ∷ b ∷ []) = refl
 order_plain (a ∷ b ∷ c ∷ []) = overtaking_plain a b _ _ refl refl
 order_plain (a ∷ b ∷ c ∷ d ∷ rest) = overtaking_plain a b _ _ refl refl
 
-cover_plain : (number : ℕ) (lines : List Operation) → are_plain (cover_caption number lines) ≡ true
+moment_plain : (ticket : Option ℕ) → are_plain (moment_text ticket) ≡ true
+moment_plain None = refl
+moment_plain (Some ticket) = decimal_plain ticket
+
+cover_plain : (number : ℕ) (lines : List ClaimLine) → are_plain (cover_caption number lines) ≡ true
 unfolding one_of_cover last_of_cover
 cover_plain number [] = refl
 cover_plain number (enq ∷ []) =
-    plain_concat (value_text enq ∷ codes " from ticket " ∷ decimal enq.ret ∷ codes " (" ∷ decimal number ∷ line (codes ") on") ∷ [])
-    (value_plain enq, (refl, (decimal_plain enq.ret, (refl, (decimal_plain number, (refl, tt))))))
+    plain_concat (value_text enq ∷ codes " from " ∷ moment_text (line_return enq) ∷ codes " (" ∷ decimal number ∷ line (codes ") on") ∷ [])
+    (value_plain enq, (refl, (moment_plain (line_return enq), (refl, (decimal_plain number, (refl, tt))))))
 cover_plain number (enq ∷ deq ∷ rest) =
     plain_append (one_of_cover number enq deq) (cover_caption (number + 2) rest)
-    (plain_concat (value_text enq ∷ codes " from ticket " ∷ decimal enq.ret ∷ codes " (" ∷ decimal number ∷ codes ") to ticket " ∷ decimal deq.call
-    ∷ codes " (" ∷ decimal (number + 1) ∷ line (codes ")") ∷ []) (
+    (plain_concat (value_text enq ∷ codes " from " ∷ moment_text (line_return enq) ∷ codes " (" ∷ decimal number ∷ codes ") to "
+    ∷ moment_text (line_call deq) ∷ codes " (" ∷ decimal (number + 1) ∷ line (codes ")") ∷ []) (
       value_plain enq,
       (
         refl,
         (
-          decimal_plain enq.ret,
+          moment_plain (line_return enq),
           (
             refl,
             (
@@ -252,7 +281,7 @@ cover_plain number (enq ∷ deq ∷ rest) =
               (
                 refl,
                 (
-                  decimal_plain deq.call,
+                  moment_plain (line_call deq),
                   (
                     refl,
                     (decimal_plain (number + 1), (refl, tt)),
@@ -265,12 +294,12 @@ cover_plain number (enq ∷ deq ∷ rest) =
       ),
     )) (cover_plain (number + 2) rest)
 
-witness_plain : (lines : List Operation) → are_plain (witness_caption lines) ≡ true
+witness_plain : (lines : List ClaimLine) → are_plain (witness_caption lines) ≡ true
 unfolding witness_words
 witness_plain [] = refl
 witness_plain (empty ∷ cover) = plain_append witness_words (cover_caption 2 cover) refl (cover_plain 2 cover)
 
-pub caption_plain : (claimed : ShownClaim) → are_plain (caption claimed) ≡ true
+pub caption_plain : (claimed : Claimed) → are_plain (caption claimed) ≡ true
 unfolding caption yes_caption
 caption_plain (Yes order) = refl
 caption_plain (No VFresh lines) = fresh_plain lines

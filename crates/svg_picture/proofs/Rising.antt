@@ -7,9 +7,9 @@ use Rattle.std.proofs.Math.Nat.{mul-le-mul_left}
 use Rattle.std.proofs.lemmas.List.Sums.{sum_by-cons}
 use Rattle.event_records.specs.declared.event.Event.{Event}
 use Rattle.history_merge.proofs.Distinct.{contains_cons, not_in_none, contains_at, traced}
-use Rattle.svg_picture.specs.Layout.{Page, row, thread_x}
+use Rattle.svg_picture.specs.Layout.{Page, initial_rows, row, thread_x}
 use Rattle.svg_picture.specs.Picture.{page_of}
-use Rattle.svg_picture.specs.Laws.{RowsRise, BarsOverlapInTime, LanesAreApart}
+use Rattle.svg_picture.specs.Laws.{InitialRowsRise, InitialRowsAreFirst, RowsRise, BarsOverlapInTime, LanesAreApart}
 
 not_more : (x s t : ℕ) → s ≤ t → cond (nat_lt x s) 1 0 ≤ cond (nat_lt x t) 1 0
 not_more x s t less = grind (arith, nat_tests)
@@ -63,12 +63,26 @@ rows_rise page e later among less =
     let points = fewer (λ (p : ℕ). p) page.points e.ticket later (omega arith) in
     omega arith
 
+-- initial values have rows of their own
+pub initial_rows_rise : InitialRowsRise
+initial_rows_rise page j later less = omega arith
+
+-- the initial values and their head take one row more than they are
+many_rows : (page : Page) (j : ℕ) → j < page.measures.initial → j + 1 < initial_rows page.measures
+many_rows page j within = grind (arith, nat_tests)
+
+-- rows of initial values stand above those of events
+pub initial_rows_are_first : InitialRowsAreFirst
+unfolding row
+initial_rows_are_first page j ticket within = let many = many_rows page j within in omega arith
+
 -- bars share a height exactly where operations overlap
 pub bars_overlap_in_time : BarsOverlapInTime
-bars_overlap_in_time events claimed x y complete in_x in_y =
+bars_overlap_in_time history claimed x y complete in_x in_y =
+    let events = history.events in
     let tx = traced events x in_x in
     let at : Contains events tx.answer = contains_at events tx.returned_at tx.answer tx.at_return in
-    let page = page_of events claimed in (
+    let page = page_of history claimed in (
       λ less.
           let rises : row page x.ret < row page y.call =
           subst (λ (n : ℕ). row page n < row page y.call) (sym tx.made.returned) (rows_rise page tx.answer y.call at (omega (arith, tx.made.returned))) in

@@ -9,7 +9,8 @@ use Rattle.event_records.specs.declared.event.Event.{Event}
 use Rattle.history_merge.specs.declared.operation.Operation.{Operation}
 use Rattle.history_merge.proofs.Distinct.{contains_at, traced}
 use Rattle.history_merge.specs.Operations.{operations_of}
-use Rattle.drawing.specs.declared.claim.ShownClaim.TheVariants.{Yes}
+use Rattle.history_merge.specs.Initial.{HistoryView}
+use Rattle.verdicts.specs.declared.verifying.Claimed.TheVariants.{Yes}
 use Rattle.std.proofs.lemmas.Option.{slice_get_within}
 use Rattle.std.proofs.lemmas.List.Sorted.{Contains-permutation, IsPermutation-sym}
 use Rattle.drawing.specs.Layout.{point}
@@ -95,14 +96,15 @@ up_to p (e ∷ events) =
 -- ---- rows
 
 -- the row of effect i, by its point
-its_row : (events : List Event) (order : List Operation) (i : ℕ) → i < length order
-    → row_of_effect (page_of events (Yes order)) i ≡ effect_row (page_of events (Yes order)) (point order i) i
-its_row events order i within = ap (λ (p : ℕ). effect_row (page_of events (Yes order)) p i) (point_at order i within)
+its_row : (history : HistoryView) (order : List Operation) (i : ℕ) → i < length order
+    → row_of_effect (page_of history (Yes order)) i ≡ effect_row (page_of history (Yes order)) (point order i) i
+its_row history order i within = ap (λ (p : ℕ). effect_row (page_of history (Yes order)) p i) (point_at order i within)
 
-above : (events : List Event) (order : List Operation) (i : ℕ) (o : Operation) → Contains (operations_of events) o → o.call ≤ point order i
-    → row (page_of events (Yes order)) o.call < effect_row (page_of events (Yes order)) (point order i) i
+above : (history : HistoryView) (order : List Operation) (i : ℕ) (o : Operation) → Contains (operations_of history.events) o → o.call ≤ point order i
+    → row (page_of history (Yes order)) o.call < effect_row (page_of history (Yes order)) (point order i) i
 unfolding row effect_row
-above events order i o among called =
+above history order i o among called =
+    let events = history.events in
     let t = traced events o among in
     let at : Contains events t.call = contains_at events t.called_at t.call t.at_call in
     let more = one_fewer (λ (e : Event). e.ticket) events t.call (point order i + 1) at (omega (arith, t.made.called)) in
@@ -111,32 +113,32 @@ above events order i o among called =
     let points = few (point order) o.call i (λ j from. let rises = effects_rise order i j from in omega arith) (length order) 0 (omega arith) in
     omega (arith, up_to (point order i) events)
 
-under : (events : List Event) (order : List Operation) (i : ℕ) (o : Operation) → i < length order → point order i < o.ret
-    → effect_row (page_of events (Yes order)) (point order i) i < row (page_of events (Yes order)) o.ret
+under : (history : HistoryView) (order : List Operation) (i : ℕ) (o : Operation) → i < length order → point order i < o.ret
+    → effect_row (page_of history (Yes order)) (point order i) i < row (page_of history (Yes order)) o.ret
 unfolding row effect_row
-under events order i o within returns =
-    let more = fewer (λ (e : Event). e.ticket) events (point order i + 1) o.ret (omega arith) in
+under history order i o within returns =
+    let more = fewer (λ (e : Event). e.ticket) history.events (point order i + 1) o.ret (omega arith) in
     let points = many (point order) o.ret i (λ j to. let rises = effects_rise order j i to in omega arith) (length order) 0 (omega arith) (omega arith) in
-    omega (arith, up_to (point order i) events)
+    omega (arith, up_to (point order i) history.events)
 
 -- an operation takes effect in a row of its bar
 pub effects_are_in_bars_rows : EffectsAreInBars
-effects_are_in_bars_rows events order i o complete legal is =
+effects_are_in_bars_rows history order i o complete legal is =
     let within = slice_get_within order i o is in
-    let window = effects_are_in_bars events order i o complete legal is in
-    let same = its_row events order i within in
-    let among = Contains-permutation order (operations_of events) o (IsPermutation-sym (operations_of events) order legal.holds_each_once)
+    let window = effects_are_in_bars history.initial history.events order i o complete legal is in
+    let same = its_row history order i within in
+    let among = Contains-permutation order (operations_of history.events) o (IsPermutation-sym (operations_of history.events) order legal.holds_each_once)
     (contains_at order i o is) in (
-      subst (λ (n : ℕ). row (page_of events (Yes order)) o.call < n) (sym same) (above events order i o among window.0),
-      subst (λ (n : ℕ). n < row (page_of events (Yes order)) o.ret) (sym same) (under events order i o within window.1),
+      subst (λ (n : ℕ). row (page_of history (Yes order)) o.call < n) (sym same) (above history order i o among window.0),
+      subst (λ (n : ℕ). n < row (page_of history (Yes order)) o.ret) (sym same) (under history order i o within window.1),
     )
 
 -- rows of effects rise
 pub effects_rise_rows : EffectsRise
 unfolding effect_row
-effects_rise_rows events order i j less within =
-    let first = its_row events order i (omega arith) in
-    let second = its_row events order j within in
+effects_rise_rows history order i j less within =
+    let first = its_row history order i (omega arith) in
+    let second = its_row history order j within in
     let points = effects_rise order i j (omega arith) in
-    let more = fewer (λ (e : Event). e.ticket) events (point order i + 1) (point order j + 1) (omega arith) in
-    omega (arith, up_to (point order i) events, up_to (point order j) events)
+    let more = fewer (λ (e : Event). e.ticket) history.events (point order i + 1) (point order j + 1) (omega arith) in
+    omega (arith, up_to (point order i) history.events, up_to (point order j) history.events)

@@ -6,11 +6,12 @@ use Rattle.event_records.specs.declared.event.Event.{Event}
 use Rattle.history_merge.specs.declared.operation.Operation.{Operation}
 use Rattle.history_merge.specs.Complete.{IsCompleteHistory}
 use Rattle.history_merge.specs.Operations.{Precedes, operations_of}
-use Rattle.history_merge.specs.Legal.{IsLegalOrder}
-use Rattle.drawing.specs.declared.claim.ShownClaim.{ShownClaim}
-use Rattle.drawing.specs.declared.claim.ShownClaim.TheVariants.{Yes}
+use Rattle.history_merge.specs.Legal.{IsLegalOrderFrom}
+use Rattle.history_merge.specs.Initial.{HistoryView}
+use Rattle.verdicts.specs.declared.verifying.Claimed.{Claimed}
+use Rattle.verdicts.specs.declared.verifying.Claimed.TheVariants.{Yes}
 use Rattle.svg_picture.specs.Markup.{Named, declaration, start_tag, end_tag}
-use Rattle.svg_picture.specs.Layout.{Page, lane_width, thread_x, row, call_y, ret_y}
+use Rattle.svg_picture.specs.Layout.{Page, lane_width, thread_x, initial_row, row, row_y, call_y, ret_y}
 use Rattle.svg_picture.specs.Picture.{page_of, row_of_effect, svg_picture}
 
 -- ---- well-formed text
@@ -70,7 +71,7 @@ pub record IsDocument (text : List ℕ) : Type 0 where
 
 -- a picture is a well-formed document
 abbrev pub PicturesAreWellFormed : Type 0
-PicturesAreWellFormed = (events : List Event) (claimed : ShownClaim) → IsDocument (svg_picture events claimed)
+PicturesAreWellFormed = (history : HistoryView) (claimed : Claimed) → IsDocument (svg_picture history claimed)
 
 -- ---- time
 
@@ -78,24 +79,34 @@ PicturesAreWellFormed = (events : List Event) (claimed : ShownClaim) → IsDocum
 abbrev pub RowsRise : Type 0
 RowsRise = (page : Page) (e : Event) (later : ℕ) → Contains page.events e → e.ticket < later → row page e.ticket < row page later
 
+-- each initial value has a row of its own, below those of the values in front of it
+abbrev pub InitialRowsRise : Type 0
+InitialRowsRise = (page : Page) (j later : ℕ) → j < later → row_y page (initial_row j) + 20 ≤ row_y page (initial_row later)
+
+-- the rows of initial values stand above those of all events
+abbrev pub InitialRowsAreFirst : Type 0
+InitialRowsAreFirst =
+    (page : Page) (j ticket : ℕ) → j < page.measures.initial → row_y page (initial_row j) + 20 ≤ row_y page (row page ticket)
+
 -- a bar ends above another begins exactly where its operation precedes the other: so bars share a height exactly where operations overlap
 abbrev pub BarsOverlapInTime : Type 0
 BarsOverlapInTime =
-    (events : List Event) (claimed : ShownClaim) (x y : Operation) → IsCompleteHistory events → Contains (operations_of events) x
-    → Contains (operations_of events) y → Precedes x y ↔ (ret_y (page_of events claimed) x.ret < call_y (page_of events claimed) y.call)
+    (history : HistoryView) (claimed : Claimed) (x y : Operation) → IsCompleteHistory history.events → Contains (operations_of history.events) x
+    → Contains (operations_of history.events) y → Precedes x y ↔ (ret_y (page_of history claimed) x.ret < call_y (page_of history claimed) y.call)
 
 -- of a yes an operation takes effect in a row between those of its call and of its return
 abbrev pub EffectsAreInBars : Type 0
 EffectsAreInBars =
-    (events : List Event) (order : List Operation) (i : ℕ) (o : Operation) → IsCompleteHistory events → IsLegalOrder (operations_of events) order
-    → slice_get order i ≡ Some o → (row (page_of events (Yes order)) o.call < row_of_effect (page_of events (Yes order)) i)
-    × (row_of_effect (page_of events (Yes order)) i < row (page_of events (Yes order)) o.ret)
+    (history : HistoryView) (order : List Operation) (i : ℕ) (o : Operation) → IsCompleteHistory history.events
+    → IsLegalOrderFrom history.initial (operations_of history.events) order → slice_get order i ≡ Some o
+    → (row (page_of history (Yes order)) o.call < row_of_effect (page_of history (Yes order)) i)
+    × (row_of_effect (page_of history (Yes order)) i < row (page_of history (Yes order)) o.ret)
 
 -- the rows of effects rise in the order of a yes
 abbrev pub EffectsRise : Type 0
 EffectsRise =
-    (events : List Event) (order : List Operation) (i j : ℕ) → i < j → j < length order
-    → row_of_effect (page_of events (Yes order)) i < row_of_effect (page_of events (Yes order)) j
+    (history : HistoryView) (order : List Operation) (i j : ℕ) → i < j → j < length order
+    → row_of_effect (page_of history (Yes order)) i < row_of_effect (page_of history (Yes order)) j
 
 -- ---- lanes
 

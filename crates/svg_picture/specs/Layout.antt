@@ -1,21 +1,23 @@
 -- Where things stand in an SVG picture, in pixels: time runs down, threads stand side by side.
-use Rattle.std.specs.Prelude.{ℕ, ◌+◌, ◌*◌, max, nat_lt, nat_le, if◌then◌else◌, List, [], ◌∷◌, length, count_by}
+use Rattle.std.specs.Prelude.{ℕ, ◌+◌, ◌*◌, ◌==◌, max, nat_lt, nat_le, if◌then◌else◌, List, [], ◌∷◌, length, count_by}
 use Rattle.std.specs.List.{slice_split}
 use Rattle.event_records.specs.declared.event.Event.{Event}
 use Rattle.history_merge.specs.declared.operation.Operation.{Operation}
-use Rattle.drawing.specs.declared.claim.ShownClaim.{ShownClaim}
+use Rattle.verdicts.specs.declared.verifying.Claimed.{Claimed}
 use Rattle.text_lines.specs.Lines.{is_line_feed}
 use Rattle.drawing.specs.declared.bands.Band.{Band}
 use Rattle.svg_picture.specs.declared.layout.Measures.{Measures}
 use Rattle.svg_picture.specs.declared.layout.Sheet.{Sheet}
 
--- what a picture is made of: its measures, the history, the claim with its bands, and the tickets just after which the operations of a yes take effect
+-- what a picture is made of: its measures, what the queue holds first, the history, the claim with its bands, and the tickets just
+-- after which the operations of a yes take effect
 pub record Page : Type 0 where
   pub measures : Measures
+  pub initial : List ℕ
   pub events : List Event
   pub operations : List Operation
   pub threads : List ℕ
-  pub claimed : ShownClaim
+  pub claimed : Claimed
   pub bands : List Band
   pub points : List ℕ
 
@@ -23,6 +25,7 @@ pub record Page : Type 0 where
 abbrev pub page_on : Sheet → Page
 page_on sheet = record {
   measures = sheet.measures;
+  initial = sheet.initial.now;
   events = sheet.events.now;
   operations = sheet.operations.now;
   threads = sheet.threads.now;
@@ -83,13 +86,22 @@ legend_y m = 40 + 20 * m.captions
 unfoldable pub top : Measures → ℕ
 top m = legend_y m + 32 + 20 * (m.legend + max 1 m.heads)
 
--- the row of an event: below those of the events before it and those of the effects before it; rows are counted from 0
-unfoldable pub row : Page → ℕ → ℕ
-row page ticket = count_by (λ e. nat_lt e.ticket ticket) page.events + count_by (λ point. nat_lt point ticket) page.points
+-- how many rows the initial values take: one for their head, and one each; none where there are no values. Rows are counted from 0
+abbrev pub initial_rows : Measures → ℕ
+initial_rows m = if m.initial == 0 then 0 else m.initial + 1
 
--- the row of effect i, just after this ticket: below those of the events up to it and those of the effects before it
+-- the row of the initial value at place j: below the head and those of the values before it
+abbrev pub initial_row : ℕ → ℕ
+initial_row j = j + 1
+
+-- the row of an event: below those of the initial values, of the events before it and of the effects before it
+unfoldable pub row : Page → ℕ → ℕ
+row page ticket =
+    initial_rows page.measures + (count_by (λ e. nat_lt e.ticket ticket) page.events + count_by (λ point. nat_lt point ticket) page.points)
+
+-- the row of effect i, just after this ticket: below those of the initial values, of the events up to it and of the effects before it
 unfoldable pub effect_row : Page → ℕ → ℕ → ℕ
-effect_row page point i = count_by (λ e. nat_le e.ticket point) page.events + i
+effect_row page point i = initial_rows page.measures + (count_by (λ e. nat_le e.ticket point) page.events + i)
 
 -- the upper edge of a row
 abbrev pub row_y : Page → ℕ → ℕ
@@ -105,7 +117,7 @@ ret_y page ticket = row_y page (row page ticket) + 17
 
 -- where the last row ends, which has the word `end`
 unfoldable pub bottom : Measures → ℕ
-bottom m = top m + 20 * (m.events + m.effects + 1)
+bottom m = top m + 20 * (initial_rows m + m.events + m.effects + 1)
 
 -- below the last row the threads are named again
 abbrev pub height : Measures → ℕ

@@ -1,36 +1,35 @@
 -- The picture of a history and what is claimed of it: the whole as a tree of elements, and its text.
 use Rattle.std.specs.Prelude.{ℕ, ◌+◌, ◌-◌, ◌*◌, max, Bool, true, false, if◌then◌else◌, Option, Some, None, List, [], ◌∷◌, ◌++◌, length, map, codes, decimal, nat_eq, slice_get}
 use Rattle.std.specs.Prelude.{find}
-use Rattle.std.specs.List.{concat, enumerate_from, range_with_len}
+use Rattle.std.specs.List.{concat, enumerate_from, position, range_with_len}
 use Rattle.event_records.specs.declared.event.Event.{Event}
 use Rattle.history_merge.specs.declared.operation.Operation.{Operation}
+use Rattle.history_merge.specs.Initial.{HistoryView}
 use Rattle.history_merge.specs.Operations.{operations_of}
-use Rattle.drawing.specs.declared.claim.ShownClaim.{ShownClaim}
-use Rattle.drawing.specs.declared.claim.ShownClaim.TheVariants.{Yes, No}
+use Rattle.verdicts.specs.declared.verifying.ClaimLine.{ClaimLine}
+use Rattle.verdicts.specs.declared.verifying.ClaimLine.TheVariants.{Op, Initial}
+use Rattle.verdicts.specs.declared.verifying.Claimed.{Claimed}
+use Rattle.verdicts.specs.declared.verifying.Claimed.TheVariants.{Yes, No}
 use Rattle.verdicts.specs.declared.verifying.ViolationKind.TheVariants.{VRepeat}
-use Rattle.drawing.specs.Claim.{operations_in}
+use Rattle.drawing.specs.Claim.{count_of_lines, order_of}
 use Rattle.drawing.specs.declared.bands.Band.{Band}
 use Rattle.drawing.specs.declared.bands.Head.{Head}
 use Rattle.drawing.specs.declared.bands.Head.TheVariants.{Dequeued, InAndOut, SaidEmpty}
-use Rattle.drawing.specs.Layout.{digits, label, label_width, last_ticket, threads_of, place_in, order_of, point}
+use Rattle.drawing.specs.Layout.{digits, label, initial_label, label_width, last_ticket, threads_of, place_of, initial_place_of, point}
 use Rattle.drawing.specs.Bands.{bands_of, head_text}
 use Rattle.drawing.specs.Captions.{headline, caption}
 use Rattle.drawing.specs.Terminal.{way}
 use Rattle.svg_picture.specs.declared.layout.Measures.{Measures}
 use Rattle.svg_picture.specs.Markup.{Named, Content, Nothing, Words, Element, each, group, number, words, document}
-use Rattle.svg_picture.specs.Layout.{Page, shown, bar_width, thread_x, right, band_x, width, legend_y, top, row, effect_row, row_y, call_y, ret_y}
+use Rattle.svg_picture.specs.Layout.{Page, shown, bar_width, thread_x, right, band_x, width, legend_y, top, initial_row, row, effect_row, row_y, call_y, ret_y}
 use Rattle.svg_picture.specs.Layout.{bottom, height, line_count, parts, longest}
 use Rattle.svg_picture.specs.Words.{kind_word, corner, form_class, legend}
 use Rattle.svg_picture.specs.Elements.{text_at, rect, stroke, lines_at, samples, hatch, style_element}
 
 -- ---- what is claimed of an operation
 
--- the place of an operation in the claim, from 0, where it is there
-abbrev pub place_of : Page → Operation → Option ℕ
-place_of page o = place_in (operations_in page.claimed) o
-
--- how an operation is marked: of a no those of the claim are on, the others off
-abbrev pub mark : ShownClaim → Option ℕ → List ℕ
+-- how an operation or an initial value is marked: of a no those of the claim are on, the others off
+abbrev pub mark : Claimed → Option ℕ → List ℕ
 mark (Yes order) place = codes "yes"
 mark (No kind lines) None = codes "off"
 mark (No kind lines) (Some place) = codes "on"
@@ -58,7 +57,7 @@ bar_words o place =
     ∷ number_words place ∷ [])
 
 -- the upper edge of a number: of a yes in the row of the effect, of a no beside the label
-abbrev pub number_y : Page → ShownClaim → Operation → ℕ → ℕ
+abbrev pub number_y : Page → Claimed → Operation → ℕ → ℕ
 number_y page (Yes order) o place = row_y page (row_of_effect page place) + 2
 number_y page (No kind lines) o place = row_y page (row page o.call) + 12
 
@@ -93,7 +92,7 @@ placed_bar page o place = Element (codes "g") (words (codes "class") (mark page.
 
 -- the bar of an operation
 abbrev pub bar : Page → Operation → Content
-bar page o = placed_bar page o (place_of page o)
+bar page o = placed_bar page o (place_of page.claimed o)
 
 -- the bars of the operations
 unfoldable pub bars : Page → Content
@@ -166,16 +165,65 @@ numbered_band page (i, band) = band_at page i band
 unfoldable pub bands : Page → Content
 bands page = each (numbered_band page) (enumerate_from 0 page.bands)
 
--- whether the value of an operation goes in or out, with a dotted line from its lane
-unfoldable pub way_mark : Page → Operation → Content
-way_mark page o =
-    group (stroke (codes "time") (thread_x page o.thread) (row_y page (row page o.call) + 20) (right page.measures - 3) (row_y page (row page o.call) + 20)
-    ∷ text_at 7 (codes "name") (right page.measures) (row_y page (row page o.call) + 24) (way o.kind) ∷ [])
+-- a word at the right of the lanes, with a dotted line to it from this point
+unfoldable pub way_from : Page → ℕ → ℕ → List ℕ → Content
+way_from page x y bytes =
+    group (stroke (codes "time") x y (right page.measures - 3) y ∷ text_at 7 (codes "name") (right page.measures) (y + 4) bytes ∷ [])
+
+-- the row behind the head and as many values as stand before a place; that of the head, where there is no place
+abbrev pub row_behind : Option ℕ → ℕ
+row_behind None = 0
+row_behind (Some j) = initial_row j
+
+-- the row of an initial value; that of their head, where it is none of them
+abbrev pub row_of_value : List ℕ → ℕ → ℕ
+row_of_value initial v = row_behind (position (λ w. nat_eq w v) initial)
+
+-- whether the value of a line goes in or out, with a dotted line from the lane of its operation, or from its own row
+abbrev pub way_mark : Page → ClaimLine → Content
+way_mark page (Op o) = way_from page (thread_x page o.thread) (row_y page (row page o.call) + 20) (way o.kind)
+way_mark page (Initial v) = way_from page 6 (row_y page (row_of_value page.initial v) + 10) (codes "in")
 
 -- where a value was dequeued twice, the words `in` and `out`
-unfoldable pub ways : Page → ShownClaim → Content
+unfoldable pub ways : Page → Claimed → Content
 ways page (No VRepeat lines) = each (way_mark page) lines
 ways page _ = Nothing
+
+-- ---- initial values
+
+-- what is told of an initial value, with its number
+unfoldable pub initial_words : ℕ → Option ℕ → List ℕ
+initial_words v place = concat (initial_label v ∷ codes ", in the queue first" ∷ number_words place ∷ [])
+
+-- the number of the initial value in row r, at this place of the claim
+unfoldable pub initial_number : Page → ℕ → Option ℕ → Content
+initial_number page r None = Nothing
+initial_number page r (Some place) = pill (18 + 7 * page.measures.label) (row_y page r + 2) (place + 1)
+
+-- the bar of the initial value in row r, at the left, with its label
+unfoldable pub initial_rect : Page → ℕ → ℕ → Content
+initial_rect page r v =
+    group (rect (codes "enq") 0 6 (row_y page r + 2) (bar_width page.measures) 16 ∷ text_at 7 (codes "label") 12 (row_y page r + 14) (initial_label v) ∷ [])
+
+-- what stands within the group of an initial value
+unfoldable pub initial_parts : Page → ℕ → ℕ → Option ℕ → Content
+initial_parts page r v place =
+    group (Element (codes "title") [] (Words (initial_words v place)) ∷ initial_rect page r v ∷ initial_number page r place ∷ [])
+
+-- the initial value in row r, at this place of the claim
+unfoldable pub placed_initial : Page → ℕ → ℕ → Option ℕ → Content
+placed_initial page r v place = Element (codes "g") (words (codes "class") (mark page.claimed place) ∷ []) (initial_parts page r v place)
+
+-- the initial value at place j, in its row
+abbrev pub numbered_initial : Page → ℕ × ℕ → Content
+numbered_initial page (j, v) = placed_initial page (initial_row j) v (initial_place_of page.claimed v)
+
+-- the initial values under their head, the front one first; nothing where there are none
+unfoldable pub initial_values : Page → List ℕ → Content
+initial_values page [] = Nothing
+initial_values page (front ∷ others) =
+    group (text_at 7 (codes "dim") 6 (top page.measures + 14) (codes "in the queue first")
+    ∷ each (numbered_initial page) (enumerate_from 0 (front ∷ others)) ∷ [])
 
 -- ---- the order of a yes
 
@@ -190,7 +238,7 @@ abbrev pub numbered_line : Page → ℕ × Operation → Content
 numbered_line page (i, o) = order_line page i o
 
 -- the order of a yes under its name
-unfoldable pub order : Page → ShownClaim → Content
+unfoldable pub order : Page → Claimed → Content
 order page (Yes operations) =
     group (text_at 7 (codes "dim") (shown page.measures) (top page.measures - 8) (codes "order")
     ∷ each (numbered_line page) (enumerate_from 0 operations) ∷ [])
@@ -245,10 +293,10 @@ background m =
 unfoldable pub heading : Page → Content
 heading page =
     group (text_at 9 (codes "head") 6 26 (headline page.claimed) ∷ lines_at 8 (codes "say") 46 (caption page.claimed)
-    ∷ samples (legend_y page.measures) ∷ lines_at 7 (codes "dim") (legend_y page.measures + 35) (legend page.claimed) ∷ [])
+    ∷ samples (legend_y page.measures) ∷ lines_at 7 (codes "dim") (legend_y page.measures + 35) (legend page.initial page.claimed) ∷ [])
 
 -- what the picture tells those who don't see it, and its style
-unfoldable pub about : ShownClaim → Content
+unfoldable pub about : Claimed → Content
 about claimed =
     group (Element (codes "title") [] (Words (headline claimed)) ∷ Element (codes "desc") [] (Words (caption claimed))
     ∷ style_element ∷ [])
@@ -263,7 +311,8 @@ frame page = group (about page.claimed ∷ background page.measures ∷ heading 
 
 -- what stands between the tags of the picture
 unfoldable pub inside : Page → Content
-inside page = group (frame page ∷ bands page ∷ ways page page.claimed ∷ order page page.claimed ∷ bars page ∷ [])
+inside page =
+    group (frame page ∷ bands page ∷ ways page page.claimed ∷ order page page.claimed ∷ initial_values page page.initial ∷ bars page ∷ [])
 
 -- the attributes of the picture
 abbrev pub page_attributes : Measures → List Named
@@ -278,7 +327,7 @@ page_content page = Element (codes "svg") (page_attributes page.measures) (insid
 -- ---- of a history and a claim
 
 -- there is an order
-abbrev pub is_yes : ShownClaim → Bool
+abbrev pub is_yes : Claimed → Bool
 is_yes (Yes order) = true
 is_yes (No kind lines) = false
 
@@ -287,38 +336,40 @@ abbrev pub points_of : List Operation → List ℕ
 points_of order = map (point order) (range_with_len 0 (length order))
 
 -- how wide the parts of a picture are, in characters, and how many there are
-abbrev pub measures_of : List Event → ShownClaim → Measures
-measures_of events claimed = record {
-  ticket = max 6 (digits (last_ticket events));
-  number = digits (length (operations_in claimed));
-  label = label_width (operations_of events);
-  lanes = length (threads_of events);
-  events = length events;
+abbrev pub measures_of : HistoryView → Claimed → Measures
+measures_of history claimed = record {
+  ticket = max 6 (digits (last_ticket history.events));
+  number = digits (count_of_lines claimed);
+  label = label_width history.initial (operations_of history.events);
+  lanes = length (threads_of history.events);
+  initial = length history.initial;
+  events = length history.events;
   effects = length (order_of claimed);
   heads = length (bands_of claimed);
   head = longest (map (λ band. head_text band.head) (bands_of claimed));
   captions = line_count (caption claimed);
   caption = longest (parts (caption claimed));
-  legend = line_count (legend claimed);
+  legend = line_count (legend history.initial claimed);
   is_yes = is_yes claimed;
 }
 
 -- what the picture of a history and a claim is made of
-abbrev pub page_of : List Event → ShownClaim → Page
-page_of events claimed = record {
-  measures = measures_of events claimed;
-  events = events;
-  operations = operations_of events;
-  threads = threads_of events;
+abbrev pub page_of : HistoryView → Claimed → Page
+page_of history claimed = record {
+  measures = measures_of history claimed;
+  initial = history.initial;
+  events = history.events;
+  operations = operations_of history.events;
+  threads = threads_of history.events;
   claimed = claimed;
   bands = bands_of claimed;
   points = points_of (order_of claimed);
 }
 
 -- the picture of a history and what is claimed of it, as a tree of elements
-unfoldable pub picture_content : List Event → ShownClaim → Content
-picture_content events claimed = page_content (page_of events claimed)
+unfoldable pub picture_content : HistoryView → Claimed → Content
+picture_content history claimed = page_content (page_of history claimed)
 
 -- the picture of a history and what is claimed of it, as a document
-unfoldable pub svg_picture : List Event → ShownClaim → List ℕ
-svg_picture events claimed = document (picture_content events claimed)
+unfoldable pub svg_picture : HistoryView → Claimed → List ℕ
+svg_picture history claimed = document (picture_content history claimed)

@@ -3,8 +3,8 @@ use Rattle.std.specs.Prelude.{ℕ, List, [], ◌∷◌, ◌++◌, codes}
 use Rattle.std.specs.List.{concat}
 use Rattle.history_merge.specs.declared.operation.OpKind.{OpKind}
 use Rattle.history_merge.specs.declared.operation.OpKind.TheVariants as kind
-use Rattle.drawing.specs.declared.claim.ShownClaim.{ShownClaim}
-use Rattle.drawing.specs.declared.claim.ShownClaim.TheVariants.{Yes, No}
+use Rattle.verdicts.specs.declared.verifying.Claimed.{Claimed}
+use Rattle.verdicts.specs.declared.verifying.Claimed.TheVariants.{Yes, No}
 use Rattle.verdicts.specs.declared.verifying.ViolationKind.{ViolationKind}
 use Rattle.verdicts.specs.declared.verifying.ViolationKind.TheVariants.{VFresh, VRepeat, VOrd, VWit}
 use Rattle.text_lines.specs.Lines.{line}
@@ -40,10 +40,16 @@ reading =
     concat (line (codes "A bar reaches from the call (its top) to the return (its bottom).")
     ∷ line (codes "Time runs down, one row for each call and each return.") ∷ [])
 
+-- what the rows of initial values mean, where there are some
+abbrev pub initial_reading : List ℕ → List ℕ
+initial_reading [] = []
+initial_reading (v ∷ initial) = line (codes "init: a value that was in the queue first, the front one on top.")
+
 -- what the numbers mean
-abbrev pub numbers : ShownClaim → List ℕ
-numbers (Yes order) = line (codes "A row without a ticket: there the numbered operation takes effect.")
-numbers (No kind lines) = line (codes "Numbered: the operations that show it. Grey: the others.")
+abbrev pub numbers : Claimed → List ℕ → List ℕ
+numbers (Yes order) initial = line (codes "A row without a ticket: there the numbered operation takes effect.")
+numbers (No kind lines) [] = line (codes "Numbered: the operations that show it. Grey: the others.")
+numbers (No kind lines) (v ∷ initial) = line (codes "Numbered: the values and operations that show it. Grey: the others.")
 
 -- what the bands of a kind of violation mean
 abbrev pub forms : ViolationKind → List ℕ
@@ -56,13 +62,13 @@ forms VWit =
     concat (line (codes "Full: the value surely was in the queue.") ∷ line (codes "Dashed: within this time the queue was said to be empty.") ∷ [])
 
 -- what the bands of a claim mean
-abbrev pub claim_forms : ShownClaim → List ℕ
+abbrev pub claim_forms : Claimed → List ℕ
 claim_forms (Yes order) = []
 claim_forms (No kind lines) = forms kind
 
 -- how to read the picture
-unfoldable pub legend : ShownClaim → List ℕ
-legend claimed = reading ++ (numbers claimed ++ claim_forms claimed)
+unfoldable pub legend : List ℕ → Claimed → List ℕ
+legend initial claimed = reading ++ (initial_reading initial ++ (numbers claimed initial ++ claim_forms claimed))
 
 -- fonts and colours on a light background
 unfoldable pub light : List ℕ

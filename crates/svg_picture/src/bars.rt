@@ -1,6 +1,6 @@
 //! The bars of the operations.
 ghost use Rattle.std.specs.Prelude.{◌≡◌, ◌++◌, ◌≤◌, ◌^◌, [], OnOk, IfOk, IfSome, length, codes};
-ghost use Rattle.drawing.specs.Claim.{operations_in};
+ghost use Rattle.drawing.specs.Claim.{count_of_lines};
 ghost use Rattle.svg_picture.specs.Markup.{Element, text_of};
 ghost use Rattle.svg_picture.specs.Markup.{Words as InWords};
 ghost use Rattle.svg_picture.specs.Layout.{page_on};
@@ -11,17 +11,19 @@ use crate::layout::{Sheet, bar_width, call_y, effect_row, ret_y, row, row_y, thr
 use crate::markup::Attribute::Words;
 use crate::markup::{push_element, push_end, push_number, push_start};
 use crate::words::{corner, kind_word};
-use drawing::{ShownClaim, digits, operations_in, place_in, push_label};
+use drawing::{digits, place_of, push_label};
 use history_merge::Operation;
 use itoa::Buffer;
 use std::alloc::{AllocError, Global};
+use verdicts::Claimed;
 
-fn mark(claimed: &ShownClaim, place: Option<usize>) -> &'static [u8]
+/// How an operation or an initial value is marked.
+pub(crate) fn mark(claimed: &Claimed, place: Option<usize>) -> &'static [u8]
     ensures { result.now ≡ mark claimed.now place }
 {
     match claimed {
-        ShownClaim::Yes(_) => b"yes",
-        ShownClaim::No(_, _) => match place {
+        Claimed::Yes(_) => b"yes",
+        Claimed::No(_, _) => match place {
             None => b"off",
             Some(_) => b"on",
         },
@@ -31,7 +33,7 @@ fn mark(claimed: &ShownClaim, place: Option<usize>) -> &'static [u8]
 /// The row of an operation of the order, where it takes effect.
 pub(crate) fn row_of_effect(sheet: &Sheet<'_>, i: usize) -> u128
     ensures value { result ≡ row_of_effect (page_on sheet.now) i }
-    ensures small { result ≤ 2 ^ 65 }
+    ensures small { result ≤ 2 ^ 66 }
 {
     let point = match sheet.points.get(i) {
         None => 0,
@@ -40,7 +42,8 @@ pub(crate) fn row_of_effect(sheet: &Sheet<'_>, i: usize) -> u128
     effect_row(sheet, point, i)
 }
 
-fn push_number_words(text: &mut Vec<u8>, place: Option<usize>) -> Result<(), AllocError>
+/// Adds the number of a place, in words.
+pub(crate) fn push_number_words(text: &mut Vec<u8>, place: Option<usize>) -> Result<(), AllocError>
     ensures { OnOk result (text.new.items ≡ text.old.items ++ number_words place) }
 {
     match place {
@@ -78,14 +81,14 @@ fn number_y(sheet: &Sheet<'_>, operation: Operation, place: usize) -> u128
     ensures small { result ≤ 2 ^ 92 }
 {
     match sheet.claimed {
-        ShownClaim::Yes(_) => row_y(sheet, row_of_effect(sheet, place)) + 2,
-        ShownClaim::No(_, _) => row_y(sheet, row(sheet, operation.call)) + 12,
+        Claimed::Yes(_) => row_y(sheet, row_of_effect(sheet, place)) + 2,
+        Claimed::No(_, _) => row_y(sheet, row(sheet, operation.call)) + 12,
     }
 }
 
 /// Adds a number in a pill.
 #[tactic(auto, unfolding(crate::specs::Picture::pill))]
-fn push_pill(text: &mut Vec<u8>, x: u128, y: u128, number: u64) -> Result<(), AllocError>
+pub(crate) fn push_pill(text: &mut Vec<u8>, x: u128, y: u128, number: u64) -> Result<(), AllocError>
     requires x { x ≤ 2 ^ 92 }
     requires y { y ≤ 2 ^ 92 }
     ensures { OnOk result (text.new.items ≡ text.old.items ++ text_of (pill x y number)) }
@@ -215,10 +218,10 @@ fn push_bar(
     sheet: &Sheet<'_>,
     operation: Operation,
 ) -> Result<(), AllocError>
-    requires { length (operations_in sheet.now.claimed.now) ≤ 400 }
+    requires { count_of_lines sheet.now.claimed.now ≤ 400 }
     ensures { OnOk result (text.new.items ≡ text.old.items ++ text_of (bar (page_on sheet.now) operation)) }
 {
-    let place = place_in(operations_in(sheet.claimed), operation);
+    let place = place_of(sheet.claimed, operation);
     push_placed_bar(alloc, text, sheet, operation, place)
 }
 
@@ -229,7 +232,7 @@ pub(crate) fn push_bars(
     text: &mut Vec<u8>,
     sheet: &Sheet<'_>,
 ) -> Result<(), AllocError>
-    requires { length (operations_in sheet.now.claimed.now) ≤ 400 }
+    requires { count_of_lines sheet.now.claimed.now ≤ 400 }
     ensures { OnOk result (text.new.items ≡ text.old.items ++ text_of (bars (page_on sheet.now))) }
 {
     for operation in sheet.operations {

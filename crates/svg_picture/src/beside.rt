@@ -1,25 +1,26 @@
 //! What stands beside the lanes: the bands of a no, or the order of a yes.
-ghost use Rattle.std.specs.Prelude.{◌≡◌, ◌++◌, ◌∷◌, ◌≤◌, ◌^◌, [], OnOk, IfOk, length, codes, decimal};
-ghost use Rattle.std.specs.List.{concat, enumerate_from};
-ghost use Rattle.drawing.specs.Claim.{operations_in};
+ghost use Rattle.std.specs.Prelude.{◌≡◌, ◌++◌, ◌∷◌, ◌≤◌, ◌^◌, [], OnOk, IfOk, length, codes, decimal, nat_eq};
+ghost use Rattle.std.specs.List.{concat, enumerate_from, position};
+ghost use Rattle.drawing.specs.Claim.{count_of_lines};
 ghost use Rattle.drawing.specs.Layout.{label};
 ghost use Rattle.svg_picture.specs.Markup.{each, text_of};
 ghost use Rattle.svg_picture.specs.Layout.{page_on};
-ghost use Rattle.svg_picture.specs.Picture.{is_time, first_y, last_y, event_at, from_event, from_edge, band_between, drawn_band, formed_band, head_y, band_at, numbered_band, bands, way_mark, ways, order_line, numbered_line, order};
+ghost use Rattle.svg_picture.specs.Picture.{is_time, first_y, last_y, event_at, from_event, from_edge, band_between, drawn_band, formed_band, head_y, band_at, numbered_band, bands, way_from, row_behind, row_of_value, way_mark, ways, order_line, numbered_line, order};
 
 use crate::bars::row_of_effect;
 use crate::elements::{Rect, push_rect, push_stroke, push_text_at};
 use crate::layout::{
-    Measures, Sheet, band_x, bottom, call_y, ret_y, right, row, row_y, shown, thread_x, top,
+    Measures, Sheet, band_x, bottom, call_y, initial_row, ret_y, right, row, row_y, shown,
+    thread_x, top,
 };
 use crate::lines::head_words;
 use crate::markup::push_number;
 use crate::words::form_class;
-use drawing::{Band, Head, ShownClaim, digits, push_label, way};
+use drawing::{Band, Head, digits, push_label, way};
 use event_records::Event;
 use history_merge::Operation;
 use std::alloc::{AllocError, Global};
-use verdicts::ViolationKind;
+use verdicts::{ClaimLine, Claimed, ViolationKind};
 
 fn is_time(head: Head) -> bool
     ensures { result ≡ is_time head }
@@ -205,30 +206,72 @@ pub(crate) fn push_bands(
     Ok(())
 }
 
-#[tactic(auto, unfolding(crate::specs::Picture::way_mark))]
-fn push_way_mark(
+/// Adds a word at the right of the lanes, with a dotted line to it.
+#[tactic(auto, unfolding(crate::specs::Picture::way_from))]
+fn push_way_from(
     text: &mut Vec<u8>,
     sheet: &Sheet<'_>,
-    operation: Operation,
+    x: u128,
+    y: u128,
+    words: &[u8],
 ) -> Result<(), AllocError>
-    ensures { OnOk result (text.new.items ≡ text.old.items ++ text_of (way_mark (page_on sheet.now) operation)) }
+    requires { y ≤ 2 ^ 92 }
+    ensures { OnOk result (text.new.items ≡ text.old.items ++ text_of (way_from (page_on sheet.now) x y words.now)) }
 {
-    let x = right(sheet.measures);
-    let y = row_y(sheet, row(sheet, operation.call));
-    let from = (thread_x(sheet, operation.thread), y + 20);
-    push_stroke(text, b"time", from, (x.saturating_sub(3), y + 20))?;
-    push_text_at(text, 7, b"name", x, y + 24, way(operation.kind))
+    let right = right(sheet.measures);
+    push_stroke(text, b"time", (x, y), (right.saturating_sub(3), y))?;
+    push_text_at(text, 7, b"name", right, y + 4, words)
+}
+
+fn value_place(initial: &[u64], value: u64) -> Option<usize>
+    ensures { result ≡ position (λ listed. nat_eq listed value) initial.now }
+{
+    initial.iter().position(|listed| *listed == value)
+}
+
+fn row_behind(place: Option<usize>) -> u128
+    ensures value { result ≡ row_behind place }
+    ensures small { result ≤ 2 ^ 66 }
+{
+    match place {
+        None => 0,
+        Some(j) => initial_row(j),
+    }
+}
+
+/// The row of an initial value.
+fn row_of_value(initial: &[u64], value: u64) -> u128
+    ensures value { result ≡ row_of_value initial.now value }
+    ensures small { result ≤ 2 ^ 66 }
+{
+    row_behind(value_place(initial, value))
+}
+
+fn push_way_mark(text: &mut Vec<u8>, sheet: &Sheet<'_>, line: ClaimLine) -> Result<(), AllocError>
+    ensures { OnOk result (text.new.items ≡ text.old.items ++ text_of (way_mark (page_on sheet.now) line)) }
+{
+    match line {
+        ClaimLine::Op(operation) => {
+            let x = thread_x(sheet, operation.thread);
+            let y = row_y(sheet, row(sheet, operation.call)) + 20;
+            push_way_from(text, sheet, x, y, way(operation.kind))
+        }
+        ClaimLine::Initial(value) => {
+            let y = row_y(sheet, row_of_value(sheet.initial, value)) + 10;
+            push_way_from(text, sheet, 6, y, b"in")
+        }
+    }
 }
 
 fn push_way_marks(
     text: &mut Vec<u8>,
     sheet: &Sheet<'_>,
-    lines: &[Operation],
+    lines: &[ClaimLine],
 ) -> Result<(), AllocError>
     ensures { OnOk result (text.new.items ≡ text.old.items ++ text_of (each (way_mark (page_on sheet.now)) lines.now)) }
 {
-    for operation in lines {
-        push_way_mark(text, sheet, *operation)?;
+    for line in lines {
+        push_way_mark(text, sheet, *line)?;
     }
     Ok(())
 }
@@ -239,7 +282,7 @@ pub(crate) fn push_ways(text: &mut Vec<u8>, sheet: &Sheet<'_>) -> Result<(), All
     ensures { OnOk result (text.new.items ≡ text.old.items ++ text_of (ways (page_on sheet.now) sheet.now.claimed.now)) }
 {
     match sheet.claimed {
-        ShownClaim::No(ViolationKind::VRepeat, lines) => {
+        Claimed::No(ViolationKind::VRepeat, lines) => {
             push_way_marks(text, sheet, lines.as_slice())
         }
         _ => Ok(()),
@@ -298,12 +341,12 @@ pub(crate) fn push_order(
     text: &mut Vec<u8>,
     sheet: &Sheet<'_>,
 ) -> Result<(), AllocError>
-    requires { length (operations_in sheet.now.claimed.now) ≤ 400 }
+    requires { count_of_lines sheet.now.claimed.now ≤ 400 }
     ensures { OnOk result (text.new.items ≡ text.old.items ++ text_of (order (page_on sheet.now) sheet.now.claimed.now)) }
 {
     match sheet.claimed {
-        ShownClaim::No(_, _) => Ok(()),
-        ShownClaim::Yes(operations) => {
+        Claimed::No(_, _) => Ok(()),
+        Claimed::Yes(operations) => {
             let x = shown(sheet.measures);
             let y = top(sheet.measures) - 8;
             push_text_at(text, 7, b"dim", x, y, b"order")?;

@@ -1,4 +1,4 @@
-ghost use Rattle.svg_picture.specs.Laws.{PicturesAreWellFormed, RowsRise, BarsOverlapInTime, EffectsAreInBars, EffectsRise, LanesAreApart};
+ghost use Rattle.svg_picture.specs.Laws.{PicturesAreWellFormed, RowsRise, InitialRowsRise, InitialRowsAreFirst, BarsOverlapInTime, EffectsAreInBars, EffectsRise, LanesAreApart};
 
 /// A picture is a well-formed document: each element is closed, and no value or words have a byte that means markup. The law is
 /// the contract; the body is empty.
@@ -18,6 +18,13 @@ pub fn bars_overlap_as_operations_do()
 pub fn effect_rows_rise_within_bars()
     ensures within { EffectsAreInBars }
     ensures rise { EffectsRise }
+{}
+
+/// Each initial value has a row of its own, front first, and all of them stand above the rows of the events. The laws are the
+/// contract; the body is empty.
+pub fn initial_rows_come_first()
+    ensures rise { InitialRowsRise }
+    ensures first { InitialRowsAreFirst }
 {}
 
 /// The lane of a thread ends before that of a higher one begins. The law is the contract; the body is empty.

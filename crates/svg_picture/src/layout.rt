@@ -1,10 +1,11 @@
 //! Where things stand in a picture, in pixels.
 ghost use Rattle.std.specs.Prelude.{◌≡◌, ◌≤◌, ◌^◌};
-ghost use Rattle.svg_picture.specs.Layout.{page_on, shown, order_width, left, bar_width, lane_width, lane_x, thread_x, right, band_x, width, legend_y, top, row, effect_row, row_y, call_y, ret_y, bottom, height};
+ghost use Rattle.svg_picture.specs.Layout.{page_on, shown, order_width, left, bar_width, lane_width, lane_x, thread_x, right, band_x, width, legend_y, top, initial_rows, initial_row, row, effect_row, row_y, call_y, ret_y, bottom, height};
 
-use drawing::{Band, ShownClaim};
+use drawing::Band;
 use event_records::Event;
 use history_merge::Operation;
+use verdicts::Claimed;
 
 /// How wide the parts of a picture are, in characters, and how many there are.
 #[derive(Clone, Copy, Debug, PartialEq, Eq)]
@@ -17,6 +18,8 @@ pub struct Measures {
     pub label: u8,
     /// How many threads have events.
     pub lanes: usize,
+    /// How many values the queue holds first.
+    pub initial: usize,
     /// How many events there are.
     pub events: usize,
     /// How many operations the order of a yes has.
@@ -39,10 +42,12 @@ pub struct Measures {
 #[derive(Clone, Copy)]
 pub struct Sheet<'a> {
     pub measures: Measures,
+    /// What the queue holds first, front first.
+    pub initial: &'a [u64],
     pub events: &'a [Event],
     pub operations: &'a [Operation],
     pub threads: &'a [u8],
-    pub claimed: &'a ShownClaim,
+    pub claimed: &'a Claimed,
     pub bands: &'a [Band],
     /// The tickets just after which the operations of a yes take effect, in its order.
     pub points: &'a [u64],
@@ -149,30 +154,50 @@ pub(crate) fn top(m: Measures) -> u128
     legend_y(m) + 32 + 20 * (m.legend as u128 + m.heads.max(1) as u128)
 }
 
+/// How many rows the initial values take, with their head.
+fn initial_rows(m: Measures) -> u128
+    ensures value { result ≡ initial_rows m }
+    ensures small { result ≤ 2 ^ 65 }
+{
+    if m.initial == 0 {
+        0
+    } else {
+        m.initial as u128 + 1
+    }
+}
+
+/// The row of the initial value at this place.
+pub(crate) fn initial_row(j: usize) -> u128
+    ensures value { result ≡ initial_row j }
+    ensures small { result ≤ 2 ^ 65 }
+{
+    j as u128 + 1
+}
+
 /// The row of an event, from 0.
 #[tactic(auto, unfolding(crate::specs::Layout::row))]
 pub(crate) fn row(sheet: &Sheet<'_>, ticket: u64) -> u128
     ensures value { result ≡ row (page_on sheet.now) ticket }
-    ensures small { result ≤ 2 ^ 65 }
+    ensures small { result ≤ 2 ^ 66 }
 {
     let events = sheet.events.iter().filter(|event| event.ticket < ticket);
     let effects = sheet.points.iter().filter(|point| **point < ticket);
-    events.count() as u128 + effects.count() as u128
+    initial_rows(sheet.measures) + (events.count() as u128 + effects.count() as u128)
 }
 
 /// The row of an effect just after this ticket, from 0, with so many effects before it.
 #[tactic(auto, unfolding(crate::specs::Layout::effect_row))]
 pub(crate) fn effect_row(sheet: &Sheet<'_>, point: u64, i: usize) -> u128
     ensures value { result ≡ effect_row (page_on sheet.now) point i }
-    ensures small { result ≤ 2 ^ 65 }
+    ensures small { result ≤ 2 ^ 66 }
 {
     let events = sheet.events.iter().filter(|event| event.ticket <= point);
-    events.count() as u128 + i as u128
+    initial_rows(sheet.measures) + (events.count() as u128 + i as u128)
 }
 
 /// The upper edge of a row.
 pub(crate) fn row_y(sheet: &Sheet<'_>, row: u128) -> u128
-    requires { row ≤ 2 ^ 65 }
+    requires { row ≤ 2 ^ 66 }
     ensures value { result ≡ row_y (page_on sheet.now) row }
     ensures small { result ≤ 2 ^ 91 }
 {
@@ -201,7 +226,7 @@ pub(crate) fn bottom(m: Measures) -> u128
     ensures room { top m ≤ result }
     ensures below { 112 ≤ result }
 {
-    top(m) + 20 * (m.events as u128 + m.effects as u128 + 1)
+    top(m) + 20 * (initial_rows(m) + m.events as u128 + m.effects as u128 + 1)
 }
 
 /// How high the picture is.

@@ -4,6 +4,7 @@
 mod bars;
 mod beside;
 mod elements;
+mod initial;
 mod laws;
 mod layout;
 mod lines;
@@ -14,8 +15,8 @@ mod words;
 mod writing;
 
 pub use laws::{
-    bars_overlap_as_operations_do, effect_rows_rise_within_bars, pictures_are_well_formed,
-    svg_lanes_stand_apart,
+    bars_overlap_as_operations_do, effect_rows_rise_within_bars, initial_rows_come_first,
+    pictures_are_well_formed, svg_lanes_stand_apart,
 };
 pub use picture::svg_picture;
 pub use writing::write_svg_picture;

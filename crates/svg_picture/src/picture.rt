@@ -1,6 +1,6 @@
 //! A picture as an SVG document.
 ghost use Rattle.std.specs.Prelude.{◌≡◌, ◌++◌, ◌≤◌, OnOk, IfOk, length};
-ghost use Rattle.drawing.specs.Claim.{operations_in};
+ghost use Rattle.drawing.specs.Claim.{count_of_lines};
 ghost use Rattle.drawing.specs.Layout.{threads_of};
 ghost use Rattle.drawing.specs.Bands.{bands_of};
 ghost use Rattle.drawing.specs.Captions.{caption};
@@ -11,6 +11,7 @@ ghost use Rattle.svg_picture.specs.Picture.{about, frame, heading, inside, is_ye
 use crate::bars::push_bars;
 use crate::beside::{push_bands, push_order, push_ways};
 use crate::elements::{push_lines_at, push_samples, push_text_at};
+use crate::initial::push_initial_values;
 use crate::layout::{Measures, Sheet, height, legend_y, width};
 use crate::lines::{line_count, longest_head, longest_line};
 use crate::markup::Attribute::{Number, Words};
@@ -18,14 +19,15 @@ use crate::markup::{push_element, push_end, push_number, push_start};
 use crate::rows::{push_background, push_threads, push_tickets};
 use crate::words::{legend, push_style};
 use drawing::{
-    Band, MOST_DRAWN, ShownClaim, bands_of, digits, headline, label_width, last_ticket,
-    operations_in, order_of, push_caption, threads_of,
+    Band, MOST_DRAWN, bands_of, count_of_lines, digits, headline, label_width, last_ticket,
+    order_of, push_caption, threads_of,
 };
 use history_merge::{History, Operation};
 use std::alloc::{AllocError, Global};
+use verdicts::Claimed;
 
-fn caption_of(alloc: Global, claimed: &ShownClaim) -> Result<Vec<u8>, AllocError>
-    requires { length (operations_in claimed.now) ≤ 400 }
+fn caption_of(alloc: Global, claimed: &Claimed) -> Result<Vec<u8>, AllocError>
+    requires { count_of_lines claimed.now ≤ 400 }
     ensures { IfOk result (λ words. words.items ≡ caption claimed.now) }
 {
     let mut words = Vec::new(alloc);
@@ -36,7 +38,7 @@ fn caption_of(alloc: Global, claimed: &ShownClaim) -> Result<Vec<u8>, AllocError
 /// Adds the words above: the headline, the caption, and how to read the picture.
 #[tactic(auto, unfolding(crate::specs::Picture::heading))]
 fn push_heading(alloc: Global, text: &mut Vec<u8>, sheet: &Sheet<'_>) -> Result<(), AllocError>
-    requires { length (operations_in sheet.now.claimed.now) ≤ 400 }
+    requires { count_of_lines sheet.now.claimed.now ≤ 400 }
     ensures { OnOk result (text.new.items ≡ text.old.items ++ text_of (heading (page_on sheet.now))) }
 {
     let y = legend_y(sheet.measures);
@@ -44,14 +46,14 @@ fn push_heading(alloc: Global, text: &mut Vec<u8>, sheet: &Sheet<'_>) -> Result<
     let caption = caption_of(alloc, sheet.claimed)?;
     push_lines_at(text, 8, b"say", 46, caption.as_slice())?;
     push_samples(text, y)?;
-    let legend = legend(alloc, sheet.claimed)?;
+    let legend = legend(alloc, sheet.initial, sheet.claimed)?;
     push_lines_at(text, 7, b"dim", y + 35, legend.as_slice())
 }
 
 /// Adds what the picture tells those who don't see it, and its style.
 #[tactic(auto, unfolding(crate::specs::Picture::about))]
-fn push_about(alloc: Global, text: &mut Vec<u8>, claimed: &ShownClaim) -> Result<(), AllocError>
-    requires { length (operations_in claimed.now) ≤ 400 }
+fn push_about(alloc: Global, text: &mut Vec<u8>, claimed: &Claimed) -> Result<(), AllocError>
+    requires { count_of_lines claimed.now ≤ 400 }
     ensures { OnOk result (text.new.items ≡ text.old.items ++ text_of (about claimed.now)) }
 {
     push_element(text, b"title", &[], headline(claimed))?;
@@ -63,7 +65,7 @@ fn push_about(alloc: Global, text: &mut Vec<u8>, claimed: &ShownClaim) -> Result
 /// Adds what stands above and under the lanes.
 #[tactic(auto, unfolding(crate::specs::Picture::frame))]
 fn push_frame(alloc: Global, text: &mut Vec<u8>, sheet: &Sheet<'_>) -> Result<(), AllocError>
-    requires { length (operations_in sheet.now.claimed.now) ≤ 400 }
+    requires { count_of_lines sheet.now.claimed.now ≤ 400 }
     ensures { OnOk result (text.new.items ≡ text.old.items ++ text_of (frame (page_on sheet.now))) }
 {
     push_about(alloc, text, sheet.claimed)?;
@@ -75,13 +77,14 @@ fn push_frame(alloc: Global, text: &mut Vec<u8>, sheet: &Sheet<'_>) -> Result<()
 
 #[tactic(auto, unfolding(crate::specs::Picture::inside))]
 fn push_inside(alloc: Global, text: &mut Vec<u8>, sheet: &Sheet<'_>) -> Result<(), AllocError>
-    requires { length (operations_in sheet.now.claimed.now) ≤ 400 }
+    requires { count_of_lines sheet.now.claimed.now ≤ 400 }
     ensures { OnOk result (text.new.items ≡ text.old.items ++ text_of (inside (page_on sheet.now))) }
 {
     push_frame(alloc, text, sheet)?;
     push_bands(alloc, text, sheet)?;
     push_ways(text, sheet)?;
     push_order(alloc, text, sheet)?;
+    push_initial_values(alloc, text, sheet)?;
     push_bars(alloc, text, sheet)
 }
 
@@ -98,7 +101,7 @@ fn view_box(alloc: Global, m: Measures) -> Result<Vec<u8>, AllocError>
 
 #[tactic(auto, unfolding(crate::specs::Picture::page_content))]
 fn push_page(alloc: Global, text: &mut Vec<u8>, sheet: &Sheet<'_>) -> Result<(), AllocError>
-    requires { length (operations_in sheet.now.claimed.now) ≤ 400 }
+    requires { count_of_lines sheet.now.claimed.now ≤ 400 }
     ensures { OnOk result (text.new.items ≡ text.old.items ++ text_of (page_content (page_on sheet.now))) }
 {
     let m = sheet.measures;
@@ -119,10 +122,10 @@ fn push_page(alloc: Global, text: &mut Vec<u8>, sheet: &Sheet<'_>) -> Result<(),
     push_end(text, b"svg")
 }
 
-fn is_yes(claimed: &ShownClaim) -> bool
+fn is_yes(claimed: &Claimed) -> bool
     ensures { result ≡ is_yes claimed.now }
 {
-    matches!(claimed, ShownClaim::Yes(_))
+    matches!(claimed, Claimed::Yes(_))
 }
 
 /// The tickets just after which the operations of an order take effect.
@@ -143,22 +146,23 @@ fn measures_of(
     alloc: Global,
     history: &History,
     threads: &[u8],
-    claimed: &ShownClaim,
+    claimed: &Claimed,
     bands: &[Band],
 ) -> Result<Measures, AllocError>
-    requires few { length (operations_in claimed.now) ≤ 400 }
+    requires few { count_of_lines claimed.now ≤ 400 }
     requires threads { threads.now ≡ threads_of history.now.events }
     requires bands { bands.now ≡ bands_of claimed.now }
-    ensures { IfOk result (λ m. m ≡ measures_of history.now.events claimed.now) }
+    ensures { IfOk result (λ m. m ≡ measures_of history.now claimed.now) }
 {
     let events = history.events();
     let caption = caption_of(alloc, claimed)?;
-    let legend = legend(alloc, claimed)?;
+    let legend = legend(alloc, history.initial(), claimed)?;
     Ok(Measures {
         ticket: digits(last_ticket(events)).max(6) as u8,
-        number: digits(operations_in(claimed).len() as u64) as u8,
-        label: label_width(history.operations()) as u8,
+        number: digits(count_of_lines(claimed) as u64) as u8,
+        label: label_width(history.initial(), history.operations()) as u8,
         lanes: threads.len(),
+        initial: history.initial().len(),
         events: events.len(),
         effects: order_of(claimed).len(),
         heads: bands.len(),
@@ -172,17 +176,17 @@ fn measures_of(
 
 /// The picture of a history and what is claimed of it, as an SVG 1.1 document.
 ///
-/// The claim need not be evidence: what stands in the picture follows its lines. Time O(n n) for n events; memory for the text,
-/// of O(n) bytes. `AllocError` comes only where a growth was refused.
+/// The claim need not be evidence: what stands in the picture follows its lines. Time O(n n) for n events, and O(k m)
+/// for k initial values and m lines; memory for the text, of O(n + k) bytes. `AllocError` comes only where a growth was refused.
 #[tactic(auto, unfolding(crate::specs::Picture::svg_picture, crate::specs::Picture::picture_content))]
 pub fn svg_picture(
     alloc: Global,
     history: &History,
-    claimed: &ShownClaim,
+    claimed: &Claimed,
 ) -> Result<Vec<u8>, AllocError>
     // The claim has few enough lines to be drawn.
-    requires { length (operations_in claimed.now) ≤ MOST_DRAWN }
-    ensures { IfOk result (λ text. text.items ≡ svg_picture history.now.events claimed.now) }
+    requires { count_of_lines claimed.now ≤ MOST_DRAWN }
+    ensures { IfOk result (λ text. text.items ≡ svg_picture history.now claimed.now) }
 {
     let threads = threads_of(alloc, history.events())?;
     let bands = bands_of(alloc, claimed)?;
@@ -196,6 +200,7 @@ pub fn svg_picture(
     )?;
     let sheet = Sheet {
         measures,
+        initial: history.initial(),
         events: history.events(),
         operations: history.operations(),
         threads: threads.as_slice(),

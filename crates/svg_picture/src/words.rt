@@ -2,13 +2,13 @@
 ghost use Rattle.std.specs.Prelude.{◌≡◌, ◌++◌, IfOk, OnOk};
 ghost use Rattle.svg_picture.specs.Elements.{style_element};
 ghost use Rattle.svg_picture.specs.Markup.{text_of};
-ghost use Rattle.svg_picture.specs.Words.{kind_word, corner, form_class, reading, numbers, forms, claim_forms, legend, light, dark};
+ghost use Rattle.svg_picture.specs.Words.{kind_word, corner, form_class, reading, initial_reading, numbers, forms, claim_forms, legend, light, dark};
 
 use crate::markup::{push_end, push_start};
-use drawing::{Head, ShownClaim};
+use drawing::Head;
 use history_merge::OpKind;
 use std::alloc::{AllocError, Global};
-use verdicts::ViolationKind;
+use verdicts::{Claimed, ViolationKind};
 
 /// The word of a kind of operation, which is its class too.
 pub(crate) fn kind_word(kind: OpKind) -> &'static [u8]
@@ -52,14 +52,24 @@ fn reading() -> &'static [u8]
 Time runs down, one row for each call and each return.\n"
 }
 
-fn numbers(claimed: &ShownClaim) -> &'static [u8]
-    ensures { result.now ≡ numbers claimed.now }
+fn initial_reading(initial: &[u64]) -> &'static [u8]
+    ensures { result.now ≡ initial_reading initial.now }
+{
+    match initial {
+        [] => b"",
+        [_, ..] => b"init: a value that was in the queue first, the front one on top.\n",
+    }
+}
+
+fn numbers(claimed: &Claimed, initial: &[u64]) -> &'static [u8]
+    ensures { result.now ≡ numbers claimed.now initial.now }
 {
     match claimed {
-        ShownClaim::Yes(_) => {
-            b"A row without a ticket: there the numbered operation takes effect.\n"
-        }
-        ShownClaim::No(_, _) => b"Numbered: the operations that show it. Grey: the others.\n",
+        Claimed::Yes(_) => b"A row without a ticket: there the numbered operation takes effect.\n",
+        Claimed::No(_, _) => match initial {
+            [] => b"Numbered: the operations that show it. Grey: the others.\n",
+            [_, ..] => { b"Numbered: the values and operations that show it. Grey: the others.\n" }
+        },
     }
 }
 
@@ -83,22 +93,27 @@ Dashed: within this time the queue was said to be empty.\n"
     }
 }
 
-fn claim_forms(claimed: &ShownClaim) -> &'static [u8]
+fn claim_forms(claimed: &Claimed) -> &'static [u8]
     ensures { result.now ≡ claim_forms claimed.now }
 {
     match claimed {
-        ShownClaim::Yes(_) => b"",
-        ShownClaim::No(kind, _) => forms(*kind),
+        Claimed::Yes(_) => b"",
+        Claimed::No(kind, _) => forms(*kind),
     }
 }
 
 /// How to read a picture, each line with its line feed.
 #[tactic(auto, unfolding(crate::specs::Words::legend))]
-pub(crate) fn legend(alloc: Global, claimed: &ShownClaim) -> Result<Vec<u8>, AllocError>
-    ensures { IfOk result (λ text. text.items ≡ legend claimed.now) }
+pub(crate) fn legend(
+    alloc: Global,
+    initial: &[u64],
+    claimed: &Claimed,
+) -> Result<Vec<u8>, AllocError>
+    ensures { IfOk result (λ text. text.items ≡ legend initial.now claimed.now) }
 {
     let mut text = Vec::from_slice(alloc, reading())?;
-    text.extend_from_slice(numbers(claimed))?;
+    text.extend_from_slice(initial_reading(initial))?;
+    text.extend_from_slice(numbers(claimed, initial))?;
     text.extend_from_slice(claim_forms(claimed))?;
     Ok(text)
 }

@@ -1,15 +1,16 @@
 //! Writing a picture.
 ghost use Rattle.std.specs.Prelude.{◌≡◌, ◌≤◌, ◌||◌, OnOk, OnErr, IfOk, length, is_err};
 ghost use Rattle.std.specs.Io.KnownBytes.{Appends};
-ghost use Rattle.drawing.specs.Claim.{operations_in};
+ghost use Rattle.drawing.specs.Claim.{count_of_lines};
 ghost use Rattle.text_lines.specs.Writing.{AppendsFront, IsWritten, IsRefused};
 ghost use Rattle.svg_picture.specs.Picture.{svg_picture};
 
 use crate::picture::svg_picture;
-use drawing::{MOST_DRAWN, ShownClaim};
+use drawing::MOST_DRAWN;
 use history_merge::History;
 use history_text::{TextSink, WriteFault, write_piece};
 use std::alloc::{AllocError, Global};
+use verdicts::Claimed;
 
 /// Writes the picture of a history and what is claimed of it, as an SVG 1.1 document of ASCII.
 ///
@@ -18,13 +19,13 @@ use std::alloc::{AllocError, Global};
 pub fn write_svg_picture<W: TextSink>(
     alloc: Global,
     history: &History,
-    claimed: &ShownClaim,
+    claimed: &Claimed,
     writer: &mut W,
 ) -> Result<Result<(), WriteFault>, AllocError>
     // The claim has few enough lines to be drawn.
-    requires { length (operations_in claimed.now) ≤ MOST_DRAWN }
-    ensures ok { IfOk result (λ written. OnOk written (Appends (W.contents writer.old) (W.contents writer.new) (svg_picture history.now.events claimed.now))) }
-    ensures err { IfOk result (λ written. OnErr written (AppendsFront (W.contents writer.old) (W.contents writer.new) (svg_picture history.now.events claimed.now))) }
+    requires { count_of_lines claimed.now ≤ MOST_DRAWN }
+    ensures ok { IfOk result (λ written. OnOk written (Appends (W.contents writer.old) (W.contents writer.new) (svg_picture history.now claimed.now))) }
+    ensures err { IfOk result (λ written. OnErr written (AppendsFront (W.contents writer.old) (W.contents writer.new) (svg_picture history.now claimed.now))) }
     ensures refused { IfOk result (λ written. W.has_refused writer.new ≡ (W.has_refused writer.old || is_err written)) }
     ensures written { IfOk result (λ written. OnOk written (IsWritten W.goes writer.old writer.new)) }
     ensures stopped { IfOk result (λ written. OnErr written (IsRefused W.goes writer.old writer.new)) }

@@ -23,13 +23,14 @@ const PROGRAM: &str = "Records and judges histories of a concurrent FIFO queue
 Usage: fifobench <COMMAND>
 
 Commands:
-  check   Reads a history from standard input and prints whether it is linearizable
-  shrink  Reads a history from standard input and prints what shows its violation, and no more
-  verify  Reads a history and a verdict from standard input and prints whether the verdict is evidence
-  draw    Reads a history and a verdict from standard input and draws them
-  sim     Reads a schedule from standard input, steps the recorder through it, and judges what it recorded
-  stress  Runs workers on a queue, records what they did, and prints the history and its verdict
-  help    Print this message or the help of the given subcommand(s)
+  check    Reads a history from standard input and prints whether it is linearizable
+  shrink   Reads a history from standard input and prints what shows its violation, and no more
+  verify   Reads a history and a verdict from standard input and prints whether the verdict is evidence
+  draw     Reads a history, and a verdict if one follows, from standard input and draws them
+  convert  Reads a history from standard input and prints it as a text of version 2
+  sim      Reads a schedule from standard input, steps the recorder through it, and judges what it recorded
+  stress   Runs workers on a queue, records what they did, and prints the history and its verdict
+  help     Print this message or the help of the given subcommand(s)
 
 Options:
   -h, --help     Print help
@@ -52,17 +53,19 @@ rising ticket; threads are 0 to 63:
   TICKET THREAD call-deq         the thread calls to dequeue
   TICKET THREAD ret-deq VALUE    that call is answered with the value
   TICKET THREAD ret-empty        or: the queue is empty
+The queue is empty before the first event. Where it holds K values first, the text begins with the lines
+`fifo-history 2` and `initial K` and a line for each of these values, the front one first.
 
 Output: `YES` and all operations in a legal order of the queue, or `NO`, the kind of violation and
 the operations that show it: VFresh, a value that was not there; VRepeat, a value dequeued twice;
 VOrd, two values dequeued against the order of their enqueues; VWit, an empty answer although the
 queue was never empty meanwhile. A line has the tickets of an operation's call and return, its
-thread, and what it did.
+thread, and what it did; `init VALUE` stands for a value that the queue held first.
 
 Status: 0 yes, 1 no, 2 the input is refused (a line `REFUSED ..` says why), 3 a read, a write or
-memory failed (a line `FAULT ..`). Lines count from 1 and events from 0: event i stands in line i + 2.
-A text that goes on behind its line `end N` is `REFUSED Trailing`: of what `stress` writes, take the
-history alone by `sed '/^end /q'`.
+memory failed (a line `FAULT ..`). Lines count from 1 and events from 0: event i stands in line i + 2,
+and behind K initial values in line i + K + 3. A text that goes on behind its line `end N` is
+`REFUSED Trailing`: of what `stress` writes, take the history alone by `sed '/^end /q'`.
 
 Example:
   $ printf 'fifo-history 1\n0 0 call-deq\n1 0 ret-deq 7\nend 2\n' | fifobench check
@@ -78,10 +81,10 @@ Usage: fifobench shrink
 Options:
   -h, --help  Print help
 
-Input: the text of a history, as for `check`, from the line `fifo-history 1` to the line `end N`.
+Input: the text of a history, as for `check`, from its first line to the line `end N`.
 
-Output: where the history is not linearizable, the text of the shrunk history and then its verdict;
-else the verdict alone, as `check` prints it.
+Output: where the history is not linearizable, the text of the shrunk history, of the version of the
+input, and then its verdict; else the verdict alone, as `check` prints it.
 
 Status: 0 yes, 1 no, 2 the input is refused (a line `REFUSED ..` says why), 3 a read, a write or
 memory failed (a line `FAULT ..`). A text that goes on behind its line `end N` is `REFUSED Trailing`:
@@ -105,8 +108,9 @@ Usage: fifobench verify
 Options:
   -h, --help  Print help
 
-Input: the text of a history, from the line `fifo-history 1` to the line `end N`, directly followed by
-the text of a verdict, from the line `YES` or `NO ..` on, as `stress` and `shrink` print them.
+Input: the text of a history, as for `check`, from its first line to the line `end N`, directly
+followed by the text of a verdict, from the line `YES` or `NO ..` on, as `stress` and `shrink` print
+them.
 
 Output: `VALID` where the verdict's operations are evidence for it in that history, else `INVALID`.
 
@@ -118,7 +122,8 @@ Example:
   VALID
 ";
 
-const DRAW: &str = r"Reads a history and a verdict from standard input and draws them
+const DRAW: &str =
+    r"Reads a history, and a verdict if one follows, from standard input and draws them
 
 Usage: fifobench draw [OPTIONS]
 
@@ -126,8 +131,9 @@ Options:
       --text  Draws in lines of characters, and not as SVG
   -h, --help  Print help
 
-Input: the text of a history, from the line `fifo-history 1` to the line `end N`, directly followed by
-the text of a verdict, from the line `YES` or `NO ..` on, as for `verify`.
+Input: the text of a history, from its first line to the line `end N`, directly followed by the text of
+a verdict, from the line `YES` or `NO ..` on, as for `verify`. Where nothing follows, the history is
+decided as by `check`, and drawn with that verdict.
 
 Output: a picture, as an SVG document for a browser, or with `--text` in lines of ASCII for a terminal.
 Time runs down: each event has a row, each thread a lane, and each operation a bar from its call to its
@@ -135,11 +141,13 @@ return. Of a yes the order stands beside the lanes, and each number where its op
 Of a no the operations that show it are numbered in the order of the verdict's lines, and bands say
 when a value surely was in the queue, was not, and the time that contradicts it. In characters `[` is
 a call, `]` its return and `|` stands between, and bands are `###`, `xxx` and `:::`. Where the verdict
-is no evidence in the history, `INVALID`, and nothing is drawn.
+is no evidence in the history, `INVALID`, and nothing is drawn. Values that the queue holds first (texts
+of `fifo-history 2`) have rows of their own above all events, front first, numbered as operations are.
 
 Status: 0 drawn, 1 invalid, 2 the input is refused (a line `REFUSED ..` says why), 3 a read, a write
-or memory failed (a line `FAULT ..`). More than 400 operations, in the history or in the verdict, are
-`REFUSED Size`: a no is shrunk first. Lines count from 1 through both texts.
+or memory failed (a line `FAULT ..`). More than 400 operations or values that the queue holds first, or
+more than 400 lines of the verdict, are `REFUSED Size`: a no is shrunk first. Lines count from 1 through
+both texts.
 
 Example:
   $ printf 'fifo-history 1\n0 0 call-deq\n1 0 ret-deq 7\nend 2\nNO VFresh\n0 1 0 deq 7\n' | fifobench draw --text
@@ -158,6 +166,30 @@ Example:
   ticket  0               |    |
        0  [1      deq 7  xxx  :::
        1  ]              xxx
+";
+
+const CONVERT: &str = r"Reads a history from standard input and prints it as a text of version 2
+
+Usage: fifobench convert
+
+Options:
+  -h, --help  Print help
+
+Input: the text of a history, as for `check`, from its first line to the line `end N`.
+
+Output: the text of the same history in version 2, which says after its first line how many values the
+queue holds before the first event, and which. A text of version 2 comes out as it is.
+
+Status: 0 converted, 2 the input is refused (a line `REFUSED ..` says why), 3 a read, a write or
+memory failed (a line `FAULT ..`). What `check` refuses is refused, with the same line.
+
+Example:
+  $ printf 'fifo-history 1\n0 0 call-enq 7\n1 0 ret-enq\nend 2\n' | fifobench convert
+  fifo-history 2
+  initial 0
+  0 0 call-enq 7
+  1 0 ret-enq
+  end 2
 ";
 
 const SIM: &str =
@@ -198,17 +230,22 @@ Usage: fifobench stress [OPTIONS] --queue <NAME>
 
 Options:
       --queue <NAME>      Name of the queue
-      --threads <NUMBER>  Workers, 1 to 16 [default: 2]
+      --threads <NUMBER>  Workers, 1 to 32 [default: 2]
       --ops <NUMBER>      Operations of each worker, 0 to 100000 [default: 1000]
       --seed <NUMBER>     Seed of the workers' plan, 0 to 4294967295 [default: 1]
       --percent <NUMBER>  Enqueues among a hundred operations, 0 to 100 [default: 50]
       --ring <NUMBER>     Events that each worker's ring holds, 2 to 65536 [default: 1024]
+      --initial <NUMBER>  Values that the queue holds before the run, 0 to 1000 [default: 0]
   -h, --help              Print help
 
 Input: none.
 
 Output: the text of the recorded history and its verdict, which `verify` reads. Runs of several
 workers differ, also with the same options, since the workers run at the same time.
+
+With `--initial K` the queue is given the values 274877906944, 274877906945, .. before any worker
+starts, K of them, and the text of the history is of version 2. Where the queue has no room for one of
+them, `FAULT Preload PLACE` says for which, counted from 0.
 
 Queues: locked, two-lock, array and seg are made to keep the order; lifo, doubling, inventing, shy
 and losing break it now and then, on purpose.
@@ -234,6 +271,7 @@ fn helps_are_shown_whole(rt: HostRuntime) -> Result<(), Fail> {
         ("shrink", SHRINK),
         ("verify", VERIFY),
         ("draw", DRAW),
+        ("convert", CONVERT),
         ("sim", SIM),
         ("stress", STRESS),
     ] {

@@ -1,12 +1,13 @@
 ghost use Rattle.std.specs.Prelude.{◌≤◌, IfOk, Some};
 
 use history_text::{
-    Buffered, MemorySource, ReadFailed, TextReader, TextSink, TextSource, Watched, WriteFault,
-    at_end, read_history, read_schedule, read_verdict, write_piece,
+    Buffered, MemorySource, ReadFailed, TextFault, TextReader, TextSink, TextSource, Watched,
+    WriteFault, at_end, is_at_end, read_history, read_schedule, read_verdict, write_piece,
 };
 use std::io;
 use std::io::{ErrorKind, Read, Write};
 use std::test::Fail;
+use verdicts::Claimed;
 
 /// A reader and writer of std that answers its calls as it is told, takes all where it is told nothing, and counts them.
 #[derive(Drop)]
@@ -226,5 +227,41 @@ fn reading_a_verdict_asks_once_at_the_end(rt: HostRuntime) -> Result<(), Fail> {
         drop(read_verdict(rt.alloc(), &mut TextReader::new(&mut counted))?);
         assert_eq!(rt; counted.reads, text.len() / most + 1);
     }
+    Ok(())
+}
+
+#[test]
+fn looking_for_the_end_takes_nothing(rt: HostRuntime) -> Result<(), Fail> {
+    let text = b"fifo-history 1\nend 0\nYES\n0 1 0 enq 7\n".as_slice();
+    for most in [1, 7, text.len()] {
+        let source = MemorySource::new(text).in_pieces(most);
+        let mut reader = TextReader::new(source);
+        assert_eq!(rt; is_at_end(&mut reader), Ok(false));
+        assert_eq!(rt; read_history(rt.alloc(), &mut reader)?.len(), 0);
+        assert_eq!(rt; is_at_end(&mut reader), Ok(false));
+        assert_eq!(rt; is_at_end(&mut reader), Ok(false));
+        let claimed = read_verdict(rt.alloc(), &mut reader)?;
+        assert!(rt; matches!(&claimed, Claimed::Yes(lines) if lines.as_slice().len() == 1));
+        assert_eq!(rt; is_at_end(&mut reader), Ok(true));
+    }
+    Ok(())
+}
+
+#[test]
+fn looking_for_the_end_asks_where_nothing_is_left(rt: HostRuntime) -> Result<(), Fail> {
+    for most in [1, HISTORY.len()] {
+        let source = MemorySource::new(HISTORY).in_pieces(most);
+        let mut counted = Counted { source, reads: 0 };
+        let mut reader = TextReader::new(&mut counted);
+        assert_eq!(rt; is_at_end(&mut reader), Ok(false));
+        assert_eq!(rt; read_history(rt.alloc(), &mut reader)?.len(), 2);
+        assert_eq!(rt; is_at_end(&mut reader), Ok(true));
+        drop(reader);
+        assert_eq!(rt; counted.reads, HISTORY.len() / most + 1);
+    }
+    let mut failing = TextReader::new(MemorySource::failing(HISTORY));
+    assert_eq!(rt; is_at_end(&mut failing), Ok(false));
+    assert_eq!(rt; read_history(rt.alloc(), &mut failing)?.len(), 2);
+    assert_eq!(rt; is_at_end(&mut failing), Err(TextFault::Read));
     Ok(())
 }

@@ -23,6 +23,7 @@ fn subcommands_name_tasks(rt: HostRuntime) -> Result<(), Fail> {
         ("check", Task::Check),
         ("shrink", Task::Shrink),
         ("verify", Task::Verify),
+        ("convert", Task::Convert),
         ("sim", Task::Sim),
     ];
     for (name, task) in tasks {
@@ -51,6 +52,7 @@ fn options_have_defaults(rt: HostRuntime) -> Result<(), Fail> {
         seed: 1,
         percent: 50,
         ring: 1024,
+        initial: 0,
     };
     let words = ["fifobench", "stress", "--queue", "locked"];
     assert!(rt; has_task(&rt, &words, Task::Stress(options))?);
@@ -61,11 +63,12 @@ fn options_have_defaults(rt: HostRuntime) -> Result<(), Fail> {
 fn options_are_read(rt: HostRuntime) -> Result<(), Fail> {
     let options = StressOptions {
         queue: "two-lock",
-        threads: 16,
+        threads: 32,
         operations: 100_000,
         seed: 4_294_967_295,
         percent: 0,
         ring: 65_536,
+        initial: 1000,
     };
     let words = [
         "fifobench",
@@ -78,7 +81,8 @@ fn options_are_read(rt: HostRuntime) -> Result<(), Fail> {
         "--ops",
         "100000",
         "--threads",
-        "16",
+        "32",
+        "--initial=1000",
         "--queue=two-lock",
     ];
     assert!(rt; has_task(&rt, &words, Task::Stress(options))?);
@@ -88,13 +92,14 @@ fn options_are_read(rt: HostRuntime) -> Result<(), Fail> {
 #[test]
 fn numbers_out_of_range_are_faults(rt: HostRuntime) -> Result<(), Fail> {
     let faults = [
-        ("--threads", "17"),
+        ("--threads", "33"),
         ("--threads", "0"),
         ("--ops", "100001"),
         ("--seed", "4294967296"),
         ("--percent", "101"),
         ("--ring", "1"),
         ("--ring", "65537"),
+        ("--initial", "1001"),
         ("--ops", "many"),
     ];
     for (option, number) in faults {

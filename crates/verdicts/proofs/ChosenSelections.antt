@@ -16,10 +16,9 @@ use Rattle.value_match.specs.Outcome.{Names, NamesCover, IsChosenViolation}
 use Rattle.value_match.proofs.Lists.{one_deeper}
 use Rattle.empty_witness.proofs.Covers.{violation_covers, chosen_cover_is_shortest}
 use Rattle.verdicts.specs.Selection.{selects, IsShortestCover, HasShortestCover}
-use Rattle.verdicts.specs.Inner.Selecting.{SelectsNamed}
 use Rattle.verdicts.proofs.CoverGaps.{chosen_are_lives}
 use Rattle.verdicts.proofs.KeptTickets.{selected_are_complete}
-use Rattle.verdicts.proofs.NamedLines.{lines_are_selected}
+use Rattle.verdicts.proofs.NamedLines.{SelectsLines, lines_are_selected}
 use Rattle.verdicts.proofs.Selections.{breach_in_whole, did_in_whole, life_in_whole, life_in_selected, line_of_life}
 
 -- places name one violation
@@ -108,7 +107,7 @@ module _ (operations : List Operation) (complete : AreComplete operations) (valu
   }
 
   -- the chosen violation is the chosen one of the selection by its lines
-  pub stays_chosen : (breach : Breach) → IsChosenBreach operations breach → SelectsNamed (lines_of breach) values calls → IsBreachOf small breach
+  pub stays_chosen : (breach : Breach) → IsChosenBreach operations breach → SelectsLines (lines_of breach) values calls → IsBreachOf small breach
       → IsChosenBreach small breach
   stays_chosen (fresh deq enq) chosen named is = record { violates = is; first = λ deq' enq' is'. chosen.first deq' enq' (in_whole (fresh deq' enq') is') }
   stays_chosen (repeat enq first second) chosen named is = (

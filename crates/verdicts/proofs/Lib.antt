@@ -4,8 +4,11 @@
 -- Lookups, ClaimedBreaches, ClaimedCovers, ClaimedOrders: when the lines of a claim are evidence.
 -- NamedLines, NamedPlaces, TrueClaims, FewLines: what a verdict claims, and that this is true.
 -- SameLists, Selections, ChosenSelections, CoverGaps: what stays of the violations in a selection of the operations.
--- Minimal, OneSelection: nothing can be left out of the selection by the violation's lines.
+-- Minimal: nothing can be left out of the selection by the violation's lines.
+-- Retiming, FilledSelections: a selection of a filled history is the filled history of a selection, at other tickets.
+-- ShownLines, ViolationPlaces, LinesTell: the lines of a violation as they are shown, and what they tell.
 -- EventsHeld, KeptTickets, KeptEvents, ShrunkEvents: the selected operations with their events are a complete history.
+-- ShrunkHistories, OneSelection: so the small history is minimal, has the violation, and is the only one.
 -- Rows: small histories, computed.
 pub mod Excludes
 pub mod Rows
@@ -25,13 +28,19 @@ pub mod KeptEvents
 pub mod KeptTickets
 pub mod Selections
 pub mod CoverGaps
+pub mod Retiming
+pub mod FilledSelections
+pub mod ShownLines
 pub mod NamedLines
 pub mod Minimal
 pub mod ChosenSelections
 pub mod NamedPlaces
 pub mod ShrunkEvents
+pub mod ViolationPlaces
+pub mod ShrunkHistories
 pub mod OneVerdict
 pub mod TrueClaims
 pub mod FewLines
 pub mod EventsHeld
 pub mod OneSelection
+pub mod LinesTell

@@ -14,16 +14,20 @@ use Rattle.value_match.specs.Choice.{IsChosenBreach, IsChosenWitness}
 use Rattle.value_match.proofs.Lists.{one_deeper, passed_filter}
 use Rattle.value_match.proofs.Lives.{one_life_of_enqueue}
 use Rattle.empty_witness.proofs.Covers.{violation_covers}
-use Rattle.verdicts.specs.Selection.{value_of, selects, IsMinimal}
-use Rattle.verdicts.specs.Inner.Selecting.{SelectsNamed}
+use Rattle.verdicts.specs.Selection.{value_of, selects}
 use Rattle.verdicts.proofs.Chosen.{chosen_is_breach}
 use Rattle.verdicts.proofs.CoverGaps.{gap_without, chosen_are_lives}
 use Rattle.verdicts.proofs.Exactly.{linearizable_exactly}
 use Rattle.verdicts.proofs.Excludes.{breach_excludes_order}
 use Rattle.verdicts.proofs.KeptTickets.{selected_are_complete}
 use Rattle.verdicts.proofs.NamedLines.{HasValue, IsOpOf, IsOpOfTwo, IsOpOfLife, fresh_lines, repeat_lines, order_lines, cover_lines, selects_as_value}
-use Rattle.verdicts.proofs.NamedLines.{lines_are_selected, selected_for}
+use Rattle.verdicts.proofs.NamedLines.{SelectsLines, lines_are_selected, selected_for}
 use Rattle.verdicts.proofs.Selections.{breach_in_whole, breach_in_selected, life_in_whole}
+
+-- no selection but the whole of these operations fails to be linearizable
+abbrev pub AreMinimal : List Operation → Type 0
+AreMinimal operations = ¬ (IsLinearizable operations) × ((values calls : ℕ → Bool) → (filter (selects values calls) operations ≡ operations → ⊥)
+    → IsLinearizable (filter (selects values calls) operations))
 
 -- a filter keeps all, or some element fails its test
 pub all_or_one : {X : Type 0} (p : X → Bool) (xs : List X) → (filter p xs ≡ xs) ⊎ ((x : X) × Contains xs x × (p x ≡ false))
@@ -87,7 +91,7 @@ module _ (operations : List Operation) (complete : AreComplete operations) (valu
         let clash : true ≡ false = sym there ∙ gone in
         cc
 
-    module _ (lines : List Operation) (named : SelectsNamed lines values calls) where
+    module _ (lines : List Operation) (named : SelectsLines lines values calls) where
       -- where all lines are of one value, nothing is left
       nothing_left : (v : ℕ) → ((l : Operation) → Contains lines l → IsOpOf operations v l) → (breach : Breach) → IsBreachOf smaller breach → ⊥
       nothing_left v of_value breach is =
@@ -134,7 +138,7 @@ module _ (operations : List Operation) (complete : AreComplete operations) (valu
             not_itself smaller enq_a enq_b deq_b deq_a is smaller_complete same
 
     module _ (empty : Operation) (cover : List Life) (clear : IsClear operations) (chosen : IsChosenWitness operations empty cover)
-        (named : SelectsNamed (lines_of (witness empty cover)) values calls) where
+        (named : SelectsLines (lines_of (witness empty cover)) values calls) where
       line_is : (l : Operation) → Contains (lines_of (witness empty cover)) l → (empty ≡ l) ⊎ IsOpOfLife operations cover l
       line_is l at = elim (contains_cons empty (flat_map operations_of_life cover) l at) [
         | inl same ↦ inl same
@@ -205,7 +209,7 @@ module _ (operations : List Operation) (complete : AreComplete operations) (valu
               cc
 
     -- so what is left has no violation
-    none_is_left : (breach : Breach) → IsChosenBreach operations breach → SelectsNamed (lines_of breach) values calls → (other : Breach)
+    none_is_left : (breach : Breach) → IsChosenBreach operations breach → SelectsLines (lines_of breach) values calls → (other : Breach)
         → IsBreachOf smaller other → ⊥
     none_is_left (fresh deq enq) chosen named other is = let of_value = fresh_lines operations deq enq chosen.violates in
         nothing_left (lines_of (fresh deq enq)) named of_value.0 of_value.1 other is
@@ -232,25 +236,24 @@ module _ (operations : List Operation) (complete : AreComplete operations) (valu
         by_kind (witness empty' cover') is' =
             no_cover empty cover (record { complete = complete; no_fresh = chosen.0; no_repeat = chosen.1 }) chosen.3 named empty' cover' is'
 
-    smaller_is_linearizable : (breach : Breach) → IsChosenBreach operations breach → SelectsNamed (lines_of breach) values calls → IsLinearizable smaller
+    smaller_is_linearizable : (breach : Breach) → IsChosenBreach operations breach → SelectsLines (lines_of breach) values calls → IsLinearizable smaller
     smaller_is_linearizable breach chosen named =
         (linearizable_exactly smaller (selected_are_complete (selects values' calls') small
         (selected_are_complete (selects values calls) operations complete))).1 (none_is_left breach chosen named)
 
 module _ (operations : List Operation) (complete : AreComplete operations) (breach : Breach) (chosen : IsChosenBreach operations breach)
-    (values calls : ℕ → Bool) (named : SelectsNamed (lines_of breach) values calls) where
+    (values calls : ℕ → Bool) (named : SelectsLines (lines_of breach) values calls) where
   -- the chosen violation is one of the selection by its lines
   pub stays_violation : IsBreachOf (filter (selects values calls) operations) breach
   stays_violation = breach_in_selected operations values calls breach (chosen_is_breach operations breach complete chosen)
       (lines_are_selected (lines_of breach) values calls named)
 
-  pub selection_is_minimal : IsMinimal (filter (selects values calls) operations)
+  pub selection_is_minimal : AreMinimal (filter (selects values calls) operations)
   selection_is_minimal = (
     λ linear. breach_excludes_order (filter (selects values calls) operations) breach
         (selected_are_complete (selects values calls) operations complete) stays_violation linear,
-    λ selected closed differs. elim (all_or_one (selects closed.0 closed.1) (filter (selects values calls) operations)) [
-      | inl all ↦ absurd (differs (closed.2 ∙ all))
-      | inr one ↦ subst IsLinearizable (sym closed.2) (smaller_is_linearizable operations complete values calls closed.0 closed.1 one.0 one.1 one.2
-          breach chosen named)
+    λ values' calls' differs. elim (all_or_one (selects values' calls') (filter (selects values calls) operations)) [
+      | inl all ↦ absurd (differs all)
+      | inr one ↦ smaller_is_linearizable operations complete values calls values' calls' one.0 one.1 one.2 breach chosen named
     ],
   )

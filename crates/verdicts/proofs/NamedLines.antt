@@ -1,6 +1,6 @@
 -- What the lines of a violation name, and what a selection by them holds.
 use Rattle.std.proofs.Common.{◌≡◌, ℕ, ◌⊎◌, Bool, true, List, [], ◌∷◌, Option, Some, None, refl, sym, ◌∙◌, ap, subst, inl, inr}
-use Rattle.std.specs.Prelude.{Contains, filter, flat_map, option_to_list, MatchOption}
+use Rattle.std.specs.Prelude.{◌↔◌, Contains, IsTrue, filter, filter_map, flat_map, map, option_to_list, MatchOption}
 use Rattle.std.specs.Option.{option_map_or}
 use Rattle.history_merge.specs.declared.operation.Operation.{Operation}
 use Rattle.history_merge.specs.declared.operation.OpKind.{OpKind}
@@ -15,8 +15,12 @@ use Rattle.value_match.specs.Choice.{IsChosenBreach}
 use Rattle.value_match.proofs.Lists.{kept, keeps, mapped_from, mapped_to, passed_filter}
 use Rattle.linearizer.proofs.NoneTwice.{from_flat_map}
 use Rattle.verdicts.specs.Selection.{value_of, selects}
-use Rattle.verdicts.specs.Inner.Selecting.{SelectsNamed}
 use Rattle.verdicts.proofs.CoverGaps.{chosen_are_lives}
+
+-- the values are those of the lines, and the calls are the lines' calls
+pub record SelectsLines (lines : List Operation) (values calls : ℕ → Bool) : Type 0 where
+  pub values_named : (v : ℕ) → IsTrue (values v) ↔ Contains (filter_map (λ o. value_of o.kind) lines) v
+  pub calls_named : (call : ℕ) → IsTrue (calls call) ↔ Contains (map (λ o. o.call) lines) call
 
 -- the operation has this value
 abbrev pub HasValue : Operation → ℕ → Type 0
@@ -131,7 +135,7 @@ selects_as_value values calls o v is = ap (λ w. option_map_or values w (calls o
 pub selects_as_call : (values calls : ℕ → Bool) (o : Operation) → value_of o.kind ≡ None → selects values calls o ≡ calls o.call
 selects_as_call values calls o is = ap (λ w. option_map_or values w (calls o.call)) is
 
-module _ (lines : List Operation) (values calls : ℕ → Bool) (named : SelectsNamed lines values calls) where
+module _ (lines : List Operation) (values calls : ℕ → Bool) (named : SelectsLines lines values calls) where
   -- each line is selected
   pub lines_are_selected : (o : Operation) → Contains lines o → selects values calls o ≡ true
   lines_are_selected o among = by_value (value_of o.kind) refl

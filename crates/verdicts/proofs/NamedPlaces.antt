@@ -1,8 +1,8 @@
 -- The places that a violation names are those of its lines.
-use Rattle.std.proofs.Common.{◌≡◌, ℕ, ◌+◌, ◌<◌, List, [], ◌∷◌, ◌++◌, length, get_or, take, map, Option, Some, None, refl, sym, ◌∙◌, ap, subst, arith}
+use Rattle.std.proofs.Common.{◌≡◌, ℕ, ◌<◌, List, [], ◌∷◌, ◌++◌, length, map, Option, Some, None, refl, ap}
 use Rattle.std.specs.Prelude.{All, flat_map, option_to_list, slice_get}
 use Rattle.std.proofs.lemmas.List.Elements.{All-nil, All-cons}
-use Rattle.std.proofs.lemmas.Option.{slice_get-get_or, slice_get_within}
+use Rattle.std.proofs.lemmas.Option.{slice_get_within}
 use Rattle.history_merge.specs.declared.operation.Operation.{Operation}
 use Rattle.history_merge.specs.Legal.{ArePlacesOf}
 use Rattle.value_match.specs.declared.life.Life.{Life}
@@ -12,9 +12,7 @@ use Rattle.value_match.specs.declared.violation.Violation.TheVariants as violati
 use Rattle.value_match.specs.Lives.{IsMaybeAt, dequeue_of, enqueue_of, operations_of_life}
 use Rattle.value_match.specs.Outcome.{Names, NamesCover}
 use Rattle.value_match.specs.Violations.{Breach, fresh, repeat, order, witness, lines_of}
-use Rattle.value_match.proofs.Lists.{one_more}
 use Rattle.verdicts.specs.Shown.{places_of, places_of_step}
-use Rattle.verdicts.specs.Inner.Shown.{AreLinesOf}
 
 maybe_places : (operations : List Operation) (place : Option ℕ) (o : Option Operation) → IsMaybeAt operations place o
     → ArePlacesOf operations (option_to_list place) (option_to_list o)
@@ -33,18 +31,6 @@ places-append operations (p ∷ ps) qs (x ∷ xs) ys first rest =
     let later : map (slice_get operations) ps ≡ map (λ o. Some o) xs = cc in
     let more = places-append operations ps qs xs ys later rest in
     cc
-
--- one more place, with the operation there
-pub places_more : (operations : List Operation) (places : List ℕ) (listed : List Operation) (i place read : ℕ) (d : Operation) → i < length places
-    → read ≡ get_or places i read → place ≡ read → All (λ p. p < length operations) places
-    → ArePlacesOf operations (take i places) listed → ArePlacesOf operations (take (i + 1) places) (listed ++ get_or operations place d ∷ [])
-places_more operations places listed i place read d within is same in_range so_far =
-    let below = in_range i read within in
-    let in_list : place < length operations = omega arith in
-    let is' : place ≡ get_or places i place = subst (λ p. p ≡ get_or places i p) (sym same) is in
-    let here : ArePlacesOf operations (place ∷ []) (get_or operations place d ∷ []) = ap (λ x. x ∷ []) (slice_get-get_or operations place d in_list) in
-    subst (λ ps. ArePlacesOf operations ps (listed ++ get_or operations place d ∷ [])) (sym (one_more places i place within is'))
-    (places-append operations (take i places) (place ∷ []) listed (get_or operations place d ∷ []) so_far here)
 
 cover_places : (operations : List Operation) (steps : List CoverStep) (cover : List Life) → NamesCover operations steps cover
     → ArePlacesOf operations (flat_map places_of_step steps) (flat_map operations_of_life cover)
@@ -85,30 +71,3 @@ in_range operations (p ∷ places) (o ∷ listed) named =
     let here : slice_get operations p ≡ Some o = cc in
     let later : map (slice_get operations) places ≡ map (λ o. Some o) listed = cc in
     All-cons (λ place. place < length operations) p places (slice_get_within operations p o here) (in_range operations places listed later)
-
--- the places of a violation are places of operations
-pub lines_in_range : (operations : List Operation) (named : Violation) → ((breach : Breach) × Names operations named breach)
-    → All (λ place. place < length operations) (places_of named)
-lines_in_range operations named some = in_range operations (places_of named) (lines_of some.0) (places_of_lines operations named some.0 some.1)
-
--- and name one list
-one_list : (operations : List Operation) (places : List ℕ) (xs ys : List Operation) → ArePlacesOf operations places xs
-    → ArePlacesOf operations places ys → xs ≡ ys
-one_list operations places [] [] named_x named_y = refl
-one_list operations [] [] (y ∷ ys) named_x named_y = cc
-one_list operations (p ∷ places) [] (y ∷ ys) named_x named_y = cc
-one_list operations [] (x ∷ xs) ys named_x named_y = cc
-one_list operations (p ∷ places) (x ∷ xs) [] named_x named_y = cc
-one_list operations (p ∷ places) (x ∷ xs) (y ∷ ys) named_x named_y =
-    let here : Some x ≡ Some y = let at_x : slice_get operations p ≡ Some x = cc in let at_y : slice_get operations p ≡ Some y = cc in sym at_x ∙ at_y in
-    let later_x : map (slice_get operations) places ≡ map (λ o. Some o) xs = cc in
-    let later_y : map (slice_get operations) places ≡ map (λ o. Some o) ys = cc in
-    let rest = one_list operations places xs ys later_x later_y in
-    cc
-
--- the operations at these places are its lines
-pub named_are_lines : (operations : List Operation) (named : Violation) (places : List ℕ) (listed : List Operation) → places ≡ places_of named
-    → ArePlacesOf operations places listed → AreLinesOf operations named listed
-named_are_lines operations named places listed same at breach names =
-    one_list operations (places_of named) listed (lines_of breach) (subst (λ ps. ArePlacesOf operations ps listed) same at)
-    (places_of_lines operations named breach names)

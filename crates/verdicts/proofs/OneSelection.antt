@@ -1,58 +1,180 @@
 -- Two minimal selections that keep one violation, the chosen one of both, are one.
-use Rattle.std.proofs.Common.{◌≡◌, ℕ, Bool, true, false, List, sym, ◌∙◌, subst, inl, inr, refl}
+use Rattle.std.proofs.Common.{◌≡◌, ◌≢◌, ℕ, ◌*◌, ◌⊎◌, Bool, true, false, cond, List, [], ◌∷◌, length, refl, sym, ◌∙◌, ap, subst, inl, inr, map}
 use Rattle.std.specs.Prelude.{Contains, filter}
+use Rattle.std.proofs.lemmas.Bool.{cases_lt}
+use Rattle.std.proofs.lemmas.List.Elements.{Contains-append_cases}
 use Rattle.history_merge.specs.declared.operation.Operation.{Operation}
 use Rattle.history_merge.specs.Complete.{AreComplete}
-use Rattle.history_merge.proofs.Distinct.{calls_rise}
+use Rattle.history_merge.specs.Initial.{HistoryView, filled}
+use Rattle.history_merge.specs.Legal.{IsLinearizable}
+use Rattle.history_merge.specs.Operations.{operations_of}
+use Rattle.history_merge.proofs.Filled.{linearizable_from_exactly}
 use Rattle.value_match.specs.declared.violation.Violation.{Violation}
 use Rattle.value_match.specs.Violations.{Breach, IsBreachOf, lines_of}
-use Rattle.value_match.proofs.Lists.{passes_filter, passed_filter}
-use Rattle.verdicts.specs.Selection.{selects, IsMinimal, KeepsViolation, StaysChosen}
+use Rattle.value_match.proofs.Lists.{mapped_from, mapped_to, passed_filter}
+use Rattle.verdicts.specs.declared.verifying.ClaimLine.{ClaimLine}
+use Rattle.verdicts.specs.declared.verifying.ClaimLine.TheVariants.{Op, Initial}
+use Rattle.verdicts.specs.declared.verifying.Claimed.{Claimed}
+use Rattle.verdicts.specs.declared.verifying.Claimed.TheVariants as claimed
+use Rattle.verdicts.specs.declared.verifying.ViolationKind.{ViolationKind}
+use Rattle.verdicts.specs.Claiming.{lines_of_history}
+use Rattle.verdicts.specs.Selection.{AreLinearizable, Contents, IsMinimal, KeepsViolation, StaysChosen, contents_of, select, selects, violation_lines}
+use Rattle.verdicts.specs.Shown.{places_of}
+use Rattle.verdicts.specs.Verdicts.{filled_of}
 use Rattle.verdicts.proofs.Chosen.{chosen_is_breach}
-use Rattle.verdicts.proofs.ChosenSelections.{names_one}
 use Rattle.verdicts.proofs.Excludes.{breach_excludes_order}
+use Rattle.verdicts.proofs.FilledSelections.{lifted, lifted_rises}
 use Rattle.verdicts.proofs.KeptTickets.{selected_are_complete}
 use Rattle.verdicts.proofs.Minimal.{all_or_one}
-use Rattle.verdicts.proofs.SameLists.{KeysRise, same_lists}
+use Rattle.verdicts.proofs.NamedLines.{lines_are_operations}
+use Rattle.verdicts.proofs.NamedPlaces.{places_of_lines}
+use Rattle.verdicts.proofs.Retiming.{linearizable_there}
 use Rattle.verdicts.proofs.Selections.{breach_in_selected}
+use Rattle.verdicts.proofs.ShownLines.{accepted_value, early_line, late_line, line_of, lines_at_places}
+use Rattle.verdicts.proofs.ShrunkHistories.{IsWhole, calls_behind, enqueued_in_filling, filled_is_whole, selection_filled}
 
-calls_of_complete : (operations : List Operation) → AreComplete operations → KeysRise (λ o. o.call) operations
-calls_of_complete operations complete = rw complete.2 (calls_rise complete.0 complete.1.tickets_rise)
+-- claims of a no that are one have the same lines
+one_list_of_lines : (k l : ViolationKind) (xs ys : List ClaimLine) → claimed.No k xs ≡ claimed.No l ys → xs ≡ ys
+one_list_of_lines k l xs ys same = ap lines same
+  where
+    lines : Claimed → List ClaimLine
+    lines (claimed.Yes order) = []
+    lines (claimed.No kind shown) = shown
 
--- what another selection that keeps all of a violation leaves of a minimal one is the whole of it
-module _ (xs : List Operation) (values calls : ℕ → Bool) (breach : Breach) (complete : AreComplete xs) (minimal : IsMinimal xs)
-    (violated : IsBreachOf xs breach)
-    (kept : (o : Operation) → Contains (lines_of breach) o → selects values calls o ≡ true) where
-  all_pass : (o : Operation) → Contains xs o → selects values calls o ≡ true
-  all_pass o among = elim (all_or_one (selects values calls) xs) [
-    | inl all ↦ (passed_filter (selects values calls) xs o (subst (λ os. Contains os o) (sym all) among)).1
-    | inr one ↦
-        let smaller = filter (selects values calls) xs in
-        let differs : smaller ≡ xs → ⊥ = λ same. let passes = (passed_filter (selects values calls) xs one.0
-        (subst (λ os. Contains os one.0) (sym same) one.1)).1 in let clash : true ≡ false = sym passes ∙ one.2 in cc in
-        let linear = minimal.1 smaller (values, calls, refl) differs in
-        absurd (breach_excludes_order smaller breach (selected_are_complete (selects values calls) xs complete)
-        (breach_in_selected xs values calls breach violated kept) linear)
+-- two filters may change places
+filters_swap : {X : Type 0} (p q : X → Bool) (xs : List X) → filter p (filter q xs) ≡ filter q (filter p xs)
+filters_swap p q [] = refl
+filters_swap {X} p q (x ∷ xs) = pick (p x) (q x) refl refl (filters_swap p q xs)
+  where
+    pick : (a b : Bool) → p x ≡ a → q x ≡ b → filter p (filter q xs) ≡ filter q (filter p xs)
+        → filter p (cond b (x ∷ filter q xs) (filter q xs)) ≡ filter q (cond a (x ∷ filter p xs) (filter p xs))
+    pick true true is_p is_q more = rw (is_p, is_q) (ap (λ ys. x ∷ ys) more)
+    pick true false is_p is_q more = rw (is_q) more
+    pick false true is_p is_q more = rw (is_p) more
+    pick false false is_p is_q more = more
+
+-- a line of a selection is of an operation that is selected, in a filled history
+module _ (values empties : ℕ → Bool) (initial : List ℕ) (operations : List Operation) where
+  abbrev value_lines : List ClaimLine
+  value_lines = map Initial (filter values initial)
+
+  abbrev operation_lines : List ClaimLine
+  operation_lines = map Op (filter (selects values empties) operations)
+
+  value_passes : (v : ℕ) → Contains (lines_of_history (filter values initial) (filter (selects values empties) operations)) (Initial v) → values v ≡ true
+  value_passes v among = elim (Contains-append_cases value_lines operation_lines (Initial v) among) [
+    | inl here ↦
+        let found = mapped_from Initial (filter values initial) (Initial v) here in
+        let same : Initial found.0 ≡ Initial v = found.2 in
+        let one : found.0 ≡ v = cc in
+        subst (λ w. values w ≡ true) one (passed_filter values initial found.0 found.1).1
+    | inr there ↦
+        let found = mapped_from Op (filter (selects values empties) operations) (Initial v) there in
+        let clash : Op found.0 ≡ Initial v = found.2 in
+        absurd (cc)
   ]
 
+  operation_passes : (o : Operation) → Contains (lines_of_history (filter values initial) (filter (selects values empties) operations)) (Op o)
+      → selects values empties o ≡ true
+  operation_passes o among = elim (Contains-append_cases value_lines operation_lines (Op o) among) [
+    | inl here ↦
+        let found = mapped_from Initial (filter values initial) (Op o) here in
+        let clash : Initial found.0 ≡ Op o = found.2 in
+        absurd (cc)
+    | inr there ↦
+        let found = mapped_from Op (filter (selects values empties) operations) (Op o) there in
+        let same : Op found.0 ≡ Op o = found.2 in
+        let one : found.0 ≡ o = cc in
+        subst (λ x. selects values empties x ≡ true) one (passed_filter (selects values empties) operations found.0 found.1).1
+  ]
+
+-- what another selection that keeps all of the violation leaves of a minimal one is the whole of it
+module _ (whole x : HistoryView) (violation : Violation) (is_x : IsWhole x) (stays : StaysChosen whole violation x) (minimal : IsMinimal (contents_of x))
+    (values empties : ℕ → Bool) (kept : (line : ClaimLine) → Contains (violation_lines whole violation) line
+    → Contains (lines_of_history (select values empties (contents_of whole)).initial (select values empties (contents_of whole)).operations) line) where
+  abbrev n : ℕ
+  n = 2 * length x.initial
+
+  abbrev breach : Breach
+  breach = stays.1.0
+
+  -- the lines of the other selection
+  abbrev selected_lines : List ClaimLine
+  selected_lines = lines_of_history (select values empties (contents_of whole)).initial (select values empties (contents_of whole)).operations
+
+  abbrev part : Contents
+  part = select values empties (contents_of x)
+
+  abbrev passes : Operation → Bool
+  passes = selects values (calls_behind (contents_of x) empties)
+
+  complete : AreComplete (filled_of x)
+  complete = filled_is_whole x is_x
+
+  is_breach : IsBreachOf (filled_of x) breach
+  is_breach = chosen_is_breach (filled_of x) breach complete stays.1.2
+
+  same_lines : violation_lines whole violation ≡ map (line_of n) (lines_of breach)
+  same_lines = sym (one_list_of_lines _ _ (violation_lines x stays.0) (violation_lines whole violation) stays.2)
+      ∙ lines_at_places x.initial (operations_of x.events) (places_of stays.0) (lines_of breach) (places_of_lines (filled_of x) stays.0 breach stays.1.1)
+
+  line_passes : (o : Operation) → Contains (lines_of breach) o → passes o ≡ true
+  line_passes o among = elim (cases_lt o.call n) [
+    | inl early ↦
+        let found = enqueued_in_filling x o (lines_are_operations (filled_of x) breach is_breach stays.1.2 o among) early in
+        let line = early_line n o early ∙ ap (λ k. Initial (accepted_value k)) found.1 in
+        let passed = value_passes values empties whole.initial (operations_of whole.events) found.0
+        (subst (Contains selected_lines) line here) in
+        ap (λ k. selects values (calls_behind (contents_of x) empties) (record { call = o.call; ret = o.ret; thread = o.thread; kind = k })) found.1 ∙ passed
+    | inr late ↦ operation_passes values empties whole.initial (operations_of whole.events) _ (subst (Contains selected_lines) (late_line n o late) here)
+  ]
+    where
+      here : Contains selected_lines (line_of n o)
+      here = kept (line_of n o) (subst (λ ls. Contains ls (line_of n o)) (sym same_lines) (mapped_to (line_of n) (lines_of breach) o among))
+
+  not_linearizable : AreLinearizable part → ⊥
+  not_linearizable linear =
+      let filled_linear = (linearizable_from_exactly part.initial part.operations).0 linear in
+      let moved = linearizable_there (lifted values x.initial) (lifted_rises values x.initial) (filled part.initial part.operations) filled_linear in
+      breach_excludes_order (filter passes (filled_of x)) breach (selected_are_complete passes (filled_of x) complete)
+      (breach_in_selected (filled_of x) values (calls_behind (contents_of x) empties) breach is_breach line_passes)
+      (subst IsLinearizable (sym (selection_filled (contents_of x) values empties)) moved)
+
+  none_differs : part ≢ contents_of x → ⊥
+  none_differs differs = not_linearizable (minimal.1 part (values, empties, refl) differs)
+
+  pub part_is_whole : part ≡ contents_of x
+  part_is_whole = by_values (all_or_one values x.initial) (all_or_one (selects values empties) (operations_of x.events))
+    where
+      by_values : (filter values x.initial ≡ x.initial) ⊎ ((v : ℕ) × Contains x.initial v × (values v ≡ false))
+          → (filter (selects values empties) (operations_of x.events) ≡ operations_of x.events)
+          ⊎ ((o : Operation) × Contains (operations_of x.events) o × (selects values empties o ≡ false)) → part ≡ contents_of x
+      by_values (inl all) (inl every) = λ i. record { initial = all i; operations = every i }
+      by_values (inr one) other = absurd (none_differs (λ same.
+          let passed = (passed_filter values x.initial one.0 (subst (λ vs. Contains vs one.0) (sym (ap (λ (z : Contents). z.initial) same)) one.1)).1 in
+          let clash : true ≡ false = sym passed ∙ one.2 in cc))
+      by_values (inl all) (inr one) = absurd (none_differs (λ same.
+          let passed = (passed_filter (selects values empties) (operations_of x.events) one.0
+          (subst (λ os. Contains os one.0) (sym (ap (λ (z : Contents). z.operations) same)) one.1)).1 in
+          let clash : true ≡ false = sym passed ∙ one.2 in cc))
+
+selections_swap : (values empties values' empties' : ℕ → Bool) (whole : Contents)
+    → select values empties (select values' empties' whole) ≡ select values' empties' (select values empties whole)
+selections_swap values empties values' empties' whole = λ i. record {
+  initial = filters_swap values values' whole.initial i;
+  operations = filters_swap (selects values empties) (selects values' empties') whole.operations i;
+}
+
 -- two such selections are one
-pub selection_is_one : (operations xs ys : List Operation) (violation : Violation) → AreComplete xs → AreComplete ys
-    → KeepsViolation operations violation xs → KeepsViolation operations violation ys
-    → StaysChosen operations violation xs → StaysChosen operations violation ys → IsMinimal xs → IsMinimal ys → xs ≡ ys
-selection_is_one operations xs ys violation complete_x complete_y keeps_x keeps_y chosen_x chosen_y minimal_x minimal_y =
-    same_lists (λ o. o.call) xs ys (calls_of_complete xs complete_x) (calls_of_complete ys complete_y)
-    (into xs ys complete_x keeps_x keeps_y chosen_x minimal_x)
-    (into ys xs complete_y keeps_y keeps_x chosen_y minimal_y)
+pub selection_is_one : (whole x y : HistoryView) (violation : Violation) → IsWhole x → IsWhole y
+    → KeepsViolation whole violation x → KeepsViolation whole violation y → StaysChosen whole violation x → StaysChosen whole violation y
+    → IsMinimal (contents_of x) → IsMinimal (contents_of y) → contents_of x ≡ contents_of y
+selection_is_one whole x y violation is_x is_y keeps_x keeps_y stays_x stays_y minimal_x minimal_y =
+    sym (left x is_x stays_x minimal_x y keeps_y) ∙ ap (select keeps_y.0.0 keeps_y.0.1) keeps_x.0.2
+    ∙ selections_swap keeps_y.0.0 keeps_y.0.1 keeps_x.0.0 keeps_x.0.1 (contents_of whole)
+    ∙ ap (select keeps_x.0.0 keeps_x.0.1) (sym keeps_y.0.2) ∙ left y is_y stays_y minimal_y x keeps_x
   where
-    into : (zs ws : List Operation) → AreComplete zs → KeepsViolation operations violation zs → KeepsViolation operations violation ws
-        → StaysChosen operations violation zs → IsMinimal zs
-        → (o : Operation) → Contains zs o → Contains ws o
-    into zs ws complete (breach, names, closed, lines) (breach', names', (values', calls', is'), lines') chosen minimal o among =
-        let same = names_one operations violation breach' breach names' names in
-        let violated = chosen_is_breach zs breach complete (chosen breach names) in
-        let kept : (l : Operation) → Contains (lines_of breach) l → selects values' calls' l ≡ true = λ l at.
-        (passed_filter (selects values' calls') operations l (subst (λ os. Contains os l) is'
-        (lines' l (subst (λ b. Contains (lines_of b) l) (sym same) at)))).1 in
-        let passes = all_pass zs values' calls' breach complete minimal violated kept o among in
-        let whole = passed_filter (selects closed.0 closed.1) operations o (subst (λ os. Contains os o) closed.2 among) in
-        subst (λ os. Contains os o) (sym is') (passes_filter (selects values' calls') operations o passes whole.0)
+    left : (z : HistoryView) → IsWhole z → StaysChosen whole violation z → IsMinimal (contents_of z) → (w : HistoryView)
+        → (keeps : KeepsViolation whole violation w) → select keeps.0.0 keeps.0.1 (contents_of z) ≡ contents_of z
+    left z is_z stays minimal w keeps = part_is_whole whole z violation is_z stays minimal keeps.0.0 keeps.0.1
+        (λ line among. subst (λ c. Contains (lines_of_history c.initial c.operations) line) keeps.0.2 (keeps.1 line among))

@@ -1,7 +1,7 @@
 -- The claim of a verdict lists the operations and the initial values that the verdict names.
 use Rattle.std.proofs.Common.{◌≡◌, ◌≢◌, ℕ, zero, suc, ◌+◌, ◌-◌, ◌*◌, ◌<◌, ◌≤◌, Bool, true, false, not, cond, List, [], ◌∷◌, ◌++◌, length, map, Option, Some, None, refl, sym, ◌∙◌}
 use Rattle.std.proofs.Common.{ap, subst, arith, inl, inr, nat_lt, nat_eq}
-use Rattle.std.specs.Prelude.{◌⊎◌, AllPairs, Contains, filter_map, slice_get, option_map, position}
+use Rattle.std.specs.Prelude.{◌⊎◌, AllPairs, filter_map, slice_get, option_map, position}
 use Rattle.std.specs.List.{cons_option, prefix_len}
 use Rattle.std.proofs.lemmas.Bool.{cases_lt, eq-eqb, le-leb, lt-ltb, ltb-true, ne_eqb}
 use Rattle.std.proofs.lemmas.List.{get_or_append_left, length-append, length-map}
@@ -24,7 +24,7 @@ use Rattle.verdicts.specs.declared.verifying.ClaimLine.{ClaimLine}
 use Rattle.verdicts.specs.declared.verifying.ClaimLine.TheVariants.{Op, Initial}
 use Rattle.verdicts.specs.declared.verdict.Verdict.{Verdict}
 use Rattle.verdicts.specs.declared.verdict.Verdict.TheVariants as found
-use Rattle.verdicts.specs.Claims.{filling_at, filling_of, kind_of, stands_for}
+use Rattle.verdicts.specs.Claims.{filling_at, kind_of, stands_for}
 use Rattle.verdicts.specs.Claiming.{HasPlacesBelow, lines_at, lines_of_history, operation_behind, operations_at, violation_kind}
 use Rattle.verdicts.specs.Laws.{EvidenceIsTrueClaim}
 use Rattle.verdicts.specs.Shown.{places_of as places_of_violation}
@@ -33,7 +33,7 @@ use Rattle.verdicts.proofs.FilledLines.{at_filling, length_filling, same_operati
 use Rattle.verdicts.proofs.NamedPlaces.{in_range, places_of_lines}
 
 -- a violation and the operations that it names are of one kind
-same_kind : (operations : List Operation) (violation : Violation) (breach : Breach) → Names operations violation breach
+pub same_kind : (operations : List Operation) (violation : Violation) (breach : Breach) → Names operations violation breach
     → violation_kind violation ≡ kind_of breach
 same_kind operations (Fresh deq enq) (fresh d e) names = refl
 same_kind operations (Fresh deq enq) _ names = absurd names

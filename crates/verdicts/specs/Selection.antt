@@ -1,16 +1,21 @@
--- Selections of a history's values and empty answers.
+-- Selections of a history: of its initial values, its other values and its empty answers.
 use Rattle.std.specs.Prelude.{◌≡◌, ◌≢◌, ℕ, ◌≤◌, Bool, List, length, filter, Contains, Option, Some, None, ⊤}
 use Rattle.std.specs.Option.{option_map_or}
-use Rattle.event_records.specs.declared.event.Event.{Event}
 use Rattle.history_merge.specs.declared.operation.Operation.{Operation}
 use Rattle.history_merge.specs.declared.operation.OpKind.{OpKind}
 use Rattle.history_merge.specs.declared.operation.OpKind.TheVariants.{Enq, Deq, Empty, Not}
-use Rattle.history_merge.specs.Legal.{IsLinearizable}
+use Rattle.history_merge.specs.Initial.{HistoryView}
+use Rattle.history_merge.specs.Legal.{IsLinearizableFrom}
+use Rattle.history_merge.specs.Operations.{operations_of}
 use Rattle.value_match.specs.declared.life.Life.{Life}
 use Rattle.value_match.specs.declared.violation.Violation.{Violation}
-use Rattle.value_match.specs.Violations.{Breach, witness, IsWitnessViolation, lines_of}
-use Rattle.value_match.specs.Choice.{IsChosenBreach}
-use Rattle.value_match.specs.Outcome.{Names}
+use Rattle.value_match.specs.Violations.{Breach, witness, IsWitnessViolation}
+use Rattle.value_match.specs.Outcome.{Names, IsChosenViolation}
+use Rattle.verdicts.specs.declared.verdict.Verdict.TheVariants.{No}
+use Rattle.verdicts.specs.declared.verifying.ClaimLine.{ClaimLine}
+use Rattle.verdicts.specs.Claiming.{claim_of, lines_at, lines_of_history}
+use Rattle.verdicts.specs.Shown.{places_of}
+use Rattle.verdicts.specs.Verdicts.{filled_of}
 
 -- the value of an operation; an empty answer has none
 abbrev pub value_of : OpKind → Option ℕ
@@ -23,28 +28,48 @@ value_of Empty = None
 abbrev pub selects : (ℕ → Bool) → (ℕ → Bool) → Operation → Bool
 selects values empties o = option_map_or values (value_of o.kind) (empties o.call)
 
--- some values with all their operations, and some empty answers
-abbrev pub IsValueClosed : List Operation → List Operation → Type 0
-IsValueClosed operations selected = (values : ℕ → Bool) × (empties : ℕ → Bool) × (selected ≡ filter (selects values empties) operations)
+-- what a queue holds first, and the operations on it
+pub record Contents : Type 0 where
+  pub initial : List ℕ
+  pub operations : List Operation
+
+-- those of a history
+abbrev pub contents_of : HistoryView → Contents
+contents_of history = record { initial = history.initial; operations = operations_of history.events }
+
+-- some values, initial ones too, with all their operations, and some empty answers
+abbrev pub select : (ℕ → Bool) → (ℕ → Bool) → Contents → Contents
+select values empties whole = record { initial = filter values whole.initial; operations = filter (selects values empties) whole.operations }
+
+-- a selection, whichever the values and the empty answers are
+abbrev pub IsValueClosed : Contents → Contents → Type 0
+IsValueClosed whole selected = (values : ℕ → Bool) × (empties : ℕ → Bool) × (selected ≡ select values empties whole)
+
+-- a legal order exists for a queue that holds the initial values first
+abbrev pub AreLinearizable : Contents → Type 0
+AreLinearizable contents = IsLinearizableFrom contents.initial contents.operations
 
 -- no selection but the whole fails to be linearizable
-abbrev pub IsMinimal : List Operation → Type 0
-IsMinimal operations = ¬ (IsLinearizable operations) × ((selected : List Operation) → IsValueClosed operations selected → selected ≢ operations
-    → IsLinearizable selected)
+abbrev pub IsMinimal : Contents → Type 0
+IsMinimal whole = ¬ (AreLinearizable whole) × ((selected : Contents) → IsValueClosed whole selected → selected ≢ whole → AreLinearizable selected)
 
--- a selection that keeps each operation of the violation
-abbrev pub KeepsViolation : List Operation → Violation → List Operation → Type 0
-KeepsViolation operations violation selected =
-    (breach : Breach) × Names operations violation breach × IsValueClosed operations selected
-    × ((o : Operation) → Contains (lines_of breach) o → Contains selected o)
+-- the lines of a violation of a history
+abbrev pub violation_lines : HistoryView → Violation → List ClaimLine
+violation_lines history violation = lines_at history.initial (operations_of history.events) (places_of violation)
 
--- the violation that the places name among the operations is the chosen one of the selection too
-abbrev pub StaysChosen : List Operation → Violation → List Operation → Type 0
-StaysChosen operations violation selected = (breach : Breach) → Names operations violation breach → IsChosenBreach selected breach
+-- a selection that keeps each line of the violation
+abbrev pub KeepsViolation : HistoryView → Violation → HistoryView → Type 0
+KeepsViolation whole violation small = IsValueClosed (contents_of whole) (contents_of small)
+    × ((line : ClaimLine) → Contains (violation_lines whole violation) line → Contains (lines_of_history small.initial (operations_of small.events)) line)
 
--- some of the events, in their order
-abbrev pub ArePartOf : List Event → List Event → Type 0
-ArePartOf events part = (keeps : Event → Bool) × (part ≡ filter keeps events)
+-- the claim of the chosen violation of the small history is that of the violation in the whole
+abbrev pub StaysChosen : HistoryView → Violation → HistoryView → Type 0
+StaysChosen whole violation small = (found : Violation) × IsChosenViolation (filled_of small) found
+    × (claim_of small.initial (operations_of small.events) (No found) ≡ claim_of whole.initial (operations_of whole.events) (No violation))
+
+-- some elements, in their order
+abbrev pub ArePartOf : {X : Type 0} → List X → List X → Type 0
+ArePartOf {X} whole part = (keeps : X → Bool) × (part ≡ filter keeps whole)
 
 -- no cover of the same empty answer has fewer values
 abbrev pub IsShortestCover : List Operation → Breach → Type 0

@@ -1,6 +1,7 @@
 ghost use Rattle.std.specs.Prelude.{◌≡◌, IfOk, slice_get};
 ghost use Rattle.history_merge.specs.Operations.{operations_of};
 ghost use Rattle.verdicts.specs.Claiming.{IsWithin, claim_of, lines_at, lines_of_history, operation_behind, operations_at, violation_kind};
+ghost use Rattle.verdicts.specs.Selection.{violation_lines};
 
 use crate::shown::places_of;
 use crate::verdict::Verdict;
@@ -26,8 +27,7 @@ pub fn claim(alloc: Global, history: &History, verdict: &Verdict) -> Result<Clai
             Ok(Claimed::Yes(Lines::from_vec(lines)))
         }
         Verdict::No(violation) => {
-            let places = places_of(alloc, violation)?;
-            let lines = lines_at(alloc, initial, operations, places.as_slice())?;
+            let lines = violation_lines(alloc, history, violation)?;
             Ok(Claimed::No(kind_of(violation), ClaimLines::from_vec(lines)))
         }
     }
@@ -58,6 +58,23 @@ fn operation_behind(
 {
     let behind = place.place().checked_sub(initial_count)?;
     operations.get(behind).copied()
+}
+
+/// The lines of a violation, in the order in which they are shown.
+pub fn violation_lines(
+    alloc: Global,
+    history: &History,
+    violation: &Violation,
+) -> Result<Vec<ClaimLine>, AllocError>
+    ensures { IfOk result (λ lines. lines.items ≡ violation_lines history.now violation.now) }
+{
+    let places = places_of(alloc, violation)?;
+    lines_at(
+        alloc,
+        history.initial(),
+        history.operations(),
+        places.as_slice(),
+    )
 }
 
 /// The lines at these places.

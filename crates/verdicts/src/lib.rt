@@ -17,8 +17,8 @@ pub use claiming::claim;
 pub use decision::{decide, decide_from, decide_from_par, decide_par};
 pub use history_merge::{History, HistoryFault, OpId, OpKind, Operation, history};
 pub use laws::{
-    a_verdict_has_few_lines, evidence_is_a_true_claim, no_legal_order, one_finding, one_verdict,
-    violations_are_all,
+    a_verdict_has_few_lines, evidence_is_a_true_claim, lines_tell_a_violation, no_legal_order,
+    one_finding, one_verdict, violations_are_all,
 };
 pub use shrinking::shrink;
 pub use verdict::{Order, Verdict};

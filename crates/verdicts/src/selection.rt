@@ -1,9 +1,10 @@
-ghost use Rattle.std.specs.Prelude.{◌≡◌, ◌↔◌, ℕ, Contains, IsTrue, filter, filter_map, map, IfOk};
+ghost use Rattle.std.specs.Prelude.{◌≡◌, ◌↔◌, ℕ, Contains, IsTrue, filter, filter_map, IfOk};
 ghost use Rattle.std.specs.Ordering.{nat_cmp};
 ghost use Rattle.std.specs.BTreeSet.{contains};
 ghost use Rattle.verdicts.specs.Selection.{value_of, selects};
-ghost use Rattle.verdicts.specs.Inner.Selecting.{holds_ticket, SelectsNamed};
+ghost use Rattle.verdicts.specs.Inner.Selecting.{call_in, holds_ticket, value_in, SelectsNamed};
 
+use crate::verifying::ClaimLine;
 use event_records::Event;
 use history_merge::{OpKind, Operation};
 use std::alloc::{AllocError, Global};
@@ -18,7 +19,7 @@ pub struct Selection {
 
 impl Selection {
     /// The values and the calls of these lines.
-    pub fn named_by(alloc: Global, lines: &[Operation]) -> Result<Selection, AllocError>
+    pub fn named_by(alloc: Global, lines: &[ClaimLine]) -> Result<Selection, AllocError>
         ensures { IfOk result (λ selection. SelectsNamed lines.now (contains nat_cmp selection.values) (contains nat_cmp selection.calls)) }
     {
         let values = values_of(alloc, lines)?;
@@ -26,12 +27,33 @@ impl Selection {
         Ok(Selection { values, calls })
     }
 
-    /// The tickets of the selected operations.
-    pub fn tickets(
+    /// The selected ones of these initial values, in their order.
+    pub fn initial(&self, alloc: Global, initial: &[u64]) -> Result<Vec<u64>, AllocError>
+        ensures { IfOk result (λ kept. kept.items ≡ filter (contains nat_cmp self.now.values) initial.now) }
+    {
+        initial
+            .iter()
+            .filter(|value| self.values.contains(*value))
+            .copied()
+            .collect(alloc)
+    }
+
+    /// The events of the selected ones of these operations, in their order.
+    pub fn events(
         &self,
         alloc: Global,
         operations: &[Operation],
-    ) -> Result<BTreeSet<u64>, AllocError>
+        events: &[Event],
+    ) -> Result<Vec<Event>, AllocError>
+        ensures { IfOk result (λ kept. kept.items ≡ filter (λ e. holds_ticket
+            (filter (selects (contains nat_cmp self.now.values) (contains nat_cmp self.now.calls)) operations.now) e.ticket) events.now) }
+    {
+        let tickets = self.tickets(alloc, operations)?;
+        events_at(alloc, events, &tickets)
+    }
+
+    /// The tickets of the selected operations.
+    fn tickets(&self, alloc: Global, operations: &[Operation]) -> Result<BTreeSet<u64>, AllocError>
         ensures { IfOk result (λ tickets. (t : ℕ) → contains nat_cmp tickets t
             ≡ holds_ticket (filter (selects (contains nat_cmp self.now.values) (contains nat_cmp self.now.calls)) operations.now) t) }
     {
@@ -66,23 +88,40 @@ fn value_of(kind: OpKind) -> Option<u64>
     }
 }
 
-fn values_of(alloc: Global, lines: &[Operation]) -> Result<BTreeSet<u64>, AllocError>
-    ensures { IfOk result (λ values. (v : ℕ) → IsTrue (contains nat_cmp values v) ↔ Contains (filter_map (λ o. value_of o.kind) lines.now) v) }
+/// The value of a line.
+fn value_in(line: &ClaimLine) -> Option<u64>
+    ensures { result ≡ value_in line.now }
 {
-    lines
-        .iter()
-        .filter_map(|line| value_of(line.kind))
-        .collect(alloc)
+    match line {
+        ClaimLine::Op(operation) => value_of(operation.kind),
+        ClaimLine::Initial(value) => Some(*value),
+    }
 }
 
-fn calls_of(alloc: Global, lines: &[Operation]) -> Result<BTreeSet<u64>, AllocError>
-    ensures { IfOk result (λ calls. (call : ℕ) → IsTrue (contains nat_cmp calls call) ↔ Contains (map (λ o. o.call) lines.now) call) }
+/// The call of a line's operation.
+fn call_in(line: &ClaimLine) -> Option<u64>
+    ensures { result ≡ call_in line.now }
 {
-    lines.iter().map(|line| line.call).collect(alloc)
+    match line {
+        ClaimLine::Op(operation) => Some(operation.call),
+        ClaimLine::Initial(_) => None,
+    }
+}
+
+fn values_of(alloc: Global, lines: &[ClaimLine]) -> Result<BTreeSet<u64>, AllocError>
+    ensures { IfOk result (λ values. (v : ℕ) → IsTrue (contains nat_cmp values v) ↔ Contains (filter_map value_in lines.now) v) }
+{
+    lines.iter().filter_map(value_in).collect(alloc)
+}
+
+fn calls_of(alloc: Global, lines: &[ClaimLine]) -> Result<BTreeSet<u64>, AllocError>
+    ensures { IfOk result (λ calls. (call : ℕ) → IsTrue (contains nat_cmp calls call) ↔ Contains (filter_map call_in lines.now) call) }
+{
+    lines.iter().filter_map(call_in).collect(alloc)
 }
 
 /// The events at these tickets, in their order.
-pub fn events_at(
+fn events_at(
     alloc: Global,
     events: &[Event],
     tickets: &BTreeSet<u64>,

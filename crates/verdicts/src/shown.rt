@@ -1,42 +1,9 @@
-ghost use Rattle.std.specs.Prelude.{◌≡◌, ◌<◌, ◌++◌, All, IfOk, OnOk, flat_map, length, option_to_list};
-ghost use Rattle.history_merge.specs.Legal.{ArePlacesOf};
-ghost use Rattle.value_match.specs.Outcome.{Names};
-ghost use Rattle.value_match.specs.Violations.{Breach};
+ghost use Rattle.std.specs.Prelude.{◌≡◌, ◌++◌, IfOk, OnOk, flat_map, option_to_list};
 ghost use Rattle.verdicts.specs.Shown.{places_of, places_of_step};
-ghost use Rattle.verdicts.specs.Inner.Shown.{AreLinesOf};
 
-use history_merge::{OpId, Operation};
+use history_merge::OpId;
 use std::alloc::{AllocError, Global};
 use value_match::{Cover, Violation};
-
-/// The operations that a violation names, in the order in which they are shown.
-pub fn shown(
-    alloc: Global,
-    operations: &[Operation],
-    violation: &Violation,
-) -> Result<Vec<Operation>, AllocError>
-    requires { (breach : Breach) × Names operations.now violation.now breach }
-    ensures { IfOk result (λ lines. AreLinesOf operations.now violation.now lines.items) }
-{
-    let places = places_of(alloc, violation)?;
-    operations_at(alloc, operations, places.as_slice())
-}
-
-/// The operations at these places, one by one.
-pub fn operations_at(
-    alloc: Global,
-    operations: &[Operation],
-    places: &[OpId],
-) -> Result<Vec<Operation>, AllocError>
-    requires { All (λ place. place < length operations.now) places.now }
-    ensures { IfOk result (λ listed. ArePlacesOf operations.now places.now listed.items) }
-{
-    let mut listed = Vec::with_capacity(alloc, places.len())?;
-    for place in places {
-        listed.push(operations[place.place()])?;
-    }
-    Ok(listed)
-}
 
 /// The places of the operations that a violation names, in the order in which they are shown.
 pub fn places_of(alloc: Global, violation: &Violation) -> Result<Vec<OpId>, AllocError>

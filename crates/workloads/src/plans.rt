@@ -9,7 +9,7 @@ use std::marker::Model;
 /// The operations of one worker, in order, seen as the list of their kinds.
 pub type Row = Listed<Kind>;
 
-/// One row for each worker, row 0 that of worker 0, within the limits of a run: 1 to 16 workers, at most 100,000
+/// One row for each worker, row 0 that of worker 0, within the limits of a run: 1 to 32 workers, at most 100,000
 /// operations of one worker, and at most 1,000,000 of all together.
 #[derive(Debug, Drop)]
 pub struct Plan {

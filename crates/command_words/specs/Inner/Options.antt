@@ -2,7 +2,7 @@
 use Rattle.std.specs.Prelude.{ℕ, List, IsSome, IsSomeAnd, codes}
 use Rattle.clap.specs.Values.{IsUnsignedIn}
 use Rattle.clap.specs.Walk.{Row, Text, first_of}
-use Rattle.event_records.specs.declared.limits.TheConstants.{MAX_RING, MAX_SEED, MAX_THREAD_OPERATIONS, MAX_WORKERS, MIN_RING}
+use Rattle.event_records.specs.declared.limits.TheConstants.{MAX_RING, MAX_SEED, MAX_STRESS_INITIAL, MAX_THREAD_OPERATIONS, MAX_WORKERS, MIN_RING}
 
 -- ---- what the parse has checked
 
@@ -18,3 +18,4 @@ pub record HasSettings (rows : List Row) : Type 0 where
   pub seed : HasNumber (codes "seed") 0 MAX_SEED rows
   pub percent : HasNumber (codes "percent") 0 100 rows
   pub ring : HasNumber (codes "ring") MIN_RING MAX_RING rows
+  pub initial : HasNumber (codes "initial") 0 MAX_STRESS_INITIAL rows

@@ -1,9 +1,11 @@
 -- The text of one piece of a line.
 use Rattle.std.specs.Prelude.{ℕ, List, decimal}
 use Rattle.drawing.specs.declared.line.Piece.{Piece}
-use Rattle.drawing.specs.declared.line.Piece.TheVariants.{Words, Number}
+use Rattle.drawing.specs.declared.line.Piece.TheVariants.{Words, Number, Moment}
+use Rattle.drawing.specs.Captions.{moment_text}
 
 -- the bytes of a piece
 abbrev pub piece_text : Piece → List ℕ
 piece_text (Words bytes) = bytes.now
 piece_text (Number n) = decimal n
+piece_text (Moment ticket) = moment_text ticket

@@ -18,7 +18,8 @@ pub const ORDERS: [(&str, &str); 10] = [
         "YES\n0 1 0 enq 7\n2 3 0 enq 9\n5 6 1 deq 7\n4 7 0 deq 9\n",
     ),
     (
-        "fifo-history 1\n0 0 call-enq 7\n1 0 ret-enq\n2 1 call-deq\n3 0 call-enq 9\n4 2 call-deq\n5 2 ret-deq 7\n6 0 ret-enq\n9 1 ret-empty\n10 0 call-deq\n11 0 ret-deq 9\nend 10\n",
+        "fifo-history 1\n0 0 call-enq 7\n1 0 ret-enq\n2 1 call-deq\n3 0 call-enq 9\n4 2 call-deq\n5 2 ret-deq 7\n\
+         6 0 ret-enq\n9 1 ret-empty\n10 0 call-deq\n11 0 ret-deq 9\nend 10\n",
         "YES\n0 1 0 enq 7\n4 5 2 deq 7\n2 9 1 empty\n3 6 0 enq 9\n10 11 0 deq 9\n",
     ),
     (
@@ -76,7 +77,8 @@ pub const OVERTAKEN_OR_NEVER_EMPTY: [(&str, &str); 5] = [
         "NO VOrd\n0 1 0 enq 7\n2 3 0 enq 9\n4 5 0 deq 9\n6 7 0 deq 7\n",
     ),
     (
-        "fifo-history 1\n0 0 call-enq 7\n1 0 ret-enq\n2 1 call-deq\n3 0 call-enq 9\n4 0 ret-enq\n5 0 call-deq\n6 0 ret-deq 7\n9 1 ret-empty\n10 0 call-deq\n11 0 ret-deq 9\nend 10\n",
+        "fifo-history 1\n0 0 call-enq 7\n1 0 ret-enq\n2 1 call-deq\n3 0 call-enq 9\n4 0 ret-enq\n5 0 call-deq\n\
+         6 0 ret-deq 7\n9 1 ret-empty\n10 0 call-deq\n11 0 ret-deq 9\nend 10\n",
         "NO VWit\n2 9 1 empty\n0 1 0 enq 7\n5 6 0 deq 7\n3 4 0 enq 9\n10 11 0 deq 9\n",
     ),
     (
@@ -84,7 +86,9 @@ pub const OVERTAKEN_OR_NEVER_EMPTY: [(&str, &str); 5] = [
         "NO VOrd\n0 1 0 enq 5\n4 5 0 enq 7\n6 7 0 deq 7\n",
     ),
     (
-        "fifo-history 1\n0 0 call-enq 1\n1 0 ret-enq\n2 1 call-deq\n3 0 call-enq 2\n4 0 ret-enq\n5 0 call-enq 3\n6 0 ret-enq\n7 0 call-deq\n8 0 ret-deq 1\n9 0 call-deq\n10 0 ret-deq 2\n11 1 ret-empty\n12 0 call-deq\n13 0 ret-deq 3\nend 14\n",
+        "fifo-history 1\n0 0 call-enq 1\n1 0 ret-enq\n2 1 call-deq\n3 0 call-enq 2\n4 0 ret-enq\n5 0 call-enq 3\n\
+         6 0 ret-enq\n7 0 call-deq\n8 0 ret-deq 1\n9 0 call-deq\n10 0 ret-deq 2\n11 1 ret-empty\n12 0 call-deq\n\
+         13 0 ret-deq 3\nend 14\n",
         "NO VWit\n2 11 1 empty\n0 1 0 enq 1\n7 8 0 deq 1\n5 6 0 enq 3\n12 13 0 deq 3\n",
     ),
 ];

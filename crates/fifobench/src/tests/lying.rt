@@ -1,5 +1,4 @@
 //! Runs of queues that lie: each is caught, its verdict's claim is verified, and its shrunk history gets a no of the same kind.
-ghost use Rattle.std.specs.Prelude.{◌≡◌, [], IfOk};
 
 use Entry::{Empty, Got, Taken};
 use history_merge::History;
@@ -18,9 +17,7 @@ fn recorded<R: AllocGlobal + Threads + Sync>(
     rt: &R,
     queue: &dyn TestQueue,
     plan: &str,
-) -> Result<History, Fail>
-    ensures { IfOk result (λ history. history.initial ≡ []) }
-{
+) -> Result<History, Fail> {
     let alloc = rt.alloc();
     let plan = Plan::from_text(alloc, plan)?;
     let recorded = stress_run::run(rt, alloc, queue, &plan, 64, 1_000_000)?;
@@ -48,9 +45,7 @@ fn verified_no(rt: &(impl AllocGlobal + Abort), history: &History) -> Result<Vio
 }
 
 /// What is left of a history by the violation that its verdict names.
-fn shrunk(alloc: Global, history: &History) -> Result<History, Fail>
-    requires { history.now.initial ≡ [] }
-{
+fn shrunk(alloc: Global, history: &History) -> Result<History, Fail> {
     match decide(alloc, history)? {
         Verdict::No(violation) => Ok(shrink(alloc, history, &violation)?),
         Verdict::Yes(_) => Err("the verdict is a yes")?,
@@ -58,9 +53,7 @@ fn shrunk(alloc: Global, history: &History) -> Result<History, Fail>
 }
 
 /// The kind of the no on a history, on its claim and on what it shrinks to.
-fn caught(rt: &(impl AllocGlobal + Abort), history: &History) -> Result<ViolationKind, Fail>
-    requires { history.now.initial ≡ [] }
-{
+fn caught(rt: &(impl AllocGlobal + Abort), history: &History) -> Result<ViolationKind, Fail> {
     let kind = verified_no(rt, history)?;
     let small = shrunk(rt.alloc(), history)?;
     assert_eq!(rt; verified_no(rt, &small)?, kind);

@@ -71,6 +71,11 @@ fn a_queue_of_the_shelf_is_run(rt: HostRuntime) -> Result<(), Fail> {
             0,
         ),
         (
+            "fifobench stress --queue locked --threads 32 --ops 0",
+            "fifo-history 1\nend 0\nYES\n",
+            0,
+        ),
+        (
             "fifobench stress --queue seg --threads 1 --ops 2 --percent 100",
             TWO_ENQUEUES,
             0,
@@ -78,9 +83,58 @@ fn a_queue_of_the_shelf_is_run(rt: HostRuntime) -> Result<(), Fail> {
     ] {
         assert_stressed(&rt, &shelf, line, text, status)?;
     }
-    let many = "fifobench stress --queue locked --threads 17";
+    let many = "fifobench stress --queue locked --threads 33";
     let (written, status) = stressed(&rt, &shelf, many)?;
     assert!(rt; status == 2 && written.starts_with(b"error: "));
+    Ok(())
+}
+
+/// What is written of a run of one dequeue of a queue that was given two values first.
+const FRONT_OF_TWO: &str = "fifo-history 2
+initial 2
+274877906944
+274877906945
+0 0 call-deq
+1 0 ret-deq 274877906944
+end 2
+YES
+0 1 0 deq 274877906944
+";
+
+/// What is written of a run of one dequeue of a queue that gives the last value first.
+const LAST_OF_TWO: &str = "fifo-history 2
+initial 2
+274877906944
+274877906945
+0 0 call-deq
+1 0 ret-deq 274877906945
+end 2
+NO VOrd
+init 274877906944
+init 274877906945
+0 1 0 deq 274877906945
+";
+
+#[test]
+fn a_queue_is_filled_before_the_run(rt: HostRuntime) -> Result<(), Fail> {
+    let alloc = rt.alloc();
+    let mut shelf: Vec<Shelved> = Vec::new(alloc);
+    shelve!(rt, shelf, "locked", LockedQueue::new(alloc, rt));
+    shelve!(rt, shelf, "lifo", Lifo::new(alloc, rt));
+    let locked = "fifobench stress --queue locked --threads 1 --ops 1 --percent 0 --initial 2";
+    assert_stressed(&rt, &shelf, locked, FRONT_OF_TWO, 0)?;
+    let lifo = "fifobench stress --queue lifo --threads 1 --ops 1 --percent 0 --initial 2";
+    assert_stressed(&rt, &shelf, lifo, LAST_OF_TWO, 1)?;
+    Ok(())
+}
+
+#[test]
+fn a_value_without_room_is_named(rt: HostRuntime) -> Result<(), Fail> {
+    let alloc = rt.alloc();
+    let mut shelf: Vec<Shelved> = Vec::new(alloc);
+    shelve!(rt, shelf, "array", ArrayBack::new(alloc, rt, 1)?);
+    let line = "fifobench stress --queue array --threads 1 --ops 0 --initial 2";
+    assert_stressed(&rt, &shelf, line, "FAULT Preload 1\n", 3)?;
     Ok(())
 }
 

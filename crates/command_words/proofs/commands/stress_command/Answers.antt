@@ -11,8 +11,9 @@ returns-clause-shape c =
     let operations = c.in_ok-arg-3.ensures.shape c.number_option-2.ensures.local ∙ ap₂ with_rule threads c.number_option-2.ensures.rule in
     let seed = c.in_ok-arg-4.ensures.shape c.number_option-3.ensures.local ∙ ap₂ with_rule operations c.number_option-3.ensures.rule in
     let percent = c.in_ok-arg-5.ensures.shape c.number_option-4.ensures.local ∙ ap₂ with_rule seed c.number_option-4.ensures.rule in
-    IfOk-weaker c.arg-6.result _ _
-    (λ r h. ap (λ (a : App). a.top) (h.shape c.number_option-5.ensures.local ∙ ap₂ with_rule percent c.number_option-5.ensures.rule)) c.arg-6.ensures
+    let ring = c.in_ok-arg-6.ensures.shape c.number_option-5.ensures.local ∙ ap₂ with_rule percent c.number_option-5.ensures.rule in
+    IfOk-weaker c.arg-7.result _ _
+    (λ r h. ap (λ (a : App). a.top) (h.shape c.number_option-6.ensures.local ∙ ap₂ with_rule ring c.number_option-6.ensures.rule)) c.arg-7.ensures
 
 pub returns-clause-local : goal.returns-clause-local
 returns-clause-local c =
@@ -21,4 +22,5 @@ returns-clause-local c =
     let operations = c.in_ok-arg-3.ensures.globals ∙ ap₂ ◌||◌ threads c.number_option-2.ensures.local in
     let seed = c.in_ok-arg-4.ensures.globals ∙ ap₂ ◌||◌ operations c.number_option-3.ensures.local in
     let percent = c.in_ok-arg-5.ensures.globals ∙ ap₂ ◌||◌ seed c.number_option-4.ensures.local in
-    IfOk-weaker c.arg-6.result _ _ (λ r h. h.globals ∙ ap₂ ◌||◌ percent c.number_option-5.ensures.local) c.arg-6.ensures
+    let ring = c.in_ok-arg-6.ensures.globals ∙ ap₂ ◌||◌ percent c.number_option-5.ensures.local in
+    IfOk-weaker c.arg-7.result _ _ (λ r h. h.globals ∙ ap₂ ◌||◌ ring c.number_option-6.ensures.local) c.arg-7.ensures

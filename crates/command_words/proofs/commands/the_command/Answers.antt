@@ -22,7 +22,9 @@ returns c =
     let verify = c.in_ok-subcommand-3.ensures.shape c.plain_command-3.ensures.local
     ∙ ap₂ with_subcommand shrink (ap (λ (a : App). a.top) c.plain_command-3.ensures.app) in
     let draw = c.in_ok-subcommand-4.ensures.shape c.in_ok-draw.ensures.local ∙ ap₂ with_subcommand verify c.in_ok-draw.ensures.shape in
-    let sim = c.in_ok-subcommand-5.ensures.shape c.plain_command-4.ensures.local
+    let convert = c.in_ok-subcommand-5.ensures.shape c.plain_command-4.ensures.local
     ∙ ap₂ with_subcommand draw (ap (λ (a : App). a.top) c.plain_command-4.ensures.app) in
-    IfOk-weaker c.subcommand-6.result _ _ (λ r h. h.shape c.in_ok-stress.ensures.local ∙ ap₂ with_subcommand sim c.in_ok-stress.ensures.shape)
-    c.subcommand-6.ensures
+    let sim = c.in_ok-subcommand-6.ensures.shape c.plain_command-5.ensures.local
+    ∙ ap₂ with_subcommand convert (ap (λ (a : App). a.top) c.plain_command-5.ensures.app) in
+    IfOk-weaker c.subcommand-7.result _ _ (λ r h. h.shape c.in_ok-stress.ensures.local ∙ ap₂ with_subcommand sim c.in_ok-stress.ensures.shape)
+    c.subcommand-7.ensures

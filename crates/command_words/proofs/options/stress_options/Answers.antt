@@ -18,4 +18,5 @@ returns-clause-settings c =
       seed = c.number-3.ensures i;
       percent = c.number-4.ensures i;
       ring = c.number-5.ensures i;
+      initial = c.number-6.ensures i;
     }

@@ -1,16 +1,19 @@
-use Rattle.std.proofs.Common.{inl}
-use Rattle.commands.specs.Inputs.{IsClaimOf, IsFaultOfClaimInput}
-use Rattle.commands.specs.Judging.{IsFaulty, Draws, said_by}
+use Rattle.std.proofs.Common.{subst}
+use Rattle.commands.specs.Inputs.{IsDrawableOf, IsFaultOfDrawableInput, drawable}
+use Rattle.commands.specs.Judging.{AnswersOrNoMemory, Draws}
 use Rattle.commands.specs.Outcomes.{answer_of}
-use Rattle.commands.proofs.Findings.{answers_more, of_value}
+use Rattle.commands.proofs.Findings.{of_value}
+use Rattle.commands.proofs.Drawn.{faulty_history}
 use Rattle.commands.proofs.draw.draw.Goals as goal
 
-pub returns-in-Err-clause-found : goal.returns-in-Err-clause-found
-returns-in-Err-clause-found g c =
-    answers_more IsClaimOf IsFaultOfClaimInput (λ claim. IsFaulty (said_by claim.text)) (Draws c.args.form) (g.S.TextSource.ahead c.args.reader)
-    (answer_of c.in-Err.outcome) (λ claim faulty. inl faulty) c.in-Err.ensures.found
+pub returns-in-Ok-history_of-clause-found : goal.returns-in-Ok-history_of-clause-found
+returns-in-Ok-history_of-clause-found g c =
+    let answer = answer_of c.draw_history.result in
+    of_value IsDrawableOf IsFaultOfDrawableInput (Draws c.args.form) (g.S.TextSource.ahead c.args.reader) _ answer c.in-Ok.ensures.drawable
+    (subst (λ t. AnswersOrNoMemory (Draws c.args.form) (drawable t c.in-Ok.read.1) answer) c.in-Ok-history_of.ensures.history
+    (c.draw_history.ensures.found c.in-Ok.read.0.version))
 
-pub returns-in-Ok-clause-found : goal.returns-in-Ok-clause-found
-returns-in-Ok-clause-found g c =
-    of_value IsClaimOf IsFaultOfClaimInput (Draws c.args.form) (g.S.TextSource.ahead c.args.reader) _ (answer_of c.draw_history.result) c.in-Ok.ensures.claim
-    (c.draw_history.ensures.found c.in-Ok._version)
+pub returns-clause-found : goal.returns-clause-found
+returns-clause-found g c =
+    of_value IsDrawableOf IsFaultOfDrawableInput (Draws c.args.form) (g.S.TextSource.ahead c.args.reader) _ _ c.in-Ok.ensures.drawable
+    (faulty_history c.args.form c.in-Ok.read.0 c.in-Ok.read.1 c.in-Err-history_of.fault c.in-Err-history_of.ensures.fault)

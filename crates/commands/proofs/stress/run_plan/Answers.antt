@@ -1,31 +1,26 @@
-use Rattle.std.proofs.Common.{◌∙◌, inl, subst}
-use Rattle.history_merge.specs.Operations.{operations_of}
-use Rattle.history_text.specs.declared.version.Version.TheVariants.{One}
-use Rattle.verdicts.specs.Claiming.{claim_of}
-use Rattle.commands.specs.Answers.{shown}
-use Rattle.commands.specs.Judging.{IsVerdictClaim}
-use Rattle.commands.proofs.Findings.{decided_claim, is_from_none}
+use Rattle.std.proofs.Common.{◌∙◌, sym}
+use Rattle.command_words.specs.Options.{settings_of}
+use Rattle.commands.proofs.Findings.{decided_claim}
+use Rattle.commands.proofs.FirstValues.{failed_run, none_in_version_1, recorded_run}
 use Rattle.commands.proofs.stress.run_plan.Goals as goal
 
 pub returns-in-Ok-decide_par-clause-found : goal.returns-in-Ok-decide_par-clause-found
 returns-in-Ok-decide_par-clause-found g c =
     let history = c.in-Ok-history.history in
     let verdict = c.in-Ok-decide_par.verdict in
-    let none = c.in-Ok-history.ensures.initial ∙ c.in-Ok-run.ensures.initial in
-    let claimed = claim_of history.initial (operations_of history.events) verdict in
     let decided = decided_claim history verdict c.in-Ok-decide_par.ensures.chosen c.in-Ok-decide_par.ensures.evidence c.in-Ok-decide_par.ensures.exact in
-    inl (record {
-      plan = c.in-Ok.plan;
-      seeded = c.in-Ok.ensures;
-      lists = c.in-Ok-run.recorded.lists;
-      total = c.in-Ok-run.recorded.total;
-      run = c.in-Ok-run.ensures.recorded;
-      recorded = c.in-Ok-run.ensures.lists;
-      replays = c.in-Ok-run.ensures.replays;
-      events = history.events;
-      merged = c.in-Ok-history.ensures.merged;
-      complete = c.in-Ok-history.ensures.complete.complete;
-      claimed = claimed;
-      right = subst (λ h. IsVerdictClaim h claimed) (is_from_none history none) decided;
-      is = λ i. shown (record { version = One; initial = none i; events = history.events }) claimed;
-    })
+    recorded_run _ (settings_of c.args.options.now) history verdict c.in-Ok.plan c.in-Ok.ensures c.in-Ok-run_from.recorded
+    c.in-Ok-run_from.ensures.recorded c.in-Ok-run_from.ensures.lists c.deref.result.now (c.deref.ensures.value ∙ c.in-Ok-first_values.ensures)
+    c.in-Ok-run_from.ensures.replays c.in-Ok-history.ensures.merged c.in-Ok-history.ensures.complete
+    (c.in-Ok-history.ensures.initial ∙ c.in-Ok-run_from.ensures.initial) decided c.run_version.result c.run_version.ensures
+
+pub returns-in-Ok-decide_par-clause-places : goal.returns-in-Ok-decide_par-clause-places
+returns-in-Ok-decide_par-clause-places g c =
+    let given = c.deref.ensures.value ∙ c.in-Ok-first_values.ensures in
+    let same = c.in-Ok-history.ensures.initial ∙ c.in-Ok-run_from.ensures.initial ∙ given in
+    (c.in-Ok-decide_par.ensures.places, λ one. same ∙ none_in_version_1 c.args.options.now.initial (sym c.run_version.ensures ∙ one))
+
+pub returns-in-Err-clause-found : goal.returns-in-Err-clause-found
+returns-in-Err-clause-found g c =
+    failed_run _ (settings_of c.args.options.now) c.in-Ok.plan c.in-Err.fault c.requires.ranges c.in-Ok.ensures c.deref.result.now
+    (c.deref.ensures.value ∙ c.in-Ok-first_values.ensures) c.in-Err.ensures.fault

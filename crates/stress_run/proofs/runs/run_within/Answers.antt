@@ -1,4 +1,4 @@
-use Rattle.std.proofs.Common.{rules, arith, ◌*◌, ℕ, List, length, sum_by, ap, sym, subst, ◌∙◌}
+use Rattle.std.proofs.Common.{rules, arith, ◌*◌, ℕ, List, [], length, sum_by, ap, sym, subst, ◌∙◌}
 use Rattle.tickets.specs.Views.{PassView}
 use Rattle.event_records.specs.declared.kind.Kind.{Kind}
 use Rattle.collector.specs.Ends.{AreInOrder, AreFresh, rings_of}
@@ -91,7 +91,7 @@ returns-in_err-tokens-clause-fault g c =
     let k = c.in_ok-workers.ensures in
     let closed = c.in_err-tokens.ensures in
     let rows = c.rows-rows.ensures.rows in
-    let fault = subst (λ (rs : List (List Kind)). IsFaultOfRun ((goal.TestQueue-dyn g c.args.queue.now).may c.args.queue.now.1) c.args.initial.items rs c.args.sizes
+    let fault = subst (λ (rs : List (List Kind)). IsFaultOfRun ((goal.TestQueue-dyn g c.args.queue.now).may c.args.queue.now.1) [] rs c.args.sizes
     c.in_err-tokens.field-0.0) rows
-    (stands_in_run _ _ _ _ e.workers _ _ k.worked c.args.initial.items _ _ c.requires.sizes c.standing_fault-standing.ensures.memory closed.stands closed.stalls) in
+    (stands_in_run _ _ _ _ e.workers _ _ k.worked [] _ _ c.requires.sizes c.standing_fault-standing.ensures.memory closed.stands closed.stalls) in
     search rules

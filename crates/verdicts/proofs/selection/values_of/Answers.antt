@@ -7,13 +7,13 @@ use Rattle.std.proofs.lemmas.Iterator.Consumers.{YieldsList-from_filter_map}
 use Rattle.std.proofs.lemmas.Map.Lookups.{exact_unsigned}
 use Rattle.std.proofs.lemmas.Map.Views.{btree_set_contains_from_list}
 use Rattle.std.proofs.lemmas.Result.{IfOk-weaker}
-use Rattle.verdicts.specs.Selection.{value_of}
+use Rattle.verdicts.specs.Inner.Selecting.{value_in}
 use Rattle.verdicts.proofs.selection.values_of.Goals as goal
 
 pub returns : goal.returns
 returns c =
-    let values = filter_map (λ o. value_of o.kind) c.args.lines.now in
-    IfOk-weaker c.collect.result (IsFromIterResult nat_cmp values) _ (btree_set_contains_from_list nat_cmp_total exact_unsigned values)
+    let found = filter_map value_in c.args.lines.now in
+    IfOk-weaker c.collect.result (IsFromIterResult nat_cmp found) _ (btree_set_contains_from_list nat_cmp_total exact_unsigned found)
     (fact_from_collect (IsFromIterResult nat_cmp) c.collect.result c.collect.ensures.ran
-    (YieldsList-from_filter_map _ (λ o. value_of o.kind) (YieldsList-from_slice c.args.lines.now cc) c.filter_map.ensures.closure
+    (YieldsList-from_filter_map _ value_in (YieldsList-from_slice c.args.lines.now cc) c.filter_map.ensures.closure
     (λ x r q k. search (rules, tests))))

@@ -1,36 +1,63 @@
-use Rattle.std.proofs.Common.{◌≡◌, List, arith, refl}
+use Rattle.std.proofs.Common.{◌≡◌, arith, length, ◌∙◌, ap, subst, nat_cmp}
+use Rattle.std.specs.BTreeSet.{contains}
 use Rattle.std.proofs.lemmas.Result.{IfOk-weaker}
-use Rattle.history_merge.specs.Initial.{HistoryView}
-use Rattle.history_merge.specs.Operations.{operations_of}
-use Rattle.history_merge.proofs.Completeness.{operations_are_complete}
+use Rattle.history_merge.proofs.Filled.{filled_are_complete}
+use Rattle.verdicts.specs.Selection.{violation_lines}
+use Rattle.verdicts.specs.Inner.Selecting.{SelectsNamed}
 use Rattle.verdicts.proofs.ChosenSelections.{has_shortest_cover}
-use Rattle.verdicts.proofs.ShrunkEvents.{are_complete, are_few, is_shrunk}
+use Rattle.verdicts.proofs.ShrunkEvents.{no_longer}
+use Rattle.verdicts.proofs.ShrunkHistories.{IsShrunk, IsWhole, are_complete, are_selected, are_shrunk, few_events}
 use Rattle.verdicts.proofs.shrinking.shrink.Goals as goal
 
-pub complete_history-requires-clause-few : goal.complete_history-requires-clause-few
-complete_history-requires-clause-few c =
-    let few = are_few c.args.history.now.events c.args.violation.now c.in_ok-selected.selected.items c.events-events.ensures.complete c.in_ok-selected.ensures in
-    omega (arith, c.events-events.ensures.few)
+pub whole_history-requires-clause-few_initial : goal.whole_history-requires-clause-few_initial
+whole_history-requires-clause-few_initial c =
+    let shorter = no_longer (contains nat_cmp c.in_ok-selection.selection.values) c.initial.result.now in
+    omega (arith, ap length c.in_ok-initial.ensures, ap length c.initial.ensures.initial, c.initial.ensures.few)
 
-pub complete_history-requires-clause-complete : goal.complete_history-requires-clause-complete
-complete_history-requires-clause-complete c = are_complete c.args.history.now.events c.args.violation.now c.in_ok-selected.selected.items
-    c.events-events.ensures.complete c.in_ok-selected.ensures
+pub whole_history-requires-clause-few_events : goal.whole_history-requires-clause-few_events
+whole_history-requires-clause-few_events c =
+    let selection = c.in_ok-selection.selection in
+    let are = are_selected c.args.history.now (contains nat_cmp selection.values) (contains nat_cmp selection.calls) c.in_ok-initial.initial.items
+    c.initial.result.now c.in_ok-events.events.items c.events.result.now c.operations.result.now c.initial.ensures.initial
+    c.operations.ensures.operations c.events.ensures.events c.in_ok-initial.ensures c.in_ok-events.ensures in
+    let few = few_events c.args.history.now (contains nat_cmp selection.values) (contains nat_cmp selection.calls) c.in_ok-initial.initial.items
+    c.in_ok-events.events.items c.events.ensures.few are in
+    omega arith
+
+pub whole_history-requires-clause-complete : goal.whole_history-requires-clause-complete
+whole_history-requires-clause-complete c =
+    let selection = c.in_ok-selection.selection in
+    are_complete c.args.history.now (contains nat_cmp selection.values) (contains nat_cmp selection.calls) c.in_ok-initial.initial.items
+    c.in_ok-events.events.items c.initial.ensures.complete
+    (are_selected c.args.history.now (contains nat_cmp selection.values) (contains nat_cmp selection.calls) c.in_ok-initial.initial.items
+    c.initial.result.now c.in_ok-events.events.items c.events.result.now c.operations.result.now c.initial.ensures.initial
+    c.operations.ensures.operations c.events.ensures.events c.in_ok-initial.ensures c.in_ok-events.ensures)
 
 pub returns : goal.returns
 returns c =
-    let events = c.args.history.now.events in
+    let whole = c.args.history.now in
     let violation = c.args.violation.now in
-    let selected = c.in_ok-selected.selected.items in
-    let complete = c.events-events.ensures.complete in
-    let small = c.complete_history.result in
-    let is = λ (small : HistoryView) (same : small.events ≡ selected). is_shrunk events violation selected small.events complete c.in_ok-selected.ensures same in
+    let selection = c.in_ok-selection.selection in
+    let values = contains nat_cmp selection.values in
+    let calls = contains nat_cmp selection.calls in
+    let initial = c.in_ok-initial.initial.items in
+    let events = c.in_ok-events.events.items in
+    let is_whole : IsWhole whole = record { complete = c.initial.ensures.complete; few = c.initial.ensures.few } in
+    let named : SelectsNamed (violation_lines whole violation) values calls =
+    subst (λ lines. SelectsNamed lines values calls) (c.as_slice.ensures.value ∙ c.in_ok-lines.ensures) c.in_ok-selection.ensures in
+    let are = are_selected whole values calls initial c.initial.result.now events c.events.result.now c.operations.result.now c.initial.ensures.initial
+    c.operations.ensures.operations c.events.ensures.events c.in_ok-initial.ensures c.in_ok-events.ensures in
+    let small = c.whole_history.result in
+    let shrunk = IfOk-weaker small (λ s. (s.initial ≡ initial) × (s.events ≡ events)) (IsShrunk whole violation)
+    (λ s same. are_shrunk whole violation values calls s is_whole c.requires named
+    (record { has_values = same.0 ∙ are.has_values; has_tickets = same.1 ∙ are.has_tickets })) c.whole_history.ensures in
     record {
-      kept = IfOk-weaker small (λ s. s.events ≡ selected) _ (λ s same. (is s same).kept) c.complete_history.ensures.events;
-      same_violation = IfOk-weaker small (λ s. s.events ≡ selected) _ (λ s same. (is s same).same_violation) c.complete_history.ensures.events;
-      minimal = IfOk-weaker small (λ s. s.events ≡ selected) _ (λ s same. (is s same).minimal) c.complete_history.ensures.events;
-      shortest = IfOk-weaker small (λ s. s.events ≡ selected) _ (λ s same. has_shortest_cover (operations_of events) violation
-          (operations_are_complete events complete) c.requires) c.complete_history.ensures.events;
-      events = IfOk-weaker small (λ s. s.events ≡ selected) _ (λ s same. (is s same).part) c.complete_history.ensures.events;
-      initial = c.complete_history.ensures.initial;
-      complete = c.complete_history.ensures.complete;
+      kept = IfOk-weaker small (IsShrunk whole violation) _ (λ s is. is.kept) shrunk;
+      same_violation = IfOk-weaker small (IsShrunk whole violation) _ (λ s is. is.same_violation) shrunk;
+      minimal = IfOk-weaker small (IsShrunk whole violation) _ (λ s is. is.minimal) shrunk;
+      shortest = IfOk-weaker small (IsShrunk whole violation) _ (λ s is. has_shortest_cover _ violation
+          (filled_are_complete whole.initial whole.events is_whole.complete is_whole.few) c.requires) shrunk;
+      initial = IfOk-weaker small (IsShrunk whole violation) _ (λ s is. is.initial) shrunk;
+      events = IfOk-weaker small (IsShrunk whole violation) _ (λ s is. is.events) shrunk;
+      complete = IfOk-weaker small (IsShrunk whole violation) _ (λ s is. is.complete) shrunk;
     }

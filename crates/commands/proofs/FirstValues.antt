@@ -1,0 +1,125 @@
+-- The values that a queue is given before a run are names of initial values.
+use Rattle.std.proofs.Common.{◌≡◌, ◌≢◌, ℕ, ◌≤◌, Bool, true, false, List, [], length, arith, refl, sym, ◌∙◌, ap, subst, inl, inr}
+use Rattle.std.specs.Prelude.{◌==◌, if◌then◌else◌}
+use Rattle.std.specs.Prelude.{All, AllPairs}
+use Rattle.std.specs.List.{range_with_len}
+use Rattle.std.proofs.lemmas.List.FromFn.{get_or-range_with_len, length-range_with_len}
+use Rattle.event_records.specs.declared.limits.TheConstants.{LEAST_INITIAL_NAME, MAX_STRESS_INITIAL}
+use Rattle.event_records.specs.declared.kind.Kind.{Kind}
+use Rattle.event_records.specs.declared.kind.Answer.{Answer as Told}
+use Rattle.event_records.specs.Question.{Question}
+use Rattle.history_merge.specs.Initial.{HistoryView, IsCompleteFrom}
+use Rattle.history_merge.specs.Merge.{IsMerged}
+use Rattle.history_merge.specs.Operations.{operations_of}
+use Rattle.recorder_core.specs.Initial.{AreInitialNames}
+use Rattle.recorder_core.specs.Replay.{AreRecorded, Replays}
+use Rattle.workloads.specs.Seeds.{IsSeeded}
+use Rattle.stress_run.specs.Crew.{SizesView}
+use Rattle.stress_run.specs.Failed.{IsFaultOfRun}
+use Rattle.stress_run.specs.Faults.{IsWithinLimits}
+use Rattle.stress_run.specs.Operations.{IsRun}
+use Rattle.stress_run.specs.declared.faults.RunFault.{RunFault}
+use Rattle.stress_run.specs.Recorded.{RecordedView}
+use Rattle.verdicts.specs.declared.verifying.Claimed.{Claimed}
+use Rattle.verdicts.specs.declared.verdict.Verdict.{Verdict}
+use Rattle.verdicts.specs.Claiming.{claim_of}
+use Rattle.verdicts.proofs.DecidedFrom.{no_elements}
+use Rattle.history_text.specs.declared.version.Version.{Version}
+use Rattle.history_text.specs.declared.version.Version.TheVariants.{One, Two}
+use Rattle.history_text.specs.Versions.{said_in}
+use Rattle.command_words.specs.Options.{IsWithinRanges, Settings}
+use Rattle.commands.specs.declared.stress.TheConstants.{TRIES}
+use Rattle.commands.specs.Answers.{run_fault, shown}
+use Rattle.commands.specs.Judging.{IsVerdictClaim}
+use Rattle.commands.specs.Stressing.{RunsOrFails, first_values, run_history, run_version}
+
+-- numbers from a on are at least as great as what a is
+at_least : (b a n : ℕ) → b ≤ a → All (λ v. b ≤ v) (range_with_len a n)
+at_least b a n least k d below =
+    let many = length-range_with_len a n in
+    let is = get_or-range_with_len a n k d (omega (arith, many, below)) in
+    omega (arith, is, least)
+
+-- they are distinct
+are_distinct : (a n : ℕ) → AllPairs (λ v w. v ≢ w) (range_with_len a n)
+are_distinct a n j k d before below =
+    let many = length-range_with_len a n in
+    let earlier = get_or-range_with_len a n j d (omega (arith, many, before, below)) in
+    let later = get_or-range_with_len a n k d (omega (arith, many, below)) in
+    λ same. absurd (omega (arith, earlier, later, same, before))
+
+-- a queue may be given them
+pub first_values_are_names : (count : ℕ) → count ≤ MAX_STRESS_INITIAL → AreInitialNames (first_values count)
+first_values_are_names count few =
+    let many : length (first_values count) ≡ count = length-range_with_len LEAST_INITIAL_NAME count in
+    record {
+      not_too_many = omega (arith, many, few);
+      are_distinct = are_distinct LEAST_INITIAL_NAME count;
+      above_names = at_least LEAST_INITIAL_NAME LEAST_INITIAL_NAME count (omega arith);
+    }
+
+-- version 1 is that of a queue that was given none
+pub none_in_version_1 : (count : ℕ) → run_version count ≡ One → first_values count ≡ []
+none_in_version_1 count is = by_test (count == 0) refl is
+  where
+    by_test : (b : Bool) → (count == 0) ≡ b → (if b then One else Two) ≡ One → first_values count ≡ []
+    by_test true none one = let many = length-range_with_len LEAST_INITIAL_NAME count in no_elements (first_values count) (sym none ∙ ap (λ n. n == 0) (sym many))
+    by_test false some one = cc
+
+-- ---- what a run gives
+
+module _ (may : Question → Told → Type 0) (settings : Settings) (history : HistoryView) (verdict : Verdict) where
+  -- the claim of the verdict
+  abbrev claim : Claimed
+  claim = claim_of history.initial (operations_of history.events) verdict
+
+  same_history : history.initial ≡ first_values settings.initial → history ≡ run_history settings.initial history.events
+  same_history same = λ i. record { initial = same i; events = history.events }
+
+  -- a run whose history begins with the first values is what `stress` answers
+  pub recorded_run : (plan : List (List Kind)) → IsSeeded settings.seed settings.threads settings.operations settings.percent plan
+      → (recorded : RecordedView) → IsRun may plan recorded.lists recorded.total → AreRecorded recorded.lists
+      → (given : List ℕ) → given ≡ first_values settings.initial → Replays settings.ring given recorded.lists → IsMerged recorded.lists history.events
+      → IsCompleteFrom history.initial history.events → history.initial ≡ given → IsVerdictClaim history claim
+      → (version : Version) → version ≡ run_version settings.initial
+      → RunsOrFails may settings (shown (said_in version history) claim)
+  recorded_run plan seeded recorded run are_recorded given first replays merged complete same right version is_version =
+      inl (record {
+        plan = plan;
+        seeded = seeded;
+        lists = recorded.lists;
+        total = recorded.total;
+        run = run;
+        recorded = are_recorded;
+        replays = subst (λ initial. Replays settings.ring initial recorded.lists) first replays;
+        events = history.events;
+        merged = merged;
+        complete = subst (λ initial. IsCompleteFrom initial history.events) (same ∙ first) complete;
+        claimed = claim;
+        right = subst (λ h. IsVerdictClaim h claim) (same_history (same ∙ first)) right;
+        is = λ i. shown (said_in (is_version i) (same_history (same ∙ first) i)) claim;
+      })
+
+-- a fault of a run on a queue that was given these values is what `stress` answers
+pub failed_run : (may : Question → Told → Type 0) (settings : Settings) (plan : List (List Kind)) (fault : RunFault) → IsWithinRanges settings
+    → IsSeeded settings.seed settings.threads settings.operations settings.percent plan
+    → (given : List ℕ) → given ≡ first_values settings.initial → IsFaultOfRun may given plan (record { ring = settings.ring; tries = TRIES }) fault
+    → RunsOrFails may settings (run_fault fault)
+failed_run may settings plan fault ranges seeded given first is_fault = inr (inl (record {
+  plan = plan;
+  seeded = seeded;
+  fault = fault;
+  of_run = of_run;
+  within = λ limit. subst (IsFaultOfRun may (first_values settings.initial) plan sizes) limit of_run
+      (within_limits, first_values_are_names settings.initial ranges.initial);
+  is = refl;
+}))
+  where
+    sizes : SizesView
+    sizes = record { ring = settings.ring; tries = TRIES }
+
+    of_run : IsFaultOfRun may (first_values settings.initial) plan sizes fault
+    of_run = subst (λ initial. IsFaultOfRun may initial plan sizes fault) first is_fault
+
+    within_limits : IsWithinLimits settings.ring TRIES
+    within_limits = (ranges.ring.0, ranges.ring.1, (omega arith, omega arith))

@@ -1,0 +1,105 @@
+-- The numbers of a claim.
+use Rattle.std.proofs.Common.{◌≡◌, ℕ, ◌+◌, ◌<◌, Bool, true, false, List, [], ◌∷◌, length, get_or, map, Some, None, Option, arith}
+use Rattle.std.proofs.Common.{refl, sym, ap, subst, ◌∙◌, cond, eq-eqb, eqb-true}
+use Rattle.std.specs.Prelude.{Contains, nat_eq, nat_lt, not, option_map, slice_get}
+use Rattle.std.specs.List.{position, position_or_len, find}
+use Rattle.std.proofs.lemmas.List.Folds.{find_at}
+use Rattle.std.proofs.lemmas.Bool.{ltb-true, lt-ltb}
+use Rattle.std.proofs.lemmas.Bool.Decides.{nat_tests}
+use Rattle.std.proofs.lemmas.List.{length-map}
+use Rattle.std.proofs.lemmas.Option.{slice_get-get_or, slice_get_within}
+use Rattle.history_merge.specs.declared.operation.Operation.{Operation}
+use Rattle.history_merge.specs.Operations.{operations_of}
+use Rattle.history_merge.proofs.Completeness.{operations_are_complete}
+use Rattle.history_merge.proofs.Distinct.{contains_at, same_call, found_first}
+use Rattle.verdicts.specs.declared.verifying.ClaimLine.{ClaimLine}
+use Rattle.verdicts.specs.declared.verifying.ClaimLine.TheVariants.{Op, Initial}
+use Rattle.verdicts.specs.Claims.{filling_at, filling_of}
+use Rattle.drawing.specs.Layout.{is_line_of, is_line_of_initial}
+use Rattle.drawing.specs.Laws.{NumbersAreOfLines, LinesHaveNumbers, InitialNumbersAreOfLines, InitialLinesHaveNumbers}
+use Rattle.drawing.proofs.Bars.{found}
+
+-- the first place at which an element passes, where it is within the list
+place_if : {X : Type 0} (d : X) (xs : List X) (p : X → Bool) (i : ℕ) → position p xs ≡ Some i → (x : X) × (slice_get xs i ≡ Some x) × (p x ≡ true)
+place_if d xs p i at = join (nat_lt (position_or_len p xs) (length xs)) refl at
+  where
+    one : (k : ℕ) → k ≡ position_or_len p xs → k < length xs → (x : _) × (slice_get xs k ≡ Some x) × (p x ≡ true)
+    one k is within =
+        let here : slice_get xs k ≡ Some (get_or xs k d) = slice_get-get_or xs k _ within in
+        let found_here : find p xs ≡ Some (get_or xs k d) = find_at p xs ∙ ap (slice_get xs) (sym is) ∙ here in
+        (get_or xs k d, here, (found_first p xs (get_or xs k d) found_here).passes)
+
+    join : (b : Bool) → nat_lt (position_or_len p xs) (length xs) ≡ b → cond b (Some (position_or_len p xs)) None ≡ Some i
+        → (x : _) × (slice_get xs i ≡ Some x) × (p x ≡ true)
+    join true is here = let same : position_or_len p xs ≡ i = cc in
+        one i (sym same) (let less : position_or_len p xs < length xs = ltb-true _ _ is in omega arith)
+    join false is here = cc
+
+-- where a line passes, there is a first place at which one does
+place_of_one : (lines : List ClaimLine) (p : ClaimLine → Bool) (x : ClaimLine) → Contains lines x → p x ≡ true → (i : ℕ) × (position p lines ≡ Some i)
+place_of_one lines p x among passes =
+    let some = found p lines x among passes in
+    let at : slice_get lines (position_or_len p lines) ≡ Some some.0 = sym (find_at p lines) ∙ some.1 in
+    let within = slice_get_within lines (position_or_len p lines) some.0 at in
+    (position_or_len p lines, ap (λ (b : Bool). cond b (Some (position_or_len p lines)) None) (lt-ltb _ _ within))
+
+-- a number is that of the line
+pub numbers_are_of_lines : NumbersAreOfLines
+numbers_are_of_lines events lines o i complete all_among among at = let h = place_if (Initial 0) lines (is_line_of o) i at in same_line h.0 h.1 h.2
+  where
+    same_line : (x : ClaimLine) → slice_get lines i ≡ Some x → is_line_of o x ≡ true → slice_get lines i ≡ Some (Op o)
+    same_line (Op listed) here passes =
+        let line_among = all_among listed (contains_at lines i (Op listed) here) in
+        let same = same_call (operations_of events) listed o (operations_are_complete events complete) line_among among (eqb-true listed.call o.call passes) in
+        here ∙ ap (λ x. Some (Op x)) same
+    same_line (Initial v) here passes = cc
+
+-- each line of an operation has a number
+pub lines_have_numbers : LinesHaveNumbers
+lines_have_numbers lines o among = place_of_one lines (is_line_of o) (Op o) among (eq-eqb o.call o.call refl)
+
+-- the number of an initial value is that of its line
+pub initial_numbers_are_of_lines : InitialNumbersAreOfLines
+initial_numbers_are_of_lines lines v i at = let h = place_if (Initial 0) lines (is_line_of_initial v) i at in same_line h.0 h.1 h.2
+  where
+    same_line : (x : ClaimLine) → slice_get lines i ≡ Some x → is_line_of_initial v x ≡ true → slice_get lines i ≡ Some (Initial v)
+    same_line (Op o) here passes = cc
+    same_line (Initial listed) here passes = here ∙ ap (λ (x : ℕ). Some (Initial x)) (eqb-true listed v passes)
+
+-- each line of an initial value has a number
+pub initial_lines_have_numbers : InitialLinesHaveNumbers
+initial_lines_have_numbers lines v among = place_of_one lines (is_line_of_initial v) (Initial v) among (eq-eqb v v refl)
+
+-- ---- the order of a yes
+
+order_place : (order : List Operation) (o : Operation)
+    → position_or_len (is_line_of o) (map Op order) ≡ position_or_len (λ listed. nat_eq listed.call o.call) order
+order_place [] o = refl
+order_place (x ∷ order) o = ap (λ (n : ℕ). cond (not (nat_eq x.call o.call)) (1 + n) 0) (order_place order o)
+
+-- the place of an operation among the lines of an order is that in the order
+pub place_in_order : (order : List Operation) (o : Operation) → position (is_line_of o) (map Op order) ≡ position (λ listed. nat_eq listed.call o.call) order
+place_in_order order o = rw (order_place order o, length-map order Op) refl
+
+past_order : (order : List Operation) (v : ℕ) → position_or_len (is_line_of_initial v) (map Op order) ≡ length (map Op order)
+past_order [] v = refl
+past_order (x ∷ order) v = omega (arith, past_order order v)
+
+not_below : (n : ℕ) → nat_lt n n ≡ false
+not_below n = grind (arith, nat_tests)
+
+-- no initial value is a line of an order
+pub no_initial_place : (order : List Operation) (v : ℕ) → position (is_line_of_initial v) (map Op order) ≡ None
+no_initial_place order v = rw (past_order order v, not_below (length (map Op order))) refl
+
+-- ---- evidence
+
+-- what stands for an enqueue before all else is an initial value
+pub value_among : (initial : List ℕ) (v : ℕ) (x : Operation) → filling_of initial v ≡ Some x → Contains initial v
+value_among initial v x stands = go (position (λ w. nat_eq w v) initial) refl stands
+  where
+    go : (place : Option ℕ) → position (λ w. nat_eq w v) initial ≡ place → option_map (λ j. filling_at j v) place ≡ Some x → Contains initial v
+    go None is e = cc
+    go (Some j) is e =
+        let h = place_if 0 initial (λ w. nat_eq w v) j is in
+        subst (λ (w : ℕ). Contains initial w) (eqb-true h.0 v h.2) (contains_at initial j h.0 h.1)

@@ -1,0 +1,38 @@
+-- Lists that break the order at each 4th of the calls that they count.
+use Rattle.std.specs.Prelude.{◌≡◌, ℕ, ◌+◌, ◌%◌, ◌^◌, List, [], ◌∷◌, ◌++◌, Option, if◌then◌else◌, Bool, IfNone}
+use Rattle.std.specs.Option.{option_to_list}
+
+-- the next number of a count of 64 bits
+abbrev pub next : ℕ → ℕ
+next n = (n + 1) % 2 ^ 64
+
+-- the values of a list, the first one first, and how many calls it has counted
+pub record CountedView : Type 0 where
+  pub values : List ℕ
+  pub count : ℕ
+
+-- such a list, and how many values it has made up
+pub record InventingView : Type 0 where
+  pub list : CountedView
+  pub invented : ℕ
+
+-- the value that is made up after so many: from 2^63 on, one after another
+abbrev pub invention : ℕ → ℕ
+invention before = (2 ^ 63 + before) % 2 ^ 64
+
+-- one more call is counted
+abbrev pub CountsCall : CountedView → CountedView → Type 0
+CountsCall old new = new.count ≡ next old.count
+
+-- the call that was counted last is a fourth one
+abbrev pub IsFourth : CountedView → Type 0
+IsFourth list = list.count % 4 ≡ 0
+
+-- the value is put last where it is taken, and else nothing changes
+abbrev pub PutsLast : List ℕ → ℕ → Bool → List ℕ → Type 0
+PutsLast old value taken new = new ≡ (if taken then old ++ value ∷ [] else old)
+
+-- the first value is given out where there is one
+pub record TakesFirst (old : List ℕ) (got : Option ℕ) (new : List ℕ) : Type 0 where
+  pub first : old ≡ option_to_list got ++ new
+  pub none : IfNone got (old ≡ [])

@@ -1,0 +1,180 @@
+//! The values that the queue holds first, each in a row above those of the events.
+ghost use Rattle.std.specs.Prelude.{◌≡◌, ◌++◌, ◌∷◌, ◌≤◌, ◌^◌, [], OnOk, IfOk, IfSome, codes};
+ghost use Rattle.std.specs.List.{enumerate_from};
+ghost use Rattle.drawing.specs.Claim.{count_of_lines};
+ghost use Rattle.drawing.specs.Layout.{initial_label};
+ghost use Rattle.svg_picture.specs.Markup.{Element, each, text_of};
+ghost use Rattle.svg_picture.specs.Markup.{Words as InWords};
+ghost use Rattle.svg_picture.specs.Layout.{page_on};
+ghost use Rattle.svg_picture.specs.Picture.{initial_words, initial_number, initial_rect, initial_parts, placed_initial, numbered_initial, initial_values};
+
+use crate::bars::{mark, push_number_words, push_pill};
+use crate::elements::{Rect, push_rect, push_text_at};
+use crate::layout::{Sheet, bar_width, initial_row, row_y, top};
+use crate::markup::Attribute::Words;
+use crate::markup::{push_element, push_end, push_start};
+use drawing::{initial_place_of, push_initial_label};
+use std::alloc::{AllocError, Global};
+
+fn initial_label(alloc: Global, value: u64) -> Result<Vec<u8>, AllocError>
+    ensures { IfOk result (λ label. label.items ≡ initial_label value) }
+{
+    let mut label = Vec::new(alloc);
+    push_initial_label(&mut label, value)?;
+    Ok(label)
+}
+
+/// What is told of an initial value.
+#[tactic(auto, unfolding(crate::specs::Picture::initial_words))]
+fn initial_words(alloc: Global, value: u64, place: Option<usize>) -> Result<Vec<u8>, AllocError>
+    ensures { IfOk result (λ words. words.items ≡ initial_words value place) }
+{
+    let mut words = initial_label(alloc, value)?;
+    words.extend_from_slice(b", in the queue first")?;
+    push_number_words(&mut words, place)?;
+    Ok(words)
+}
+
+#[tactic(auto, unfolding(crate::specs::Picture::initial_number))]
+fn push_initial_number(
+    text: &mut Vec<u8>,
+    sheet: &Sheet<'_>,
+    row: u128,
+    place: Option<usize>,
+) -> Result<(), AllocError>
+    requires row { row ≤ 2 ^ 65 }
+    requires place { IfSome place (λ place. place ≤ 1000000) }
+    ensures { OnOk result (text.new.items ≡ text.old.items ++ text_of (initial_number (page_on sheet.now) row place)) }
+{
+    match place {
+        None => Ok(()),
+        Some(place) => {
+            let x = 18 + 7 * u128::from(sheet.measures.label);
+            let y = row_y(sheet, row) + 2;
+            push_pill(text, x, y, place as u64 + 1)
+        }
+    }
+}
+
+/// Adds the bar of an initial value, with its label.
+#[tactic(auto, unfolding(crate::specs::Picture::initial_rect))]
+fn push_initial_rect(
+    alloc: Global,
+    text: &mut Vec<u8>,
+    sheet: &Sheet<'_>,
+    row: u128,
+    value: u64,
+) -> Result<(), AllocError>
+    requires { row ≤ 2 ^ 65 }
+    ensures { OnOk result (text.new.items ≡ text.old.items ++ text_of (initial_rect (page_on sheet.now) row value)) }
+{
+    let y = row_y(sheet, row);
+    let area = Rect {
+        x: 6,
+        y: y + 2,
+        width: bar_width(sheet.measures),
+        height: 16,
+    };
+    push_rect(text, b"enq", 0, area)?;
+    let label = initial_label(alloc, value)?;
+    push_text_at(text, 7, b"label", 12, y + 14, label.as_slice())
+}
+
+fn push_initial_title(
+    alloc: Global,
+    text: &mut Vec<u8>,
+    value: u64,
+    place: Option<usize>,
+) -> Result<(), AllocError>
+    ensures { OnOk result (text.new.items ≡ text.old.items ++ text_of (Element (codes "title") [] (InWords (initial_words value place)))) }
+{
+    let words = initial_words(alloc, value, place)?;
+    push_element(text, b"title", &[], words.as_slice())
+}
+
+/// What stands within the group of an initial value.
+#[tactic(auto, unfolding(crate::specs::Picture::initial_parts))]
+fn push_initial_parts(
+    alloc: Global,
+    text: &mut Vec<u8>,
+    sheet: &Sheet<'_>,
+    row: u128,
+    value: u64,
+    place: Option<usize>,
+) -> Result<(), AllocError>
+    requires row { row ≤ 2 ^ 65 }
+    requires place { IfSome place (λ place. place ≤ 1000000) }
+    ensures { OnOk result (text.new.items ≡ text.old.items ++ text_of (initial_parts (page_on sheet.now) row value place)) }
+{
+    push_initial_title(alloc, text, value, place)?;
+    push_initial_rect(alloc, text, sheet, row, value)?;
+    push_initial_number(text, sheet, row, place)
+}
+
+#[tactic(auto, unfolding(crate::specs::Picture::placed_initial))]
+fn push_placed_initial(
+    alloc: Global,
+    text: &mut Vec<u8>,
+    sheet: &Sheet<'_>,
+    row: u128,
+    value: u64,
+    place: Option<usize>,
+) -> Result<(), AllocError>
+    requires row { row ≤ 2 ^ 65 }
+    requires place { IfSome place (λ place. place ≤ 1000000) }
+    ensures { OnOk result (text.new.items ≡ text.old.items ++ text_of (placed_initial (page_on sheet.now) row value place)) }
+{
+    let class = mark(sheet.claimed, place);
+    push_start(text, b"g", &[Words(b"class", class)])?;
+    push_initial_parts(alloc, text, sheet, row, value, place)?;
+    push_end(text, b"g")
+}
+
+/// Adds the initial value at place j.
+fn push_initial_value(
+    alloc: Global,
+    text: &mut Vec<u8>,
+    sheet: &Sheet<'_>,
+    j: usize,
+    value: u64,
+) -> Result<(), AllocError>
+    requires { count_of_lines sheet.now.claimed.now ≤ 400 }
+    ensures { OnOk result (text.new.items ≡ text.old.items ++ text_of (numbered_initial (page_on sheet.now) (j, value))) }
+{
+    let place = initial_place_of(sheet.claimed, value);
+    push_placed_initial(alloc, text, sheet, initial_row(j), value, place)
+}
+
+fn push_each_initial_value(
+    alloc: Global,
+    text: &mut Vec<u8>,
+    sheet: &Sheet<'_>,
+) -> Result<(), AllocError>
+    requires { count_of_lines sheet.now.claimed.now ≤ 400 }
+    ensures { OnOk result (text.new.items ≡ text.old.items ++ text_of (each (numbered_initial (page_on sheet.now)) (enumerate_from 0 sheet.now.initial.now))) }
+{
+    for (j, value) in sheet.initial.iter().enumerate() {
+        push_initial_value(alloc, text, sheet, j, *value)?;
+    }
+    Ok(())
+}
+
+/// Adds the initial values under their head, where there are some.
+#[tactic(auto, unfolding(crate::specs::Picture::initial_values))]
+pub(crate) fn push_initial_values(
+    alloc: Global,
+    text: &mut Vec<u8>,
+    sheet: &Sheet<'_>,
+) -> Result<(), AllocError>
+    requires { count_of_lines sheet.now.claimed.now ≤ 400 }
+    ensures { OnOk result (text.new.items ≡ text.old.items ++ text_of (initial_values (page_on sheet.now) sheet.now.initial.now)) }
+{
+    match sheet.initial {
+        [] => Ok(()),
+        [_, ..] => {
+            let y = top(sheet.measures) + 14;
+            push_text_at(text, 7, b"dim", 6, y, b"in the queue first")?;
+            push_each_initial_value(alloc, text, sheet)
+        }
+    }
+}

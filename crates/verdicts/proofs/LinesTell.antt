@@ -1,0 +1,101 @@
+-- A violation's kind and lines tell which one it is.
+use Rattle.std.proofs.Common.{◌≡◌, ℕ, List, [], ◌∷◌, ◌++◌, Option, Some, None, refl, sym, ◌∙◌, ap}
+use Rattle.std.specs.Prelude.{MatchOption, flat_map, option_to_list, ⊤}
+use Rattle.history_merge.specs.declared.operation.Operation.{Operation}
+use Rattle.history_merge.specs.declared.operation.OpKind.TheVariants.{Enq, Deq}
+use Rattle.history_merge.specs.Operations.{Did, NoneDid}
+use Rattle.value_match.specs.declared.life.Life.{Life}
+use Rattle.value_match.specs.Lives.{dequeue_of, enqueue_of, operations_of_life}
+use Rattle.value_match.specs.Violations.{fresh, repeat, order, witness, CoversFrom}
+use Rattle.verdicts.specs.Laws.{LinesTellBreach}
+
+-- each of the lives is an enqueue, and a dequeue if there is one
+abbrev AreLives : List Life → Type 0
+AreLives [] = ⊤
+AreLives (life ∷ cover) = ((v : ℕ) × ((enqueue_of life).kind ≡ Enq v)) × MatchOption (dequeue_of life) ⊤ (λ d. (v : ℕ) × (d.kind ≡ Deq v)) × AreLives cover
+
+dequeues : (operations : List Operation) (v : ℕ) (d : Option Operation) → MatchOption d (NoneDid operations (Deq v)) (λ d. Did operations d (Deq v))
+    → MatchOption d ⊤ (λ d. (v : ℕ) × (d.kind ≡ Deq v))
+dequeues operations v None none = tt
+dequeues operations v (Some d) did = (v, did.1)
+
+covers_are_lives : (operations : List Operation) (empty before : Operation) (cover : List Life) → CoversFrom operations empty before cover → AreLives cover
+covers_are_lives operations empty before [] covers = absurd covers
+covers_are_lives operations empty before (life ∷ []) covers =
+    ((covers.0.0, covers.0.1.1), dequeues operations covers.0.0 (dequeue_of life) covers.0.2, tt)
+covers_are_lives operations empty before (life ∷ next ∷ rest) covers = (
+  (covers.0.0, covers.0.1.1),
+  dequeues operations covers.0.0 (dequeue_of life) covers.0.2,
+  further (dequeue_of life) covers.2 (λ d. covers_are_lives operations empty d (next ∷ rest)),
+)
+  where
+    further : (d : Option Operation) → MatchOption d ⊥ (λ d. CoversFrom operations empty d (next ∷ rest))
+        → ((d : Operation) → CoversFrom operations empty d (next ∷ rest) → AreLives (next ∷ rest)) → AreLives (next ∷ rest)
+    further None covers' more = absurd covers'
+    further (Some d) covers' more = more d covers'
+
+-- no life begins with a dequeue
+no_dequeue_first : (d : Operation) (rest : List Operation) (cover : List Life) (v : ℕ) → d.kind ≡ Deq v → AreLives cover
+    → d ∷ rest ≡ flat_map operations_of_life cover → ⊥
+no_dequeue_first d rest [] v is lives same = absurd (cc)
+no_dequeue_first d rest (life ∷ cover) v is lives same =
+    let one : d ≡ enqueue_of life = cc in
+    let clash : Deq v ≡ Enq lives.0.0 = sym is ∙ ap (λ (o : Operation). o.kind) one ∙ lives.0.1 in
+    cc
+
+one_dequeue : (d d' : Option Operation) (xs ys : List Life) → MatchOption d ⊤ (λ d. (v : ℕ) × (d.kind ≡ Deq v))
+    → MatchOption d' ⊤ (λ d. (v : ℕ) × (d.kind ≡ Deq v)) → AreLives xs → AreLives ys
+    → option_to_list d ++ flat_map operations_of_life xs ≡ option_to_list d' ++ flat_map operations_of_life ys
+    → (d ≡ d') × (flat_map operations_of_life xs ≡ flat_map operations_of_life ys)
+one_dequeue None None xs ys is is' lives lives' same = (refl, same)
+one_dequeue None (Some d') xs ys is is' lives lives' same = absurd (no_dequeue_first d' (flat_map operations_of_life ys) xs is'.0 is'.1 lives (sym same))
+one_dequeue (Some d) None xs ys is is' lives lives' same = absurd (no_dequeue_first d (flat_map operations_of_life xs) ys is.0 is.1 lives' same)
+one_dequeue (Some d) (Some d') xs ys is is' lives lives' same =
+    let one : d ≡ d' = cc in let rest : flat_map operations_of_life xs ≡ flat_map operations_of_life ys = cc in (ap (λ o. Some o) one, rest)
+
+one_cover : (xs ys : List Life) → AreLives xs → AreLives ys → flat_map operations_of_life xs ≡ flat_map operations_of_life ys → xs ≡ ys
+one_cover [] [] lives lives' same = refl
+one_cover [] (y ∷ ys) lives lives' same = cc
+one_cover (x ∷ xs) [] lives lives' same = cc
+one_cover (x ∷ xs) (y ∷ ys) lives lives' same =
+    let enqueues : enqueue_of x ≡ enqueue_of y = cc in
+    let later : option_to_list (dequeue_of x) ++ flat_map operations_of_life xs ≡ option_to_list (dequeue_of y) ++ flat_map operations_of_life ys = cc in
+    let both = one_dequeue (dequeue_of x) (dequeue_of y) xs ys lives.1 lives'.1 lives.2 lives'.2 later in
+    let rest = one_cover xs ys lives.2 lives'.2 both.1 in
+    λ i. record { enqueue = enqueues i; dequeue = both.0 i } ∷ rest i
+
+one_maybe : (d d' : Option Operation) → option_to_list d ≡ option_to_list d' → d ≡ d'
+one_maybe None None same = refl
+one_maybe None (Some d') same = cc
+one_maybe (Some d) None same = cc
+one_maybe (Some d) (Some d') same = cc
+
+pub lines_tell_breach : LinesTellBreach
+lines_tell_breach operations others (fresh deq enq) (fresh deq' enq') is is' kinds lines =
+    let one : deq ≡ deq' = cc in let later : option_to_list enq ≡ option_to_list enq' = cc in let enqs = one_maybe enq enq' later in cc
+lines_tell_breach operations others (repeat enq first second) (repeat enq' first' second') is is' kinds lines = cc
+lines_tell_breach operations others (order enq_a enq_b deq_b deq_a) (order enq_a' enq_b' deq_b' deq_a') is is' kinds lines =
+    let a : enq_a ≡ enq_a' = cc in
+    let b : enq_b ≡ enq_b' = cc in
+    let d : deq_b ≡ deq_b' = cc in
+    let later : option_to_list deq_a ≡ option_to_list deq_a' = cc in
+    let last = one_maybe deq_a deq_a' later in
+    cc
+lines_tell_breach operations others (witness empty cover) (witness empty' cover') is is' kinds lines =
+    let one : empty ≡ empty' = cc in
+    let later : flat_map operations_of_life cover ≡ flat_map operations_of_life cover' = cc in
+    let covers = one_cover cover cover' (covers_are_lives operations empty empty cover is.covers)
+    (covers_are_lives others empty' empty' cover' is'.covers) later in
+    cc
+lines_tell_breach operations others (fresh deq enq) (repeat enq' first' second') is is' kinds lines = cc
+lines_tell_breach operations others (fresh deq enq) (order enq_a' enq_b' deq_b' deq_a') is is' kinds lines = cc
+lines_tell_breach operations others (fresh deq enq) (witness empty' cover') is is' kinds lines = cc
+lines_tell_breach operations others (repeat enq first second) (fresh deq' enq') is is' kinds lines = cc
+lines_tell_breach operations others (repeat enq first second) (order enq_a' enq_b' deq_b' deq_a') is is' kinds lines = cc
+lines_tell_breach operations others (repeat enq first second) (witness empty' cover') is is' kinds lines = cc
+lines_tell_breach operations others (order enq_a enq_b deq_b deq_a) (fresh deq' enq') is is' kinds lines = cc
+lines_tell_breach operations others (order enq_a enq_b deq_b deq_a) (repeat enq' first' second') is is' kinds lines = cc
+lines_tell_breach operations others (order enq_a enq_b deq_b deq_a) (witness empty' cover') is is' kinds lines = cc
+lines_tell_breach operations others (witness empty cover) (fresh deq' enq') is is' kinds lines = cc
+lines_tell_breach operations others (witness empty cover) (repeat enq' first' second') is is' kinds lines = cc
+lines_tell_breach operations others (witness empty cover) (order enq_a' enq_b' deq_b' deq_a') is is' kinds lines = cc

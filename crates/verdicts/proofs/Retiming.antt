@@ -1,0 +1,561 @@
+-- Operations at other tickets in the same order: the same ones violate, the same violation is chosen, and the same orders are legal.
+use Rattle.std.proofs.Common.{◌≡◌, ℕ, zero, suc, ◌+◌, ◌-◌, ◌<◌, ◌≤◌, ◌⊎◌, Bool, true, false, List, [], ◌∷◌, Option, Some, None, refl, sym, ◌∙◌, ap, subst}
+use Rattle.std.proofs.Common.{inl, inr, arith, map}
+use Rattle.std.specs.Prelude.{AllPairs, Contains, MatchBool, MatchOption, nat_lt, option_map, ⊤}
+use Rattle.std.proofs.lemmas.Bool.{cases_order, ltb-false, ltb-true, le-ltb, lt-ltb}
+use Rattle.std.proofs.lemmas.List.{get_or-map, length-map}
+use Rattle.std.proofs.lemmas.List.Sorted.{IsPermutation-map}
+use Rattle.event_records.specs.declared.limits.TheConstants.{MAX_CLOCK}
+use Rattle.history_merge.specs.declared.operation.Operation.{Operation}
+use Rattle.history_merge.specs.declared.operation.OpKind.{OpKind}
+use Rattle.history_merge.specs.declared.operation.OpKind.TheVariants.{Enq, Deq, Empty, Not}
+use Rattle.history_merge.specs.Complete.{AreComplete}
+use Rattle.history_merge.specs.Legal.{IsLegalOrder, IsLinearizable}
+use Rattle.history_merge.specs.Operations.{Did, NoneDid, Precedes}
+use Rattle.history_merge.specs.Queue.{IsAccepted}
+use Rattle.history_merge.proofs.Distinct.{call_before_return, return_in_range}
+use Rattle.value_match.specs.declared.life.Life.{Life}
+use Rattle.value_match.specs.declared.life.TheConstants.{NEVER}
+use Rattle.value_match.specs.Lives.{IsCovered, IsLife, call_or_never, dequeue_call, dequeue_of, enqueue_of, enqueue_return}
+use Rattle.value_match.specs.Violations.{Breach, fresh, repeat, order, witness, CoversFrom, IsBreachOf, IsEnqueuedTooLate, IsFreshViolation}
+use Rattle.value_match.specs.Violations.{IsOrderViolation, IsRepeatViolation, NoFreshViolation, NoOrderViolation, NoRepeatViolation}
+use Rattle.value_match.specs.Choice.{IsChosenBreach, IsChosenCoverFrom, StaysAtLeast}
+use Rattle.value_match.proofs.Lists.{mapped_from, mapped_to, one_deeper}
+use Rattle.verdicts.proofs.CoverGaps.{chosen_are_lives}
+use Rattle.verdicts.proofs.Exactly.{linearizable_exactly}
+use Rattle.verdicts.proofs.Excludes.{breach_excludes_order}
+use Rattle.verdicts.proofs.FilledLines.{same_operation}
+
+-- the same operation at other tickets
+abbrev pub retimed : (ℕ → ℕ) → Operation → Operation
+retimed h o = record { call = h o.call; ret = h o.ret; thread = o.thread; kind = o.kind }
+
+-- the operations of a life at other tickets
+abbrev pub retimed_life : (ℕ → ℕ) → Life → Life
+retimed_life h life = record { enqueue = retimed h (enqueue_of life); dequeue = option_map (retimed h) (dequeue_of life) }
+
+-- those of a violation
+abbrev pub retimed_breach : (ℕ → ℕ) → Breach → Breach
+retimed_breach h (fresh deq enq) = fresh (retimed h deq) (option_map (retimed h) enq)
+retimed_breach h (repeat enq first second) = repeat (retimed h enq) (retimed h first) (retimed h second)
+retimed_breach h (order enq_a enq_b deq_b deq_a) = order (retimed h enq_a) (retimed h enq_b) (retimed h deq_b) (option_map (retimed h) deq_a)
+retimed_breach h (witness empty cover) = witness (retimed h empty) (map (retimed_life h) cover)
+
+-- later tickets stay later
+abbrev pub Rises : (ℕ → ℕ) → Type 0
+Rises h = (a b : ℕ) → a < b → h a < h b
+
+-- one of the operations, if it is one
+abbrev IsMaybeAmong : List Operation → Option Operation → Type 0
+IsMaybeAmong operations d = MatchOption d ⊤ (Contains operations)
+
+pub map_map : {X Y Z : Type 0} (f : X → Y) (g : Y → Z) (xs : List X) → map g (map f xs) ≡ map (λ x. g (f x)) xs
+map_map f g [] = refl
+map_map f g (x ∷ xs) = ap (λ zs. g (f x) ∷ zs) (map_map f g xs)
+
+none_mapped : {X Y : Type 0} (f : X → Y) (xs : List X) → map f xs ≡ [] → xs ≡ []
+none_mapped f [] none = refl
+none_mapped f (x ∷ xs) none = cc
+
+module _ (h : ℕ → ℕ) (rises : Rises h) where
+  -- ---- tickets
+
+  below_back : (a b : ℕ) → h a < h b → a < b
+  below_back a b less = elim (cases_order a b) [
+    | inl same ↦ let images = ap h same in absurd (omega arith)
+    | inr (inl below) ↦ below
+    | inr (inr above) ↦ let more = rises b a above in absurd (omega arith)
+  ]
+
+  at_most : (a b : ℕ) → a ≤ b → h a ≤ h b
+  at_most a b le = elim (cases_order a b) [
+    | inl same ↦ let images = ap h same in omega arith
+    | inr (inl below) ↦ let more = rises a b below in omega arith
+    | inr (inr above) ↦ absurd (omega arith)
+  ]
+
+  at_most_back : (a b : ℕ) → h a ≤ h b → a ≤ b
+  at_most_back a b le = elim (cases_order a b) [
+    | inl same ↦ omega arith
+    | inr (inl below) ↦ omega arith
+    | inr (inr above) ↦ let more = rises b a above in absurd (omega arith)
+  ]
+
+  pub same_back : (a b : ℕ) → h a ≡ h b → a ≡ b
+  same_back a b same = let below = at_most_back a b (omega arith) in let above = at_most_back b a (omega arith) in omega arith
+
+  -- the last ticket that isn't later than a clock
+  floor_by : (n a b c : ℕ) → a + n ≡ b → h a ≤ c → c < h b → (p : ℕ) × (a ≤ p) × (p < b) × (h p ≤ c) × (c < h (p + 1))
+  floor_by zero a b c is low high = let e : a ≡ b = omega arith in let images = ap h e in absurd (omega arith)
+  floor_by (suc n) a b c is low high = elim (cases_order c (h (a + 1))) [
+    | inl same ↦ further (floor_by n (a + 1) b c (omega arith) (omega arith) high)
+    | inr (inl below) ↦ (a, omega arith, omega arith, low, below)
+    | inr (inr above) ↦ further (floor_by n (a + 1) b c (omega arith) (omega arith) high)
+  ]
+    where
+      further : (p : ℕ) × (a + 1 ≤ p) × (p < b) × (h p ≤ c) × (c < h (p + 1)) → (p : ℕ) × (a ≤ p) × (p < b) × (h p ≤ c) × (c < h (p + 1))
+      further found = (found.0, omega (arith, found.1), found.2, found.3, found.4)
+
+  -- ---- operations
+
+  pub one_retimed : (x y : Operation) → retimed h x ≡ retimed h y → x ≡ y
+  one_retimed x y same = same_operation x y (same_back x.call y.call (ap (λ (o : Operation). o.call) same))
+      (same_back x.ret y.ret (ap (λ (o : Operation). o.ret) same)) (ap (λ (o : Operation). o.thread) same) (ap (λ (o : Operation). o.kind) same)
+
+  module _ (xs : List Operation) where
+    abbrev ys : List Operation
+    ys = map (retimed h) xs
+
+    pub among_back : (o : Operation) → Contains ys (retimed h o) → Contains xs o
+    among_back o among = let found = mapped_from (retimed h) xs (retimed h o) among in subst (Contains xs) (one_retimed found.0 o found.2) found.1
+
+    did_there : (o : Operation) (kind : OpKind) → Did xs o kind → Did ys (retimed h o) kind
+    did_there o kind did = (mapped_to (retimed h) xs o did.0, did.1)
+
+    did_back : (o : Operation) (kind : OpKind) → Did ys (retimed h o) kind → Did xs o kind
+    did_back o kind did = (among_back o did.0, did.1)
+
+    none_there : (kind : OpKind) → NoneDid xs kind → NoneDid ys kind
+    none_there kind none o among did = let found = mapped_from (retimed h) xs o among in none found.0 found.1 (ap (λ (x : Operation). x.kind) found.2 ∙ did)
+
+    none_back : (kind : OpKind) → NoneDid ys kind → NoneDid xs kind
+    none_back kind none o among did = none (retimed h o) (mapped_to (retimed h) xs o among) did
+
+    -- ---- lives
+
+    dequeue_there : (v : ℕ) (d : Option Operation) → MatchOption d (NoneDid xs (Deq v)) (λ d. Did xs d (Deq v))
+        → MatchOption (option_map (retimed h) d) (NoneDid ys (Deq v)) (λ d. Did ys d (Deq v))
+    dequeue_there v None none = none_there (Deq v) none
+    dequeue_there v (Some d) did = did_there d (Deq v) did
+
+    dequeue_back : (v : ℕ) (d : Option Operation) → MatchOption (option_map (retimed h) d) (NoneDid ys (Deq v)) (λ d. Did ys d (Deq v))
+        → MatchOption d (NoneDid xs (Deq v)) (λ d. Did xs d (Deq v))
+    dequeue_back v None none = none_back (Deq v) none
+    dequeue_back v (Some d) did = did_back d (Deq v) did
+
+    life_there : (life : Life) → IsLife xs life → IsLife ys (retimed_life h life)
+    life_there life is = (is.0, did_there (enqueue_of life) (Enq is.0) is.1, dequeue_there is.0 (dequeue_of life) is.2)
+
+    life_back : (life : Life) → IsLife ys (retimed_life h life) → IsLife xs life
+    life_back life is = (is.0, did_back (enqueue_of life) (Enq is.0) is.1, dequeue_back is.0 (dequeue_of life) is.2)
+
+    maybe_from : (v : ℕ) (d : Option Operation) → MatchOption d (NoneDid ys (Deq v)) (λ d. Did ys d (Deq v))
+        → (x : Option Operation) × (option_map (retimed h) x ≡ d)
+    maybe_from v None none = (None, refl)
+    maybe_from v (Some d) did = let found = mapped_from (retimed h) xs d did.0 in (Some found.0, ap (λ o. Some o) found.2)
+
+    -- each life is one at its tickets before
+    life_from : (life : Life) → IsLife ys life → (x : Life) × (retimed_life h x ≡ life) × IsLife xs x
+    life_from life is =
+        let enqueue = mapped_from (retimed h) xs (enqueue_of life) is.1.0 in
+        let dequeue = maybe_from is.0 (dequeue_of life) is.2 in
+        let x : Life = record { enqueue = enqueue.0; dequeue = dequeue.0 } in
+        let same : retimed_life h x ≡ life = λ i. record { enqueue = enqueue.2 i; dequeue = dequeue.1 i } in
+        (x, same, life_back x (subst (IsLife ys) (sym same) is))
+
+    lives_from : (cover : List Life) → ((life : Life) → Contains cover life → IsLife ys life) → (lives : List Life) × (map (retimed_life h) lives ≡ cover)
+    lives_from [] each = ([], refl)
+    lives_from (life ∷ cover) each =
+        let first = life_from life (each life (zero, omega arith, refl)) in
+        let rest = lives_from cover (λ x among. each x (one_deeper life cover x among)) in
+        (first.0 ∷ rest.0, λ i. first.1 i ∷ rest.1 i)
+
+    -- ---- violations
+
+    late_there : (deq enq : Operation) → IsEnqueuedTooLate xs deq enq → IsEnqueuedTooLate ys (retimed h deq) (retimed h enq)
+    late_there deq enq is = record { value = is.value; dequeues = did_there deq (Deq is.value) is.dequeues; enqueues = by_call is.enqueues }
+      where
+        by_call : Did xs enq (Not is.value) ⊎ (Did xs enq (Enq is.value) × Precedes deq enq)
+            → Did ys (retimed h enq) (Not is.value) ⊎ (Did ys (retimed h enq) (Enq is.value) × Precedes (retimed h deq) (retimed h enq))
+        by_call (inl refused) = inl (did_there enq (Not is.value) refused)
+        by_call (inr late) = inr (did_there enq (Enq is.value) late.0, rises deq.ret enq.call late.1)
+
+    late_back : (deq enq : Operation) → IsEnqueuedTooLate ys (retimed h deq) (retimed h enq) → IsEnqueuedTooLate xs deq enq
+    late_back deq enq is = record { value = is.value; dequeues = did_back deq (Deq is.value) is.dequeues; enqueues = by_call is.enqueues }
+      where
+        by_call : Did ys (retimed h enq) (Not is.value) ⊎ (Did ys (retimed h enq) (Enq is.value) × Precedes (retimed h deq) (retimed h enq))
+            → Did xs enq (Not is.value) ⊎ (Did xs enq (Enq is.value) × Precedes deq enq)
+        by_call (inl refused) = inl (did_back enq (Not is.value) refused)
+        by_call (inr late) = inr (did_back enq (Enq is.value) late.0, below_back deq.ret enq.call late.1)
+
+    fresh_there : (deq : Operation) (enq : Option Operation) → IsFreshViolation xs deq enq
+        → IsFreshViolation ys (retimed h deq) (option_map (retimed h) enq)
+    fresh_there deq None is = record {
+      value = is.value;
+      dequeues = did_there deq (Deq is.value) is.dequeues;
+      not_accepted = none_there (Enq is.value) is.not_accepted;
+      not_refused = none_there (Not is.value) is.not_refused;
+    }
+    fresh_there deq (Some enq) is = late_there deq enq is
+
+    fresh_back : (deq : Operation) (enq : Option Operation) → IsFreshViolation ys (retimed h deq) (option_map (retimed h) enq)
+        → IsFreshViolation xs deq enq
+    fresh_back deq None is = record {
+      value = is.value;
+      dequeues = did_back deq (Deq is.value) is.dequeues;
+      not_accepted = none_back (Enq is.value) is.not_accepted;
+      not_refused = none_back (Not is.value) is.not_refused;
+    }
+    fresh_back deq (Some enq) is = late_back deq enq is
+
+    repeat_there : (enq first second : Operation) → IsRepeatViolation xs enq first second
+        → IsRepeatViolation ys (retimed h enq) (retimed h first) (retimed h second)
+    repeat_there enq first second is = record {
+      value = is.value;
+      enqueues = did_there enq (Enq is.value) is.enqueues;
+      dequeues = did_there first (Deq is.value) is.dequeues;
+      dequeues_again = did_there second (Deq is.value) is.dequeues_again;
+      in_order = rises first.ret second.ret is.in_order;
+    }
+
+    repeat_back : (enq first second : Operation) → IsRepeatViolation ys (retimed h enq) (retimed h first) (retimed h second)
+        → IsRepeatViolation xs enq first second
+    repeat_back enq first second is = record {
+      value = is.value;
+      enqueues = did_back enq (Enq is.value) is.enqueues;
+      dequeues = did_back first (Deq is.value) is.dequeues;
+      dequeues_again = did_back second (Deq is.value) is.dequeues_again;
+      in_order = below_back first.ret second.ret is.in_order;
+    }
+
+    order_there : (enq_a enq_b deq_b : Operation) (deq_a : Option Operation) → IsOrderViolation xs enq_a enq_b deq_b deq_a
+        → IsOrderViolation ys (retimed h enq_a) (retimed h enq_b) (retimed h deq_b) (option_map (retimed h) deq_a)
+    order_there enq_a enq_b deq_b deq_a is = record {
+      a = is.a;
+      b = is.b;
+      enqueues_a = did_there enq_a (Enq is.a) is.enqueues_a;
+      enqueues_b = did_there enq_b (Enq is.b) is.enqueues_b;
+      dequeues_b = did_there deq_b (Deq is.b) is.dequeues_b;
+      enqueued_first = rises enq_a.ret enq_b.call is.enqueued_first;
+      dequeued_later = later deq_a is.dequeued_later;
+    }
+      where
+        later : (d : Option Operation) → MatchOption d (NoneDid xs (Deq is.a)) (λ d. Did xs d (Deq is.a) × Precedes deq_b d)
+            → MatchOption (option_map (retimed h) d) (NoneDid ys (Deq is.a)) (λ d. Did ys d (Deq is.a) × Precedes (retimed h deq_b) d)
+        later None none = none_there (Deq is.a) none
+        later (Some d) did = (did_there d (Deq is.a) did.0, rises deq_b.ret d.call did.1)
+
+    order_back : (enq_a enq_b deq_b : Operation) (deq_a : Option Operation)
+        → IsOrderViolation ys (retimed h enq_a) (retimed h enq_b) (retimed h deq_b) (option_map (retimed h) deq_a)
+        → IsOrderViolation xs enq_a enq_b deq_b deq_a
+    order_back enq_a enq_b deq_b deq_a is = record {
+      a = is.a;
+      b = is.b;
+      enqueues_a = did_back enq_a (Enq is.a) is.enqueues_a;
+      enqueues_b = did_back enq_b (Enq is.b) is.enqueues_b;
+      dequeues_b = did_back deq_b (Deq is.b) is.dequeues_b;
+      enqueued_first = below_back enq_a.ret enq_b.call is.enqueued_first;
+      dequeued_later = later deq_a is.dequeued_later;
+    }
+      where
+        later : (d : Option Operation)
+            → MatchOption (option_map (retimed h) d) (NoneDid ys (Deq is.a)) (λ d. Did ys d (Deq is.a) × Precedes (retimed h deq_b) d)
+            → MatchOption d (NoneDid xs (Deq is.a)) (λ d. Did xs d (Deq is.a) × Precedes deq_b d)
+        later None none = none_back (Deq is.a) none
+        later (Some d) did = (did_back d (Deq is.a) did.0, below_back deq_b.ret d.call did.1)
+
+    cover_there : (empty before : Operation) (cover : List Life) → CoversFrom xs empty before cover
+        → CoversFrom ys (retimed h empty) (retimed h before) (map (retimed_life h) cover)
+    cover_there empty before [] covers = covers
+    cover_there empty before (life ∷ []) covers = (
+      life_there life covers.0,
+      rises (enqueue_of life).ret before.call covers.1,
+      last (dequeue_of life) covers.2,
+    )
+      where
+        last : (d : Option Operation) → MatchOption d ⊤ (λ d. Precedes empty d)
+            → MatchOption (option_map (retimed h) d) ⊤ (λ d. Precedes (retimed h empty) d)
+        last None stays = stays
+        last (Some d) stays = rises empty.ret d.call stays
+    cover_there empty before (life ∷ next ∷ rest) covers = (
+      life_there life covers.0,
+      rises (enqueue_of life).ret before.call covers.1,
+      further (dequeue_of life) covers.2 (λ d. cover_there empty d (next ∷ rest)),
+    )
+      where
+        further : (d : Option Operation) → MatchOption d ⊥ (λ d. CoversFrom xs empty d (next ∷ rest))
+            → ((d : Operation) → CoversFrom xs empty d (next ∷ rest)
+            → CoversFrom ys (retimed h empty) (retimed h d) (map (retimed_life h) (next ∷ rest)))
+            → MatchOption (option_map (retimed h) d) ⊥ (λ d. CoversFrom ys (retimed h empty) d (map (retimed_life h) (next ∷ rest)))
+        further None covers' more = covers'
+        further (Some d) covers' more = more d covers'
+
+    -- a violation is one at the other tickets
+    pub breach_there : (breach : Breach) → IsBreachOf xs breach → IsBreachOf ys (retimed_breach h breach)
+    breach_there (fresh deq enq) is = fresh_there deq enq is
+    breach_there (repeat enq first second) is = repeat_there enq first second is
+    breach_there (order enq_a enq_b deq_b deq_a) is = order_there enq_a enq_b deq_b deq_a is
+    breach_there (witness empty cover) is = record {
+      answers_empty = did_there empty Empty is.answers_empty;
+      covers = cover_there empty empty cover is.covers;
+    }
+
+    no_fresh_back : NoFreshViolation ys → NoFreshViolation xs
+    no_fresh_back none deq enq is = none (retimed h deq) (option_map (retimed h) enq) (fresh_there deq enq is)
+
+    no_repeat_back : NoRepeatViolation ys → NoRepeatViolation xs
+    no_repeat_back none enq first second is = none (retimed h enq) (retimed h first) (retimed h second) (repeat_there enq first second is)
+
+    no_order_back : NoOrderViolation ys → NoOrderViolation xs
+    no_order_back none enq_a enq_b deq_b deq_a is = none (retimed h enq_a) (retimed h enq_b) (retimed h deq_b) (option_map (retimed h) deq_a)
+        (order_there enq_a enq_b deq_b deq_a is)
+
+    -- ---- legal orders
+
+    order_stays : (found : List Operation) → IsLegalOrder xs found → IsLegalOrder ys (map (retimed h) found)
+    order_stays found legal = record {
+      holds_each_once = IsPermutation-map (retimed h) xs found legal.holds_each_once;
+      extends_precedence = apart;
+      is_accepted = subst (IsAccepted []) (sym (map_map (retimed h) (λ o. o.kind) found)) legal.is_accepted;
+    }
+      where
+        apart : AllPairs (λ earlier later. ¬ (Precedes later earlier)) (map (retimed h) found)
+        apart i j d below inside precedes =
+            let long = length-map found (retimed h) in
+            let early = get_or-map (retimed h) found i d d (omega arith) in
+            let late = get_or-map (retimed h) found j d d (omega arith) in
+            legal.extends_precedence i j d below (omega arith) (below_back _ _
+            (omega (arith, precedes, ap (λ (o : Operation). o.call) early, ap (λ (o : Operation). o.ret) late)))
+
+    pub linearizable_there : IsLinearizable xs → IsLinearizable ys
+    linearizable_there found = (map (retimed h) found.0, order_stays found.0 found.1)
+
+    pub linearizable_back : AreComplete xs → AreComplete ys → IsLinearizable ys → IsLinearizable xs
+    linearizable_back complete complete' found =
+        (linearizable_exactly xs complete).1 (λ breach is. breach_excludes_order ys (retimed_breach h breach) complete' (breach_there breach is) found)
+
+    -- ---- the choice
+
+    module _ (complete : AreComplete xs) (complete' : AreComplete ys) where
+      -- a ticket and what becomes of it, or never both
+      abbrev Follows : ℕ → ℕ → Type 0
+      Follows t t' = ((h t ≡ t') × (t ≤ MAX_CLOCK) × (t' ≤ MAX_CLOCK)) ⊎ ((t ≡ NEVER) × (t' ≡ NEVER))
+
+      follow_less : (a a' b b' : ℕ) → Follows a a' → Follows b b' → a < b → a' < b'
+      follow_less a a' b b' (inl x) (inl y) less = let more = rises a b less in omega (arith, x.0, y.0)
+      follow_less a a' b b' (inl x) (inr y) less = omega (arith, x.2, y.1)
+      follow_less a a' b b' (inr x) (inl y) less = absurd (omega (arith, x.0, y.1))
+      follow_less a a' b b' (inr x) (inr y) less = absurd (omega (arith, x.0, y.0))
+
+      follow_less_back : (a a' b b' : ℕ) → Follows a a' → Follows b b' → a' < b' → a < b
+      follow_less_back a a' b b' (inl x) (inl y) less = below_back a b (omega (arith, x.0, y.0))
+      follow_less_back a a' b b' (inl x) (inr y) less = omega (arith, x.1, y.0)
+      follow_less_back a a' b b' (inr x) (inl y) less = absurd (omega (arith, x.1, y.2))
+      follow_less_back a a' b b' (inr x) (inr y) less = absurd (omega (arith, x.1, y.1))
+
+      follow_most_back : (a a' b b' : ℕ) → Follows a a' → Follows b b' → a' ≤ b' → a ≤ b
+      follow_most_back a a' b b' x y le = elim (cases_order a b) [
+        | inl same ↦ omega arith
+        | inr (inl below) ↦ omega arith
+        | inr (inr above) ↦ let more = follow_less b b' a a' y x above in absurd (omega arith)
+      ]
+
+      follow_same : (a a' b b' : ℕ) → Follows a a' → Follows b b' → a ≡ b → a' ≡ b'
+      follow_same a a' b b' (inl x) (inl y) same = sym x.0 ∙ ap h same ∙ y.0
+      follow_same a a' b b' (inl x) (inr y) same = absurd (omega (arith, x.1, y.0))
+      follow_same a a' b b' (inr x) (inl y) same = absurd (omega (arith, x.0, y.1))
+      follow_same a a' b b' (inr x) (inr y) same = x.1 ∙ sym y.1
+
+      follow_test : (a a' b b' : ℕ) → Follows a a' → Follows b b' → nat_lt a' b' ≡ nat_lt a b
+      follow_test a a' b b' x y = by_test (nat_lt a b) refl
+        where
+          by_test : (test : Bool) → nat_lt a b ≡ test → nat_lt a' b' ≡ test
+          by_test true is = lt-ltb a' b' (follow_less a a' b b' x y (ltb-true a b is))
+          by_test false is = le-ltb a' b' (let le = ltb-false a b is in elim (cases_order a' b') [
+            | inl same ↦ omega arith
+            | inr (inl below) ↦ let less = follow_less_back a a' b b' x y below in absurd (omega arith)
+            | inr (inr above) ↦ omega arith
+          ])
+
+      call_follows : (o : Operation) → Contains xs o → Follows o.call (h o.call)
+      call_follows o among =
+          let late = return_in_range xs o complete among in
+          let late' = return_in_range ys (retimed h o) complete' (mapped_to (retimed h) xs o among) in
+          let less = call_before_return xs o complete among in
+          let less' = rises o.call o.ret less in
+          inl (refl, omega arith, omega arith)
+
+      return_follows : (o : Operation) → Contains xs o → Follows o.ret (h o.ret)
+      return_follows o among = inl (
+        refl,
+        return_in_range xs o complete among,
+        return_in_range ys (retimed h o) complete' (mapped_to (retimed h) xs o among),
+      )
+
+      maybe_follows : (d : Option Operation) → IsMaybeAmong xs d → Follows (call_or_never d) (call_or_never (option_map (retimed h) d))
+      maybe_follows None none = inr (refl, refl)
+      maybe_follows (Some d) among = call_follows d among
+
+      dequeue_among : (v : ℕ) (d : Option Operation) → MatchOption d (NoneDid xs (Deq v)) (λ d. Did xs d (Deq v)) → IsMaybeAmong xs d
+      dequeue_among v None none = tt
+      dequeue_among v (Some d) did = did.0
+
+      later_among : (deq_b : Operation) (v : ℕ) (d : Option Operation)
+          → MatchOption d (NoneDid xs (Deq v)) (λ d. Did xs d (Deq v) × Precedes deq_b d) → IsMaybeAmong xs d
+      later_among deq_b v None none = tt
+      later_among deq_b v (Some d) did = did.0.0
+
+      life_follows : (life : Life) → IsLife xs life → Follows (dequeue_call life) (dequeue_call (retimed_life h life))
+      life_follows life is = maybe_follows (dequeue_of life) (dequeue_among is.0 (dequeue_of life) is.2)
+
+      stays_back : (x y : Life) → IsMaybeAmong xs (dequeue_of x) → IsMaybeAmong xs (dequeue_of y)
+          → StaysAtLeast (retimed_life h x) (retimed_life h y) → StaysAtLeast x y
+      stays_back x y in_x in_y stays = (
+        follow_most_back (dequeue_call y) _ (dequeue_call x) _ (maybe_follows (dequeue_of y) in_y) (maybe_follows (dequeue_of x) in_x) stays.0,
+        λ same. at_most_back (enqueue_return x) (enqueue_return y)
+            (stays.1 (follow_same (dequeue_call y) _ (dequeue_call x) _ (maybe_follows (dequeue_of y) in_y) (maybe_follows (dequeue_of x) in_x) same)),
+      )
+
+      -- ---- windows
+
+      covered_there : (o : Operation) → Contains xs o → IsCovered xs o → IsCovered ys (retimed h o)
+      covered_there o among covered c window =
+          let gap = floor_by (o.ret - o.call) o.call o.ret c
+          (let less = call_before_return xs o complete among in omega arith) window.0 window.1 in
+          let z = covered gap.0 (gap.1, gap.2) in
+          let entered = at_most (enqueue_return z.0) gap.0 z.2.0 in
+          (retimed_life h z.0, life_there z.0 z.1, (omega (arith, gap.3), stays z.0 gap.0 gap.4 z.2.1 (life_follows z.0 z.1)))
+        where
+          latest : h o.ret ≤ MAX_CLOCK
+          latest = return_in_range ys (retimed h o) complete' (mapped_to (retimed h) xs o among)
+
+          stays : (life : Life) (p : ℕ) → c < h (p + 1) → p < dequeue_call life
+              → Follows (dequeue_call life) (dequeue_call (retimed_life h life)) → c < dequeue_call (retimed_life h life)
+          stays life p high below (inl x) = let most = at_most (p + 1) (dequeue_call life) (omega arith) in omega (arith, x.0)
+          stays life p high below (inr x) = omega (arith, x.1, latest, window.1)
+
+      covered_back : (o : Operation) → Contains xs o → IsCovered ys (retimed h o) → IsCovered xs o
+      covered_back o among covered c window =
+          let z = covered (h c) (at_most o.call c window.0, rises c o.ret window.1) in
+          let x = life_from z.0 z.1 in
+          let covers = subst (λ life. (enqueue_return life ≤ h c) × (h c < dequeue_call life)) (sym x.1) z.2 in
+          (x.0, x.2, (at_most_back (enqueue_return x.0) c covers.0, stays x.0 covers.1 (life_follows x.0 x.2)))
+        where
+          latest : o.ret ≤ MAX_CLOCK
+          latest = return_in_range xs o complete among
+
+          stays : (life : Life) → h c < dequeue_call (retimed_life h life)
+              → Follows (dequeue_call life) (dequeue_call (retimed_life h life)) → c < dequeue_call life
+          stays life below (inl y) = below_back c (dequeue_call life) (omega (arith, y.0))
+          stays life below (inr y) = omega (arith, y.0, latest, window.1)
+
+      chosen_cover_back : (empty : Operation) → Contains xs empty → (cover : List Life) (frontier frontier' : ℕ) → Follows frontier frontier'
+          → IsChosenCoverFrom ys (retimed h empty) frontier' (map (retimed_life h) cover) → IsChosenCoverFrom xs empty frontier cover
+      chosen_cover_back empty among [] frontier frontier' follows chosen = chosen
+      chosen_cover_back empty among (life ∷ rest) frontier frontier' follows chosen = (
+        record {
+          is_life = is;
+          before_frontier = follow_less_back (enqueue_return life) (h (enqueue_return life)) frontier frontier'
+              (return_follows (enqueue_of life) is.1.0) follows chosen.0.before_frontier;
+          longest = λ other is_other before. stays_back life other (dequeue_among is.0 (dequeue_of life) is.2)
+              (dequeue_among is_other.0 (dequeue_of other) is_other.2)
+              (chosen.0.longest (retimed_life h other) (life_there other is_other)
+              (follow_less (enqueue_return other) (h (enqueue_return other)) frontier frontier' (return_follows (enqueue_of other) is_other.1.0)
+              follows before));
+        },
+        further (nat_lt empty.ret (dequeue_call life))
+            (subst (λ test. MatchBool test (map (retimed_life h) rest ≡ [])
+            (IsChosenCoverFrom ys (retimed h empty) (dequeue_call (retimed_life h life)) (map (retimed_life h) rest)))
+            (follow_test empty.ret (h empty.ret) (dequeue_call life) (dequeue_call (retimed_life h life)) (return_follows empty among) (life_follows life is))
+            chosen.1)
+            (chosen_cover_back empty among rest (dequeue_call life) (dequeue_call (retimed_life h life)) (life_follows life is)),
+      )
+        where
+          is : IsLife xs life
+          is = life_back life chosen.0.is_life
+
+          further : (test : Bool) → MatchBool test (map (retimed_life h) rest ≡ [])
+              (IsChosenCoverFrom ys (retimed h empty) (dequeue_call (retimed_life h life)) (map (retimed_life h) rest))
+              → (IsChosenCoverFrom ys (retimed h empty) (dequeue_call (retimed_life h life)) (map (retimed_life h) rest)
+              → IsChosenCoverFrom xs empty (dequeue_call life) rest)
+              → MatchBool test (rest ≡ []) (IsChosenCoverFrom xs empty (dequeue_call life) rest)
+          further true ends more = none_mapped (retimed_life h) rest ends
+          further false chosen' more = more chosen'
+
+      -- ---- violations that are chosen
+
+      -- where the violation at the other tickets is the chosen one, it was the chosen one before
+      pub chosen_back : (breach : Breach) → IsChosenBreach ys (retimed_breach h breach) → IsChosenBreach xs breach
+      chosen_back (fresh deq enq) chosen = record {
+        violates = fresh_back deq enq chosen.violates;
+        first = λ deq' enq' is. at_most_back deq.ret deq'.ret (chosen.first (retimed h deq') (option_map (retimed h) enq') (fresh_there deq' enq' is));
+      }
+      chosen_back (repeat enq first second) chosen = (
+        no_fresh_back chosen.0,
+        record {
+          violates = repeat_back enq first second chosen.1.violates;
+          soonest = λ enq' first' second' is. at_most_back second.ret second'.ret
+              (chosen.1.soonest (retimed h enq') (retimed h first') (retimed h second') (repeat_there enq' first' second' is));
+        },
+      )
+      chosen_back (order enq_a enq_b deq_b deq_a) chosen = (
+        no_fresh_back chosen.0,
+        no_repeat_back chosen.1,
+        record {
+          violates = is;
+          first = λ enq_a' enq_b' deq_b' deq_a' is'. at_most_back deq_b.ret deq_b'.ret
+              (chosen.2.first (retimed h enq_a') (retimed h enq_b') (retimed h deq_b') (option_map (retimed h) deq_a')
+              (order_there enq_a' enq_b' deq_b' deq_a' is'));
+          longest = λ enq_a' deq_a' is'. stays_back (record { enqueue = enq_a; dequeue = deq_a }) (record { enqueue = enq_a'; dequeue = deq_a' })
+              (later_among deq_b is.a deq_a is.dequeued_later) (later_among deq_b is'.a deq_a' is'.dequeued_later)
+              (chosen.2.longest (retimed h enq_a') (option_map (retimed h) deq_a') (order_there enq_a' enq_b deq_b deq_a' is'));
+        },
+      )
+        where
+          is : IsOrderViolation xs enq_a enq_b deq_b deq_a
+          is = order_back enq_a enq_b deq_b deq_a chosen.2.violates
+      chosen_back (witness empty cover) chosen = (
+        no_fresh_back chosen.0,
+        no_repeat_back chosen.1,
+        no_order_back chosen.2,
+        record {
+          answers_empty = did;
+          is_covered = covered_back empty did.0 chosen.3.is_covered;
+          first = λ empty' did' covered. at_most_back empty.ret empty'.ret
+              (chosen.3.first (retimed h empty') (did_there empty' Empty did') (covered_there empty' did'.0 covered));
+          cover_is_chosen = chosen_cover_back empty did.0 cover empty.call (h empty.call) (call_follows empty did.0) chosen.3.cover_is_chosen;
+        },
+      )
+        where
+          did : Did xs empty Empty
+          did = did_back empty Empty chosen.3.answers_empty
+
+      maybe_enqueue : (deq : Operation) (enq : Option Operation) → IsFreshViolation ys deq enq → (x : Option Operation) × (option_map (retimed h) x ≡ enq)
+      maybe_enqueue deq None is = (None, refl)
+      maybe_enqueue deq (Some enq) is = let found = mapped_from (retimed h) xs enq (among is.enqueues) in (Some found.0, ap (λ o. Some o) found.2)
+        where
+          among : Did ys enq (Not is.value) ⊎ (Did ys enq (Enq is.value) × Precedes deq enq) → Contains ys enq
+          among (inl refused) = refused.0
+          among (inr late) = late.0.0
+
+      fresh_dequeue : (deq : Operation) (enq : Option Operation) → IsFreshViolation ys deq enq → Contains ys deq
+      fresh_dequeue deq None is = is.dequeues.0
+      fresh_dequeue deq (Some enq) is = is.dequeues.0
+
+      maybe_later : (deq_b : Operation) (v : ℕ) (d : Option Operation)
+          → MatchOption d (NoneDid ys (Deq v)) (λ d. Did ys d (Deq v) × Precedes deq_b d) → (x : Option Operation) × (option_map (retimed h) x ≡ d)
+      maybe_later deq_b v None none = (None, refl)
+      maybe_later deq_b v (Some d) did = let found = mapped_from (retimed h) xs d did.0.0 in (Some found.0, ap (λ o. Some o) found.2)
+
+      -- each chosen violation at the other tickets was one before
+      pub breach_from : (breach : Breach) → IsChosenBreach ys breach → (x : Breach) × (retimed_breach h x ≡ breach)
+      breach_from (fresh deq enq) chosen =
+          let d = mapped_from (retimed h) xs deq (fresh_dequeue deq enq chosen.violates) in
+          let e = maybe_enqueue deq enq chosen.violates in
+          (fresh d.0 e.0, λ i. fresh (d.2 i) (e.1 i))
+      breach_from (repeat enq first second) chosen =
+          let e = mapped_from (retimed h) xs enq chosen.1.violates.enqueues.0 in
+          let d = mapped_from (retimed h) xs first chosen.1.violates.dequeues.0 in
+          let f = mapped_from (retimed h) xs second chosen.1.violates.dequeues_again.0 in
+          (repeat e.0 d.0 f.0, λ i. repeat (e.2 i) (d.2 i) (f.2 i))
+      breach_from (order enq_a enq_b deq_b deq_a) chosen =
+          let is = chosen.2.violates in
+          let a = mapped_from (retimed h) xs enq_a is.enqueues_a.0 in
+          let b = mapped_from (retimed h) xs enq_b is.enqueues_b.0 in
+          let d = mapped_from (retimed h) xs deq_b is.dequeues_b.0 in
+          let e = maybe_later deq_b is.a deq_a is.dequeued_later in
+          (order a.0 b.0 d.0 e.0, λ i. order (a.2 i) (b.2 i) (d.2 i) (e.1 i))
+      breach_from (witness empty cover) chosen =
+          let o = mapped_from (retimed h) xs empty chosen.3.answers_empty.0 in
+          let lives = lives_from cover (λ life among. chosen_are_lives ys empty cover empty.call life chosen.3.cover_is_chosen among) in
+          (witness o.0 lives.0, λ i. witness (o.2 i) (lives.1 i))

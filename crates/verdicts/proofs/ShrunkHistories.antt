@@ -1,0 +1,441 @@
+-- The selection by the lines of the chosen violation of a history: the same violation is its chosen one, and nothing can be left out.
+use Rattle.std.proofs.Common.{◌≡◌, ◌≢◌, ℕ, ◌+◌, ◌-◌, ◌*◌, ◌<◌, ◌≤◌, ◌↔◌, Bool, true, false, IsTrue, List, [], ◌∷◌, length}
+use Rattle.std.proofs.Common.{Option, Some, None, refl, sym, ◌∙◌, ap, subst, inl, inr, arith, map, nat_eq}
+use Rattle.std.specs.Prelude.{Contains, filter, filter_map, slice_get}
+use Rattle.std.specs.List.{list_any}
+use Rattle.std.specs.Option.{option_map_or}
+use Rattle.std.proofs.lemmas.Bool.{eqb-true, eq-eqb}
+use Rattle.std.proofs.lemmas.List.Elements.{Contains-append_cases, Contains-append_left, Contains-append_right, filter_agree}
+use Rattle.std.proofs.lemmas.List.Folds.{Any-from_list_any, list_any-from_Any}
+use Rattle.event_records.specs.declared.event.Event.{Event}
+use Rattle.event_records.specs.declared.limits.TheConstants.{MAX_EVENTS, MAX_INITIAL}
+use Rattle.history_merge.specs.declared.operation.Operation.{Operation}
+use Rattle.history_merge.specs.declared.operation.OpKind.TheVariants.{Enq}
+use Rattle.history_merge.specs.Complete.{AreComplete}
+use Rattle.history_merge.specs.Initial.{HistoryView, IsCompleteFrom, filled, filling_from, later_by}
+use Rattle.history_merge.specs.Legal.{IsLinearizable}
+use Rattle.history_merge.specs.Operations.{operations_of}
+use Rattle.history_merge.proofs.Distinct.{call_before_return, contains_at, place_of}
+use Rattle.history_merge.proofs.Filled.{filled_are_complete, linearizable_from_exactly}
+use Rattle.value_match.specs.declared.violation.Violation.{Violation}
+use Rattle.value_match.specs.Outcome.{IsChosenViolation, Names}
+use Rattle.value_match.specs.Violations.{Breach, lines_of}
+use Rattle.value_match.specs.Choice.{IsChosenBreach}
+use Rattle.value_match.proofs.Lists.{kept, keeps, mapped_from, mapped_to, one_deeper, passed_filter}
+use Rattle.verdicts.specs.declared.verifying.ClaimLine.{ClaimLine}
+use Rattle.verdicts.specs.declared.verifying.Claimed.TheVariants as claimed
+use Rattle.verdicts.specs.Claims.{filling_at, kind_of}
+use Rattle.verdicts.specs.Claiming.{lines_of_history}
+use Rattle.verdicts.specs.Selection.{AreLinearizable, ArePartOf, Contents, IsMinimal, KeepsViolation, StaysChosen, contents_of, select, selects, value_of}
+use Rattle.verdicts.specs.Selection.{violation_lines}
+use Rattle.verdicts.specs.Shown.{places_of}
+use Rattle.verdicts.specs.Verdicts.{filled_of}
+use Rattle.verdicts.specs.Inner.Selecting.{SelectsNamed, call_in, holds_ticket, value_in}
+use Rattle.verdicts.proofs.Chosen.{chosen_is_breach}
+use Rattle.verdicts.proofs.ChosenSelections.{stays_chosen}
+use Rattle.verdicts.proofs.FilledLines.{filling_place, filling_stands}
+use Rattle.verdicts.proofs.FilledSelections.{lifted, lifted_late, lifted_rises, selected_behind, selected_of_filled}
+use Rattle.verdicts.proofs.KeptTickets.{selected_are_complete}
+use Rattle.verdicts.proofs.Minimal.{AreMinimal, all_or_one, selection_is_minimal, stays_violation}
+use Rattle.verdicts.proofs.NamedLines.{SelectsLines, lines_are_operations, selects_as_call, selects_as_value}
+use Rattle.verdicts.proofs.NamedPlaces.{places_of_lines}
+use Rattle.verdicts.proofs.Retiming.{breach_from, chosen_back, linearizable_back, retimed, retimed_breach, same_back}
+use Rattle.verdicts.proofs.ShownLines.{call_of_line, line_of, line_of_call, lines_at_places, same_line, value_of_line}
+use Rattle.verdicts.proofs.ShrunkEvents.{kept_filled_are_complete, kept_is_complete_from, no_longer, operations_kept}
+use Rattle.verdicts.proofs.TrueClaims.{same_kind}
+use Rattle.verdicts.proofs.ViolationPlaces.{retimed_kind, retimed_lines, violation_at}
+
+-- tests that pass together are one
+same_tests : (a b : Bool) → (a ≡ true → b ≡ true) → (b ≡ true → a ≡ true) → a ≡ b
+same_tests true b there back = sym (there refl)
+same_tests false false there back = refl
+same_tests false true there back = back refl
+
+-- whether one of the operations was called at this ticket
+abbrev pub calls_at : List Operation → ℕ → Bool
+calls_at operations call = list_any (λ o. nat_eq o.call call) operations
+
+pub called_at : (operations : List Operation) (call : ℕ) → calls_at operations call ≡ true → (o : Operation) × Contains operations o × (o.call ≡ call)
+called_at operations call is =
+    let found = Any-from_list_any (λ o. nat_eq o.call call) operations is in
+    (found.1, (found.0, found.2, found.3), eqb-true found.1.call call found.4)
+
+pub calls_at_call : (operations : List Operation) (o : Operation) (call : ℕ) → Contains operations o → o.call ≡ call → calls_at operations call ≡ true
+calls_at_call operations o call among is =
+    list_any-from_Any (λ o. nat_eq o.call call) operations (among.0, o, among.1, among.2, eq-eqb o.call call is)
+
+calls_are_named : (operations : List Operation) (call : ℕ) → IsTrue (calls_at operations call) ↔ Contains (map (λ o. o.call) operations) call
+calls_are_named operations call = (
+  λ is.
+      let found = called_at operations call is in
+      subst (Contains (map (λ o. o.call) operations)) found.2 (mapped_to (λ o. o.call) operations found.0 found.1),
+  λ at. let found = mapped_from (λ (o : Operation). o.call) operations call at in calls_at_call operations found.0 call found.1 found.2,
+)
+
+-- what agrees at each element of a list is mapped to one list
+map_agree_among : {X Y : Type 0} (f g : X → Y) (xs : List X) → ((x : X) → Contains xs x → f x ≡ g x) → map f xs ≡ map g xs
+map_agree_among f g [] same = refl
+map_agree_among f g (x ∷ xs) same =
+    let here = same x (0, omega arith, refl) in
+    let more = map_agree_among f g xs (λ y among. same y (one_deeper x xs y among)) in
+    cc
+
+-- ---- selections of a history and of its filled history
+
+module _ (whole : Contents) where
+  abbrev in_filled : List Operation
+  in_filled = filled whole.initial whole.operations
+
+  -- the empty answers of a selection, by their calls in the filled history
+  abbrev pub calls_behind : (ℕ → Bool) → ℕ → Bool
+  calls_behind empties call = empties (call - 2 * length whole.initial)
+
+  -- what is selected of the filled history is filled with what is selected, at other clocks
+  pub selection_filled : (values empties : ℕ → Bool) → filter (selects values (calls_behind empties)) in_filled
+      ≡ map (retimed (lifted values whole.initial)) (filled (select values empties whole).initial (select values empties whole).operations)
+  selection_filled values empties =
+      selected_of_filled values (calls_behind empties) whole.initial whole.operations
+      ∙ ap (λ os. map (retimed (lifted values whole.initial)) (filled (filter values whole.initial) os))
+      (filter_agree (selects values (λ call. calls_behind empties (call + 2 * length whole.initial))) (selects values empties)
+      (λ o. ap (λ call. option_map_or values (value_of o.kind) (empties call))
+      (let e : o.call + 2 * length whole.initial - 2 * length whole.initial ≡ o.call = omega arith in e)) whole.operations)
+
+  -- where all of the filled history passes, the selection is the whole
+  pub whole_passes : (values empties : ℕ → Bool) → ((o : Operation) → Contains in_filled o → selects values (calls_behind empties) o ≡ true)
+      → select values empties whole ≡ whole
+  whole_passes values empties each = λ i. record { initial = all_values i; operations = all_operations i }
+    where
+      initial_passes : (v : ℕ) → Contains whole.initial v → values v ≡ true
+      initial_passes v among =
+          let at = place_of whole.initial v among in
+          each (filling_at at.0 v) (Contains-append_left (filling_from 0 whole.initial) (map (later_by (2 * length whole.initial)) whole.operations)
+          (filling_at at.0 v) (filling_stands whole.initial at.0 v at.1))
+
+      operation_passes : (o : Operation) → Contains whole.operations o → selects values empties o ≡ true
+      operation_passes o among =
+          sym (ap (λ call. option_map_or values (value_of o.kind) (empties call))
+          (let e : o.call + 2 * length whole.initial - 2 * length whole.initial ≡ o.call = omega arith in e))
+          ∙ each (later_by (2 * length whole.initial) o) (Contains-append_right (filling_from 0 whole.initial)
+          (map (later_by (2 * length whole.initial)) whole.operations) (later_by (2 * length whole.initial) o)
+          (mapped_to (later_by (2 * length whole.initial)) whole.operations o among))
+
+      all_values : filter values whole.initial ≡ whole.initial
+      all_values = elim (all_or_one values whole.initial) [
+        | inl all ↦ all
+        | inr one ↦ let clash : true ≡ false = sym (initial_passes one.0 one.1) ∙ one.2 in cc
+      ]
+
+      all_operations : filter (selects values empties) whole.operations ≡ whole.operations
+      all_operations = elim (all_or_one (selects values empties) whole.operations) [
+        | inl all ↦ all
+        | inr one ↦ let clash : true ≡ false = sym (operation_passes one.0 one.1) ∙ one.2 in cc
+      ]
+
+-- ---- the small history
+
+-- the small history is that of the selected values and calls
+pub record IsSelectedBy (whole : HistoryView) (values calls : ℕ → Bool) (small : HistoryView) : Type 0 where
+  pub initial : small.initial ≡ filter values whole.initial
+  pub operations : operations_of small.events ≡ filter (selects values calls) (operations_of whole.events)
+
+-- a complete history within its limit of initial values
+pub record IsWhole (history : HistoryView) : Type 0 where
+  pub complete : IsCompleteFrom history.initial history.events
+  pub few : length history.initial ≤ MAX_INITIAL
+
+pub filled_is_whole : (history : HistoryView) → IsWhole history → AreComplete (filled_of history)
+filled_is_whole history is = filled_are_complete history.initial history.events is.complete is.few
+
+-- what is called before the first ticket's clock is an accepted enqueue
+pub enqueued_in_filling : (whole : HistoryView) (o : Operation) → Contains (filled_of whole) o → o.call < 2 * length whole.initial
+    → (v : ℕ) × (o.kind ≡ Enq v)
+enqueued_in_filling whole o among early =
+    elim (Contains-append_cases (filling_from 0 whole.initial) (map (later_by (2 * length whole.initial)) (operations_of whole.events)) o among) [
+      | inl here ↦ let found = filling_place whole.initial o here in (found.1, sym (ap (λ (x : Operation). x.kind) found.3))
+      | inr there ↦
+          let found = mapped_from (later_by (2 * length whole.initial)) (operations_of whole.events) o there in
+          let calls : found.0.call + 2 * length whole.initial ≡ o.call = ap (λ (x : Operation). x.call) found.2 in
+          absurd (omega arith)
+    ]
+
+module _ (whole : HistoryView) (violation : Violation) (is_whole : IsWhole whole) (chosen : IsChosenViolation (filled_of whole) violation)
+    (values calls : ℕ → Bool) (named : SelectsNamed (violation_lines whole violation) values calls)
+    (small : HistoryView) (is_small : IsWhole small) (selected : IsSelectedBy whole values calls small) where
+  abbrev n : ℕ
+  n = 2 * length whole.initial
+
+  abbrev breach : Breach
+  breach = chosen.0
+
+  complete : AreComplete (filled_of whole)
+  complete = filled_is_whole whole is_whole
+
+  complete' : AreComplete (filled_of small)
+  complete' = filled_is_whole small is_small
+
+  in_whole : (o : Operation) → Contains (lines_of breach) o → Contains (filled_of whole) o
+  in_whole = lines_are_operations (filled_of whole) breach (chosen_is_breach (filled_of whole) breach complete chosen.2) chosen.2
+
+  -- ---- the lines of the violation
+
+  shown_lines : violation_lines whole violation ≡ map (line_of n) (lines_of breach)
+  shown_lines = lines_at_places whole.initial (operations_of whole.events) (places_of violation) (lines_of breach)
+      (places_of_lines (filled_of whole) violation breach chosen.1)
+
+  line_shown : (o : Operation) → Contains (lines_of breach) o → Contains (violation_lines whole violation) (line_of n o)
+  line_shown o among = subst (λ ls. Contains ls (line_of n o)) (sym shown_lines) (mapped_to (line_of n) (lines_of breach) o among)
+
+  shown_for : (line : ClaimLine) → Contains (violation_lines whole violation) line → (o : Operation) × Contains (lines_of breach) o × (line_of n o ≡ line)
+  shown_for line among = mapped_from (line_of n) (lines_of breach) line (subst (λ ls. Contains ls line) shown_lines among)
+
+  value_shown : (o : Operation) → Contains (lines_of breach) o → value_in (line_of n o) ≡ value_of o.kind
+  value_shown o among = value_of_line n o (enqueued_in_filling whole o (in_whole o among))
+
+  values_named : (v : ℕ) → IsTrue (values v) ↔ Contains (filter_map (λ o. value_of o.kind) (lines_of breach)) v
+  values_named v = (
+    λ is.
+        let found = kept value_in (violation_lines whole violation) v ((named.values_named v).0 is) in
+        let o = shown_for found.0 found.1 in
+        keeps (λ o. value_of o.kind) (lines_of breach) o.0 v o.1 (sym (value_shown o.0 o.1) ∙ ap value_in o.2 ∙ found.2),
+    λ at.
+        let found = kept (λ (o : Operation). value_of o.kind) (lines_of breach) v at in
+        (named.values_named v).1 (keeps value_in (violation_lines whole violation) (line_of n found.0) v (line_shown found.0 found.1)
+        (value_shown found.0 found.1 ∙ found.2)),
+  )
+
+  calls_named : (call : ℕ) → calls call ≡ calls_at (lines_of breach) (call + n)
+  calls_named call = same_tests (calls call) (calls_at (lines_of breach) (call + n)) there back
+    where
+      there : calls call ≡ true → calls_at (lines_of breach) (call + n) ≡ true
+      there is =
+          let found = kept call_in (violation_lines whole violation) call ((named.calls_named call).0 is) in
+          let o = shown_for found.0 found.1 in
+          calls_at_call (lines_of breach) o.0 (call + n) o.1 (call_of_line n o.0 call (ap call_in o.2 ∙ found.2))
+
+      back : calls_at (lines_of breach) (call + n) ≡ true → calls call ≡ true
+      back is =
+          let found = called_at (lines_of breach) (call + n) is in
+          (named.calls_named call).1 (keeps call_in (violation_lines whole violation) (line_of n found.0) call (line_shown found.0 found.1)
+          (line_of_call n found.0 call found.2))
+
+  -- ---- the violation at the small history's clocks
+
+  abbrev h : ℕ → ℕ
+  h = lifted values whole.initial
+
+  by_lines : SelectsLines (lines_of breach) values (calls_at (lines_of breach))
+  by_lines = record { values_named = values_named; calls_named = calls_are_named (lines_of breach) }
+
+  abbrev by_lines_of : List Operation
+  by_lines_of = filter (selects values (calls_at (lines_of breach))) (filled_of whole)
+
+  small_behind : operations_of small.events ≡ selected_behind values (calls_at (lines_of breach)) whole.initial (operations_of whole.events)
+  small_behind = selected.operations ∙ filter_agree (selects values calls) (selects values (λ call. calls_at (lines_of breach) (call + n)))
+      (λ o. ap (option_map_or values (value_of o.kind)) (calls_named o.call)) (operations_of whole.events)
+
+  moved : by_lines_of ≡ map (retimed h) (filled_of small)
+  moved = selected_of_filled values (calls_at (lines_of breach)) whole.initial (operations_of whole.events)
+      ∙ ap (map (retimed h)) (sym (λ i. filled (selected.initial i) (small_behind i)))
+
+  rises : (a b : ℕ) → a < b → h a < h b
+  rises = lifted_rises values whole.initial
+
+  moved_complete : AreComplete (map (retimed h) (filled_of small))
+  moved_complete = subst AreComplete moved (selected_are_complete (selects values (calls_at (lines_of breach))) (filled_of whole) complete)
+
+  moved_chosen : IsChosenBreach (map (retimed h) (filled_of small)) breach
+  moved_chosen = subst (λ os. IsChosenBreach os breach) moved
+      (stays_chosen (filled_of whole) complete values (calls_at (lines_of breach)) breach chosen.2 by_lines
+      (stays_violation (filled_of whole) complete breach chosen.2 values (calls_at (lines_of breach)) by_lines))
+
+  before : (x : Breach) × (retimed_breach h x ≡ breach)
+  before = breach_from h rises (filled_of small) complete' moved_complete breach moved_chosen
+
+  abbrev small_breach : Breach
+  small_breach = before.0
+
+  small_chosen : IsChosenBreach (filled_of small) small_breach
+  small_chosen = chosen_back h rises (filled_of small) complete' moved_complete small_breach
+      (subst (IsChosenBreach (map (retimed h) (filled_of small))) (sym before.1) moved_chosen)
+
+  small_lines : map (retimed h) (lines_of small_breach) ≡ lines_of breach
+  small_lines = sym (retimed_lines h small_breach) ∙ ap lines_of before.1
+
+  in_small : (o : Operation) → Contains (lines_of small_breach) o → Contains (filled_of small) o
+  in_small = lines_are_operations (filled_of small) small_breach (chosen_is_breach (filled_of small) small_breach complete' small_chosen) small_chosen
+
+  -- ---- its claim
+
+  small_named : (found : Violation) × Names (filled_of small) found small_breach
+  small_named = violation_at (filled_of small) small_breach in_small
+
+  same_lines : violation_lines small small_named.0 ≡ violation_lines whole violation
+  same_lines =
+      lines_at_places small.initial (operations_of small.events) (places_of small_named.0) (lines_of small_breach)
+      (places_of_lines (filled_of small) small_named.0 small_breach small_named.1)
+      ∙ sym (map_agree_among (λ o. line_of n (retimed h o)) (line_of (2 * length small.initial)) (lines_of small_breach) one_line)
+      ∙ sym (mapped (lines_of small_breach)) ∙ ap (map (line_of n)) small_lines ∙ sym shown_lines
+    where
+      mapped : (os : List Operation) → map (line_of n) (map (retimed h) os) ≡ map (λ o. line_of n (retimed h o)) os
+      mapped [] = refl
+      mapped (o ∷ os) = ap (λ ls. line_of n (retimed h o) ∷ ls) (mapped os)
+
+      behind : (t : ℕ) → h (t + 2 * length small.initial) ≡ t + n
+      behind t = ap (λ (vs : List ℕ). h (t + 2 * length vs)) selected.initial ∙ lifted_late values whole.initial t
+
+      one_line : (o : Operation) → Contains (lines_of small_breach) o → line_of n (retimed h o) ≡ line_of (2 * length small.initial) o
+      one_line o among =
+          let called = call_before_return (filled_of small) o complete' (in_small o among) in
+          same_line h (2 * length small.initial) n o rises behind (omega arith)
+
+  pub stays : StaysChosen whole violation small
+  stays = (
+    small_named.0,
+    (small_breach, small_named.1, small_chosen),
+    λ i. claimed.No
+        ((same_kind (filled_of small) small_named.0 small_breach small_named.1 ∙ sym (retimed_kind h small_breach) ∙ ap kind_of before.1
+        ∙ sym (same_kind (filled_of whole) violation breach chosen.1)) i)
+        (same_lines i),
+  )
+
+  -- each line is one of the small history
+  pub keeps_violation : KeepsViolation whole violation small
+  keeps_violation = (
+    (values, calls, λ i. record { initial = selected.initial i; operations = selected.operations i }),
+    λ line among.
+        let found = kept (slice_get (lines_of_history small.initial (operations_of small.events))) (places_of small_named.0) line
+        (subst (λ ls. Contains ls line) (sym same_lines) among) in
+        contains_at (lines_of_history small.initial (operations_of small.events)) found.0 line found.2,
+  )
+
+  -- ---- nothing can be left out
+
+  calls_shown : (o : Operation) → Contains (lines_of small_breach) o → calls_at (lines_of breach) (h o.call) ≡ true
+  calls_shown o among = calls_at_call (lines_of breach) (retimed h o) (h o.call)
+      (subst (λ os. Contains os (retimed h o)) small_lines (mapped_to (retimed h) (lines_of small_breach) o among)) refl
+
+  line_before : (l : Operation) → Contains (lines_of breach) l → (o : Operation) × Contains (lines_of small_breach) o × (retimed h o ≡ l)
+  line_before l among = mapped_from (retimed h) (lines_of small_breach) l (subst (λ os. Contains os l) (sym small_lines) among)
+
+  by_small_lines : SelectsLines (lines_of small_breach) values (calls_at (lines_of small_breach))
+  by_small_lines = record {
+    values_named = λ v. (
+      λ is.
+          let found = kept (λ (o : Operation). value_of o.kind) (lines_of breach) v ((values_named v).0 is) in
+          let o = line_before found.0 found.1 in
+          keeps (λ (o : Operation). value_of o.kind) (lines_of small_breach) o.0 v o.1 (ap (λ (x : Operation). value_of x.kind) o.2 ∙ found.2),
+      λ at.
+          let found = kept (λ (o : Operation). value_of o.kind) (lines_of small_breach) v at in
+          (values_named v).1 (keeps (λ (o : Operation). value_of o.kind) (lines_of breach) (retimed h found.0) v
+          (subst (λ os. Contains os (retimed h found.0)) small_lines (mapped_to (retimed h) (lines_of small_breach) found.0 found.1)) found.2),
+    );
+    calls_named = calls_are_named (lines_of small_breach);
+  }
+
+  all_selected : (o : Operation) → Contains (filled_of small) o → selects values (calls_at (lines_of small_breach)) o ≡ true
+  all_selected o among = by_value (value_of o.kind) refl
+    where
+      passed : selects values (calls_at (lines_of breach)) (retimed h o) ≡ true
+      passed = (passed_filter (selects values (calls_at (lines_of breach))) (filled_of whole) (retimed h o)
+          (subst (λ os. Contains os (retimed h o)) (sym moved) (mapped_to (retimed h) (filled_of small) o among))).1
+
+      by_value : (w : Option ℕ) → value_of o.kind ≡ w → selects values (calls_at (lines_of small_breach)) o ≡ true
+      by_value (Some v) is = selects_as_value values (calls_at (lines_of small_breach)) o v is
+          ∙ sym (selects_as_value values (calls_at (lines_of breach)) (retimed h o) v is) ∙ passed
+      by_value None is =
+          let called : calls_at (lines_of breach) (h o.call) ≡ true = sym (selects_as_call values (calls_at (lines_of breach)) (retimed h o) is) ∙ passed in
+          let found = called_at (lines_of breach) (h o.call) called in
+          let line = line_before found.0 found.1 in
+          let same = same_back h rises line.0.call o.call (ap (λ (x : Operation). x.call) line.2 ∙ found.2) in
+          selects_as_call values (calls_at (lines_of small_breach)) o is ∙ calls_at_call (lines_of small_breach) line.0 o.call line.1 same
+
+  filled_is_minimal : AreMinimal (filled_of small)
+  filled_is_minimal = elim (all_or_one (selects values (calls_at (lines_of small_breach))) (filled_of small)) [
+    | inl all ↦ subst AreMinimal all
+        (selection_is_minimal (filled_of small) complete' small_breach small_chosen values (calls_at (lines_of small_breach)) by_small_lines)
+    | inr one ↦ let clash : true ≡ false = sym (all_selected one.0 one.1) ∙ one.2 in cc
+  ]
+
+  pub is_minimal : IsMinimal (contents_of small)
+  is_minimal = (
+    λ linear. filled_is_minimal.0 ((linearizable_from_exactly small.initial (operations_of small.events)).0 linear),
+    λ part closed differs. subst AreLinearizable (sym closed.2) (part_is_linearizable closed.0 closed.1 (λ same. differs (closed.2 ∙ same))),
+  )
+    where
+      part_is_linearizable : (values' empties' : ℕ → Bool) → select values' empties' (contents_of small) ≢ contents_of small
+          → AreLinearizable (select values' empties' (contents_of small))
+      part_is_linearizable values' empties' differs =
+          let part = select values' empties' (contents_of small) in
+          let passes = selects values' (calls_behind (contents_of small) empties') in
+          let same = selection_filled (contents_of small) values' empties' in
+          let linear = filled_is_minimal.1 values' (calls_behind (contents_of small) empties')
+          (λ all. differs (whole_passes (contents_of small) values' empties'
+          (λ o among. (passed_filter passes (filled_of small) o (subst (λ os. Contains os o) (sym all) among)).1))) in
+          (linearizable_from_exactly part.initial part.operations).1
+          (linearizable_back (lifted values' small.initial) (lifted_rises values' small.initial) (filled part.initial part.operations)
+          (kept_filled_are_complete small.initial small.events is_small.complete values' (selects values' empties') is_small.few)
+          (subst AreComplete same (selected_are_complete passes (filled_of small) complete')) (subst IsLinearizable same linear))
+
+-- ---- what is ensured of the small history
+
+pub record IsShrunk (whole : HistoryView) (violation : Violation) (small : HistoryView) : Type 0 where
+  pub kept : KeepsViolation whole violation small
+  pub same_violation : StaysChosen whole violation small
+  pub minimal : IsMinimal (contents_of small)
+  pub initial : ArePartOf whole.initial small.initial
+  pub events : ArePartOf whole.events small.events
+  pub complete : IsCompleteFrom small.initial small.events
+
+-- the initial values and the events of the selected operations
+pub record AreSelected (whole : HistoryView) (values calls : ℕ → Bool) (initial : List ℕ) (events : List Event) : Type 0 where
+  pub has_values : initial ≡ filter values whole.initial
+  pub has_tickets : events ≡ filter (λ e. holds_ticket (filter (selects values calls) (operations_of whole.events)) e.ticket) whole.events
+
+-- what the steps of the selection give
+pub are_selected : (whole : HistoryView) (values calls : ℕ → Bool) (initial first : List ℕ) (events read : List Event) (operations : List Operation)
+    → first ≡ whole.initial → operations ≡ operations_of whole.events → read ≡ whole.events → initial ≡ filter values first
+    → events ≡ filter (λ e. holds_ticket (filter (selects values calls) operations) e.ticket) read → AreSelected whole values calls initial events
+are_selected whole values calls initial first events read operations same_initial same_operations same_events kept_initial kept_events = record {
+  has_values = kept_initial ∙ ap (filter values) same_initial;
+  has_tickets = kept_events ∙ (λ i. filter (λ e. holds_ticket (filter (selects values calls) (same_operations i)) e.ticket) (same_events i));
+}
+
+-- they are a complete history
+pub are_complete : (whole : HistoryView) (values calls : ℕ → Bool) (initial : List ℕ) (events : List Event) → IsCompleteFrom whole.initial whole.events
+    → AreSelected whole values calls initial events → IsCompleteFrom initial events
+are_complete whole values calls initial events complete are =
+    subst (λ vs. IsCompleteFrom vs events) (sym are.has_values) (subst (IsCompleteFrom (filter values whole.initial)) (sym are.has_tickets)
+    (kept_is_complete_from whole.initial whole.events complete values (selects values calls)))
+
+-- and no more than there were
+pub few_events : (whole : HistoryView) (values calls : ℕ → Bool) (initial : List ℕ) (events : List Event) → length whole.events ≤ MAX_EVENTS
+    → AreSelected whole values calls initial events → length events ≤ MAX_EVENTS
+few_events whole values calls initial events few are =
+    let shorter = no_longer (λ (e : Event). holds_ticket (filter (selects values calls) (operations_of whole.events)) e.ticket) whole.events in
+    let long = ap length are.has_tickets in
+    omega arith
+
+-- the small history is what is to be shrunk
+pub are_shrunk : (whole : HistoryView) (violation : Violation) (values calls : ℕ → Bool) (small : HistoryView) → IsWhole whole
+    → IsChosenViolation (filled_of whole) violation → SelectsNamed (violation_lines whole violation) values calls
+    → AreSelected whole values calls small.initial small.events → IsShrunk whole violation small
+are_shrunk whole violation values calls small is_whole chosen named are = record {
+  kept = keeps_violation whole violation is_whole chosen values calls named small is_small selected;
+  same_violation = stays whole violation is_whole chosen values calls named small is_small selected;
+  minimal = is_minimal whole violation is_whole chosen values calls named small is_small selected;
+  initial = (values, are.has_values);
+  events = (λ e. holds_ticket (filter (selects values calls) (operations_of whole.events)) e.ticket, are.has_tickets);
+  complete = is_small.complete;
+}
+  where
+    is_small : IsWhole small
+    is_small = record {
+      complete = are_complete whole values calls small.initial small.events is_whole.complete are;
+      few = let shorter = no_longer values whole.initial in let long = ap length are.has_values in omega (arith, is_whole.few);
+    }
+
+    selected : IsSelectedBy whole values calls small
+    selected = record {
+      initial = are.has_values;
+      operations = ap operations_of are.has_tickets ∙ operations_kept whole.initial whole.events is_whole.complete values (selects values calls);
+    }
