@@ -2,7 +2,7 @@ ghost use Rattle.std.specs.Prelude.{◌≡◌, false};
 
 mod checks;
 mod converting;
-mod drawing;
+mod drawn_histories;
 mod initial;
 mod lying;
 mod one_byte;
