@@ -16,7 +16,7 @@ use Rattle.history_text.specs.declared.version.Version.TheVariants.{One, Two}
 use Rattle.history_text.specs.Versions.{HasText, HaveValueLines, said_in}
 use Rattle.verdicts.specs.declared.verdict.Verdict.{Verdict}
 use Rattle.verdicts.specs.Claiming.{claim_of}
-use Rattle.verdicts.specs.Verdicts.{HasOperationsFrom, IsEvidence, IsExactFrom, IsVerdictOf, filled_of}
+use Rattle.verdicts.specs.Verdicts.{HasOperationsFrom, IsEvidenceFrom, IsExactFrom, IsVerdictFrom}
 use Rattle.verdicts.specs.declared.verdict.Verdict.TheVariants as verdict
 use Rattle.history_merge.specs.declared.operation.Operation.{Operation}
 use Rattle.std.specs.Prelude.{filter}
@@ -77,7 +77,8 @@ pub gathered_of_text : (text : HistoryText) (builder : PreloadedBuilder) → Has
 gathered_of_text text builder has gathered = record { gathered = gathered; few_initial = few_values text has; few_events = has.events.few }
 
 -- what is decided of a history is the claim of its verdict
-pub decided_claim : (history : HistoryView) (verdict : Verdict) → IsVerdictOf (filled_of history) verdict → IsEvidence (filled_of history) verdict
+pub decided_claim : (history : HistoryView) (verdict : Verdict) → IsVerdictFrom history.initial (operations_of history.events) verdict
+    → IsEvidenceFrom history.initial (operations_of history.events) verdict
     → IsExactFrom history.initial (operations_of history.events) verdict
     → IsVerdictClaim history (claim_of history.initial (operations_of history.events) verdict)
 decided_claim history verdict chosen evidence exact =
@@ -92,7 +93,8 @@ is_from_none history none = λ i. record { initial = none i; events = history.ev
 -- a yes of `shrink` is its verdict
 pub shrunk_yes : (text : HistoryText) (version : Version) (history : HistoryView) (initial : List ℕ) (operations : List Operation) (order : List ℕ)
     → said_in version history ≡ text → initial ≡ history.initial → operations ≡ operations_of history.events
-    → IsCompleteFrom history.initial history.events → IsVerdictOf (filled_of history) (verdict.Yes order) → IsEvidence (filled_of history) (verdict.Yes order)
+    → IsCompleteFrom history.initial history.events → IsVerdictFrom history.initial (operations_of history.events) (verdict.Yes order)
+    → IsEvidenceFrom history.initial (operations_of history.events) (verdict.Yes order)
     → IsExactFrom history.initial (operations_of history.events) (verdict.Yes order)
     → AnswersOrNoMemory Shrinks text (judged (claim_of initial operations (verdict.Yes order)))
 shrunk_yes text version history initial operations order same same_initial same_operations complete chosen evidence exact =

@@ -23,7 +23,7 @@ use Rattle.commands.specs.Judging.{SimulatesIn}
 -- an exact verdict on operations that have a legal order claims a yes
 claims_yes : (initial : List ℕ) (operations : List Operation) (verdict : Verdict) (claimed : Claimed) → IsLinearizableFrom initial operations
     → IsExactFrom initial operations verdict → claimed ≡ claim_of initial operations verdict → (order : List Operation) × (claimed ≡ claim.Yes order)
-claims_yes initial operations (Yes places) claimed legal exact is = (operations_at initial operations places, is)
+claims_yes initial operations (Yes places) claimed legal exact is = (operations_at operations places, is)
 claims_yes initial operations (No violation) claimed legal exact is = absurd (exact legal)
 
 -- what is answered of an honest schedule that is done

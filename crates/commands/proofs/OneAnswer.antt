@@ -8,7 +8,6 @@ use Rattle.history_merge.specs.Complete.{IsCompleteHistory}
 use Rattle.history_merge.specs.Merge.{IsMerged}
 use Rattle.history_merge.specs.Operations.{operations_of}
 use Rattle.history_merge.specs.Initial.{HistoryView, IsCompleteFrom}
-use Rattle.history_merge.proofs.Filled.{filled_are_complete}
 use Rattle.history_merge.proofs.InitialFaults.{complete_from_has_no_fault, complete_from_nothing}
 use Rattle.history_merge.proofs.OneFaultFrom.{one_first_fault_from}
 use Rattle.recorder_core.specs.Setting.{Setting}
@@ -18,10 +17,9 @@ use Rattle.verdicts.specs.declared.verifying.Claimed.{Claimed}
 use Rattle.verdicts.specs.Claims.{IsTrueClaim}
 use Rattle.verdicts.proofs.EventsHeld.{part_is_one}
 use Rattle.verdicts.proofs.OneSelection.{selection_is_one}
-use Rattle.verdicts.proofs.OneVerdict.{chosen_violation_is_one}
+use Rattle.verdicts.proofs.OneVerdict.{chosen_from_is_one}
 use Rattle.verdicts.proofs.SameLists.{same_lists}
 use Rattle.verdicts.specs.Selection.{ArePartOf, Contents, KeepsViolation, StaysChosen}
-use Rattle.verdicts.specs.Verdicts.{filled_of}
 use Rattle.verdicts.proofs.ShrunkEvents.{no_longer}
 use Rattle.verdicts.proofs.ShrunkHistories.{IsWhole}
 use Rattle.text_lines.specs.declared.fault.TextFault.{TextFault}
@@ -124,8 +122,7 @@ one_small : (text : HistoryText) (a b : Answer) → HasText text → (x : IsShru
 one_small text a b has x y =
     let whole = said_by text in
     let few = few_values text has in
-    let violations = chosen_violation_is_one (filled_of whole) y.violation x.violation (filled_are_complete text.initial text.events x.complete few)
-    y.chosen x.chosen in
+    let violations = chosen_from_is_one text.initial text.events y.violation x.violation x.complete few y.chosen x.chosen in
     let kept = subst (λ v. KeepsViolation whole v y.small) violations y.kept in
     let same = subst (λ v. StaysChosen whole v y.small) violations y.same in
     let selected = selection_is_one whole x.small y.small x.violation (is_whole x.small few x.initial x.small_is_complete)

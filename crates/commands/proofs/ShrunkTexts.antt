@@ -5,16 +5,12 @@ use Rattle.std.specs.List.{AllByRecursion}
 use Rattle.event_records.specs.declared.event.Event.{Event}
 use Rattle.event_records.specs.declared.limits.TheConstants.{MAX_INITIAL}
 use Rattle.history_merge.specs.Initial.{HistoryView}
-use Rattle.history_merge.proofs.Filled.{filled_are_complete, linearizable_from_exactly}
 use Rattle.history_merge.specs.Operations.{operations_of}
 use Rattle.history_merge.specs.declared.fault.HistoryFault.{HistoryFault}
 use Rattle.history_merge.specs.declared.fault.HistoryFault.TheVariants as history
 use Rattle.history_merge.proofs.InitialFaults.{complete_from_has_no_fault}
 use Rattle.verdicts.specs.declared.verifying.Claimed.{Claimed}
-use Rattle.verdicts.specs.declared.verdict.Verdict.{Verdict}
-use Rattle.verdicts.specs.declared.verdict.Verdict.TheVariants.{Yes, No}
 use Rattle.verdicts.specs.Claiming.{claim_of}
-use Rattle.verdicts.specs.Verdicts.{IsDecided, IsExact, IsExactFrom, filled_of}
 use Rattle.verdicts.proofs.OneVerdict.{verdict_is_one}
 use Rattle.verdicts.proofs.ShrunkEvents.{no_longer}
 use Rattle.text_lines.specs.declared.fault.TextFault.{TextFault}
@@ -143,17 +139,8 @@ only_memory t text.Trailing has is = absurd (whole_has_no_fault t text.Trailing 
 pub one_verdict_claim : (history : HistoryView) (c d : Claimed) → IsSound history → length history.initial ≤ MAX_INITIAL → IsVerdictClaim history c
     → IsVerdictClaim history d → c ≡ d
 one_verdict_claim history c d complete few x y =
-    let operations = filled_of history in
-    let whole = filled_are_complete history.initial history.events complete few in
-    let decided_x : IsDecided operations x.verdict = record { chosen = x.chosen; evidence = x.evidence; exact = exact_of_filled history x.verdict x.exact } in
-    let decided_y : IsDecided operations y.verdict = record { chosen = y.chosen; evidence = y.evidence; exact = exact_of_filled history y.verdict y.exact } in
-    let one = verdict_is_one operations x.verdict y.verdict whole decided_x decided_y in
+    let one = verdict_is_one history.initial history.events x.verdict y.verdict complete few x.chosen x.exact y.chosen y.exact in
     x.claim ∙ ap (claim_of history.initial (operations_of history.events)) one ∙ sym y.claim
-  where
-    exact_of_filled : (history : HistoryView) (verdict : Verdict) → IsExactFrom history.initial (operations_of history.events) verdict
-        → IsExact (filled_of history) verdict
-    exact_of_filled history (Yes places) exists = (linearizable_from_exactly history.initial (operations_of history.events)).0 exists
-    exact_of_filled history (No violation) none = λ exists. none ((linearizable_from_exactly history.initial (operations_of history.events)).1 exists)
 
 -- the verdict on a history that has a text is what is judged of that text
 written_is_judged : (t : HistoryText) (claimed : Claimed) (answer : Answer) → IsWritten t claimed

@@ -13,7 +13,6 @@ use Rattle.history_merge.specs.Legal.{IsLinearizableFrom}
 use Rattle.history_merge.specs.Merge.{IsMerged}
 use Rattle.history_merge.specs.Operations.{operations_of}
 use Rattle.value_match.specs.declared.violation.Violation.{Violation}
-use Rattle.value_match.specs.Outcome.{IsChosenViolation}
 use Rattle.recorder_core.specs.Setting.{Setting}
 use Rattle.recorder_core.specs.Schedule.{Attempt}
 use Rattle.recorder_core.specs.Laws.{IsDone, collected_lists}
@@ -22,7 +21,7 @@ use Rattle.verdicts.specs.declared.verifying.Claimed.{Claimed}
 use Rattle.verdicts.specs.declared.verdict.Verdict.{Verdict}
 use Rattle.verdicts.specs.Claims.{IsTrueClaim}
 use Rattle.verdicts.specs.Claiming.{claim_of}
-use Rattle.verdicts.specs.Verdicts.{IsVerdictOf, IsEvidence, IsExactFrom, filled_of}
+use Rattle.verdicts.specs.Verdicts.{IsChosenFrom, IsEvidenceFrom, IsExactFrom, IsVerdictFrom}
 use Rattle.verdicts.specs.Selection.{KeepsViolation, StaysChosen, IsMinimal, HasShortestCover, ArePartOf, contents_of}
 use Rattle.history_text.specs.declared.version.HistoryText.{HistoryText}
 use Rattle.history_text.specs.declared.version.Version.TheVariants.{Two}
@@ -57,8 +56,8 @@ IsSound history = IsCompleteFrom history.initial history.events
 -- the claim of the chosen verdict on a history, which is evidence: a yes exactly where a legal order exists
 pub record IsVerdictClaim (history : HistoryView) (claimed : Claimed) : Type 0 where
   pub verdict : Verdict
-  pub chosen : IsVerdictOf (filled_of history) verdict
-  pub evidence : IsEvidence (filled_of history) verdict
+  pub chosen : IsVerdictFrom history.initial (operations_of history.events) verdict
+  pub evidence : IsEvidenceFrom history.initial (operations_of history.events) verdict
   pub exact : IsExactFrom history.initial (operations_of history.events) verdict
   pub claim : claimed ≡ claim_of history.initial (operations_of history.events) verdict
 
@@ -97,7 +96,7 @@ pub record IsShrunk (text : HistoryText) (answer : Answer) : Type 0 where
   pub complete : IsSound (said_by text)
   pub not_linearizable : ¬ (IsLinearizableFrom text.initial (operations_of text.events))
   pub violation : Violation
-  pub chosen : IsChosenViolation (filled_of (said_by text)) violation
+  pub chosen : IsChosenFrom text.initial (operations_of text.events) violation
   pub small : HistoryView
   pub small_is_complete : IsSound small
   pub initial : ArePartOf text.initial small.initial
@@ -105,7 +104,7 @@ pub record IsShrunk (text : HistoryText) (answer : Answer) : Type 0 where
   pub kept : KeepsViolation (said_by text) violation small
   pub same : StaysChosen (said_by text) violation small
   pub minimal : IsMinimal (contents_of small)
-  pub shortest : HasShortestCover (filled_of (said_by text)) violation
+  pub shortest : HasShortestCover (said_by text) violation
   pub claimed : Claimed
   pub right : IsVerdictClaim small claimed
   pub is : answer ≡ shown (said_in text.version small) claimed

@@ -4,8 +4,7 @@ ghost use Rattle.history_merge.specs.Legal.{IsLinearizableFrom};
 ghost use Rattle.history_merge.specs.Operations.{operations_of};
 ghost use Rattle.history_text.specs.declared.version.Version.TheVariants.{One};
 ghost use Rattle.history_text.specs.Versions.{HasText, said_in};
-ghost use Rattle.value_match.specs.Outcome.{IsChosenViolation};
-ghost use Rattle.verdicts.specs.Verdicts.{filled_of};
+ghost use Rattle.verdicts.specs.Verdicts.{IsChosenFrom};
 ghost use Rattle.commands.specs.Inputs.{IsHistoryOf, IsFaultOfHistoryInput};
 ghost use Rattle.commands.specs.Judging.{Shrinks, IsShrunk, AnswersFor, AnswersOrNoMemory};
 ghost use Rattle.commands.specs.Outcomes.{answer_of, NamesPlaces};
@@ -72,7 +71,7 @@ fn shrink_history(
     violation: &Violation,
 ) -> Outcome
     requires version { version ≡ One → history.now.initial ≡ [] }
-    requires chosen { IsChosenViolation (filled_of history.now) violation.now }
+    requires chosen { IsChosenFrom history.now.initial (operations_of history.now.events) violation.now }
     requires no { ¬ (IsLinearizableFrom history.now.initial (operations_of history.now.events)) }
     ensures found { AnswersOrNoMemory IsShrunk (said_in version history.now) (answer_of result) }
     ensures places { NamesPlaces result }

@@ -3,7 +3,7 @@
 use history_merge::{OpId, Operation};
 use std::alloc::{AllocError, Global};
 use std::test::Fail;
-use value_match::{CoverStep, Life, MatchedValue, Matching};
+use value_match::{CoverStep, Life, MatchedValue, Matching, Source};
 
 /// Whether the value surely is in the queue at this gap.
 fn covers(life: &Life, gap: u64) -> bool {
@@ -79,7 +79,7 @@ pub fn plain_cover(
             return Ok(None);
         };
         steps.push(CoverStep {
-            enqueue: value.enqueue,
+            source: Source::Enq(value.enqueue),
             dequeue: value.dequeue,
         })?;
         frontier = value.life.dequeue_call();

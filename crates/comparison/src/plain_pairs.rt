@@ -1,7 +1,7 @@
 //! Values dequeued against the order of their enqueues, by a scan of all pairs.
 
 use order_violation::OrderPair;
-use value_match::MatchedValue;
+use value_match::{MatchedValue, Source};
 
 /// Whether b overtakes a.
 fn overtakes(a: &MatchedValue, b: &MatchedValue) -> bool {
@@ -36,8 +36,8 @@ pub fn plain_pair(values: &[MatchedValue]) -> Option<OrderPair> {
     }
     let (a, b) = chosen?;
     Some(OrderPair {
-        enq_a: a.enqueue,
-        enq_b: b.enqueue,
+        enq_a: Source::Enq(a.enqueue),
+        enq_b: Source::Enq(b.enqueue),
         deq_b: b.dequeue?,
         deq_a: a.dequeue,
     })

@@ -8,7 +8,7 @@ use std::alloc::{AllocError, Global};
 use std::process::Abort;
 use std::test::Fail;
 use std::thread::Threads;
-use value_match::{Cover, Matched, Matching, Violation, match_values};
+use value_match::{Cover, Matched, Matching, Source, Violation, match_values};
 use verdicts::{Verdict, decide, decide_par};
 
 /// An operation of a row: its thread, what it did, and the tickets of its call and its return.
@@ -128,10 +128,18 @@ enum Kind {
     Witness,
 }
 
+/// The place of the enqueue. No operation stands at that of an initial value.
+pub(crate) fn enqueue_of(source: Source) -> usize {
+    match source {
+        Source::Enq(id) => id.place(),
+        Source::Initial(_) => usize::MAX,
+    }
+}
+
 /// The places of the operations of a cover, value by value.
 pub(crate) fn push_cover(cover: &Cover, places: &mut Vec<usize>) -> Result<(), AllocError> {
     for step in cover.as_slice() {
-        places.push(step.enqueue.place())?;
+        places.push(enqueue_of(step.source))?;
         push_maybe(step.dequeue, places)?;
     }
     Ok(())
@@ -153,7 +161,7 @@ fn push_violation(violation: &Violation, places: &mut Vec<usize>) -> Result<Kind
             Ok(Kind::Fresh)
         }
         Violation::Repeat { enq, first, second } => {
-            places.push(enq.place())?;
+            places.push(enqueue_of(*enq))?;
             places.push(first.place())?;
             places.push(second.place())?;
             Ok(Kind::Repeat)
@@ -164,8 +172,8 @@ fn push_violation(violation: &Violation, places: &mut Vec<usize>) -> Result<Kind
             deq_b,
             deq_a,
         } => {
-            places.push(enq_a.place())?;
-            places.push(enq_b.place())?;
+            places.push(enqueue_of(*enq_a))?;
+            places.push(enqueue_of(*enq_b))?;
             places.push(deq_b.place())?;
             push_maybe(*deq_a, places)?;
             Ok(Kind::Order)
@@ -284,7 +292,7 @@ fn finds_overtaken_values(rt: HostRuntime) -> Result<(), Fail> {
     let history = history_of(&rt, alloc, OVERTAKEN)?;
     let overtaken = matching_of(&rt, alloc, &history)?;
     let pair = find_order(alloc, &overtaken)?.ok_or("no pair is found")?;
-    assert_eq!(rt; (pair.enq_a.place(), pair.enq_b.place()), (0, 1));
+    assert_eq!(rt; (enqueue_of(pair.enq_a), enqueue_of(pair.enq_b)), (0, 1));
     assert_eq!(rt; pair.deq_b.place(), 2);
     assert_eq!(rt; pair.deq_a, None);
     Ok(())

@@ -21,4 +21,6 @@ mod shrinking;
 #[cfg(test)]
 mod small_histories;
 #[cfg(test)]
+mod told_sources;
+#[cfg(test)]
 mod verifying;

@@ -1,5 +1,6 @@
 ghost use Rattle.std.specs.Prelude.{◌≤◌, length};
 
+use crate::deciding::enqueue_of;
 use event_records::{Event, MAX_EVENTS, What};
 use history_merge::{History, HistoryFault, OpId, OpKind, Operation, history};
 use std::alloc::Global;
@@ -26,7 +27,11 @@ fn places(matched: &Matched) -> Option<[Option<OpId>; 3]> {
     match matched {
         Matched::Fresh(Violation::Fresh { deq, enq }) => Some([Some(*deq), *enq, None]),
         Matched::Repeat(Violation::Repeat { enq, first, second }) => {
-            Some([Some(*enq), Some(*first), Some(*second)])
+            Some([
+                Some(OpId::new(enqueue_of(*enq))),
+                Some(*first),
+                Some(*second),
+            ])
         }
         _ => None,
     }

@@ -1,6 +1,6 @@
 use crate::deciding::{
-    COVERED_BY_TWO, NEVER_EMPTY, ONCE_EMPTY, OVERLAPPING, OVERTAKEN, Row, history_of, matching_of,
-    push_cover, push_maybe,
+    COVERED_BY_TWO, NEVER_EMPTY, ONCE_EMPTY, OVERLAPPING, OVERTAKEN, Row, enqueue_of, history_of,
+    matching_of, push_cover, push_maybe,
 };
 use empty_witness::WitnessAnswer;
 use history_merge::OpKind;
@@ -24,8 +24,8 @@ fn places_of_pair(
         return Ok(None);
     };
     let mut places = Vec::new(alloc);
-    places.push(pair.enq_a.place())?;
-    places.push(pair.enq_b.place())?;
+    places.push(enqueue_of(pair.enq_a))?;
+    places.push(enqueue_of(pair.enq_b))?;
     places.push(pair.deq_b.place())?;
     push_maybe(pair.deq_a, &mut places)?;
     Ok(Some(places))

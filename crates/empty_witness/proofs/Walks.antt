@@ -5,16 +5,17 @@ use Rattle.std.proofs.lemmas.Bool.{lt-ltb, le-ltb}
 use Rattle.std.proofs.lemmas.List.Elements.{All-contains}
 use Rattle.history_merge.specs.declared.operation.Operation.{Operation}
 use Rattle.history_merge.specs.declared.operation.OpKind.TheVariants.{Deq, Empty}
-use Rattle.history_merge.specs.Operations.{Did, NoneDid, IsAt}
+use Rattle.history_merge.specs.Operations.{Did, NoneDid}
 use Rattle.history_merge.specs.Complete.{AreComplete}
 use Rattle.history_merge.proofs.Distinct.{return_differs_from_call, return_in_range, call_before_return}
 use Rattle.value_match.specs.declared.life.Life.{Life}
 use Rattle.value_match.specs.declared.life.MatchedValue.{MatchedValue}
 use Rattle.value_match.specs.declared.violation.CoverStep.{CoverStep}
+use Rattle.value_match.specs.declared.violation.Source.TheVariants.{Enq}
 use Rattle.value_match.specs.Lives.{IsLife, HoldsLives, IsMaybeAt, IsCovered, call_or_never, enqueue_return, dequeue_call, dequeue_of, enqueue_of}
 use Rattle.value_match.specs.Violations.{IsClear}
 use Rattle.value_match.specs.Choice.{StaysAtLeast, IsNextOfCover, IsChosenCoverFrom, IsChosenCover}
-use Rattle.value_match.specs.Outcome.{NamesCover}
+use Rattle.value_match.specs.Outcome.{IsSource, NamesCover}
 use Rattle.value_match.specs.Longest.{EntersBefore, IsLongestOf, FindsLongest}
 use Rattle.value_match.proofs.Lists.{one_more_zipped}
 use Rattle.value_match.proofs.Lives.{value_is_life, value_of_life, places_of_value}
@@ -93,11 +94,11 @@ module _ (operations : List Operation) (values : List MatchedValue) (o : Operati
   -- with the next value
   pub one_more_step : (steps : List CoverStep) (frontier : ℕ) (value : MatchedValue) → IsCoverSoFar operations o steps frontier → frontier < o.ret
       → IsLongestOf (EntersBefore frontier) values value
-      → IsCoverSoFar operations o (steps ++ (record { enqueue = value.enqueue; dequeue = value.dequeue }) ∷ []) (dequeue_call value.life)
+      → IsCoverSoFar operations o (steps ++ (record { source = Enq value.enqueue; dequeue = value.dequeue }) ∷ []) (dequeue_call value.life)
   one_more_step steps frontier value so_far below is = record {
     lives = so_far.lives ++ value.life ∷ [];
-    named = one_more_zipped (λ step life. IsAt operations step.enqueue (enqueue_of life) × IsMaybeAt operations step.dequeue (dequeue_of life)) steps
-        so_far.lives (record { enqueue = value.enqueue; dequeue = value.dequeue }) value.life
+    named = one_more_zipped (λ step life. IsSource operations step.source (enqueue_of life) × IsMaybeAt operations step.dequeue (dequeue_of life)) steps
+        so_far.lives (record { source = Enq value.enqueue; dequeue = value.dequeue }) value.life
         so_far.named (places_of_value operations values value holds is.among);
     past_call = let rises = frontier_rises steps frontier value so_far below is in omega (arith, so_far.past_call);
     no_return = no_return_at operations is_life.0 (dequeue_of value.life) clear.complete is_life.2;

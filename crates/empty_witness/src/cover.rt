@@ -6,7 +6,7 @@ ghost use Rattle.empty_witness.specs.Inner.Covered.{NamesChosenCover};
 
 use history_merge::Operation;
 use std::alloc::{AllocError, Global};
-use value_match::{Cover, CoverStep, LongestTable, Matching};
+use value_match::{Cover, CoverStep, LongestTable, Matching, Source};
 
 /// The chosen cover of a window that is covered.
 ///
@@ -22,7 +22,7 @@ pub fn cover_of(alloc: Global, matching: &Matching, answer: &Operation) -> Resul
     while frontier < answer.ret {
         let value = table.longest_before(frontier).unwrap();
         steps.push(CoverStep {
-            enqueue: value.enqueue,
+            source: Source::Enq(value.enqueue),
             dequeue: value.dequeue,
         })?;
         frontier = value.life.dequeue_call();

@@ -1,8 +1,9 @@
 -- The claim of a verdict on a history that has a text has a text.
-use Rattle.std.proofs.Common.{◌≡◌, ℕ, zero, suc, ◌+◌, ◌-◌, ◌≤◌, List, [], ◌∷◌, ◌++◌}
-use Rattle.std.proofs.Common.{length, true, false, nat_lt, Option, Some, None, arith, refl, subst, inl, inr}
-use Rattle.std.specs.Prelude.{Contains, slice_get, filter_map, map, if◌then◌else◌}
+use Rattle.std.proofs.Common.{◌≡◌, ℕ, suc, ◌+◌, ◌≤◌, List, [], ◌∷◌}
+use Rattle.std.proofs.Common.{length, Option, Some, None, arith, refl, subst, inl, inr}
+use Rattle.std.specs.Prelude.{Contains, slice_get, filter_map, map, option_map}
 use Rattle.std.specs.List.{cons_option, AllByRecursion}
+use Rattle.std.proofs.lemmas.List.{length-map}
 use Rattle.event_records.specs.declared.event.Event.{Event}
 use Rattle.event_records.specs.declared.limits.TheConstants.{MAX_CLAIM_LINES}
 use Rattle.history_merge.specs.declared.operation.Operation.{Operation}
@@ -18,7 +19,9 @@ use Rattle.verdicts.specs.declared.verdict.Verdict.{Verdict}
 use Rattle.verdicts.specs.declared.verdict.Verdict.TheVariants as found
 use Rattle.verdicts.specs.declared.verifying.ClaimLine.{ClaimLine}
 use Rattle.verdicts.specs.declared.verifying.ClaimLine.TheVariants.{Op, Initial}
-use Rattle.verdicts.specs.Claiming.{lines_of_history, operation_behind}
+use Rattle.verdicts.specs.declared.shown.LinePlace.{LinePlace}
+use Rattle.verdicts.specs.declared.shown.LinePlace.TheVariants as place
+use Rattle.verdicts.specs.Claiming.{line_at}
 use Rattle.history_text.specs.declared.version.Version.{Version}
 use Rattle.history_text.specs.declared.version.Version.TheVariants.{One, Two}
 use Rattle.history_text.specs.declared.version.HistoryText.{HistoryText}
@@ -26,7 +29,6 @@ use Rattle.history_text.specs.Histories.{HasValueInRange, HasEventLine, HasHisto
 use Rattle.history_text.specs.Versions.{HaveValueLines, HasText}
 use Rattle.history_text.specs.Verdicts.{places_of, places_of_violation, claim_of}
 use Rattle.history_text.specs.Claims.{IsKindInRange, HasOperationLine, HasClaimLine, HasVerdictText}
-use Rattle.history_text.proofs.OneLine.{none_or_some}
 
 deeper : {X : Type 0} (y : X) (xs : List X) (x : X) → Contains xs x → Contains (y ∷ xs) x
 deeper y xs x among = (suc among.0, omega (arith, among.1), among.2)
@@ -53,7 +55,7 @@ has_line events o all among =
     record { call = call.ticket; ret = answer.ticket; thread = call.thread; value = value_by o.kind call.value answer.value }
 
 -- what holds of what may stand at a place holds of what stands at some places
-at_places : {X : Type 0} (P : X → Type 0) (at : ℕ → Option X) (places : List ℕ) → ((p : ℕ) (x : X) → at p ≡ Some x → P x)
+at_places : {X Y : Type 0} (P : X → Type 0) (at : Y → Option X) (places : List Y) → ((p : Y) (x : X) → at p ≡ Some x → P x)
     → AllByRecursion P (filter_map at places)
 at_places P at [] all = tt
 at_places {X} P at (p ∷ places) all = by_place (at p) refl (at_places P at places all)
@@ -66,7 +68,7 @@ longer : {X : Type 0} (here : Option X) (rest : List X) → length (cons_option 
 longer None rest = omega arith
 longer (Some x) rest = omega arith
 
-few_places : {X : Type 0} (at : ℕ → Option X) (places : List ℕ) → length (filter_map at places) ≤ length places
+few_places : {X Y : Type 0} (at : Y → Option X) (places : List Y) → length (filter_map at places) ≤ length places
 few_places at [] = omega arith
 few_places at (p ∷ places) =
     let more = longer (at p) (filter_map at places) in
@@ -76,39 +78,33 @@ few_places at (p ∷ places) =
 -- ---- the operations of a yes
 
 module _ (initial : List ℕ) (events : List Event) (values : AllByRecursion (λ v. v ≤ greatest_value) initial) (text : HasHistoryText events) where
-  has_line_behind : (p : ℕ) (o : Operation) → operation_behind (length initial) (operations_of events) p ≡ Some o → HasOperationLine o
-  has_line_behind p o is =
-      elim (nat_lt p (length initial)) as (λ b. (if b then None else slice_get (operations_of events) (p - length initial)) ≡ Some o → HasOperationLine o) [
-        | true ↦ λ none. absurd (none_or_some o none)
-        | false ↦ λ at. has_line events o text.each (contains_at (operations_of events) (p - length initial) o at)
-      ] is
+  has_line_at : (p : ℕ) (o : Operation) → slice_get (operations_of events) p ≡ Some o → HasOperationLine o
+  has_line_at p o at = has_line events o text.each (contains_at (operations_of events) p o at)
 
   -- ---- the lines of a no
 
-  values_have_lines : (vs : List ℕ) (os : List Operation) → AllByRecursion (λ v. v ≤ greatest_value) vs → ((o : Operation) → Contains os o → HasOperationLine o)
-      → (l : ClaimLine) → Contains (lines_of_history vs os) l → HasClaimLine l
-  values_have_lines [] [] ranges all l among = absurd (none_in_nil l among)
-  values_have_lines [] (o ∷ os) ranges all l among = elim (contains_cons (Op o) (map Op os) l among) [
-    | inl same ↦ subst HasClaimLine same (all o (zero, omega arith, refl))
-    | inr more ↦ values_have_lines [] os tt (λ x later. all x (deeper o os x later)) l more
-  ]
-  values_have_lines (v ∷ vs) os ranges all l among = elim (contains_cons (Initial v) (map Initial vs ++ map Op os) l among) [
-    | inl same ↦ subst HasClaimLine same ranges.0
-    | inr more ↦ values_have_lines vs os ranges.1 all l more
-  ]
-
-  has_claim_line : (p : ℕ) (l : ClaimLine) → slice_get (lines_of_history initial (operations_of events)) p ≡ Some l → HasClaimLine l
-  has_claim_line p l is = values_have_lines initial (operations_of events) values (λ o among. has_line events o text.each among) l
-      (contains_at (lines_of_history initial (operations_of events)) p l is)
+  has_claim_line : (p : LinePlace) (l : ClaimLine) → line_at initial (operations_of events) p ≡ Some l → HasClaimLine l
+  has_claim_line (place.Op p) l is = held (slice_get (operations_of events) p) refl is
+    where
+      held : (o : Option Operation) → slice_get (operations_of events) p ≡ o → option_map Op o ≡ Some l → HasClaimLine l
+      held None at is' = cc
+      held (Some o) at is' = let one : Op o ≡ l = cc in subst HasClaimLine one (has_line_at p o at)
+  has_claim_line (place.Initial p) l is = held (slice_get initial p) refl is
+    where
+      held : (v : Option ℕ) → slice_get initial p ≡ v → option_map Initial v ≡ Some l → HasClaimLine l
+      held None at is' = cc
+      held (Some v) at is' = let one : Initial v ≡ l = cc in subst HasClaimLine one
+          (all_of (λ v. v ≤ greatest_value) initial v values (contains_at initial p v at))
 
   claim_by_parts : (verdict : Verdict) → length (places_of verdict) ≤ MAX_CLAIM_LINES → HasVerdictText (claim_of initial (operations_of events) verdict)
   claim_by_parts (found.Yes places) few = record {
-    each = at_places HasOperationLine (operation_behind (length initial) (operations_of events)) places has_line_behind;
-    few = let fewer = few_places (operation_behind (length initial) (operations_of events)) places in omega (arith, fewer, few);
+    each = at_places HasOperationLine (slice_get (operations_of events)) places has_line_at;
+    few = let fewer = few_places (slice_get (operations_of events)) places in
+        let shown : length (map place.Op places) ≡ length places = simp length-map in omega (arith, fewer, few, shown);
   }
   claim_by_parts (found.No violation) few = record {
-    each = at_places HasClaimLine (slice_get (lines_of_history initial (operations_of events))) (places_of_violation violation) has_claim_line;
-    few = let fewer = few_places (slice_get (lines_of_history initial (operations_of events))) (places_of_violation violation) in omega (arith, fewer, few);
+    each = at_places HasClaimLine (line_at initial (operations_of events)) (places_of_violation violation) has_claim_line;
+    few = let fewer = few_places (line_at initial (operations_of events)) (places_of_violation violation) in omega (arith, fewer, few);
   }
 
 values_of : (version : Version) (initial : List ℕ) → HaveValueLines version initial → AllByRecursion (λ v. v ≤ greatest_value) initial

@@ -12,7 +12,7 @@ use Rattle.verdicts.specs.declared.verifying.Claimed.{Claimed}
 use Rattle.verdicts.specs.declared.verifying.Claimed.TheVariants as claimed
 use Rattle.text_lines.specs.Lines.{line, spaced}
 -- the places of a violation's operations, and of a value's in its cover, in the order in which they are shown
-pub use Rattle.verdicts.specs.Shown.{places_of_step, places_of as places_of_violation}
+pub use Rattle.verdicts.specs.Shown.{maybe_place, places_of_step, places_of as places_of_violation}
 -- the places of a verdict's operations and initial values, and what it claims
 pub use Rattle.verdicts.specs.Claiming.{places_of, violation_kind, IsWithin, lines_at, operations_at, claim_of}
 

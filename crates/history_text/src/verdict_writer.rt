@@ -6,16 +6,16 @@ ghost use Rattle.std.specs.Option.{option_to_list};
 ghost use Rattle.history_merge.specs.Operations.{operations_of};
 ghost use Rattle.text_lines.specs.Lines.{line, spaced};
 ghost use Rattle.history_text.specs.Verdicts.{kind_fields, kind_name, operation_line, claim_line, verdict_text, IsWithin};
-ghost use Rattle.history_text.specs.Verdicts.{places_of_violation, places_of_step, violation_kind, claim_of};
+ghost use Rattle.history_text.specs.Verdicts.{maybe_place, places_of_violation, places_of_step, violation_kind, claim_of};
 ghost use Rattle.history_text.specs.Inner.Verdicts.{operation_text, lines_text};
 ghost use Rattle.verdicts.specs.declared.verifying.ClaimLine.TheVariants.{Op};
-ghost use Rattle.verdicts.specs.Claiming.{lines_of_history, operation_behind};
+ghost use Rattle.verdicts.specs.declared.shown.LinePlace.TheVariants as place;
 ghost use Rattle.text_lines.specs.Writing.{AppendsFront, Puts, IsWritten, IsRefused};
 
 use history_merge::{History, OpId, OpKind, Operation};
 use text_lines::{Kept, TextSink, WriteFault, make_room, write_piece};
 use value_match::{CoverStep, Violation};
-use verdicts::{ClaimLine, Verdict};
+use verdicts::{ClaimLine, LinePlace, Verdict};
 
 #[inline(always)]
 fn push_kind(kept: &mut Kept, kind: OpKind)
@@ -90,51 +90,29 @@ fn put_line<W: TextSink>(
     }
 }
 
-/// The operation at the place; the first places are those of the initial values.
-fn operation_behind(
-    initial_count: usize,
-    operations: &[Operation],
-    place: OpId,
-) -> Option<Operation>
-    ensures { result ≡ operation_behind initial_count operations.now place }
-{
-    let behind = place.place().checked_sub(initial_count)?;
-    operations.get(behind).copied()
-}
-
 /// The line of the operation at the place.
-fn order_line_at(initial_count: usize, operations: &[Operation], place: OpId) -> Option<ClaimLine>
-    ensures { result ≡ option_map Op (operation_behind initial_count operations.now place) }
+fn order_line_at(operations: &[Operation], place: OpId) -> Option<ClaimLine>
+    ensures { result ≡ option_map Op (slice_get operations.now place) }
 {
-    operation_behind(initial_count, operations, place).map(ClaimLine::Op)
-}
-
-/// The line at the place.
-fn line_at(initial: &[u64], operations: &[Operation], place: OpId) -> Option<ClaimLine>
-    ensures { result ≡ slice_get (lines_of_history initial.now operations.now) place }
-{
-    match initial.get(place.place()) {
-        Some(value) => Some(ClaimLine::Initial(*value)),
-        None => operation_behind(initial.len(), operations, place).map(ClaimLine::Op),
-    }
+    operations.get(place.place()).copied().map(ClaimLine::Op)
 }
 
 /// The lines of the operations at these places.
 fn put_order<W: TextSink>(
     writer: &mut W,
     kept: &mut Kept,
-    initial_count: usize,
     operations: &[Operation],
     places: &[OpId],
 ) -> Result<(), WriteFault>
-    ensures ok { OnOk result (Puts (W.contents writer.old) (W.contents writer.new) kept.old kept.new (flat_map (operation_text initial_count operations.now) places.now)) }
-    ensures err { OnErr result (AppendsFront (W.contents writer.old) (W.contents writer.new) (kept.old ++ flat_map (operation_text initial_count operations.now) places.now)) }
+    ensures ok { OnOk result (Puts (W.contents writer.old) (W.contents writer.new) kept.old kept.new (flat_map (operation_text operations.now) places.now)) }
+    ensures err { OnErr result (AppendsFront (W.contents writer.old) (W.contents writer.new)
+        (kept.old ++ flat_map (operation_text operations.now) places.now)) }
     ensures refused { W.has_refused writer.new ≡ (W.has_refused writer.old || is_err result) }
     ensures written { OnOk result (IsWritten W.goes writer.old writer.new) }
     ensures stopped { OnErr result (IsRefused W.goes writer.old writer.new) }
 {
     for id in places {
-        put_line(writer, kept, order_line_at(initial_count, operations, *id))?;
+        put_line(writer, kept, order_line_at(operations, *id))?;
     }
     Ok(())
 }
@@ -145,7 +123,7 @@ fn put_places<W: TextSink>(
     kept: &mut Kept,
     initial: &[u64],
     operations: &[Operation],
-    places: &[OpId],
+    places: &[LinePlace],
 ) -> Result<(), WriteFault>
     ensures ok { OnOk result (Puts (W.contents writer.old) (W.contents writer.new) kept.old kept.new (lines_text initial.now operations.now places.now)) }
     ensures err { OnErr result (AppendsFront (W.contents writer.old) (W.contents writer.new) (kept.old ++ lines_text initial.now operations.now places.now)) }
@@ -153,8 +131,8 @@ fn put_places<W: TextSink>(
     ensures written { OnOk result (IsWritten W.goes writer.old writer.new) }
     ensures stopped { OnErr result (IsRefused W.goes writer.old writer.new) }
 {
-    for id in places {
-        put_line(writer, kept, line_at(initial, operations, *id))?;
+    for place in places {
+        put_line(writer, kept, place.line(initial, operations))?;
     }
     Ok(())
 }
@@ -166,14 +144,16 @@ fn put_maybe<W: TextSink>(
     operations: &[Operation],
     place: Option<OpId>,
 ) -> Result<(), WriteFault>
-    ensures ok { OnOk result (Puts (W.contents writer.old) (W.contents writer.new) kept.old kept.new (lines_text initial.now operations.now (option_to_list place))) }
-    ensures err { OnErr result (AppendsFront (W.contents writer.old) (W.contents writer.new) (kept.old ++ lines_text initial.now operations.now (option_to_list place))) }
+    ensures ok { OnOk result (Puts (W.contents writer.old) (W.contents writer.new) kept.old kept.new
+        (lines_text initial.now operations.now (maybe_place place))) }
+    ensures err { OnErr result (AppendsFront (W.contents writer.old) (W.contents writer.new)
+        (kept.old ++ lines_text initial.now operations.now (maybe_place place))) }
     ensures refused { W.has_refused writer.new ≡ (W.has_refused writer.old || is_err result) }
     ensures written { OnOk result (IsWritten W.goes writer.old writer.new) }
     ensures stopped { OnErr result (IsRefused W.goes writer.old writer.new) }
 {
     match place {
-        Some(place) => put_places(writer, kept, initial, operations, &[place]),
+        Some(place) => put_places(writer, kept, initial, operations, &[LinePlace::Op(place)]),
         None => Ok(()),
     }
 }
@@ -184,12 +164,13 @@ fn put_with_last<W: TextSink>(
     kept: &mut Kept,
     initial: &[u64],
     operations: &[Operation],
-    first: &[OpId],
+    first: &[LinePlace],
     last: Option<OpId>,
 ) -> Result<(), WriteFault>
-    ensures ok { OnOk result (Puts (W.contents writer.old) (W.contents writer.new) kept.old kept.new (lines_text initial.now operations.now (first.now ++ option_to_list last))) }
+    ensures ok { OnOk result (Puts (W.contents writer.old) (W.contents writer.new) kept.old kept.new
+        (lines_text initial.now operations.now (first.now ++ maybe_place last))) }
     ensures err { OnErr result (AppendsFront (W.contents writer.old) (W.contents writer.new)
-        (kept.old ++ lines_text initial.now operations.now (first.now ++ option_to_list last))) }
+        (kept.old ++ lines_text initial.now operations.now (first.now ++ maybe_place last))) }
     ensures refused { W.has_refused writer.new ≡ (W.has_refused writer.old || is_err result) }
     ensures written { OnOk result (IsWritten W.goes writer.old writer.new) }
     ensures stopped { OnErr result (IsRefused W.goes writer.old writer.new) }
@@ -205,7 +186,8 @@ fn put_cover<W: TextSink>(
     operations: &[Operation],
     steps: &[CoverStep],
 ) -> Result<(), WriteFault>
-    ensures ok { OnOk result (Puts (W.contents writer.old) (W.contents writer.new) kept.old kept.new (lines_text initial.now operations.now (flat_map places_of_step steps.now))) }
+    ensures ok { OnOk result (Puts (W.contents writer.old) (W.contents writer.new) kept.old kept.new
+        (lines_text initial.now operations.now (flat_map places_of_step steps.now))) }
     ensures err { OnErr result (AppendsFront (W.contents writer.old) (W.contents writer.new)
         (kept.old ++ lines_text initial.now operations.now (flat_map places_of_step steps.now))) }
     ensures refused { W.has_refused writer.new ≡ (W.has_refused writer.old || is_err result) }
@@ -218,7 +200,7 @@ fn put_cover<W: TextSink>(
             kept,
             initial,
             operations,
-            &[step.enqueue],
+            &[LinePlace::from(step.source)],
             step.dequeue,
         )?;
     }
@@ -234,14 +216,14 @@ fn put_witness<W: TextSink>(
     cover: &[CoverStep],
 ) -> Result<(), WriteFault>
     ensures ok { OnOk result (Puts (W.contents writer.old) (W.contents writer.new) kept.old kept.new
-        (lines_text initial.now operations.now (empty ∷ flat_map places_of_step cover.now))) }
+        (lines_text initial.now operations.now (place.Op empty ∷ flat_map places_of_step cover.now))) }
     ensures err { OnErr result (AppendsFront (W.contents writer.old) (W.contents writer.new)
-        (kept.old ++ lines_text initial.now operations.now (empty ∷ flat_map places_of_step cover.now))) }
+        (kept.old ++ lines_text initial.now operations.now (place.Op empty ∷ flat_map places_of_step cover.now))) }
     ensures refused { W.has_refused writer.new ≡ (W.has_refused writer.old || is_err result) }
     ensures written { OnOk result (IsWritten W.goes writer.old writer.new) }
     ensures stopped { OnErr result (IsRefused W.goes writer.old writer.new) }
 {
-    put_places(writer, kept, initial, operations, &[empty])?;
+    put_places(writer, kept, initial, operations, &[LinePlace::Op(empty)])?;
     put_cover(writer, kept, initial, operations, cover)
 }
 
@@ -265,7 +247,8 @@ fn put_violation<W: TextSink>(
     operations: &[Operation],
     violation: &Violation,
 ) -> Result<(), WriteFault>
-    ensures ok { OnOk result (Puts (W.contents writer.old) (W.contents writer.new) kept.old kept.new (lines_text initial.now operations.now (places_of_violation violation.now))) }
+    ensures ok { OnOk result (Puts (W.contents writer.old) (W.contents writer.new) kept.old kept.new
+        (lines_text initial.now operations.now (places_of_violation violation.now))) }
     ensures err { OnErr result (AppendsFront (W.contents writer.old) (W.contents writer.new)
         (kept.old ++ lines_text initial.now operations.now (places_of_violation violation.now))) }
     ensures refused { W.has_refused writer.new ≡ (W.has_refused writer.old || is_err result) }
@@ -278,12 +261,20 @@ fn put_violation<W: TextSink>(
             kept,
             initial,
             operations,
-            &[*deq],
+            &[LinePlace::Op(*deq)],
             *enq,
         ),
-        Violation::Repeat { enq, first, second } => {
-            put_places(writer, kept, initial, operations, &[*enq, *first, *second])
-        }
+        Violation::Repeat { enq, first, second } => put_places(
+            writer,
+            kept,
+            initial,
+            operations,
+            &[
+                LinePlace::from(*enq),
+                LinePlace::Op(*first),
+                LinePlace::Op(*second),
+            ],
+        ),
         Violation::Order {
             enq_a,
             enq_b,
@@ -294,7 +285,11 @@ fn put_violation<W: TextSink>(
             kept,
             initial,
             operations,
-            &[*enq_a, *enq_b, *deq_b],
+            &[
+                LinePlace::from(*enq_a),
+                LinePlace::from(*enq_b),
+                LinePlace::Op(*deq_b),
+            ],
             *deq_a,
         ),
         Violation::Witness { empty, cover } => {
@@ -312,7 +307,8 @@ fn put_verdict<W: TextSink>(
     verdict: &Verdict,
 ) -> Result<(), WriteFault>
     requires { kept.old ≡ [] }
-    ensures ok { OnOk result (Puts (W.contents writer.old) (W.contents writer.new) [] kept.new (verdict_text (claim_of initial.now operations.now verdict.now))) }
+    ensures ok { OnOk result (Puts (W.contents writer.old) (W.contents writer.new) [] kept.new
+        (verdict_text (claim_of initial.now operations.now verdict.now))) }
     ensures err { OnErr result (AppendsFront (W.contents writer.old) (W.contents writer.new) (verdict_text (claim_of initial.now operations.now verdict.now))) }
     ensures refused { W.has_refused writer.new ≡ (W.has_refused writer.old || is_err result) }
     ensures written { OnOk result (IsWritten W.goes writer.old writer.new) }
@@ -321,7 +317,7 @@ fn put_verdict<W: TextSink>(
     match verdict {
         Verdict::Yes(order) => {
             kept.push(b"YES\n");
-            put_order(writer, kept, initial.len(), operations, order.as_slice())
+            put_order(writer, kept, operations, order.as_slice())
         }
         Verdict::No(violation) => {
             kept.push(violation_line(violation));

@@ -10,6 +10,7 @@ use Rattle.history_merge.proofs.Distinct.{return_in_range, call_before_return}
 use Rattle.value_match.specs.declared.life.Life.{Life}
 use Rattle.value_match.specs.declared.life.MatchedValue.{MatchedValue}
 use Rattle.value_match.specs.declared.life.TheConstants.{NEVER}
+use Rattle.value_match.specs.declared.violation.Source.TheVariants.{Enq}
 use Rattle.value_match.specs.Lives.{IsLife, HoldsLives, IsMaybeAt, call_or_never, return_or_never, dequeue_call, dequeue_return, dequeue_of, enqueue_of}
 use Rattle.value_match.specs.Violations.{IsClear, IsOrderViolation, NoOrderViolation}
 use Rattle.value_match.specs.Choice.{StaysAtLeast}
@@ -152,7 +153,8 @@ module _ (operations : List Operation) (values : List MatchedValue) (clear : IsC
       (subst (λ l. Overtakes l found.a.life) same found.overtakes))
 
   -- the first value that overtakes another, with the longest that it overtakes, is the chosen pair
-  pub is_chosen_pair : (p : ℕ) → b.dequeue ≡ Some p → IsChosenPair operations (record { enq_a = a.enqueue; enq_b = b.enqueue; deq_b = p; deq_a = a.dequeue })
+  pub is_chosen_pair : (p : ℕ) → b.dequeue ≡ Some p
+      → IsChosenPair operations (record { enq_a = Enq a.enqueue; enq_b = Enq b.enqueue; deq_b = p; deq_a = a.dequeue })
   is_chosen_pair p named =
       let is_a = value_is_life operations values a holds longest.among in
       let is_b = value_is_life operations values b holds first.among in

@@ -3,6 +3,7 @@ use Rattle.std.specs.Prelude.{Option, None, Some, List}
 use Rattle.history_merge.specs.declared.operation.Operation.{Operation}
 use Rattle.history_merge.specs.Operations.{IsAt}
 use Rattle.value_match.specs.Lives.{IsMaybeAt}
+use Rattle.value_match.specs.Outcome.{IsSource}
 use Rattle.value_match.specs.Violations.{NoOrderViolation}
 use Rattle.value_match.specs.Choice.{IsChosenOrderViolation}
 use Rattle.order_violation.specs.declared.pair.OrderPair.{OrderPair}
@@ -13,8 +14,8 @@ pub record IsChosenPair (operations : List Operation) (pair : OrderPair) : Type 
   pub enq_b : Operation
   pub deq_b : Operation
   pub deq_a : Option Operation
-  pub at_a : IsAt operations pair.enq_a enq_a
-  pub at_b : IsAt operations pair.enq_b enq_b
+  pub at_a : IsSource operations pair.enq_a enq_a
+  pub at_b : IsSource operations pair.enq_b enq_b
   pub dequeued_b : IsAt operations pair.deq_b deq_b
   pub dequeued_a : IsMaybeAt operations pair.deq_a deq_a
   pub is_chosen : IsChosenOrderViolation operations enq_a enq_b deq_b deq_a

@@ -1,11 +1,12 @@
 use history_merge::OpId;
+use value_match::Source;
 
-/// Two values dequeued against the order of their enqueues, by the places of their operations, which count from 0: the
-/// enqueue of a precedes that of b, and b is dequeued before a is, or a is never dequeued.
+/// Two values dequeued against the order of their enqueues, by their sources and the places of their dequeues, which count
+/// from 0: the enqueue of a precedes that of b, and b is dequeued before a is, or a is never dequeued.
 #[derive(Clone, Copy, Debug, PartialEq, Eq)]
 pub struct OrderPair {
-    pub enq_a: OpId,
-    pub enq_b: OpId,
+    pub enq_a: Source,
+    pub enq_b: Source,
     pub deq_b: OpId,
     pub deq_a: Option<OpId>,
 }

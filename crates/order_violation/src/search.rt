@@ -8,7 +8,7 @@ ghost use Rattle.order_violation.specs.Pairs.{IsOrderAnswer};
 use crate::overtaking::{first_overtaking, longest_overtaken};
 use crate::pair::OrderPair;
 use std::alloc::{AllocError, Global};
-use value_match::{LongestTable, MatchedValue, Matching};
+use value_match::{LongestTable, MatchedValue, Matching, Source};
 
 /// The chosen pair of values dequeued against the order of their enqueues, if there is one: of the values dequeued
 /// before another that was enqueued before them the one dequeued first, and of those others the one that stays longest.
@@ -34,8 +34,8 @@ pub fn chosen_pair(table: &LongestTable, first: Option<MatchedValue>) -> Option<
     let b = first?;
     let a = longest_overtaken(table, &b.life)?;
     Some(OrderPair {
-        enq_a: a.enqueue,
-        enq_b: b.enqueue,
+        enq_a: Source::Enq(a.enqueue),
+        enq_b: Source::Enq(b.enqueue),
         deq_b: b.dequeue?,
         deq_a: a.dequeue,
     })

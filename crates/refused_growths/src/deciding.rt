@@ -1,9 +1,8 @@
 //! What is answered of a history.
 ghost use Rattle.std.specs.Prelude.{IfOk};
 ghost use Rattle.history_merge.specs.Operations.{operations_of};
-ghost use Rattle.value_match.specs.Outcome.{IsChosenViolation};
 ghost use Rattle.verdicts.specs.Claiming.{IsWithin};
-ghost use Rattle.verdicts.specs.Verdicts.{IsVerdictOf, filled_of};
+ghost use Rattle.verdicts.specs.Verdicts.{IsChosenFrom, IsVerdictFrom};
 
 use crate::histories::{by, history_of};
 use history_merge::OpKind::{Deq, Empty, Enq};
@@ -96,7 +95,7 @@ fn of_a_legal_order(rt: HostRuntime) -> Result<(), Fail> {
 
 /// The verdict on a history.
 pub fn decided(alloc: Global, history: &History) -> Result<Verdict, AllocError>
-    ensures chosen { IfOk result (λ verdict. IsVerdictOf (filled_of history.now) verdict) }
+    ensures chosen { IfOk result (λ verdict. IsVerdictFrom history.now.initial (operations_of history.now.events) verdict) }
     ensures places { IfOk result (λ verdict. IsWithin history.now.initial (operations_of history.now.events) verdict) }
 {
     match decide(alloc, history) {
@@ -185,7 +184,7 @@ fn is_evidence_again(
 
 /// The history of a violation alone.
 fn shrunk(alloc: Global, history: &History, violation: &Violation) -> Result<History, AllocError>
-    requires { IsChosenViolation (filled_of history.now) violation.now }
+    requires { IsChosenFrom history.now.initial (operations_of history.now.events) violation.now }
 {
     match shrink(alloc, history, violation) {
         Ok(small) => Ok(small),

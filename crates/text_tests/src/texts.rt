@@ -1,6 +1,7 @@
 ghost use Rattle.std.specs.Prelude.{◌≡◌, [], ◌∷◌, length, IfOk};
 ghost use Rattle.history_merge.specs.Operations.{operations_of};
 ghost use Rattle.history_text.specs.Verdicts.{IsWithin, places_of};
+ghost use Rattle.verdicts.specs.declared.shown.LinePlace.TheVariants.{Op};
 
 use event_records::{Event, What};
 use history_merge::{History, OpId, history, history_from};
@@ -10,7 +11,7 @@ use history_text::{
 };
 use std::alloc::{AllocError, Global};
 use std::test::Fail;
-use value_match::{Cover, CoverStep, Violation};
+use value_match::{Cover, CoverStep, Source, Violation};
 use verdicts::{Order, Verdict};
 
 /// How many events a history alone in its input has, or the fault of that input. Want of memory is an error of its own.
@@ -259,7 +260,7 @@ fn written(alloc: Global, history: &History, verdict: &Verdict) -> Result<Vec<u8
 
 /// A yes: the second operation, the first, the third and the fourth.
 fn second_first(alloc: Global) -> Result<Verdict, AllocError>
-    ensures { IfOk result (λ v. places_of v ≡ 1 ∷ 0 ∷ 2 ∷ 3 ∷ []) }
+    ensures { IfOk result (λ v. places_of v ≡ Op 1 ∷ Op 0 ∷ Op 2 ∷ Op 3 ∷ []) }
 {
     let places = Vec::from_array(
         alloc,
@@ -270,14 +271,14 @@ fn second_first(alloc: Global) -> Result<Verdict, AllocError>
 
 /// A no: the second operation found the queue empty, though two values covered it.
 fn covered_by_two(alloc: Global) -> Result<Verdict, AllocError>
-    ensures { IfOk result (λ v. places_of v ≡ 1 ∷ 0 ∷ 3 ∷ 2 ∷ 4 ∷ []) }
+    ensures { IfOk result (λ v. places_of v ≡ Op 1 ∷ Op 0 ∷ Op 3 ∷ Op 2 ∷ Op 4 ∷ []) }
 {
     let first = CoverStep {
-        enqueue: OpId::new(0),
+        source: Source::Enq(OpId::new(0)),
         dequeue: Some(OpId::new(3)),
     };
     let second = CoverStep {
-        enqueue: OpId::new(2),
+        source: Source::Enq(OpId::new(2)),
         dequeue: Some(OpId::new(4)),
     };
     let cover = Cover::from_vec(Vec::from_array(alloc, [first, second])?);
@@ -363,9 +364,9 @@ fn one_dequeue(alloc: Global, initial: [u64; 2], value: u64) -> Result<History, 
 fn writes_initial_values(rt: HostRuntime) -> Result<(), Fail> {
     let whole = one_dequeue(rt.alloc(), [5, 6], 6)?;
     let verdict = Verdict::No(Violation::Order {
-        enq_a: OpId::new(0),
-        enq_b: OpId::new(1),
-        deq_b: OpId::new(2),
+        enq_a: Source::Initial(0),
+        enq_b: Source::Initial(1),
+        deq_b: OpId::new(0),
         deq_a: None,
     });
     let text = written(rt.alloc(), &whole, &verdict)?;

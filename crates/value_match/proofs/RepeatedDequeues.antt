@@ -11,6 +11,7 @@ use Rattle.history_merge.specs.declared.operation.OpKind.TheVariants.{Enq, Deq, 
 use Rattle.history_merge.specs.Complete.{AreComplete}
 use Rattle.history_merge.specs.Operations.{IsAt, enqueued_value}
 use Rattle.history_merge.proofs.Distinct.{contains_at, place_of, one_at, pairs_at, calls_rise, same_return, same_value_call}
+use Rattle.value_match.specs.declared.violation.Source.TheVariants as source
 use Rattle.value_match.specs.declared.violation.Violation.TheVariants.{Repeat}
 use Rattle.value_match.specs.Violations.{NoFreshViolation, IsRepeatViolation}
 use Rattle.value_match.specs.Choice.{IsChosenRepeat}
@@ -119,7 +120,7 @@ pub repeat_chosen : (operations : List Operation) (sources takers : List (Option
     → HoldsSources operations sources → NoFreshViolation operations
     → IsByReturn operations sources order → n < length order → TakesFrom sources (get_or order n (0, 0)).1 p → get_or takers p None ≡ Some first
     → HasTaken (IsSeen order n) sources takers
-    → NamesChosenRepeat operations (Repeat p first (get_or order n (0, 0)).1)
+    → NamesChosenRepeat operations (Repeat (source.Enq p) first (get_or order n (0, 0)).1)
 repeat_chosen operations sources takers order n p first complete holds no_fresh by below from held known =
     (second.call, one.0, two.0, (second.at_source, one.1, two.1), (no_fresh, chosen))
   where

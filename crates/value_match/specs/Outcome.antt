@@ -5,6 +5,8 @@ use Rattle.history_merge.specs.declared.operation.Operation.{Operation}
 use Rattle.history_merge.specs.Operations.{IsAt}
 use Rattle.value_match.specs.declared.life.Life.{Life}
 use Rattle.value_match.specs.declared.violation.CoverStep.{CoverStep}
+use Rattle.value_match.specs.declared.violation.Source.{Source}
+use Rattle.value_match.specs.declared.violation.Source.TheVariants.{Enq, Initial}
 use Rattle.value_match.specs.declared.violation.Violation.{Violation}
 use Rattle.value_match.specs.declared.violation.Violation.TheVariants.{Fresh, Repeat, Order, Witness}
 use Rattle.value_match.specs.declared.matching.Matched.{Matched}
@@ -13,17 +15,22 @@ use Rattle.value_match.specs.Lives.{IsMaybeAt, dequeue_of, enqueue_of}
 use Rattle.value_match.specs.Violations.{Breach, fresh, repeat, order, witness, IsClear}
 use Rattle.value_match.specs.Choice.{IsChosenBreach}
 
+-- the source is this enqueue: operations alone have no initial values
+abbrev pub IsSource : List Operation → Source → Operation → Type 0
+IsSource operations (Enq place) enqueue = IsAt operations place enqueue
+IsSource operations (Initial place) enqueue = ⊥
+
 -- the steps name these lives, one by one
 abbrev pub NamesCover : List Operation → List CoverStep → List Life → Type 0
-NamesCover operations steps cover = AllZip (λ step life. IsAt operations step.enqueue (enqueue_of life)
+NamesCover operations steps cover = AllZip (λ step life. IsSource operations step.source (enqueue_of life)
     × IsMaybeAt operations step.dequeue (dequeue_of life)) steps cover
 
--- the places of the violation are those of the operations that show it
+-- the sources and places of the violation are those of the operations that show it
 abbrev pub Names : List Operation → Violation → Breach → Type 0
 Names operations (Fresh deq enq) (fresh d e) = IsAt operations deq d × IsMaybeAt operations enq e
-Names operations (Repeat enq first second) (repeat e d d') = IsAt operations enq e × IsAt operations first d × IsAt operations second d'
+Names operations (Repeat enq first second) (repeat e d d') = IsSource operations enq e × IsAt operations first d × IsAt operations second d'
 Names operations (Order enq_a enq_b deq_b deq_a) (order a b d d') =
-    IsAt operations enq_a a × IsAt operations enq_b b × IsAt operations deq_b d × IsMaybeAt operations deq_a d'
+    IsSource operations enq_a a × IsSource operations enq_b b × IsAt operations deq_b d × IsMaybeAt operations deq_a d'
 Names operations (Witness empty cover) (witness o lives) = IsAt operations empty o × NamesCover operations cover lives
 Names operations _ _ = ⊥
 

@@ -22,4 +22,4 @@ pub use matching::{Matched, Matching};
 pub use settling::settle;
 pub use table::{Front, LongestTable, fronts_of};
 pub use values::{match_operations, match_values};
-pub use violation::{Cover, CoverStep, Violation};
+pub use violation::{Cover, CoverStep, Source, Violation};

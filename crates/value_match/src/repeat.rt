@@ -6,7 +6,7 @@ ghost use Rattle.value_match.specs.Violations.{NoFreshViolation};
 
 use crate::maybe_place::MaybePlace;
 use crate::settling::settle;
-use crate::violation::Violation;
+use crate::violation::{Source, Violation};
 use event_records::MAX_EVENTS;
 use history_merge::{OpId, Operation};
 use std::alloc::{AllocError, Global};
@@ -33,7 +33,7 @@ pub fn find_repeat(
         };
         if let Some(first) = place_at(takers.as_slice(), source) {
             return Ok(Violation::Repeat {
-                enq: OpId::new(source),
+                enq: Source::Enq(OpId::new(source)),
                 first: OpId::new(first),
                 second: OpId::new(place),
             });

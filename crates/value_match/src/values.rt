@@ -26,6 +26,9 @@ use std::alloc::{AllocError, Global};
 /// calls of the others are sorted by value, O(n log n). Where a value is dequeued twice, O(n log n) for a sort by return.
 /// The answer borrows the operations and takes a word for each accepted value; beside it the work takes some two words for
 /// each operation, and two more for each call or dequeue that is sorted.
+///
+/// Initial values aren't looked at: the answer is that of a queue that is empty first. `fill` of `history_merge` gives the
+/// operations of the filled history, for `match_operations`.
 pub fn match_values(alloc: Global, history: &History) -> Result<Matched<'_>, AllocError>
     ensures { IfOk result (λ matched. IsMatchedOf (operations_of history.now.events) matched) }
 {

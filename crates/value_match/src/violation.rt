@@ -1,35 +1,47 @@
 use event_records::Listed;
 use history_merge::OpId;
 
-/// The places of an accepted enqueue and of the dequeue of its value, if there is one.
+/// Where an accepted value comes from.
+///
+/// What is found of operations alone names enqueues. What `decide` of `verdicts` answers of a queue that held values first
+/// names these too.
+#[derive(Clone, Copy, Debug, PartialEq, Eq)]
+pub enum Source {
+    /// The accepted enqueue at this place among the operations.
+    Enq(OpId),
+    /// The value that the queue held first, at this place among these, the front one at 0.
+    Initial(usize),
+}
+
+/// A value of a cover: its source, and the place of its dequeue, if there is one.
 #[derive(Clone, Copy, Debug, PartialEq, Eq)]
 pub struct CoverStep {
-    pub enqueue: OpId,
+    pub source: Source,
     pub dequeue: Option<OpId>,
 }
 
-/// Values that between them keep the queue from being empty, seen as the list of their places, in the order in which each
-/// takes over from the one before.
+/// Values that between them keep the queue from being empty, in the order in which each takes over from the one before; seen
+/// as the list of them.
 pub type Cover = Listed<CoverStep>;
 
-/// What is wrong with a history, by the places of the operations that show it.
+/// What is wrong with a history, by the sources of values and the places of the operations that show it.
 #[derive(Debug, Drop)]
 pub enum Violation {
-    /// A dequeue of a value that was not there, and the value's enqueue if it was ever called.
+    /// A dequeue of a value that was not there, and the value's enqueue if it was ever called, accepted or refused.
     Fresh {
         deq: OpId,
         enq: Option<OpId>,
     },
     /// Two dequeues of one value, in the order of their returns.
     Repeat {
-        enq: OpId,
+        enq: Source,
         first: OpId,
         second: OpId,
     },
     /// The value b was dequeued before a, which was enqueued before b.
     Order {
-        enq_a: OpId,
-        enq_b: OpId,
+        enq_a: Source,
+        enq_b: Source,
         deq_b: OpId,
         deq_a: Option<OpId>,
     },

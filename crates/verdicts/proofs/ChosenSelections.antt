@@ -7,15 +7,17 @@ use Rattle.history_merge.specs.Complete.{AreComplete}
 use Rattle.history_merge.proofs.Distinct.{one_at}
 use Rattle.value_match.specs.declared.life.Life.{Life}
 use Rattle.value_match.specs.declared.violation.CoverStep.{CoverStep}
+use Rattle.value_match.specs.declared.violation.Source.{Source}
+use Rattle.value_match.specs.declared.violation.Source.TheVariants as source
 use Rattle.value_match.specs.declared.violation.Violation.{Violation}
 use Rattle.value_match.specs.declared.violation.Violation.TheVariants as violation
 use Rattle.value_match.specs.Lives.{IsLife, IsCovered, IsMaybeAt, dequeue_call, dequeue_of, enqueue_of}
 use Rattle.value_match.specs.Violations.{Breach, fresh, repeat, order, witness, IsBreachOf, IsClear, lines_of}
 use Rattle.value_match.specs.Choice.{IsChosenBreach, IsChosenCoverFrom}
-use Rattle.value_match.specs.Outcome.{Names, NamesCover, IsChosenViolation}
+use Rattle.value_match.specs.Outcome.{IsSource, Names, NamesCover, IsChosenViolation}
 use Rattle.value_match.proofs.Lists.{one_deeper}
 use Rattle.empty_witness.proofs.Covers.{violation_covers, chosen_cover_is_shortest}
-use Rattle.verdicts.specs.Selection.{selects, IsShortestCover, HasShortestCover}
+use Rattle.verdicts.specs.Selection.{selects, IsShortestCover}
 use Rattle.verdicts.proofs.CoverGaps.{chosen_are_lives}
 use Rattle.verdicts.proofs.KeptTickets.{selected_are_complete}
 use Rattle.verdicts.proofs.NamedLines.{SelectsLines, lines_are_selected}
@@ -30,6 +32,10 @@ one_maybe_at operations (Some place) None y at_x at_y = absurd at_x
 one_maybe_at operations (Some place) (Some x) None at_x at_y = absurd at_y
 one_maybe_at operations (Some place) (Some x) (Some y) at_x at_y = ap (λ o. Some o) (one_at operations place x y at_x at_y)
 
+one_source : (operations : List Operation) (s : Source) (x y : Operation) → IsSource operations s x → IsSource operations s y → x ≡ y
+one_source operations (source.Enq p) x y at_x at_y = one_at operations p x y at_x at_y
+one_source operations (source.Initial p) x y at_x at_y = absurd at_x
+
 one_cover : (operations : List Operation) (steps : List CoverStep) (xs ys : List Life) → NamesCover operations steps xs
     → NamesCover operations steps ys → xs ≡ ys
 one_cover operations [] [] [] names_x names_y = refl
@@ -38,7 +44,7 @@ one_cover operations [] (x ∷ xs) ys names_x names_y = absurd names_x
 one_cover operations (step ∷ steps) [] ys names_x names_y = absurd names_x
 one_cover operations (step ∷ steps) (x ∷ xs) [] names_x names_y = absurd names_y
 one_cover operations (step ∷ steps) (x ∷ xs) (y ∷ ys) names_x names_y =
-    let enqueues = one_at operations step.enqueue (enqueue_of x) (enqueue_of y) names_x.0.0 names_y.0.0 in
+    let enqueues = one_source operations step.source (enqueue_of x) (enqueue_of y) names_x.0.0 names_y.0.0 in
     let dequeues = one_maybe_at operations step.dequeue (dequeue_of x) (dequeue_of y) names_x.0.1 names_y.0.1 in
     let lives : x ≡ y = λ i. record { enqueue = enqueues i; dequeue = dequeues i } in
     let rest = one_cover operations steps xs ys names_x.1 names_y.1 in
@@ -51,15 +57,15 @@ names_one operations (violation.Fresh deq enq) (fresh d e) (fresh d' e') names_x
 names_one operations (violation.Fresh deq enq) (fresh d e) _ names_x names_y = absurd names_y
 names_one operations (violation.Fresh deq enq) _ _ names_x names_y = absurd names_x
 names_one operations (violation.Repeat enq first second) (repeat e d f) (repeat e' d' f') names_x names_y =
-    let enqs = one_at operations enq e e' names_x.0 names_y.0 in
+    let enqs = one_source operations enq e e' names_x.0 names_y.0 in
     let firsts = one_at operations first d d' names_x.1 names_y.1 in
     let seconds = one_at operations second f f' names_x.2 names_y.2 in
     cc
 names_one operations (violation.Repeat enq first second) (repeat e d f) _ names_x names_y = absurd names_y
 names_one operations (violation.Repeat enq first second) _ _ names_x names_y = absurd names_x
 names_one operations (violation.Order enq_a enq_b deq_b deq_a) (order a b d e) (order a' b' d' e') names_x names_y =
-    let first = one_at operations enq_a a a' names_x.0 names_y.0 in
-    let second = one_at operations enq_b b b' names_x.1 names_y.1 in
+    let first = one_source operations enq_a a a' names_x.0 names_y.0 in
+    let second = one_source operations enq_b b b' names_x.1 names_y.1 in
     let deqs = one_at operations deq_b d d' names_x.2 names_y.2 in
     let last = one_maybe_at operations deq_a e e' names_x.3 names_y.3 in
     cc
@@ -147,6 +153,6 @@ shortest operations (witness empty cover) complete chosen =
 
 -- the chosen violation has a shortest cover
 pub has_shortest_cover : (operations : List Operation) (named : Violation) → AreComplete operations → IsChosenViolation operations named
-    → HasShortestCover operations named
+    → (breach : Breach) → Names operations named breach → IsShortestCover operations breach
 has_shortest_cover operations named complete chosen breach names =
     subst (IsShortestCover operations) (names_one operations named chosen.0 breach chosen.1 names) (shortest operations chosen.0 complete chosen.2)

@@ -15,7 +15,7 @@ use Rattle.empty_witness.specs.declared.answer.WitnessAnswer.TheVariants as foun
 use Rattle.empty_witness.specs.Answers.{IsWitnessAnswer}
 use Rattle.linearizer.specs.Order.{AreChosenAndLegal}
 use Rattle.verdicts.specs.declared.verdict.Verdict.TheVariants.{Yes, No}
-use Rattle.verdicts.specs.Verdicts.{IsDecided}
+use Rattle.verdicts.specs.Inner.Decided.{IsDecided}
 use Rattle.verdicts.proofs.Excludes.{breach_excludes_order}
 use Rattle.verdicts.proofs.Chosen.{chosen_is_breach}
 

@@ -9,7 +9,7 @@ use Rattle.std.proofs.lemmas.Map.Made.{is_member-Decides, length-le_from_is_memb
 use Rattle.std.proofs.lemmas.List.{length-map}
 use Rattle.std.proofs.lemmas.List.Sorted.{length_permutation}
 use Rattle.event_records.specs.declared.event.Event.{Event}
-use Rattle.event_records.specs.declared.limits.TheConstants.{MAX_CLOCK, MAX_EVENTS, MAX_INITIAL, MAX_OPERATIONS}
+use Rattle.event_records.specs.declared.limits.TheConstants.{MAX_CLOCK, MAX_OPERATIONS}
 use Rattle.history_merge.specs.declared.operation.Operation.{Operation}
 use Rattle.history_merge.specs.declared.operation.OpKind.TheVariants.{Enq, Deq, Empty}
 use Rattle.history_merge.specs.Complete.{AreComplete, IsCompleteUpTo}
@@ -17,7 +17,7 @@ use Rattle.history_merge.specs.Legal.{ArePlacesOf}
 use Rattle.history_merge.specs.Operations.{Did, NoneDid, operations_of}
 use Rattle.history_merge.proofs.Distinct.{contains_cons, not_in_none, place_of, contains_at, pairs_at, traced, same_call, same_return}
 use Rattle.history_merge.proofs.Distinct.{return_differs_from_call, call_before_return}
-use Rattle.history_merge.specs.Initial.{IsCompleteFrom, filled, filled_events, filling_events_from, event_later_by}
+use Rattle.history_merge.specs.Initial.{filled, filled_events, filling_events_from, event_later_by}
 use Rattle.history_merge.proofs.Filled.{filled_is_complete, filled_operations}
 use Rattle.verdicts.specs.Laws.{VerdictHasFewLines}
 use Rattle.value_match.specs.declared.life.Life.{Life}
@@ -28,13 +28,16 @@ use Rattle.value_match.proofs.Lists.{one_deeper, mapped_to}
 use Rattle.value_match.proofs.Lives.{one_life_of_enqueue}
 use Rattle.linearizer.proofs.Keys.{AllPairs-tail}
 use Rattle.linearizer.proofs.OneOrder.{operations_rise}
+use Rattle.linearizer.specs.Order.{IsChosenOrder}
+use Rattle.verdicts.specs.declared.shown.LinePlace.TheVariants as place
 use Rattle.verdicts.specs.declared.verdict.Verdict.{Verdict}
 use Rattle.verdicts.specs.declared.verdict.Verdict.TheVariants.{Yes, No}
 use Rattle.verdicts.specs.Claiming.{places_of}
 use Rattle.verdicts.specs.Shown.{places_of as places_of_violation}
-use Rattle.verdicts.specs.Verdicts.{IsVerdictOf}
+use Rattle.verdicts.specs.Verdicts.{IsVerdictFrom}
 use Rattle.verdicts.proofs.CoverGaps.{IsCalledInside, chosen_are_lives, handover, all_stay}
-use Rattle.verdicts.proofs.NamedPlaces.{places_of_lines}
+use Rattle.verdicts.proofs.FilledLines.{length_filled}
+use Rattle.verdicts.proofs.NamedPlaces.{IsShownAt, each_shown, zip_lengths}
 
 -- ---- operations apart
 
@@ -255,7 +258,7 @@ module _ (events : List Event) (complete : IsCompleteUpTo MAX_CLOCK events) (mos
       [ inl same ↦ subst (Contains operations) same did.0 | inr later ↦ (lines o later).0 ])
       (λ among. (lines empty among).1 did.1, apart)
 
-  few_chosen : (breach : Breach) → IsChosenBreach (operations_of events) breach → length (lines_of breach) ≤ most
+  pub few_chosen : (breach : Breach) → IsChosenBreach (operations_of events) breach → length (lines_of breach) ≤ most
   few_chosen (fresh deq None) chosen = omega arith
   few_chosen (fresh deq (Some enq)) chosen = omega arith
   few_chosen (repeat enq first second) chosen = omega arith
@@ -269,19 +272,14 @@ module _ (events : List Event) (complete : IsCompleteUpTo MAX_CLOCK events) (mos
       (apart_from_rise (operations_of events) (operations_rise (operations_of events) (events, complete, refl))) in
       omega (arith, half, few)
 
-  as_many : (places : List ℕ) (listed : List Operation) → ArePlacesOf (operations_of events) places listed → length places ≡ length listed
-  as_many places listed at = simp length-map at (ap length at)
-
-  pub few_places : (verdict : Verdict) → IsVerdictOf (operations_of events) verdict → length (places_of verdict) ≤ most
-  few_places (Yes places) chosen =
-      let many = as_many places chosen.0 chosen.1 in
-      let moved = length_permutation (operations_of events) chosen.0 chosen.2.holds_each_once in
+  pub few_in_order : (listed : List Operation) → IsChosenOrder (operations_of events) listed → length listed ≤ most
+  few_in_order listed chosen =
+      let moved = length_permutation (operations_of events) listed chosen.holds_each_once in
       let all = few_operations in
-      omega (arith, many, moved, all)
-  few_places (No violation) chosen =
-      let many = as_many (places_of_violation violation) (lines_of chosen.0) (places_of_lines (operations_of events) violation chosen.0 chosen.1) in
-      let lines = few_chosen chosen.0 chosen.2 in
-      omega (arith, many, lines)
+      omega (arith, moved, all)
+
+as_many : (operations : List Operation) (places : List ℕ) (listed : List Operation) → ArePlacesOf operations places listed → length places ≡ length listed
+as_many operations places listed at = simp length-map at (ap length at)
 
 length_filling_events : (clock : ℕ) (values : List ℕ) (later : List Event)
     → length (filling_events_from clock values ++ later) ≡ 2 * length values + length later
@@ -290,10 +288,32 @@ length_filling_events clock (v ∷ values) later = let rest = length_filling_eve
 
 -- the chosen verdict on a history has few lines
 pub verdict_has_few_lines : VerdictHasFewLines
-verdict_has_few_lines initial events verdict whole few_initial few_events chosen =
-    let n = 2 * length initial in
-    let all = filled_events initial events in
-    let many = length_filling_events 0 initial (map (event_later_by n) events) in
-    let same : length (map (event_later_by n) events) ≡ length events = simp length-map in
-    few_places all (filled_is_complete initial events whole few_initial) (MAX_OPERATIONS + length initial) (omega arith) (omega (arith, few_events)) verdict
-    (subst (λ os. IsVerdictOf os verdict) (sym (filled_operations initial events)) chosen)
+verdict_has_few_lines initial events verdict whole few_initial few_events chosen = by_verdict verdict chosen
+  where
+    most : ℕ
+    most = MAX_OPERATIONS + length initial
+
+    few : length (filled_events initial events) ≤ most + most
+    few =
+        let many = length_filling_events 0 initial (map (event_later_by (2 * length initial)) events) in
+        let same : length (map (event_later_by (2 * length initial)) events) ≡ length events = simp length-map in
+        omega (arith, few_events)
+
+    in_filled : (listed : List Operation) → length (filled initial listed) ≡ length initial + length listed
+    in_filled listed = length_filled initial listed
+
+    by_verdict : (verdict : Verdict) → IsVerdictFrom initial (operations_of events) verdict → length (places_of verdict) ≤ most
+    by_verdict (Yes places) is =
+        let shorter = few_in_order (filled_events initial events) (filled_is_complete initial events whole few_initial) most (omega arith) few
+        (filled initial is.0)
+        (subst (λ os. IsChosenOrder os (filled initial is.0)) (sym (filled_operations initial events)) is.2) in
+        let long = in_filled is.0 in
+        let many = as_many (operations_of events) places is.0 is.1 in
+        let shown : length (map (λ p. place.Op p) places) ≡ length places = simp length-map in
+        omega arith
+    by_verdict (No violation) is =
+        let lines = few_chosen (filled_events initial events) (filled_is_complete initial events whole few_initial) most (omega arith) few is.0
+        (subst (λ os. IsChosenBreach os is.0) (sym (filled_operations initial events)) is.2) in
+        let many = zip_lengths (IsShownAt initial (operations_of events)) (places_of_violation violation) (lines_of is.0)
+        (each_shown initial (operations_of events) violation is.0 is.1) in
+        omega (arith, many, lines)

@@ -1,17 +1,20 @@
 -- The operations of the filled history: the enqueues of the initial values, and the operations, later.
-use Rattle.std.proofs.Common.{Bool, true, false, IsTrue, MatchBool, get_or, ◌≡◌, ◌≢◌, ℕ, zero, suc, ◌+◌, ◌*◌, ◌<◌, ◌≤◌, ◌↔◌, List, [], ◌∷◌, ◌++◌, length, map, Option, Some, None, refl, sym, ◌∙◌, ap, subst, arith, inl, inr}
-use Rattle.std.specs.Prelude.{Contains, ◌⊎◌, slice_get, option_map}
-use Rattle.std.specs.List.{HoldsAt, AllWithin}
-use Rattle.std.proofs.lemmas.Option.{slice_get_within, slice_get-get_or, get_or_from_slice_get}
+use Rattle.std.proofs.Common.{Bool, true, false, IsTrue, MatchBool, get_or, ◌≡◌, ◌≢◌, ℕ, zero, suc, ◌+◌, ◌*◌, ◌<◌, ◌≤◌, ◌↔◌, List, [], ◌∷◌, ◌++◌, length, map}
+use Rattle.std.proofs.Common.{Option, Some, None, refl, sym, ◌∙◌, ap, subst, arith, inl, inr, ◌-◌, nat_lt, cond}
+use Rattle.std.specs.Prelude.{Contains, ◌⊎◌, slice_get, option_map, filter_map}
+use Rattle.std.specs.List.{HoldsAt, AllWithin, cons_option}
+use Rattle.std.proofs.lemmas.Option.{slice_get_within, slice_get-get_or, get_or_from_slice_get, slice_get-map}
 use Rattle.std.proofs.lemmas.List.Elements.{Contains-append_left, Contains-append_right, Contains-append_cases}
 use Rattle.history_merge.specs.declared.operation.Operation.{Operation}
 use Rattle.history_merge.specs.declared.operation.OpKind.{OpKind}
 use Rattle.history_merge.specs.declared.operation.OpKind.TheVariants.{Enq}
 use Rattle.history_merge.specs.Initial.{filled, filling_from, later_by}
 use Rattle.history_merge.specs.Operations.{NoneDid}
-use Rattle.history_merge.proofs.Distinct.{contains_at, contains_cons, place_of}
-use Rattle.value_match.proofs.Lists.{mapped_from, mapped_to, one_deeper}
+use Rattle.history_merge.proofs.Distinct.{contains_at, place_of}
+use Rattle.value_match.proofs.Lists.{mapped_from, mapped_to}
 use Rattle.verdicts.specs.Claims.{filling_at}
+use Rattle.std.proofs.lemmas.Bool.{cases_lt, lt-ltb, ltb-true}
+use Rattle.std.proofs.lemmas.List.{length-append, length-map}
 
 -- the enqueue of the initial value at this place, where the first clock is another
 abbrev filling_from_at : ℕ → ℕ → ℕ → Operation
@@ -160,10 +163,113 @@ pub none_fills_from_cases : (initial : List ℕ) (kind : OpKind) (r : Bool)
     → MatchBool r (AllWithin (λ v. Enq v ≡ kind → ⊥) initial 0 (length initial)) ((k : ℕ) × (k < length initial) × HoldsAt (λ v. Enq v ≡ kind) initial k)
     → IsTrue r ↔ NoneDid (filling_from 0 initial) kind
 none_fills_from_cases initial kind true none = (
-  λ t. (none_fills initial kind).0 (λ j v at did. none j v (omega arith) (slice_get_within initial j v at) (ap Enq (get_or_from_slice_get initial j v v at) ∙ did)),
+  λ t. (none_fills initial kind).0 (λ j v at did. none j v (omega arith) (slice_get_within initial j v at)
+      (ap Enq (get_or_from_slice_get initial j v v at) ∙ did)),
   λ n. refl,
 )
 none_fills_from_cases initial kind false some = (
   λ f. cc,
   λ none. absurd ((none_fills initial kind).1 none some.0 (get_or initial some.0 0) (slice_get-get_or initial some.0 0 some.1) (some.2 0)),
 )
+
+-- ---- what stands at a place of the filled history
+
+pub get_before : {X : Type 0} (xs ys : List X) (p : ℕ) → p < length xs → slice_get (xs ++ ys) p ≡ slice_get xs p
+get_before [] ys p within = absurd (omega arith)
+get_before (x ∷ xs) ys zero within = refl
+get_before (x ∷ xs) ys (suc p) within = get_before xs ys p (omega arith)
+
+pub get_behind : {X : Type 0} (xs ys : List X) (n p : ℕ) → n ≡ length xs → n ≤ p → slice_get (xs ++ ys) p ≡ slice_get ys (p - n)
+get_behind [] ys n p is within = ap (slice_get ys) (omega arith)
+get_behind (x ∷ xs) ys n zero is within = absurd (omega arith)
+get_behind (x ∷ xs) ys n (suc p) is within = get_behind xs ys (n - 1) p (omega arith) (omega arith) ∙ ap (slice_get ys) (omega arith)
+
+-- the place of an initial value, or of an operation behind them
+pub at_filled : (initial : List ℕ) (operations : List Operation) (p : ℕ)
+    → ((p < length initial) × (slice_get (filled initial operations) p ≡ option_map (filling_at p) (slice_get initial p)))
+    ⊎ ((length initial ≤ p) × (slice_get (filled initial operations) p
+    ≡ option_map (later_by (2 * length initial)) (slice_get operations (p - length initial))))
+at_filled initial operations p = elim (cases_lt p (length initial)) [
+  | inl early ↦
+      let many = length_filling 0 initial in
+      inl (early, get_before (filling_from 0 initial) (map (later_by (2 * length initial)) operations) p (omega arith) ∙ at_filling initial p)
+  | inr late ↦
+      let many = length_filling 0 initial in
+      inr (
+        late,
+        get_behind (filling_from 0 initial) (map (later_by (2 * length initial)) operations) (length initial) p (omega arith) late
+            ∙ slice_get-map (later_by (2 * length initial)) operations (p - length initial),
+      )
+]
+
+-- what a mapped option holds comes from what is mapped
+pub mapped_option : {A B : Type 0} (f : A → B) (o : Option A) (y : B) → option_map f o ≡ Some y → (x : A) × (o ≡ Some x) × (f x ≡ y)
+mapped_option f None y is = cc
+mapped_option f (Some x) y is = (x, refl, cc)
+
+-- the operation at a place of the filled history is the enqueue of the initial value there
+pub record IsFillingAt (initial : List ℕ) (p : ℕ) (x : Operation) : Type 0 where
+  pub value : ℕ
+  pub within : p < length initial
+  pub stands : slice_get initial p ≡ Some value
+  pub is : filling_at p value ≡ x
+
+-- or an operation, later, behind the initial values
+pub record IsLaterAt (initial : List ℕ) (operations : List Operation) (p : ℕ) (x : Operation) : Type 0 where
+  pub operation : Operation
+  pub behind : length initial ≤ p
+  pub stands : slice_get operations (p - length initial) ≡ Some operation
+  pub is : later_by (2 * length initial) operation ≡ x
+
+pub filled_at : (initial : List ℕ) (operations : List Operation) (p : ℕ) (x : Operation) → slice_get (filled initial operations) p ≡ Some x
+    → IsFillingAt initial p x ⊎ IsLaterAt initial operations p x
+filled_at initial operations p x at = elim (at_filled initial operations p) [
+  | inl early ↦
+      let value = mapped_option (filling_at p) (slice_get initial p) x (sym early.1 ∙ at) in
+      inl (record { value = value.0; within = early.0; stands = value.1; is = value.2 })
+  | inr late ↦
+      let operation = mapped_option (later_by (2 * length initial)) (slice_get operations (p - length initial)) x (sym late.1 ∙ at) in
+      inr (record { operation = operation.0; behind = late.0; stands = operation.1; is = operation.2 })
+]
+
+-- ---- the operations of a yes
+
+-- an operation of the filled history as it was, where it isn't the enqueue of an initial value
+abbrev pub earlier : ℕ → Operation → Option Operation
+earlier n o = cond (nat_lt o.call n) None (Some (record { call = o.call - n; ret = o.ret - n; thread = o.thread; kind = o.kind }))
+
+pub earlier_none : (n : ℕ) (o : Operation) → o.call < n → earlier n o ≡ None
+earlier_none n o early = rw (lt-ltb o.call n early) refl
+
+pub earlier_later : (n : ℕ) (o : Operation) → earlier n (later_by n o) ≡ Some o
+earlier_later n o = pick (nat_lt (o.call + n) n) refl
+  where
+    pick : (b : Bool) → nat_lt (o.call + n) n ≡ b
+        → cond b None (Some (record { call = o.call + n - n; ret = o.ret + n - n; thread = o.thread; kind = o.kind })) ≡ Some o
+    pick true is = let less : o.call + n < n = ltb-true _ _ is in absurd (omega arith)
+    pick false is = ap (λ x. Some x) (same_operation _ o (omega arith) (omega arith) refl refl)
+
+filling_earlier : (clock n : ℕ) (values : List ℕ) (later : List Operation) → clock + 2 * length values ≤ n
+    → filter_map (earlier n) (filling_from clock values ++ later) ≡ filter_map (earlier n) later
+filling_earlier clock n [] later within = refl
+filling_earlier clock n (v ∷ values) later within =
+    ap (λ (o : Option Operation). cons_option o (filter_map (earlier n) (filling_from (clock + 2) values ++ later))) (earlier_none n _ (omega arith))
+    ∙ filling_earlier (clock + 2) n values later (omega arith)
+
+later_earlier : (n : ℕ) (operations : List Operation) → filter_map (earlier n) (map (later_by n) operations) ≡ operations
+later_earlier n [] = refl
+later_earlier n (o ∷ operations) =
+    ap (λ (x : Option Operation). cons_option x (filter_map (earlier n) (map (later_by n) operations))) (earlier_later n o)
+    ∙ ap (λ (r : List Operation). o ∷ r) (later_earlier n operations)
+
+-- without the enqueues of the initial values it is what stands behind them
+pub filled_earlier : (initial : List ℕ) (listed : List Operation) → filter_map (earlier (2 * length initial)) (filled initial listed) ≡ listed
+filled_earlier initial listed =
+    filling_earlier 0 (2 * length initial) initial (map (later_by (2 * length initial)) listed) (omega arith) ∙ later_earlier (2 * length initial) listed
+
+pub length_filled : (initial : List ℕ) (operations : List Operation) → length (filled initial operations) ≡ length initial + length operations
+length_filled initial operations =
+    let front = length_filling 0 initial in
+    let both = length-append (filling_from 0 initial) (map (later_by (2 * length initial)) operations) in
+    let behind : length (map (later_by (2 * length initial)) operations) ≡ length operations = simp length-map in
+    omega arith

@@ -1,5 +1,6 @@
 -- The way of the argument, from what is found to what is claimed, verified and shrunk:
 -- Excludes: beside a violation no order is legal. Linearizable, Exactly: without one there is a legal order.
+-- Unfilled, DecidedFrom: what is found of a filled history is found of the history.
 -- Chosen, Decided, OneVerdict: the chosen violation or order decides, and is the only one.
 -- Lookups, ClaimedBreaches, ClaimedCovers, ClaimedOrders: when the lines of a claim are evidence.
 -- NamedLines, NamedPlaces, TrueClaims, FewLines: what a verdict claims, and that this is true.
@@ -17,6 +18,7 @@ pub mod Exactly
 pub mod Chosen
 pub mod Decided
 pub mod DecidedFrom
+pub mod Unfilled
 pub mod Lookups
 pub mod FilledLines
 pub mod ClaimedLines

@@ -10,7 +10,7 @@ use Rattle.value_match.specs.Violations.{fresh, repeat, order, witness, CoversFr
 use Rattle.verdicts.specs.Laws.{LinesTellBreach}
 
 -- each of the lives is an enqueue, and a dequeue if there is one
-abbrev AreLives : List Life → Type 0
+abbrev pub AreLives : List Life → Type 0
 AreLives [] = ⊤
 AreLives (life ∷ cover) = ((v : ℕ) × ((enqueue_of life).kind ≡ Enq v)) × MatchOption (dequeue_of life) ⊤ (λ d. (v : ℕ) × (d.kind ≡ Deq v)) × AreLives cover
 
@@ -19,7 +19,8 @@ dequeues : (operations : List Operation) (v : ℕ) (d : Option Operation) → Ma
 dequeues operations v None none = tt
 dequeues operations v (Some d) did = (v, did.1)
 
-covers_are_lives : (operations : List Operation) (empty before : Operation) (cover : List Life) → CoversFrom operations empty before cover → AreLives cover
+-- the lives of a cover
+pub covers_are_lives : (operations : List Operation) (empty before : Operation) (cover : List Life) → CoversFrom operations empty before cover → AreLives cover
 covers_are_lives operations empty before [] covers = absurd covers
 covers_are_lives operations empty before (life ∷ []) covers =
     ((covers.0.0, covers.0.1.1), dequeues operations covers.0.0 (dequeue_of life) covers.0.2, tt)

@@ -1,68 +1,53 @@
--- The places that a violation names are those of its lines.
-use Rattle.std.proofs.Common.{◌≡◌, ℕ, ◌<◌, List, [], ◌∷◌, ◌++◌, length, map, Option, Some, None, refl, ap}
-use Rattle.std.specs.Prelude.{All, flat_map, option_to_list, slice_get}
-use Rattle.std.proofs.lemmas.List.Elements.{All-nil, All-cons}
+-- What a violation names stands at places of the history, and its lines are those of the filled history's operations.
+use Rattle.std.proofs.Common.{◌≡◌, ℕ, ◌+◌, ◌-◌, ◌*◌, ◌<◌, Bool, true, false, List, [], ◌∷◌, ◌++◌, length, map, Option, Some, None}
+use Rattle.std.proofs.Common.{refl, sym, ◌∙◌, ap, subst, arith, inl, inr, nat_lt}
+use Rattle.std.specs.Prelude.{All, Contains, flat_map, if◌then◌else◌, option_map, option_to_list, slice_get}
+use Rattle.std.specs.List.{AllZip, cons_option}
+use Rattle.std.proofs.lemmas.Bool.{ltb-true}
+use Rattle.std.proofs.lemmas.List.Elements.{All-nil, All-cons, Contains-append_left, Contains-append_right}
 use Rattle.std.proofs.lemmas.Option.{slice_get_within}
 use Rattle.history_merge.specs.declared.operation.Operation.{Operation}
+use Rattle.history_merge.specs.Initial.{filled}
 use Rattle.history_merge.specs.Legal.{ArePlacesOf}
+use Rattle.history_merge.specs.Operations.{IsAt}
+use Rattle.history_merge.proofs.Distinct.{contains_at}
 use Rattle.value_match.specs.declared.life.Life.{Life}
 use Rattle.value_match.specs.declared.violation.CoverStep.{CoverStep}
+use Rattle.value_match.specs.declared.violation.Source.{Source}
+use Rattle.value_match.specs.declared.violation.Source.TheVariants as source
 use Rattle.value_match.specs.declared.violation.Violation.{Violation}
 use Rattle.value_match.specs.declared.violation.Violation.TheVariants as violation
 use Rattle.value_match.specs.Lives.{IsMaybeAt, dequeue_of, enqueue_of, operations_of_life}
-use Rattle.value_match.specs.Outcome.{Names, NamesCover}
+use Rattle.value_match.specs.Outcome.{IsSource, Names, NamesCover}
 use Rattle.value_match.specs.Violations.{Breach, fresh, repeat, order, witness, lines_of}
-use Rattle.verdicts.specs.Shown.{places_of, places_of_step}
+use Rattle.value_match.proofs.Lists.{mapped_to}
+use Rattle.verdicts.specs.declared.shown.LinePlace.{LinePlace}
+use Rattle.verdicts.specs.declared.shown.LinePlace.TheVariants.{Op, Initial}
+use Rattle.verdicts.specs.declared.verifying.ClaimLine.{ClaimLine}
+use Rattle.verdicts.specs.declared.verifying.ClaimLine.TheVariants as line
+use Rattle.verdicts.specs.Claiming.{IsPlaceWithin, line_at, lines_at, lines_of_history}
+use Rattle.verdicts.specs.Filling.{behind, filled_source, filled_step, filled_violation}
+use Rattle.verdicts.specs.Shown.{maybe_place, place_of_source, places_of, places_of_step}
+use Rattle.verdicts.proofs.FilledLines.{filled_at}
+use Rattle.verdicts.proofs.ShownLines.{accepted_value, early_line, later_line, line_of}
 
-maybe_places : (operations : List Operation) (place : Option ℕ) (o : Option Operation) → IsMaybeAt operations place o
-    → ArePlacesOf operations (option_to_list place) (option_to_list o)
-maybe_places operations None None at = refl
-maybe_places operations None (Some o) at = absurd at
-maybe_places operations (Some place) None at = absurd at
-maybe_places operations (Some place) (Some o) at = ap (λ x. x ∷ []) at
+-- ---- lists, element by element
 
-places-append : (operations : List Operation) (ps qs : List ℕ) (xs ys : List Operation) → ArePlacesOf operations ps xs → ArePlacesOf operations qs ys
-    → ArePlacesOf operations (ps ++ qs) (xs ++ ys)
-places-append operations [] qs [] ys first rest = rest
-places-append operations [] qs (x ∷ xs) ys first rest = cc
-places-append operations (p ∷ ps) qs [] ys first rest = cc
-places-append operations (p ∷ ps) qs (x ∷ xs) ys first rest =
-    let here : slice_get operations p ≡ Some x = cc in
-    let later : map (slice_get operations) ps ≡ map (λ o. Some o) xs = cc in
-    let more = places-append operations ps qs xs ys later rest in
-    cc
+-- one list of pairs behind another
+zip_both : {X Y : Type 0} (P : X → Y → Type 0) (xs xs' : List X) (ys ys' : List Y) → AllZip P xs ys → AllZip P xs' ys' → AllZip P (xs ++ xs') (ys ++ ys')
+zip_both P [] xs' [] ys' first rest = rest
+zip_both P [] xs' (y ∷ ys) ys' first rest = absurd first
+zip_both P (x ∷ xs) xs' [] ys' first rest = absurd first
+zip_both P (x ∷ xs) xs' (y ∷ ys) ys' first rest = (first.0, zip_both P xs xs' ys ys' first.1 rest)
 
-cover_places : (operations : List Operation) (steps : List CoverStep) (cover : List Life) → NamesCover operations steps cover
-    → ArePlacesOf operations (flat_map places_of_step steps) (flat_map operations_of_life cover)
-cover_places operations [] [] names = refl
-cover_places operations [] (life ∷ cover) names = absurd names
-cover_places operations (step ∷ steps) [] names = absurd names
-cover_places operations (step ∷ steps) (life ∷ cover) names =
-    places-append operations (places_of_step step) (flat_map places_of_step steps) (operations_of_life life) (flat_map operations_of_life cover)
-    (places-append operations (step.enqueue ∷ []) (option_to_list step.dequeue) (enqueue_of life ∷ []) (option_to_list (dequeue_of life))
-    (ap (λ x. x ∷ []) names.0.0) (maybe_places operations step.dequeue (dequeue_of life) names.0.1))
-    (cover_places operations steps cover names.1)
+-- lists whose elements stand side by side are as long
+pub zip_lengths : {X Y : Type 0} (P : X → Y → Type 0) (xs : List X) (ys : List Y) → AllZip P xs ys → length xs ≡ length ys
+zip_lengths P [] [] each = refl
+zip_lengths P [] (y ∷ ys) each = absurd each
+zip_lengths P (x ∷ xs) [] each = absurd each
+zip_lengths P (x ∷ xs) (y ∷ ys) each = let rest = zip_lengths P xs ys each.1 in omega (arith, rest)
 
--- the places are those of the lines, one by one
-pub places_of_lines : (operations : List Operation) (named : Violation) (breach : Breach) → Names operations named breach
-    → ArePlacesOf operations (places_of named) (lines_of breach)
-places_of_lines operations (violation.Fresh deq enq) (fresh d e) names =
-    places-append operations (deq ∷ []) (option_to_list enq) (d ∷ []) (option_to_list e) (ap (λ x. x ∷ []) names.0) (maybe_places operations enq e names.1)
-places_of_lines operations (violation.Fresh deq enq) _ names = absurd names
-places_of_lines operations (violation.Repeat enq first second) (repeat e d f) names = let a = names.0 in let b = names.1 in let c = names.2 in cc
-places_of_lines operations (violation.Repeat enq first second) _ names = absurd names
-places_of_lines operations (violation.Order enq_a enq_b deq_b deq_a) (order a b d e) names =
-    let first = names.0 in let second = names.1 in let third = names.2 in
-    let three : ArePlacesOf operations (enq_a ∷ enq_b ∷ deq_b ∷ []) (a ∷ b ∷ d ∷ []) = cc in
-    places-append operations (enq_a ∷ enq_b ∷ deq_b ∷ []) (option_to_list deq_a) (a ∷ b ∷ d ∷ []) (option_to_list e) three
-    (maybe_places operations deq_a e names.3)
-places_of_lines operations (violation.Order enq_a enq_b deq_b deq_a) _ names = absurd names
-places_of_lines operations (violation.Witness empty cover) (witness o lives) names =
-    places-append operations (empty ∷ []) (flat_map places_of_step cover) (o ∷ []) (flat_map operations_of_life lives) (ap (λ x. x ∷ []) names.0)
-    (cover_places operations cover lives names.1)
-places_of_lines operations (violation.Witness empty cover) _ names = absurd names
-
--- such places are in the list
+-- operations that stand at some places
 pub in_range : (operations : List Operation) (places : List ℕ) (listed : List Operation) → ArePlacesOf operations places listed
     → All (λ place. place < length operations) places
 in_range operations [] listed named = All-nil (λ place. place < length operations)
@@ -71,3 +56,130 @@ in_range operations (p ∷ places) (o ∷ listed) named =
     let here : slice_get operations p ≡ Some o = cc in
     let later : map (slice_get operations) places ≡ map (λ o. Some o) listed = cc in
     All-cons (λ place. place < length operations) p places (slice_get_within operations p o here) (in_range operations places listed later)
+
+module _ (initial : List ℕ) (operations : List Operation) where
+  abbrev k : ℕ
+  k = length initial
+
+  abbrev all : List Operation
+  all = filled initial operations
+
+  -- the line at this place is that of this operation of the filled history
+  abbrev pub IsShownAt : LinePlace → Operation → Type 0
+  IsShownAt place o = (line_at initial operations place ≡ Some (line_of (2 * length initial) o)) × Contains (filled initial operations) o
+
+  shown_at : (p : ℕ) (o : Operation) → IsAt all (behind k p) o → IsShownAt (Op p) o
+  shown_at p o at = elim (filled_at initial operations (k + p) o at) [
+    | inl early ↦ let within = early.within in absurd (omega arith)
+    | inr late ↦
+        let place : k + p - k ≡ p = omega arith in
+        let stands : slice_get operations p ≡ Some late.operation = ap (slice_get operations) (sym place) ∙ late.stands in
+        let same : line_of (2 * k) o ≡ line.Op late.operation = ap (line_of (2 * k)) (sym late.is) ∙ later_line (2 * k) late.operation in
+        (ap (option_map line.Op) stands ∙ ap (λ l. Some l) (sym same), contains_at all (k + p) o at)
+  ]
+
+  -- the place of an initial value
+  initial_shown : (p : ℕ) (o : Operation) → p < k → IsAt all p o → IsShownAt (Initial p) o
+  initial_shown p o within at = elim (filled_at initial operations p o at) [
+    | inl early ↦
+        let call : 2 * p ≡ o.call = ap (λ (x : Operation). x.call) early.is in
+        let value : early.value ≡ accepted_value o.kind = ap (λ (x : Operation). accepted_value x.kind) early.is in
+        let same : line_of (2 * k) o ≡ line.Initial early.value = early_line (2 * k) o (omega (arith, call, within)) ∙ ap line.Initial (sym value) in
+        (ap (option_map line.Initial) early.stands ∙ ap (λ l. Some l) (sym same), contains_at all p o at)
+    | inr late ↦ let behind = late.behind in absurd (omega arith)
+  ]
+
+  source_shown : (s : Source) (o : Operation) → IsSource all (filled_source k s) o → IsShownAt (place_of_source s) o
+  source_shown (source.Enq p) o at = shown_at p o at
+  source_shown (source.Initial p) o at = by_count (nat_lt p k) refl at
+    where
+      by_count : (within : Bool) → nat_lt p k ≡ within → IsSource all (if within then source.Enq p else source.Initial p) o → IsShownAt (Initial p) o
+      by_count true is at' = initial_shown p o (ltb-true p k is) at'
+      by_count false is at' = absurd at'
+
+  maybe_shown : (p : Option ℕ) (o : Option Operation) → IsMaybeAt all (option_map (behind k) p) o → AllZip IsShownAt (maybe_place p) (option_to_list o)
+  maybe_shown None None at = tt
+  maybe_shown None (Some o) at = absurd at
+  maybe_shown (Some p) None at = absurd at
+  maybe_shown (Some p) (Some o) at = (shown_at p o at, tt)
+
+  cover_shown : (steps : List CoverStep) (cover : List Life) → NamesCover all (map (filled_step k) steps) cover
+      → AllZip IsShownAt (flat_map places_of_step steps) (flat_map operations_of_life cover)
+  cover_shown [] [] names = tt
+  cover_shown [] (life ∷ cover) names = absurd names
+  cover_shown (step ∷ steps) [] names = absurd names
+  cover_shown (step ∷ steps) (life ∷ cover) names = (
+    source_shown step.source (enqueue_of life) names.0.0,
+    zip_both IsShownAt (maybe_place step.dequeue) (flat_map places_of_step steps) (option_to_list (dequeue_of life)) (flat_map operations_of_life cover)
+        (maybe_shown step.dequeue (dequeue_of life) names.0.1) (cover_shown steps cover names.1),
+  )
+
+  -- the places of a violation are those of its operations' lines, one by one
+  pub each_shown : (named : Violation) (breach : Breach) → Names all (filled_violation k named) breach → AllZip IsShownAt (places_of named) (lines_of breach)
+  each_shown (violation.Fresh deq enq) (fresh d e) names = (shown_at deq d names.0, maybe_shown enq e names.1)
+  each_shown (violation.Fresh deq enq) (repeat e d f) names = absurd names
+  each_shown (violation.Fresh deq enq) (order a b d e) names = absurd names
+  each_shown (violation.Fresh deq enq) (witness o lives) names = absurd names
+  each_shown (violation.Repeat enq first second) (repeat e d f) names =
+      (source_shown enq e names.0, (shown_at first d names.1, (shown_at second f names.2, tt)))
+  each_shown (violation.Repeat enq first second) (fresh d e) names = absurd names
+  each_shown (violation.Repeat enq first second) (order a b d e) names = absurd names
+  each_shown (violation.Repeat enq first second) (witness o lives) names = absurd names
+  each_shown (violation.Order enq_a enq_b deq_b deq_a) (order a b d e) names =
+      (source_shown enq_a a names.0, (source_shown enq_b b names.1, (shown_at deq_b d names.2, maybe_shown deq_a e names.3)))
+  each_shown (violation.Order enq_a enq_b deq_b deq_a) (fresh d e) names = absurd names
+  each_shown (violation.Order enq_a enq_b deq_b deq_a) (repeat e d f) names = absurd names
+  each_shown (violation.Order enq_a enq_b deq_b deq_a) (witness o lives) names = absurd names
+  each_shown (violation.Witness empty cover) (witness o lives) names = (shown_at empty o names.0, cover_shown cover lives names.1)
+  each_shown (violation.Witness empty cover) (fresh d e) names = absurd names
+  each_shown (violation.Witness empty cover) (repeat e d f) names = absurd names
+  each_shown (violation.Witness empty cover) (order a b d e) names = absurd names
+
+  -- so the lines are those of the operations
+  pub shown_lines : (places : List LinePlace) (listed : List Operation) → AllZip IsShownAt places listed
+      → lines_at initial operations places ≡ map (line_of (2 * length initial)) listed
+  shown_lines [] [] each = refl
+  shown_lines [] (o ∷ listed) each = absurd each
+  shown_lines (p ∷ places) [] each = absurd each
+  shown_lines (p ∷ places) (o ∷ listed) each =
+      ap (λ l. cons_option l (lines_at initial operations places)) each.0.0
+      ∙ ap (λ ls. line_of (2 * k) o ∷ ls) (shown_lines places listed each.1)
+
+  -- where a line is found, there is an operation or an initial value
+  place_within : (place : LinePlace) (l : ClaimLine) → line_at initial operations place ≡ Some l → IsPlaceWithin initial operations place
+  place_within (Op p) l at = held (slice_get operations p) refl at
+    where
+      held : (o : Option Operation) → slice_get operations p ≡ o → option_map line.Op o ≡ Some l → p < length operations
+      held None is at' = cc
+      held (Some o) is at' = slice_get_within operations p o is
+  place_within (Initial p) l at = held (slice_get initial p) refl at
+    where
+      held : (v : Option ℕ) → slice_get initial p ≡ v → option_map line.Initial v ≡ Some l → p < length initial
+      held None is at' = cc
+      held (Some v) is at' = slice_get_within initial p v is
+
+  pub all_within : (places : List LinePlace) (listed : List Operation) → AllZip IsShownAt places listed → All (IsPlaceWithin initial operations) places
+  all_within [] [] each = All-nil (IsPlaceWithin initial operations)
+  all_within [] (o ∷ listed) each = absurd each
+  all_within (p ∷ places) [] each = absurd each
+  all_within (p ∷ places) (o ∷ listed) each =
+      All-cons (IsPlaceWithin initial operations) p places (place_within p (line_of (2 * k) o) each.0.0) (all_within places listed each.1)
+
+  -- the line at a place is one of the history
+  pub line_there : (place : LinePlace) (l : ClaimLine) → line_at initial operations place ≡ Some l → Contains (lines_of_history initial operations) l
+  line_there (Op p) l at = held (slice_get operations p) refl at
+    where
+      held : (o : Option Operation) → slice_get operations p ≡ o → option_map line.Op o ≡ Some l → Contains (lines_of_history initial operations) l
+      held None is at' = cc
+      held (Some o) is at' =
+          let one : line.Op o ≡ l = cc in
+          subst (Contains (lines_of_history initial operations)) one (Contains-append_right (map line.Initial initial) (map line.Op operations) (line.Op o)
+          (mapped_to line.Op operations o (contains_at operations p o is)))
+  line_there (Initial p) l at = held (slice_get initial p) refl at
+    where
+      held : (v : Option ℕ) → slice_get initial p ≡ v → option_map line.Initial v ≡ Some l → Contains (lines_of_history initial operations) l
+      held None is at' = cc
+      held (Some v) is at' =
+          let one : line.Initial v ≡ l = cc in
+          subst (Contains (lines_of_history initial operations)) one (Contains-append_left (map line.Initial initial) (map line.Op operations) (line.Initial v)
+          (mapped_to line.Initial initial v (contains_at initial p v is)))

@@ -27,10 +27,10 @@ use Rattle.verdicts.proofs.FilledSelections.{lifted, lifted_rises}
 use Rattle.verdicts.proofs.KeptTickets.{selected_are_complete}
 use Rattle.verdicts.proofs.Minimal.{all_or_one}
 use Rattle.verdicts.proofs.NamedLines.{lines_are_operations}
-use Rattle.verdicts.proofs.NamedPlaces.{places_of_lines}
+use Rattle.verdicts.proofs.NamedPlaces.{each_shown, shown_lines}
 use Rattle.verdicts.proofs.Retiming.{linearizable_there}
 use Rattle.verdicts.proofs.Selections.{breach_in_selected}
-use Rattle.verdicts.proofs.ShownLines.{accepted_value, early_line, late_line, line_of, lines_at_places}
+use Rattle.verdicts.proofs.ShownLines.{accepted_value, early_line, late_line, line_of}
 use Rattle.verdicts.proofs.ShrunkHistories.{IsWhole, calls_behind, enqueued_in_filling, filled_is_whole, selection_filled}
 
 -- claims of a no that are one have the same lines
@@ -116,7 +116,8 @@ module _ (whole x : HistoryView) (violation : Violation) (is_x : IsWhole x) (sta
 
   same_lines : violation_lines whole violation ≡ map (line_of n) (lines_of breach)
   same_lines = sym (one_list_of_lines _ _ (violation_lines x stays.0) (violation_lines whole violation) stays.2)
-      ∙ lines_at_places x.initial (operations_of x.events) (places_of stays.0) (lines_of breach) (places_of_lines (filled_of x) stays.0 breach stays.1.1)
+      ∙ shown_lines x.initial (operations_of x.events) (places_of stays.0) (lines_of breach)
+      (each_shown x.initial (operations_of x.events) stays.0 breach stays.1.1)
 
   line_passes : (o : Operation) → Contains (lines_of breach) o → passes o ≡ true
   line_passes o among = elim (cases_lt o.call n) [

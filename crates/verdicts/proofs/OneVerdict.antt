@@ -1,22 +1,32 @@
 -- What is found of a history is the only thing that can be found of it.
-use Rattle.std.proofs.Common.{◌≡◌, ℕ, ◌<◌, true, List, [], ◌∷◌, map, filter, Option, Some, None, refl, sym, ◌∙◌, ap, ap₂, subst, inl, inr, arith}
+use Rattle.std.proofs.Common.{◌≡◌, ℕ, ◌*◌, ◌<◌, ◌≤◌, true, List, [], ◌∷◌, length, map, filter, Option, Some, None}
+use Rattle.std.proofs.Common.{refl, sym, ◌∙◌, ap, ap₂, subst, inl, inr, arith}
 use Rattle.std.specs.Prelude.{slice_get}
 use Rattle.std.specs.List.{AllZip}
 use Rattle.std.proofs.lemmas.Bool.{cases_order}
+use Rattle.std.proofs.lemmas.List.{append_cancel_left}
 use Rattle.history_merge.specs.declared.operation.Operation.{Operation}
 use Rattle.history_merge.specs.declared.operation.OpKind.TheVariants.{Empty}
 use Rattle.history_merge.specs.Complete.{AreComplete}
 use Rattle.history_merge.specs.Legal.{ArePlacesOf}
-use Rattle.history_merge.specs.Operations.{IsAt, Did}
+use Rattle.event_records.specs.declared.event.Event.{Event}
+use Rattle.event_records.specs.declared.limits.TheConstants.{MAX_INITIAL}
+use Rattle.history_merge.specs.Operations.{IsAt, Did, operations_of}
+use Rattle.history_merge.specs.Initial.{IsCompleteFrom, filled, filling_from, later_by}
 use Rattle.history_merge.proofs.Distinct.{pairs_at, place_of, one_at}
+use Rattle.history_merge.proofs.Completeness.{operations_are_complete}
+use Rattle.history_merge.proofs.Filled.{filled_are_complete, linearizable_from_exactly}
+use Rattle.history_merge.proofs.Later.{later_injective}
 use Rattle.value_match.specs.declared.life.Life.{Life}
 use Rattle.value_match.specs.declared.matching.Matched.TheVariants as matched
 use Rattle.value_match.specs.declared.violation.CoverStep.{CoverStep}
+use Rattle.value_match.specs.declared.violation.Source.{Source}
+use Rattle.value_match.specs.declared.violation.Source.TheVariants as source
 use Rattle.value_match.specs.declared.violation.Violation.{Violation}
 use Rattle.value_match.specs.declared.violation.Violation.TheVariants as violation
 use Rattle.value_match.specs.Lives.{IsMaybeAt, IsLeastFreeGap, IsCovered, is_empty_answer, dequeue_of, enqueue_of}
 use Rattle.value_match.specs.Choice.{IsChosenCover}
-use Rattle.value_match.specs.Outcome.{Names, NamesCover, IsMatchedOf, IsChosenViolation}
+use Rattle.value_match.specs.Outcome.{IsSource, Names, NamesCover, IsMatchedOf, IsChosenViolation}
 use Rattle.value_match.specs.Violations.{Breach, fresh, repeat, order, witness, IsBreachOf, IsClear}
 use Rattle.value_match.proofs.Lists.{passes_filter}
 use Rattle.order_violation.specs.declared.pair.OrderPair.{OrderPair}
@@ -25,9 +35,12 @@ use Rattle.empty_witness.specs.declared.answer.WitnessAnswer.TheVariants as foun
 use Rattle.linearizer.proofs.OneOrder.{chosen_order_is_one, operations_rise}
 use Rattle.linearizer.proofs.Positions.{beside}
 use Rattle.verdicts.specs.declared.verdict.Verdict.TheVariants.{Yes, No}
+use Rattle.verdicts.specs.Filling.{filled_violation}
+use Rattle.verdicts.specs.Verdicts.{IsChosenFrom}
 use Rattle.verdicts.specs.Laws.{VerdictIsOne, MatchedIsOne, PairIsOne, GapIsOne, WitnessIsOne}
 use Rattle.verdicts.proofs.Chosen.{one_chosen_breach, one_order, one_cover, one_witness}
 use Rattle.verdicts.proofs.Excludes.{breach_excludes_order}
+use Rattle.verdicts.proofs.Unfilled.{one_when_filled}
 
 -- an operation stands at one place
 one_place_at : (operations : List Operation) (p q : ℕ) (o : Operation) → AreComplete operations → IsAt operations p o → IsAt operations q o → p ≡ q
@@ -50,6 +63,12 @@ maybe_one_place operations (Some p) None (Some o) complete at_p at_q = absurd at
 maybe_one_place operations (Some p) (Some q) None complete at_p at_q = absurd at_p
 maybe_one_place operations (Some p) (Some q) (Some o) complete at_p at_q = ap (λ place. Some place) (one_place_at operations p q o complete at_p at_q)
 
+-- an enqueue has one source
+one_source : (operations : List Operation) (s t : Source) (o : Operation) → AreComplete operations → IsSource operations s o → IsSource operations t o → s ≡ t
+one_source operations (source.Enq p) (source.Enq q) o complete at_p at_q = ap source.Enq (one_place_at operations p q o complete at_p at_q)
+one_source operations (source.Enq p) (source.Initial q) o complete at_p at_q = absurd at_q
+one_source operations (source.Initial p) t o complete at_p at_q = absurd at_p
+
 -- operations stand at one list of places
 one_list_of_places : (operations : List Operation) (ps qs : List ℕ) (listed : List Operation) → AreComplete operations
     → ArePlacesOf operations ps listed → ArePlacesOf operations qs listed → ps ≡ qs
@@ -68,11 +87,11 @@ one_list_of_places operations (p ∷ ps) (q ∷ qs) (o ∷ listed) complete at_p
     (one_list_of_places operations ps qs listed complete later_p later_q)
 
 one_step : (operations : List Operation) (p q : CoverStep) (life : Life) → AreComplete operations
-    → IsAt operations p.enqueue (enqueue_of life) × IsMaybeAt operations p.dequeue (dequeue_of life)
-    → IsAt operations q.enqueue (enqueue_of life) × IsMaybeAt operations q.dequeue (dequeue_of life) → p ≡ q
+    → IsSource operations p.source (enqueue_of life) × IsMaybeAt operations p.dequeue (dequeue_of life)
+    → IsSource operations q.source (enqueue_of life) × IsMaybeAt operations q.dequeue (dequeue_of life) → p ≡ q
 one_step operations p q life complete at_p at_q =
-    let step : ℕ → Option ℕ → CoverStep = λ e d. record { enqueue = e; dequeue = d } in
-    ap₂ step (one_place_at operations p.enqueue q.enqueue (enqueue_of life) complete at_p.0 at_q.0)
+    let step : Source → Option ℕ → CoverStep = λ s d. record { source = s; dequeue = d } in
+    ap₂ step (one_source operations p.source q.source (enqueue_of life) complete at_p.0 at_q.0)
     (maybe_one_place operations p.dequeue q.dequeue (dequeue_of life) complete at_p.1 at_q.1)
 
 one_named_cover : (operations : List Operation) (ps qs : List CoverStep) (lives : List Life) → AreComplete operations → NamesCover operations ps lives
@@ -96,15 +115,15 @@ one_named operations (violation.Fresh d e) (violation.Fresh d' e') (fresh deq en
 one_named operations (violation.Fresh d e) y (fresh deq enq) complete at at' = absurd at'
 one_named operations (violation.Fresh d e) y _ complete at at' = absurd at
 one_named operations (violation.Repeat e d f) (violation.Repeat e' d' f') (repeat enq first second) complete at at' =
-    let enqs = one_place_at operations e e' enq complete at.0 at'.0 in
+    let enqs = one_source operations e e' enq complete at.0 at'.0 in
     let firsts = one_place_at operations d d' first complete at.1 at'.1 in
     let seconds = one_place_at operations f f' second complete at.2 at'.2 in
     cc
 one_named operations (violation.Repeat e d f) y (repeat enq first second) complete at at' = absurd at'
 one_named operations (violation.Repeat e d f) y _ complete at at' = absurd at
 one_named operations (violation.Order a b d c) (violation.Order a' b' d' c') (order enq_a enq_b deq_b deq_a) complete at at' =
-    let as' = one_place_at operations a a' enq_a complete at.0 at'.0 in
-    let bs = one_place_at operations b b' enq_b complete at.1 at'.1 in
+    let as' = one_source operations a a' enq_a complete at.0 at'.0 in
+    let bs = one_source operations b b' enq_b complete at.1 at'.1 in
     let ds = one_place_at operations d d' deq_b complete at.2 at'.2 in
     let cs = maybe_one_place operations c c' deq_a complete at.3 at'.3 in
     cc
@@ -128,22 +147,41 @@ chosen_violation_is_one operations x y complete chosen_x chosen_y =
     one_violation operations x y chosen_x.0 chosen_y.0 complete (one_chosen_breach operations chosen_x.0 chosen_y.0 complete chosen_x.2 chosen_y.2)
     chosen_x.1 chosen_y.1
 
+-- what stands behind the same enqueues is the same
+one_behind : (initial : List ℕ) (xs ys : List Operation) → filled initial xs ≡ filled initial ys → xs ≡ ys
+one_behind initial xs ys same =
+    let n = 2 * length initial in
+    later_injective n xs ys (append_cancel_left (filling_from 0 initial) (map (later_by n) xs) (map (later_by n) ys) same)
+
+-- a history has one chosen violation
+pub chosen_from_is_one : (initial : List ℕ) (events : List Event) (x y : Violation) → IsCompleteFrom initial events → length initial ≤ MAX_INITIAL
+    → IsChosenFrom initial (operations_of events) x → IsChosenFrom initial (operations_of events) y → x ≡ y
+chosen_from_is_one initial events x y complete few chosen_x chosen_y =
+    one_when_filled (length initial) x y (chosen_violation_is_one (filled initial (operations_of events)) (filled_violation (length initial) x)
+    (filled_violation (length initial) y) (filled_are_complete initial events complete few) chosen_x chosen_y)
+
 -- a history has one verdict
 pub verdict_is_one : VerdictIsOne
-verdict_is_one operations (Yes ps) (Yes qs) complete x y =
-    let none = λ (b : Breach) (violates : IsBreachOf operations b). breach_excludes_order operations b complete violates x.exact in
-    let clear : IsClear operations = record {
-      complete = complete;
+verdict_is_one initial events (Yes ps) (Yes qs) complete few x exact_x y exact_y =
+    let operations = operations_of events in
+    let all = filled initial operations in
+    let all_complete = filled_are_complete initial events complete few in
+    let linear = (linearizable_from_exactly initial operations).0 exact_x in
+    let none = λ (b : Breach) (violates : IsBreachOf all b). breach_excludes_order all b all_complete violates linear in
+    let clear : IsClear all = record {
+      complete = all_complete;
       no_fresh = λ deq enq. none (fresh deq enq);
       no_repeat =
           λ enq first second. none (repeat enq first second);
     } in
-    let orders = chosen_order_is_one operations x.chosen.0 y.chosen.0 clear x.chosen.2 y.chosen.2 in
-    ap (λ places. Yes places) (one_list_of_places operations ps qs y.chosen.0 complete (subst (ArePlacesOf operations ps) orders x.chosen.1) y.chosen.1)
-verdict_is_one operations (Yes ps) (No v) complete x y = absurd (y.exact x.exact)
-verdict_is_one operations (No v) (Yes qs) complete x y = absurd (x.exact y.exact)
-verdict_is_one operations (No v) (No w) complete x y =
-    ap (λ named. No named) (chosen_violation_is_one operations v w complete x.chosen y.chosen)
+    let filled_orders = chosen_order_is_one all (filled initial x.0) (filled initial y.0) clear x.2 y.2 in
+    let orders = one_behind initial x.0 y.0 filled_orders in
+    ap (λ places. Yes places) (one_list_of_places operations ps qs y.0 (operations_are_complete events complete.complete)
+    (subst (ArePlacesOf operations ps) orders x.1) y.1)
+verdict_is_one initial events (Yes ps) (No v) complete few x exact_x y exact_y = absurd (exact_y exact_x)
+verdict_is_one initial events (No v) (Yes qs) complete few x exact_x y exact_y = absurd (exact_x exact_y)
+verdict_is_one initial events (No v) (No w) complete few x exact_x y exact_y =
+    ap (λ named. No named) (chosen_from_is_one initial events v w complete few x y)
 
 -- a matching excludes the violations that matching finds
 not_clear : (operations : List Operation) (v : Violation) → IsClear operations → IsMatchedOf operations (matched.Fresh v) → ⊥
@@ -173,7 +211,7 @@ matched_is_one operations (matched.Repeat v) (matched.Repeat w) complete x y =
 -- the pair that an order violation names
 abbrev pair_of : Violation → OrderPair
 pair_of (violation.Order a b d c) = record { enq_a = a; enq_b = b; deq_b = d; deq_a = c }
-pair_of _ = record { enq_a = 0; enq_b = 0; deq_b = 0; deq_a = None }
+pair_of _ = record { enq_a = source.Enq 0; enq_b = source.Enq 0; deq_b = 0; deq_a = None }
 
 -- one pair is found
 pub pair_is_one : PairIsOne

@@ -1,19 +1,14 @@
 -- The lines of a violation of a filled history, as they are shown.
-use Rattle.std.proofs.Common.{◌≡◌, ℕ, ◌+◌, ◌-◌, ◌*◌, ◌<◌, ◌≤◌, Bool, true, false, cond, List, [], ◌∷◌, ◌++◌, length, Some}
-use Rattle.std.proofs.Common.{refl, sym, ◌∙◌, ap, arith, map}
-use Rattle.std.specs.Prelude.{filter_map, nat_lt, option_map, slice_get}
-use Rattle.std.specs.List.{cons_option}
+use Rattle.std.proofs.Common.{◌≡◌, ℕ, ◌+◌, ◌-◌, ◌<◌, ◌≤◌, Bool, true, false, cond, Some}
+use Rattle.std.proofs.Common.{refl, sym, ◌∙◌, ap, arith}
+use Rattle.std.specs.Prelude.{nat_lt}
 use Rattle.std.proofs.lemmas.Bool.{ltb-false, ltb-true, le-ltb, lt-ltb}
-use Rattle.std.proofs.lemmas.List.{map-append}
-use Rattle.std.proofs.lemmas.Option.{slice_get-map}
 use Rattle.history_merge.specs.declared.operation.Operation.{Operation}
 use Rattle.history_merge.specs.declared.operation.OpKind.{OpKind}
 use Rattle.history_merge.specs.declared.operation.OpKind.TheVariants.{Enq}
-use Rattle.history_merge.specs.Initial.{filled, filling_from, later_by}
-use Rattle.history_merge.specs.Legal.{ArePlacesOf}
+use Rattle.history_merge.specs.Initial.{later_by}
 use Rattle.verdicts.specs.declared.verifying.ClaimLine.{ClaimLine}
 use Rattle.verdicts.specs.declared.verifying.ClaimLine.TheVariants.{Op, Initial}
-use Rattle.verdicts.specs.Claiming.{lines_at, lines_of_history}
 use Rattle.verdicts.specs.Selection.{value_of}
 use Rattle.verdicts.specs.Inner.Selecting.{call_in, value_in}
 use Rattle.verdicts.proofs.FilledLines.{same_operation}
@@ -37,47 +32,8 @@ pub late_line : (n : ℕ) (o : Operation) → n ≤ o.call
 late_line n o late = rw (le-ltb o.call n late) refl
 
 -- the line of an operation that came so much later
-later_line : (n : ℕ) (o : Operation) → line_of n (later_by n o) ≡ Op o
+pub later_line : (n : ℕ) (o : Operation) → line_of n (later_by n o) ≡ Op o
 later_line n o = late_line n (later_by n o) (omega arith) ∙ ap Op (same_operation _ o (omega arith) (omega arith) refl refl)
-
-filling_lines : (n c : ℕ) (values : List ℕ) → c + 2 * length values ≤ n → map (line_of n) (filling_from c values) ≡ map Initial values
-filling_lines n c [] before = refl
-filling_lines n c (v ∷ values) before =
-    let here = early_line n (record { call = c; ret = c + 1; thread = 0; kind = Enq v }) (omega arith) in
-    let more = filling_lines n (c + 2) values (omega arith) in
-    λ i. here i ∷ more i
-
-later_lines : (n : ℕ) (operations : List Operation) → map (line_of n) (map (later_by n) operations) ≡ map Op operations
-later_lines n [] = refl
-later_lines n (o ∷ operations) = let here = later_line n o in let more = later_lines n operations in λ i. here i ∷ more i
-
--- the lines of a history are those of its filled history
-pub filled_lines : (initial : List ℕ) (operations : List Operation)
-    → map (line_of (2 * length initial)) (filled initial operations) ≡ lines_of_history initial operations
-filled_lines initial operations =
-    map-append (line_of (2 * length initial)) (filling_from 0 initial) (map (later_by (2 * length initial)) operations)
-    ∙ ap (λ ls. ls ++ map (line_of (2 * length initial)) (map (later_by (2 * length initial)) operations))
-    (filling_lines (2 * length initial) 0 initial (omega arith))
-    ∙ ap (λ ls. map Initial initial ++ ls) (later_lines (2 * length initial) operations)
-
--- the lines at places are those of the operations there
-named_lines : (f : Operation → ClaimLine) (operations : List Operation) (places : List ℕ) (listed : List Operation) → ArePlacesOf operations places listed
-    → filter_map (slice_get (map f operations)) places ≡ map f listed
-named_lines f operations [] [] named = refl
-named_lines f operations [] (o ∷ listed) named = cc
-named_lines f operations (p ∷ places) [] named = cc
-named_lines f operations (p ∷ places) (o ∷ listed) named =
-    let here : slice_get operations p ≡ Some o = cc in
-    let later : map (slice_get operations) places ≡ map (λ o. Some o) listed = cc in
-    let line : slice_get (map f operations) p ≡ Some (f o) = slice_get-map f operations p ∙ ap (option_map f) here in
-    let more = named_lines f operations places listed later in
-    λ i. cons_option (line i) (more i)
-
-pub lines_at_places : (initial : List ℕ) (operations : List Operation) (places : List ℕ) (listed : List Operation)
-    → ArePlacesOf (filled initial operations) places listed → lines_at initial operations places ≡ map (line_of (2 * length initial)) listed
-lines_at_places initial operations places listed named =
-    ap (λ ls. filter_map (slice_get ls) places) (sym (filled_lines initial operations))
-    ∙ named_lines (line_of (2 * length initial)) (filled initial operations) places listed named
 
 -- the call of a line's operation, at its clock
 pub call_of_line : (n : ℕ) (o : Operation) (call : ℕ) → call_in (line_of n o) ≡ Some call → o.call ≡ call + n

@@ -1,7 +1,7 @@
 -- The selection by the lines of the chosen violation of a history: the same violation is its chosen one, and nothing can be left out.
 use Rattle.std.proofs.Common.{◌≡◌, ◌≢◌, ℕ, ◌+◌, ◌-◌, ◌*◌, ◌<◌, ◌≤◌, ◌↔◌, Bool, true, false, IsTrue, List, [], ◌∷◌, length}
 use Rattle.std.proofs.Common.{Option, Some, None, refl, sym, ◌∙◌, ap, subst, inl, inr, arith, map, nat_eq}
-use Rattle.std.specs.Prelude.{Contains, filter, filter_map, slice_get}
+use Rattle.std.specs.Prelude.{Contains, filter, filter_map}
 use Rattle.std.specs.List.{list_any}
 use Rattle.std.specs.Option.{option_map_or}
 use Rattle.std.proofs.lemmas.Bool.{eqb-true, eq-eqb}
@@ -15,21 +15,21 @@ use Rattle.history_merge.specs.Complete.{AreComplete}
 use Rattle.history_merge.specs.Initial.{HistoryView, IsCompleteFrom, filled, filling_from, later_by}
 use Rattle.history_merge.specs.Legal.{IsLinearizable}
 use Rattle.history_merge.specs.Operations.{operations_of}
-use Rattle.history_merge.proofs.Distinct.{call_before_return, contains_at, place_of}
+use Rattle.history_merge.proofs.Distinct.{call_before_return, place_of}
 use Rattle.history_merge.proofs.Filled.{filled_are_complete, linearizable_from_exactly}
 use Rattle.value_match.specs.declared.violation.Violation.{Violation}
-use Rattle.value_match.specs.Outcome.{IsChosenViolation, Names}
+use Rattle.value_match.specs.Outcome.{Names}
 use Rattle.value_match.specs.Violations.{Breach, lines_of}
 use Rattle.value_match.specs.Choice.{IsChosenBreach}
 use Rattle.value_match.proofs.Lists.{kept, keeps, mapped_from, mapped_to, one_deeper, passed_filter}
 use Rattle.verdicts.specs.declared.verifying.ClaimLine.{ClaimLine}
 use Rattle.verdicts.specs.declared.verifying.Claimed.TheVariants as claimed
 use Rattle.verdicts.specs.Claims.{filling_at, kind_of}
-use Rattle.verdicts.specs.Claiming.{lines_of_history}
+use Rattle.verdicts.specs.Claiming.{line_at}
 use Rattle.verdicts.specs.Selection.{AreLinearizable, ArePartOf, Contents, IsMinimal, KeepsViolation, StaysChosen, contents_of, select, selects, value_of}
 use Rattle.verdicts.specs.Selection.{violation_lines}
 use Rattle.verdicts.specs.Shown.{places_of}
-use Rattle.verdicts.specs.Verdicts.{filled_of}
+use Rattle.verdicts.specs.Verdicts.{filled_of, IsChosenFrom}
 use Rattle.verdicts.specs.Inner.Selecting.{SelectsNamed, call_in, holds_ticket, value_in}
 use Rattle.verdicts.proofs.Chosen.{chosen_is_breach}
 use Rattle.verdicts.proofs.ChosenSelections.{stays_chosen}
@@ -38,12 +38,15 @@ use Rattle.verdicts.proofs.FilledSelections.{lifted, lifted_late, lifted_rises, 
 use Rattle.verdicts.proofs.KeptTickets.{selected_are_complete}
 use Rattle.verdicts.proofs.Minimal.{AreMinimal, all_or_one, selection_is_minimal, stays_violation}
 use Rattle.verdicts.proofs.NamedLines.{SelectsLines, lines_are_operations, selects_as_call, selects_as_value}
-use Rattle.verdicts.proofs.NamedPlaces.{places_of_lines}
+use Rattle.verdicts.proofs.NamedPlaces.{each_shown, line_there, shown_lines}
 use Rattle.verdicts.proofs.Retiming.{breach_from, chosen_back, linearizable_back, retimed, retimed_breach, same_back}
-use Rattle.verdicts.proofs.ShownLines.{call_of_line, line_of, line_of_call, lines_at_places, same_line, value_of_line}
+use Rattle.verdicts.proofs.ShownLines.{call_of_line, line_of, line_of_call, same_line, value_of_line}
 use Rattle.verdicts.proofs.ShrunkEvents.{kept_filled_are_complete, kept_is_complete_from, no_longer, operations_kept}
-use Rattle.verdicts.proofs.TrueClaims.{same_kind}
+use Rattle.verdicts.proofs.TrueClaims.{same_kind_from}
 use Rattle.verdicts.proofs.ViolationPlaces.{retimed_kind, retimed_lines, violation_at}
+use Rattle.verdicts.proofs.Unfilled.{violation_back}
+use Rattle.verdicts.specs.Filling.{filled_violation}
+use Rattle.verdicts.specs.Inner.Unfilling.{unfilled_violation}
 
 -- tests that pass together are one
 same_tests : (a b : Bool) → (a ≡ true → b ≡ true) → (b ≡ true → a ≡ true) → a ≡ b
@@ -158,7 +161,8 @@ enqueued_in_filling whole o among early =
           absurd (omega arith)
     ]
 
-module _ (whole : HistoryView) (violation : Violation) (is_whole : IsWhole whole) (chosen : IsChosenViolation (filled_of whole) violation)
+module _ (whole : HistoryView) (violation : Violation) (is_whole : IsWhole whole)
+    (chosen : IsChosenFrom whole.initial (operations_of whole.events) violation)
     (values calls : ℕ → Bool) (named : SelectsNamed (violation_lines whole violation) values calls)
     (small : HistoryView) (is_small : IsWhole small) (selected : IsSelectedBy whole values calls small) where
   abbrev n : ℕ
@@ -178,15 +182,15 @@ module _ (whole : HistoryView) (violation : Violation) (is_whole : IsWhole whole
 
   -- ---- the lines of the violation
 
-  shown_lines : violation_lines whole violation ≡ map (line_of n) (lines_of breach)
-  shown_lines = lines_at_places whole.initial (operations_of whole.events) (places_of violation) (lines_of breach)
-      (places_of_lines (filled_of whole) violation breach chosen.1)
+  lines_shown : violation_lines whole violation ≡ map (line_of n) (lines_of breach)
+  lines_shown = shown_lines whole.initial (operations_of whole.events) (places_of violation) (lines_of breach)
+      (each_shown whole.initial (operations_of whole.events) violation breach chosen.1)
 
   line_shown : (o : Operation) → Contains (lines_of breach) o → Contains (violation_lines whole violation) (line_of n o)
-  line_shown o among = subst (λ ls. Contains ls (line_of n o)) (sym shown_lines) (mapped_to (line_of n) (lines_of breach) o among)
+  line_shown o among = subst (λ ls. Contains ls (line_of n o)) (sym lines_shown) (mapped_to (line_of n) (lines_of breach) o among)
 
   shown_for : (line : ClaimLine) → Contains (violation_lines whole violation) line → (o : Operation) × Contains (lines_of breach) o × (line_of n o ≡ line)
-  shown_for line among = mapped_from (line_of n) (lines_of breach) line (subst (λ ls. Contains ls line) shown_lines among)
+  shown_for line among = mapped_from (line_of n) (lines_of breach) line (subst (λ ls. Contains ls line) lines_shown among)
 
   value_shown : (o : Operation) → Contains (lines_of breach) o → value_in (line_of n o) ≡ value_of o.kind
   value_shown o among = value_of_line n o (enqueued_in_filling whole o (in_whole o among))
@@ -266,15 +270,19 @@ module _ (whole : HistoryView) (violation : Violation) (is_whole : IsWhole whole
 
   -- ---- its claim
 
-  small_named : (found : Violation) × Names (filled_of small) found small_breach
-  small_named = violation_at (filled_of small) small_breach in_small
+  small_named : (found : Violation) × Names (filled_of small) (filled_violation (length small.initial) found) small_breach
+  small_named =
+      let found = violation_at (filled_of small) small_breach in_small in
+      let is = chosen_is_breach (filled_of small) small_breach complete' small_chosen in
+      let back = violation_back small.initial (operations_of small.events) found.0 small_breach found.1 is in
+      (unfilled_violation (length small.initial) found.0, subst (λ v. Names (filled_of small) v small_breach) (sym back) found.1)
 
   same_lines : violation_lines small small_named.0 ≡ violation_lines whole violation
   same_lines =
-      lines_at_places small.initial (operations_of small.events) (places_of small_named.0) (lines_of small_breach)
-      (places_of_lines (filled_of small) small_named.0 small_breach small_named.1)
+      shown_lines small.initial (operations_of small.events) (places_of small_named.0) (lines_of small_breach)
+      (each_shown small.initial (operations_of small.events) small_named.0 small_breach small_named.1)
       ∙ sym (map_agree_among (λ o. line_of n (retimed h o)) (line_of (2 * length small.initial)) (lines_of small_breach) one_line)
-      ∙ sym (mapped (lines_of small_breach)) ∙ ap (map (line_of n)) small_lines ∙ sym shown_lines
+      ∙ sym (mapped (lines_of small_breach)) ∙ ap (map (line_of n)) small_lines ∙ sym lines_shown
     where
       mapped : (os : List Operation) → map (line_of n) (map (retimed h) os) ≡ map (λ o. line_of n (retimed h o)) os
       mapped [] = refl
@@ -293,8 +301,8 @@ module _ (whole : HistoryView) (violation : Violation) (is_whole : IsWhole whole
     small_named.0,
     (small_breach, small_named.1, small_chosen),
     λ i. claimed.No
-        ((same_kind (filled_of small) small_named.0 small_breach small_named.1 ∙ sym (retimed_kind h small_breach) ∙ ap kind_of before.1
-        ∙ sym (same_kind (filled_of whole) violation breach chosen.1)) i)
+        ((same_kind_from small.initial (operations_of small.events) small_named.0 small_breach small_named.1 ∙ sym (retimed_kind h small_breach)
+        ∙ ap kind_of before.1 ∙ sym (same_kind_from whole.initial (operations_of whole.events) violation breach chosen.1)) i)
         (same_lines i),
   )
 
@@ -303,9 +311,9 @@ module _ (whole : HistoryView) (violation : Violation) (is_whole : IsWhole whole
   keeps_violation = (
     (values, calls, λ i. record { initial = selected.initial i; operations = selected.operations i }),
     λ line among.
-        let found = kept (slice_get (lines_of_history small.initial (operations_of small.events))) (places_of small_named.0) line
+        let found = kept (line_at small.initial (operations_of small.events)) (places_of small_named.0) line
         (subst (λ ls. Contains ls line) (sym same_lines) among) in
-        contains_at (lines_of_history small.initial (operations_of small.events)) found.0 line found.2,
+        line_there small.initial (operations_of small.events) found.0 line found.2,
   )
 
   -- ---- nothing can be left out
@@ -417,7 +425,7 @@ few_events whole values calls initial events few are =
 
 -- the small history is what is to be shrunk
 pub are_shrunk : (whole : HistoryView) (violation : Violation) (values calls : ℕ → Bool) (small : HistoryView) → IsWhole whole
-    → IsChosenViolation (filled_of whole) violation → SelectsNamed (violation_lines whole violation) values calls
+    → IsChosenFrom whole.initial (operations_of whole.events) violation → SelectsNamed (violation_lines whole violation) values calls
     → AreSelected whole values calls small.initial small.events → IsShrunk whole violation small
 are_shrunk whole violation values calls small is_whole chosen named are = record {
   kept = keeps_violation whole violation is_whole chosen values calls named small is_small selected;

@@ -7,6 +7,7 @@ use Rattle.history_merge.specs.declared.operation.Operation.{Operation}
 use Rattle.history_merge.proofs.Distinct.{place_of}
 use Rattle.value_match.specs.declared.life.Life.{Life}
 use Rattle.value_match.specs.declared.violation.CoverStep.{CoverStep}
+use Rattle.value_match.specs.declared.violation.Source.TheVariants as source
 use Rattle.value_match.specs.declared.violation.Violation.{Violation}
 use Rattle.value_match.specs.declared.violation.Violation.TheVariants as violation
 use Rattle.value_match.specs.Lives.{IsMaybeAt, dequeue_of, enqueue_of, operations_of_life}
@@ -35,7 +36,7 @@ module _ (operations : List Operation) where
       let enqueue = place_of operations (enqueue_of life) (own (enqueue_of life) (zero, omega arith, refl)) in
       let dequeue = maybe_at (dequeue_of life) (λ o at. own o (one_deeper (enqueue_of life) (option_to_list (dequeue_of life)) o at)) in
       let rest = cover_at cover (λ o at. among o (Contains-append_right (operations_of_life life) (flat_map operations_of_life cover) o at)) in
-      (record { enqueue = enqueue.0; dequeue = dequeue.0 } ∷ rest.0, ((enqueue.1, dequeue.1), rest.1))
+      (record { source = source.Enq enqueue.0; dequeue = dequeue.0 } ∷ rest.0, ((enqueue.1, dequeue.1), rest.1))
 
   -- a violation whose lines are operations has places
   pub violation_at : (breach : Breach) → AreAmong (lines_of breach) → (found : Violation) × Names operations found breach
@@ -47,14 +48,14 @@ module _ (operations : List Operation) where
       let e = place_of operations enq (among enq (zero, omega arith, refl)) in
       let d = place_of operations first (among first (1, omega arith, refl)) in
       let f = place_of operations second (among second (2, omega arith, refl)) in
-      (violation.Repeat e.0 d.0 f.0, (e.1, d.1, f.1))
+      (violation.Repeat (source.Enq e.0) d.0 f.0, (e.1, d.1, f.1))
   violation_at (order enq_a enq_b deq_b deq_a) among =
       let a = place_of operations enq_a (among enq_a (zero, omega arith, refl)) in
       let b = place_of operations enq_b (among enq_b (1, omega arith, refl)) in
       let d = place_of operations deq_b (among deq_b (2, omega arith, refl)) in
       let e = maybe_at deq_a (λ o at. among o (one_deeper enq_a (enq_b ∷ deq_b ∷ option_to_list deq_a) o
       (one_deeper enq_b (deq_b ∷ option_to_list deq_a) o (one_deeper deq_b (option_to_list deq_a) o at)))) in
-      (violation.Order a.0 b.0 d.0 e.0, (a.1, b.1, d.1, e.1))
+      (violation.Order (source.Enq a.0) (source.Enq b.0) d.0 e.0, (a.1, b.1, d.1, e.1))
   violation_at (witness empty cover) among =
       let o = place_of operations empty (among empty (zero, omega arith, refl)) in
       let steps = cover_at cover (λ x at. among x (one_deeper empty (flat_map operations_of_life cover) x at)) in

@@ -1,5 +1,6 @@
 pub mod Verdicts
 pub mod Claims
+pub mod Filling
 pub mod Laws
 pub mod Selection
 pub mod Shown

@@ -10,12 +10,13 @@ use Rattle.history_merge.specs.Operations.{operations_of}
 use Rattle.value_match.specs.declared.life.Life.{Life}
 use Rattle.value_match.specs.declared.violation.Violation.{Violation}
 use Rattle.value_match.specs.Violations.{Breach, witness, IsWitnessViolation}
-use Rattle.value_match.specs.Outcome.{Names, IsChosenViolation}
+use Rattle.value_match.specs.Outcome.{Names}
 use Rattle.verdicts.specs.declared.verdict.Verdict.TheVariants.{No}
 use Rattle.verdicts.specs.declared.verifying.ClaimLine.{ClaimLine}
 use Rattle.verdicts.specs.Claiming.{claim_of, lines_at, lines_of_history}
 use Rattle.verdicts.specs.Shown.{places_of}
-use Rattle.verdicts.specs.Verdicts.{filled_of}
+use Rattle.verdicts.specs.Filling.{filled_violation}
+use Rattle.verdicts.specs.Verdicts.{IsChosenFrom, filled_of}
 
 -- the value of an operation; an empty answer has none
 abbrev pub value_of : OpKind → Option ℕ
@@ -64,7 +65,7 @@ KeepsViolation whole violation small = IsValueClosed (contents_of whole) (conten
 
 -- the claim of the chosen violation of the small history is that of the violation in the whole
 abbrev pub StaysChosen : HistoryView → Violation → HistoryView → Type 0
-StaysChosen whole violation small = (found : Violation) × IsChosenViolation (filled_of small) found
+StaysChosen whole violation small = (found : Violation) × IsChosenFrom small.initial (operations_of small.events) found
     × (claim_of small.initial (operations_of small.events) (No found) ≡ claim_of whole.initial (operations_of whole.events) (No violation))
 
 -- some elements, in their order
@@ -77,5 +78,6 @@ IsShortestCover operations (witness empty cover) = (other : List Life) → IsWit
 IsShortestCover operations _ = ⊤
 
 -- the same of the violation that the places name
-abbrev pub HasShortestCover : List Operation → Violation → Type 0
-HasShortestCover operations violation = (breach : Breach) → Names operations violation breach → IsShortestCover operations breach
+abbrev pub HasShortestCover : HistoryView → Violation → Type 0
+HasShortestCover history violation = (breach : Breach) → Names (filled_of history) (filled_violation (length history.initial) violation) breach
+    → IsShortestCover (filled_of history) breach

@@ -1,16 +1,29 @@
--- The operations that a violation names, as they are shown.
-use Rattle.std.specs.Prelude.{ℕ, List, [], ◌∷◌, flat_map, option_to_list}
+-- What a violation names, in the order in which it is shown.
+use Rattle.std.specs.Prelude.{ℕ, List, [], ◌∷◌, Option, flat_map, option_map, option_to_list}
 use Rattle.value_match.specs.declared.violation.CoverStep.{CoverStep}
+use Rattle.value_match.specs.declared.violation.Source.{Source}
+use Rattle.value_match.specs.declared.violation.Source.TheVariants as source
 use Rattle.value_match.specs.declared.violation.Violation.{Violation}
 use Rattle.value_match.specs.declared.violation.Violation.TheVariants.{Fresh, Repeat, Order, Witness}
+use Rattle.verdicts.specs.declared.shown.LinePlace.{LinePlace}
+use Rattle.verdicts.specs.declared.shown.LinePlace.TheVariants.{Op, Initial}
+
+-- the place of a source: that of an accepted enqueue, or of an initial value
+abbrev pub place_of_source : Source → LinePlace
+place_of_source (source.Enq place) = Op place
+place_of_source (source.Initial place) = Initial place
+
+-- the place of an operation, if there is one
+abbrev pub maybe_place : Option ℕ → List LinePlace
+maybe_place place = option_to_list (option_map Op place)
 
 -- the places of a value of a cover
-abbrev pub places_of_step : CoverStep → List ℕ
-places_of_step step = step.enqueue ∷ option_to_list step.dequeue
+abbrev pub places_of_step : CoverStep → List LinePlace
+places_of_step step = place_of_source step.source ∷ maybe_place step.dequeue
 
--- the places that a violation names, in the order in which its operations are shown
-abbrev pub places_of : Violation → List ℕ
-places_of (Fresh deq enq) = deq ∷ option_to_list enq
-places_of (Repeat enq first second) = enq ∷ first ∷ second ∷ []
-places_of (Order enq_a enq_b deq_b deq_a) = enq_a ∷ enq_b ∷ deq_b ∷ option_to_list deq_a
-places_of (Witness empty cover) = empty ∷ flat_map places_of_step cover
+-- the places that a violation names, in the order in which they are shown
+abbrev pub places_of : Violation → List LinePlace
+places_of (Fresh deq enq) = Op deq ∷ maybe_place enq
+places_of (Repeat enq first second) = place_of_source enq ∷ Op first ∷ Op second ∷ []
+places_of (Order enq_a enq_b deq_b deq_a) = place_of_source enq_a ∷ place_of_source enq_b ∷ Op deq_b ∷ maybe_place deq_a
+places_of (Witness empty cover) = Op empty ∷ flat_map places_of_step cover

@@ -3,29 +3,33 @@ use Rattle.std.specs.Prelude.{◌≡◌, ℕ, ◌≤◌, List, length}
 use Rattle.event_records.specs.declared.event.Event.{Event}
 use Rattle.event_records.specs.declared.limits.TheConstants.{MAX_EVENTS, MAX_INITIAL}
 use Rattle.history_merge.specs.declared.operation.Operation.{Operation}
-use Rattle.history_merge.specs.Legal.{IsLegalOrder, IsLinearizable, IsLinearizableFrom, ArePlacesOf}
+use Rattle.history_merge.specs.Legal.{IsLegalOrderFrom, IsLinearizableFrom, ArePlacesOf}
 use Rattle.history_merge.specs.Initial.{HistoryView, IsCompleteFrom, filled}
 use Rattle.history_merge.specs.Operations.{operations_of}
+use Rattle.value_match.specs.declared.violation.Violation.{Violation}
 use Rattle.value_match.specs.Violations.{Breach, IsBreachOf}
 use Rattle.value_match.specs.Outcome.{Names, IsChosenViolation}
 use Rattle.linearizer.specs.Order.{IsChosenOrder}
 use Rattle.verdicts.specs.declared.verdict.Verdict.{Verdict}
 use Rattle.verdicts.specs.declared.verdict.Verdict.TheVariants.{Yes, No}
+use Rattle.verdicts.specs.Filling.{filled_violation}
 
--- yes with the chosen order, or no with the chosen violation
-abbrev pub IsVerdictOf : List Operation → Verdict → Type 0
-IsVerdictOf operations (Yes places) = (order : List Operation) × ArePlacesOf operations places order × IsChosenOrder operations order
-IsVerdictOf operations (No violation) = IsChosenViolation operations violation
+-- the violation of a history is the chosen one of its filled history
+abbrev pub IsChosenFrom : List ℕ → List Operation → Violation → Type 0
+IsChosenFrom initial operations violation = IsChosenViolation (filled initial operations) (filled_violation (length initial) violation)
 
--- a yes lists a legal order; a no names operations that violate
-abbrev pub IsEvidence : List Operation → Verdict → Type 0
-IsEvidence operations (Yes places) = (order : List Operation) × ArePlacesOf operations places order × IsLegalOrder operations order
-IsEvidence operations (No violation) = (breach : Breach) × Names operations violation breach × IsBreachOf operations breach
+-- yes with the order that, behind the enqueues of the initial values, is the chosen one of the filled history; or no with the
+-- chosen violation
+abbrev pub IsVerdictFrom : List ℕ → List Operation → Verdict → Type 0
+IsVerdictFrom initial operations (Yes places) =
+    (order : List Operation) × ArePlacesOf operations places order × IsChosenOrder (filled initial operations) (filled initial order)
+IsVerdictFrom initial operations (No violation) = IsChosenFrom initial operations violation
 
--- yes where a legal order exists, no where none does
-abbrev pub IsExact : List Operation → Verdict → Type 0
-IsExact operations (Yes places) = IsLinearizable operations
-IsExact operations (No violation) = ¬ (IsLinearizable operations)
+-- a yes lists a legal order for a queue that holds these values first; a no names what violates in the filled history
+abbrev pub IsEvidenceFrom : List ℕ → List Operation → Verdict → Type 0
+IsEvidenceFrom initial operations (Yes places) = (order : List Operation) × ArePlacesOf operations places order × IsLegalOrderFrom initial operations order
+IsEvidenceFrom initial operations (No violation) =
+    (breach : Breach) × Names (filled initial operations) (filled_violation (length initial) violation) breach × IsBreachOf (filled initial operations) breach
 
 -- yes where a legal order exists for a queue that holds these values first, no where none does
 abbrev pub IsExactFrom : List ℕ → List Operation → Verdict → Type 0
@@ -43,9 +47,3 @@ pub record HasOperationsFrom (initial : List ℕ) (operations : List Operation) 
   pub are : operations ≡ operations_of events
   pub few_initial : length initial ≤ MAX_INITIAL
   pub few : length events ≤ MAX_EVENTS
-
--- the chosen verdict, which is evidence and exact
-pub record IsDecided (operations : List Operation) (verdict : Verdict) : Type 0 where
-  pub chosen : IsVerdictOf operations verdict
-  pub evidence : IsEvidence operations verdict
-  pub exact : IsExact operations verdict

@@ -1,9 +1,9 @@
 ghost use Rattle.std.specs.Prelude.{◌≡◌, IfOk, slice_get};
 ghost use Rattle.history_merge.specs.Operations.{operations_of};
-ghost use Rattle.verdicts.specs.Claiming.{IsWithin, claim_of, lines_at, lines_of_history, operation_behind, operations_at, violation_kind};
+ghost use Rattle.verdicts.specs.Claiming.{IsWithin, claim_of, lines_at, operations_at, violation_kind};
 ghost use Rattle.verdicts.specs.Selection.{violation_lines};
 
-use crate::shown::places_of;
+use crate::shown::{LinePlace, places_of};
 use crate::verdict::Verdict;
 use crate::verifying::{ClaimLine, ClaimLines, Claimed, Lines, ViolationKind};
 use history_merge::{History, OpId, Operation};
@@ -15,15 +15,13 @@ use value_match::Violation;
 /// The claim needs no places of this history any more, so it can be verified by itself, or against another history.
 /// Time and memory linear in the verdict. `AllocError` comes only where a growth was refused.
 pub fn claim(alloc: Global, history: &History, verdict: &Verdict) -> Result<Claimed, AllocError>
-    // The verdict's operations are places of this history.
+    // The verdict's places are those of operations and initial values of this history.
     requires places { IsWithin history.now.initial (operations_of history.now.events) verdict.now }
     ensures claim { IfOk result (λ claimed. claimed ≡ claim_of history.now.initial (operations_of history.now.events) verdict.now) }
 {
-    let initial = history.initial();
-    let operations = history.operations();
     match verdict {
         Verdict::Yes(order) => {
-            let lines = operations_at(alloc, initial, operations, order.as_slice())?;
+            let lines = operations_at(alloc, history.operations(), order.as_slice())?;
             Ok(Claimed::Yes(Lines::from_vec(lines)))
         }
         Verdict::No(violation) => {
@@ -33,31 +31,25 @@ pub fn claim(alloc: Global, history: &History, verdict: &Verdict) -> Result<Clai
     }
 }
 
-/// The operations at these places, without the initial values.
+/// The operations at these places.
 fn operations_at(
     alloc: Global,
-    initial: &[u64],
     operations: &[Operation],
     places: &[OpId],
 ) -> Result<Vec<Operation>, AllocError>
-    ensures { IfOk result (λ listed. listed.items ≡ operations_at initial.now operations.now places.now) }
+    ensures { IfOk result (λ listed. listed.items ≡ operations_at operations.now places.now) }
 {
     places
         .iter()
-        .filter_map(|place| operation_behind(initial.len(), operations, *place))
+        .filter_map(|place| operation_at(operations, *place))
         .collect(alloc)
 }
 
-/// The operation at the place; the first places are those of the initial values.
-fn operation_behind(
-    initial_count: usize,
-    operations: &[Operation],
-    place: OpId,
-) -> Option<Operation>
-    ensures { result ≡ operation_behind initial_count operations.now place }
+/// The operation at this place, if there is one.
+fn operation_at(operations: &[Operation], place: OpId) -> Option<Operation>
+    ensures { result ≡ slice_get operations.now place }
 {
-    let behind = place.place().checked_sub(initial_count)?;
-    operations.get(behind).copied()
+    operations.get(place.place()).copied()
 }
 
 /// The lines of a violation, in the order in which they are shown.
@@ -82,24 +74,14 @@ fn lines_at(
     alloc: Global,
     initial: &[u64],
     operations: &[Operation],
-    places: &[OpId],
+    places: &[LinePlace],
 ) -> Result<Vec<ClaimLine>, AllocError>
     ensures { IfOk result (λ listed. listed.items ≡ lines_at initial.now operations.now places.now) }
 {
     places
         .iter()
-        .filter_map(|place| line_at(initial, operations, *place))
+        .filter_map(|place| place.line(initial, operations))
         .collect(alloc)
-}
-
-/// The line at this place.
-fn line_at(initial: &[u64], operations: &[Operation], place: OpId) -> Option<ClaimLine>
-    ensures { result ≡ slice_get (lines_of_history initial.now operations.now) place }
-{
-    match initial.get(place.place()) {
-        Some(value) => Some(ClaimLine::Initial(*value)),
-        None => operation_behind(initial.len(), operations, place).map(ClaimLine::Op),
-    }
 }
 
 /// The kind of a violation.

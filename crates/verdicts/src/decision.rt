@@ -1,13 +1,14 @@
 ghost use Rattle.std.specs.Prelude.{◌≡◌, ◌≤◌, IfOk, length};
 ghost use Rattle.history_merge.specs.Complete.{AreComplete};
-ghost use Rattle.history_merge.specs.Initial.{filled};
 ghost use Rattle.history_merge.specs.Operations.{operations_of};
 ghost use Rattle.value_match.specs.Violations.{IsClear, NoOrderViolation};
 ghost use Rattle.empty_witness.specs.Answers.{IsWitnessAnswer};
 ghost use Rattle.parallel_finders.specs.declared.TheConstants.{MAX_PIECES};
-ghost use Rattle.verdicts.specs.Claiming.{HasPlacesBelow, IsWithin};
-ghost use Rattle.verdicts.specs.Verdicts.{HasOperationsFrom, IsVerdictOf, IsEvidence, IsExact, IsExactFrom, IsDecided, filled_of};
+ghost use Rattle.verdicts.specs.Claiming.{IsWithin};
+ghost use Rattle.verdicts.specs.Inner.Decided.{IsDecided};
+ghost use Rattle.verdicts.specs.Verdicts.{HasOperationsFrom, IsEvidenceFrom, IsExactFrom, IsVerdictFrom};
 
+use crate::unfilling::unfilled;
 use crate::verdict::{Order, Verdict};
 use empty_witness::{WitnessAnswer, find_witness};
 use event_records::MAX_EVENTS;
@@ -19,14 +20,15 @@ use std::alloc::{AllocError, Global};
 use std::thread::Threads;
 use value_match::{Matched, Matching, Violation, match_operations};
 
-/// Whether a history has a legal order (Herlihy and Wing 1990) for a queue that holds the initial values first: yes with the chosen order, no with the chosen violation,
-/// which is of the first kind that is present: a value that was not there, a value dequeued twice, values dequeued
-/// against the order of their enqueues, an empty answer while the queue was never empty.
+/// Whether a history has a legal order (Herlihy and Wing 1990) for a queue that holds the initial values first: yes with the
+/// chosen order, no with the chosen violation, which is of the first kind that is present: a value that was not there, a
+/// value dequeued twice, values dequeued against the order of their enqueues, an empty answer while the queue was never empty.
 ///
-/// The four kinds are this project's own. `AllocError` comes only where a growth was refused.
+/// An order and a violation name operations and initial values by their own places, from 0. The four kinds are this project's
+/// own. `AllocError` comes only where a growth was refused.
 pub fn decide(alloc: Global, history: &History) -> Result<Verdict, AllocError>
-    ensures chosen { IfOk result (λ verdict. IsVerdictOf (filled_of history.now) verdict) }
-    ensures evidence { IfOk result (λ verdict. IsEvidence (filled_of history.now) verdict) }
+    ensures chosen { IfOk result (λ verdict. IsVerdictFrom history.now.initial (operations_of history.now.events) verdict) }
+    ensures evidence { IfOk result (λ verdict. IsEvidenceFrom history.now.initial (operations_of history.now.events) verdict) }
     ensures exact { IfOk result (λ verdict. IsExactFrom history.now.initial (operations_of history.now.events) verdict) }
     ensures places { IfOk result (λ verdict. IsWithin history.now.initial (operations_of history.now.events) verdict) }
 {
@@ -40,8 +42,8 @@ pub fn decide_from(
     operations: &[Operation],
 ) -> Result<Verdict, AllocError>
     requires complete { HasOperationsFrom initial.now operations.now }
-    ensures chosen { IfOk result (λ verdict. IsVerdictOf (filled initial.now operations.now) verdict) }
-    ensures evidence { IfOk result (λ verdict. IsEvidence (filled initial.now operations.now) verdict) }
+    ensures chosen { IfOk result (λ verdict. IsVerdictFrom initial.now operations.now verdict) }
+    ensures evidence { IfOk result (λ verdict. IsEvidenceFrom initial.now operations.now verdict) }
     ensures exact { IfOk result (λ verdict. IsExactFrom initial.now operations.now verdict) }
     ensures places { IfOk result (λ verdict. IsWithin initial.now operations.now verdict) }
 {
@@ -49,17 +51,15 @@ pub fn decide_from(
         return decide_operations(alloc, operations);
     }
     let filled = fill(alloc, initial, operations)?;
-    decide_operations(alloc, filled.as_slice())
+    let verdict = decide_operations(alloc, filled.as_slice())?;
+    unfilled(alloc, initial.len(), verdict)
 }
 
 /// The same of operations that are complete, by ticket or by clock, for a queue that is empty first.
 fn decide_operations(alloc: Global, operations: &[Operation]) -> Result<Verdict, AllocError>
     requires complete { AreComplete operations.now }
     requires few { length operations.now ≤ MAX_EVENTS }
-    ensures chosen { IfOk result (λ verdict. IsVerdictOf operations.now verdict) }
-    ensures evidence { IfOk result (λ verdict. IsEvidence operations.now verdict) }
-    ensures exact { IfOk result (λ verdict. IsExact operations.now verdict) }
-    ensures places { IfOk result (λ verdict. HasPlacesBelow (length operations.now) verdict) }
+    ensures { IfOk result (λ verdict. IsDecided operations.now verdict) }
 {
     match match_operations(alloc, operations)? {
         Matched::Clear(matching) => decide_matching(alloc, &matching),
@@ -80,8 +80,8 @@ pub fn decide_par<R: Threads + Sync>(
     pieces: usize,
 ) -> Result<Verdict, AllocError>
     requires { (1 ≤ pieces) × (pieces ≤ MAX_PIECES) }
-    ensures chosen { IfOk result (λ verdict. IsVerdictOf (filled_of history.now) verdict) }
-    ensures evidence { IfOk result (λ verdict. IsEvidence (filled_of history.now) verdict) }
+    ensures chosen { IfOk result (λ verdict. IsVerdictFrom history.now.initial (operations_of history.now.events) verdict) }
+    ensures evidence { IfOk result (λ verdict. IsEvidenceFrom history.now.initial (operations_of history.now.events) verdict) }
     ensures exact { IfOk result (λ verdict. IsExactFrom history.now.initial (operations_of history.now.events) verdict) }
     ensures places { IfOk result (λ verdict. IsWithin history.now.initial (operations_of history.now.events) verdict) }
 {
@@ -98,8 +98,8 @@ pub fn decide_from_par<R: Threads + Sync>(
 ) -> Result<Verdict, AllocError>
     requires complete { HasOperationsFrom initial.now operations.now }
     requires pieces { (1 ≤ pieces) × (pieces ≤ MAX_PIECES) }
-    ensures chosen { IfOk result (λ verdict. IsVerdictOf (filled initial.now operations.now) verdict) }
-    ensures evidence { IfOk result (λ verdict. IsEvidence (filled initial.now operations.now) verdict) }
+    ensures chosen { IfOk result (λ verdict. IsVerdictFrom initial.now operations.now verdict) }
+    ensures evidence { IfOk result (λ verdict. IsEvidenceFrom initial.now operations.now verdict) }
     ensures exact { IfOk result (λ verdict. IsExactFrom initial.now operations.now verdict) }
     ensures places { IfOk result (λ verdict. IsWithin initial.now operations.now verdict) }
 {
@@ -107,7 +107,8 @@ pub fn decide_from_par<R: Threads + Sync>(
         return decide_operations_par(rt, alloc, operations, pieces);
     }
     let filled = fill(alloc, initial, operations)?;
-    decide_operations_par(rt, alloc, filled.as_slice(), pieces)
+    let verdict = decide_operations_par(rt, alloc, filled.as_slice(), pieces)?;
+    unfilled(alloc, initial.len(), verdict)
 }
 
 /// The same of operations that are complete, by ticket or by clock, for a queue that is empty first.
@@ -120,10 +121,7 @@ fn decide_operations_par<R: Threads + Sync>(
     requires complete { AreComplete operations.now }
     requires few { length operations.now ≤ MAX_EVENTS }
     requires pieces { (1 ≤ pieces) × (pieces ≤ MAX_PIECES) }
-    ensures chosen { IfOk result (λ verdict. IsVerdictOf operations.now verdict) }
-    ensures evidence { IfOk result (λ verdict. IsEvidence operations.now verdict) }
-    ensures exact { IfOk result (λ verdict. IsExact operations.now verdict) }
-    ensures places { IfOk result (λ verdict. HasPlacesBelow (length operations.now) verdict) }
+    ensures { IfOk result (λ verdict. IsDecided operations.now verdict) }
 {
     match match_operations(alloc, operations)? {
         Matched::Clear(matching) => decide_matching_par(rt, alloc, &matching, pieces),

@@ -10,6 +10,7 @@ mod lookup;
 mod selection;
 mod shown;
 mod shrinking;
+mod unfilling;
 mod verdict;
 mod verifying;
 
@@ -20,6 +21,7 @@ pub use laws::{
     a_verdict_has_few_lines, evidence_is_a_true_claim, lines_tell_a_violation, no_legal_order,
     one_finding, one_verdict, violations_are_all,
 };
+pub use shown::LinePlace;
 pub use shrinking::shrink;
 pub use verdict::{Order, Verdict};
 pub use verifying::{ClaimLine, ClaimLines, Claimed, Lines, ViolationKind, verify};

@@ -1,9 +1,9 @@
 ghost use Rattle.std.specs.Prelude.{◌≡◌, ◌≤◌, IfOk, vec_len};
 ghost use Rattle.event_records.specs.declared.limits.TheConstants.{MAX_EVENTS, MAX_INITIAL};
 ghost use Rattle.history_merge.specs.Initial.{IsCompleteFrom};
-ghost use Rattle.value_match.specs.Outcome.{IsChosenViolation};
+ghost use Rattle.history_merge.specs.Operations.{operations_of};
 ghost use Rattle.verdicts.specs.Selection.{ArePartOf, HasShortestCover, IsMinimal, KeepsViolation, StaysChosen, contents_of};
-ghost use Rattle.verdicts.specs.Verdicts.{filled_of};
+ghost use Rattle.verdicts.specs.Verdicts.{IsChosenFrom};
 
 use crate::claiming::violation_lines;
 use crate::selection::Selection;
@@ -15,8 +15,8 @@ use value_match::Violation;
 /// The history of the chosen violation alone: the initial values and all operations of the values that it names, and its
 /// empty answer, with the tickets and threads that they had.
 ///
-/// The violation is the one that `decide` answers for this history, by its places there: those of the initial values come
-/// first. What `decide` answers for the small history has the same claim. Without any one of its values, or without its
+/// The violation is the one that `decide` answers for this history. What `decide` answers for the small history has the same
+/// claim. Without any one of its values, or without its
 /// empty answer, the small history is linearizable. It need not be the smallest such part of the history: another violation
 /// may show fewer operations, but of an empty answer no cover has fewer values.
 ///
@@ -27,11 +27,11 @@ pub fn shrink(
     history: &History,
     violation: &Violation,
 ) -> Result<History, AllocError>
-    requires { IsChosenViolation (filled_of history.now) violation.now }
+    requires { IsChosenFrom history.now.initial (operations_of history.now.events) violation.now }
     ensures kept { IfOk result (λ small. KeepsViolation history.now violation.now small) }
     ensures same_violation { IfOk result (λ small. StaysChosen history.now violation.now small) }
     ensures minimal { IfOk result (λ small. IsMinimal (contents_of small)) }
-    ensures shortest { IfOk result (λ _. HasShortestCover (filled_of history.now) violation.now) }
+    ensures shortest { IfOk result (λ _. HasShortestCover history.now violation.now) }
     ensures initial { IfOk result (λ small. ArePartOf history.now.initial small.initial) }
     ensures events { IfOk result (λ small. ArePartOf history.now.events small.events) }
     ensures complete { IfOk result (λ small. IsCompleteFrom small.initial small.events) }

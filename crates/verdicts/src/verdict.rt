@@ -2,7 +2,7 @@ use event_records::Listed;
 use history_merge::OpId;
 use value_match::Violation;
 
-/// Operations in an order, seen as the list of their places in the history's list of operations, from 0.
+/// Operations in an order, seen as the list of their places among the operations of the history, from 0.
 pub type Order = Listed<OpId>;
 
 /// Whether a history is linearizable, with evidence.
@@ -10,6 +10,6 @@ pub type Order = Listed<OpId>;
 pub enum Verdict {
     /// It is, and this order of its operations is legal.
     Yes(Order),
-    /// It is not, and these of its operations show why.
+    /// It is not, and these of its operations and initial values show why.
     No(Violation),
 }

@@ -1,5 +1,5 @@
 use Rattle.std.proofs.Common.{subst}
-use Rattle.verdicts.specs.Verdicts.{IsEvidence, IsExactFrom, IsVerdictOf, filled_of}
+use Rattle.verdicts.specs.Verdicts.{IsEvidenceFrom, IsExactFrom, IsVerdictFrom}
 use Rattle.history_merge.specs.Operations.{operations_of}
 use Rattle.commands.specs.Judging.{said_by}
 use Rattle.commands.proofs.Findings.{fault_or, none_of_first, shrunk_no, shrunk_yes}
@@ -17,8 +17,8 @@ returns-in-Ok-parts_of-clause-found c =
     let parts = c.in-Ok-parts_of.parts in
     shrunk_yes c.args.text c.args.text.version history parts.initial.items parts.operations.items c.in-Ok-Yes.order c.in-Ok.ensures.history
     c.in-Ok-parts_of.ensures.0 c.in-Ok-parts_of.ensures.1 c.in-Ok.ensures.complete
-    (subst (IsVerdictOf (filled_of history)) c.in-Ok-Yes.field-0-is c.in-Ok-Yes.ensures.chosen)
-    (subst (IsEvidence (filled_of history)) c.in-Ok-Yes.field-0-is c.in-Ok-Yes.ensures.evidence)
+    (subst (IsVerdictFrom history.initial (operations_of history.events)) c.in-Ok-Yes.field-0-is c.in-Ok-Yes.ensures.chosen)
+    (subst (IsEvidenceFrom history.initial (operations_of history.events)) c.in-Ok-Yes.field-0-is c.in-Ok-Yes.ensures.evidence)
     (subst (IsExactFrom history.initial (operations_of history.events)) c.in-Ok-Yes.field-0-is c.in-Ok-Yes.ensures.exact)
 
 pub returns-in-Ok-No-clause-found : goal.returns-in-Ok-No-clause-found

@@ -7,7 +7,7 @@ use Rattle.history_text.proofs.verdict_writer.put_order.Given as goal
 abbrev pub invariant-loop-id : goal.invariant-loop-id
 invariant-loop-id g l = record {
   put : Puts (g.W.TextSink.contents l.fn.writer) (g.W.TextSink.contents l.writer) l.fn.kept l.kept (flat_map
-      (operation_text l.initial_count l.operations) (take l.id-index l.places));
+      (operation_text l.operations) (take l.id-index l.places));
   asked : IsWritten g.W.TextSink.goes l.fn.writer l.writer;
   same : g.W.TextSink.has_refused l.writer ≡ g.W.TextSink.has_refused l.fn.writer;
 }

@@ -1,5 +1,5 @@
 use Rattle.history_text.specs.Inner.Verdicts.{line_text}
-use Rattle.std.specs.Option.{option_to_list}
+use Rattle.history_text.specs.Verdicts.{maybe_place}
 use Rattle.std.proofs.lemmas.Result.{on_ok_weaker, on_err_weaker}
 use Rattle.text_lines.proofs.Appending.{on_err}
 use Rattle.history_text.proofs.Named.{first_stops, next_stops, both_put}
@@ -9,15 +9,15 @@ use Rattle.history_text.proofs.verdict_writer.put_with_last.Goals as goal
 pub returns-in_err-put_places-clause-err : goal.returns-in_err-put_places-clause-err
 returns-in_err-put_places-clause-err g c =
     on_err c.from_residual.result _ (first_stops (line_text c.args.initial.now c.args.operations.now) c.args.first.now
-    (option_to_list c.args.last) _ _ _ c.in_err-put_places.ensures.err)
+    (maybe_place c.args.last) _ _ _ c.in_err-put_places.ensures.err)
 
 pub returns-clause-ok : goal.returns-clause-ok
 returns-clause-ok g c = on_ok_weaker c.put_maybe.result (both_put (line_text c.args.initial.now c.args.operations.now) c.args.first.now
-    (option_to_list c.args.last) _ _ _ _ _ _ c.in_ok-put_places.ensures.ok) c.put_maybe.ensures.ok
+    (maybe_place c.args.last) _ _ _ _ _ _ c.in_ok-put_places.ensures.ok) c.put_maybe.ensures.ok
 
 pub returns-clause-err : goal.returns-clause-err
 returns-clause-err g c = on_err_weaker c.put_maybe.result (next_stops (line_text c.args.initial.now c.args.operations.now) c.args.first.now
-    (option_to_list c.args.last) _ _ _ _ _ c.in_ok-put_places.ensures.ok) c.put_maybe.ensures.err
+    (maybe_place c.args.last) _ _ _ _ _ c.in_ok-put_places.ensures.ok) c.put_maybe.ensures.err
 
 pub returns-clause-written : goal.returns-clause-written
 returns-clause-written g c = both_written g.W.TextSink.goes c.put_maybe.result _ c.in_ok-put_places.ensures.written c.put_maybe.ensures.written

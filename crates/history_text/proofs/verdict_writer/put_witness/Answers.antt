@@ -2,6 +2,7 @@ use Rattle.std.proofs.Common.{[], ◌∷◌}
 use Rattle.history_text.specs.Inner.Verdicts.{line_text}
 use Rattle.std.specs.List.{flat_map}
 use Rattle.std.proofs.lemmas.Result.{on_ok_weaker, on_err_weaker}
+use Rattle.verdicts.specs.declared.shown.LinePlace.TheVariants as place
 use Rattle.history_text.specs.Verdicts.{places_of_step}
 use Rattle.text_lines.proofs.Appending.{on_err}
 use Rattle.history_text.proofs.Named.{first_stops, next_stops, both_put}
@@ -10,17 +11,17 @@ use Rattle.history_text.proofs.verdict_writer.put_witness.Goals as goal
 
 pub returns-in_err-put_places-clause-err : goal.returns-in_err-put_places-clause-err
 returns-in_err-put_places-clause-err g c =
-    on_err c.from_residual.result _ (first_stops (line_text c.args.initial.now c.args.operations.now) (c.args.empty ∷ [])
+    on_err c.from_residual.result _ (first_stops (line_text c.args.initial.now c.args.operations.now) (place.Op c.args.empty ∷ [])
     (flat_map places_of_step c.args.cover.now) _ _ _ c.in_err-put_places.ensures.err)
 
 pub returns-clause-ok : goal.returns-clause-ok
 returns-clause-ok g c =
-    on_ok_weaker c.put_cover.result (both_put (line_text c.args.initial.now c.args.operations.now) (c.args.empty ∷ [])
+    on_ok_weaker c.put_cover.result (both_put (line_text c.args.initial.now c.args.operations.now) (place.Op c.args.empty ∷ [])
     (flat_map places_of_step c.args.cover.now) _ _ _ _ _ _ c.in_ok-put_places.ensures.ok) c.put_cover.ensures.ok
 
 pub returns-clause-err : goal.returns-clause-err
 returns-clause-err g c =
-    on_err_weaker c.put_cover.result (next_stops (line_text c.args.initial.now c.args.operations.now) (c.args.empty ∷ [])
+    on_err_weaker c.put_cover.result (next_stops (line_text c.args.initial.now c.args.operations.now) (place.Op c.args.empty ∷ [])
     (flat_map places_of_step c.args.cover.now) _ _ _ _ _ c.in_ok-put_places.ensures.ok) c.put_cover.ensures.err
 
 pub returns-clause-written : goal.returns-clause-written

@@ -1,7 +1,7 @@
 use Rattle.std.proofs.Common.{sym, subst}
 use Rattle.verdicts.specs.declared.verdict.Verdict.TheVariants.{No}
 use Rattle.order_violation.specs.Pairs.{IsOrderAnswer}
-use Rattle.verdicts.specs.Verdicts.{IsDecided}
+use Rattle.verdicts.specs.Inner.Decided.{IsDecided}
 use Rattle.verdicts.proofs.Decided.{no_is_decided, pair_is_chosen, order_is_absent}
 use Rattle.verdicts.proofs.decision.decide_matching_par.Goals as goal
 

@@ -8,6 +8,8 @@ use Rattle.verdicts.proofs.ChosenSelections.{has_shortest_cover}
 use Rattle.verdicts.proofs.ShrunkEvents.{no_longer}
 use Rattle.verdicts.proofs.ShrunkHistories.{IsShrunk, IsWhole, are_complete, are_selected, are_shrunk, few_events}
 use Rattle.verdicts.proofs.shrinking.shrink.Goals as goal
+use Rattle.verdicts.specs.Filling.{filled_violation}
+use Rattle.verdicts.specs.Verdicts.{filled_of}
 
 pub whole_history-requires-clause-few_initial : goal.whole_history-requires-clause-few_initial
 whole_history-requires-clause-few_initial c =
@@ -55,7 +57,8 @@ returns c =
       kept = IfOk-weaker small (IsShrunk whole violation) _ (λ s is. is.kept) shrunk;
       same_violation = IfOk-weaker small (IsShrunk whole violation) _ (λ s is. is.same_violation) shrunk;
       minimal = IfOk-weaker small (IsShrunk whole violation) _ (λ s is. is.minimal) shrunk;
-      shortest = IfOk-weaker small (IsShrunk whole violation) _ (λ s is. has_shortest_cover _ violation
+      shortest = IfOk-weaker small (IsShrunk whole violation) _ (λ s is. has_shortest_cover (filled_of whole)
+          (filled_violation (length whole.initial) violation)
           (filled_are_complete whole.initial whole.events is_whole.complete is_whole.few) c.requires) shrunk;
       initial = IfOk-weaker small (IsShrunk whole violation) _ (λ s is. is.initial) shrunk;
       events = IfOk-weaker small (IsShrunk whole violation) _ (λ s is. is.events) shrunk;

@@ -1,0 +1,206 @@
+-- A verdict on a filled history, told by the places of the history, says the same.
+use Rattle.std.proofs.Common.{◌≡◌, ℕ, ◌+◌, ◌*◌, ◌<◌, ◌≤◌, Bool, true, false, List, [], ◌∷◌, length, map, Option, Some, None}
+use Rattle.std.proofs.Common.{refl, sym, ◌∙◌, ap, ap₂, subst, arith, inl, inr, nat_lt}
+use Rattle.std.specs.Prelude.{MatchOption, filter_map, if◌then◌else◌, option_map, slice_get, ⊤}
+use Rattle.std.specs.List.{cons_option}
+use Rattle.std.proofs.lemmas.Bool.{le-ltb, lt-ltb, ltb-false}
+use Rattle.history_merge.specs.declared.operation.Operation.{Operation}
+use Rattle.history_merge.specs.declared.operation.OpKind.TheVariants.{Enq, Deq, Empty, Not}
+use Rattle.history_merge.specs.Initial.{filled}
+use Rattle.history_merge.specs.Legal.{ArePlacesOf}
+use Rattle.history_merge.specs.Operations.{Did, IsAt, NoneDid, Precedes}
+use Rattle.value_match.specs.declared.life.Life.{Life}
+use Rattle.value_match.specs.declared.violation.CoverStep.{CoverStep}
+use Rattle.value_match.specs.declared.violation.Source.{Source}
+use Rattle.value_match.specs.declared.violation.Source.TheVariants as source
+use Rattle.value_match.specs.declared.violation.Violation.{Violation}
+use Rattle.value_match.specs.declared.violation.Violation.TheVariants as violation
+use Rattle.value_match.specs.Lives.{IsMaybeAt, dequeue_of, enqueue_of}
+use Rattle.value_match.specs.Outcome.{IsSource, Names, NamesCover}
+use Rattle.value_match.specs.Violations.{Breach, fresh, repeat, order, witness, IsBreachOf, IsFreshViolation}
+use Rattle.verdicts.specs.Filling.{behind, filled_source, filled_step, filled_violation}
+use Rattle.verdicts.specs.Inner.Unfilling.{place_behind, unfilled_place, unfilled_source, unfilled_step, unfilled_violation}
+use Rattle.verdicts.proofs.FilledLines.{earlier, earlier_later, earlier_none, filled_at, filled_earlier}
+use Rattle.verdicts.proofs.LinesTell.{AreLives, covers_are_lives}
+
+-- ---- told again, a violation of a history is the same
+
+module _ (k : ℕ) where
+  place_told : (p : ℕ) → unfilled_place k (behind k p) ≡ p
+  place_told p = omega arith
+
+  maybe_told : (p : Option ℕ) → option_map (unfilled_place k) (option_map (behind k) p) ≡ p
+  maybe_told None = refl
+  maybe_told (Some p) = ap (λ q. Some q) (place_told p)
+
+  source_told : (s : Source) → unfilled_source k (filled_source k s) ≡ s
+  source_told (source.Enq p) = rw (le-ltb (k + p) k (omega arith)) (ap source.Enq (place_told p))
+  source_told (source.Initial p) = by_count (nat_lt p k) refl
+    where
+      by_count : (within : Bool) → nat_lt p k ≡ within → unfilled_source k (if within then source.Enq p else source.Initial p) ≡ source.Initial p
+      by_count true is = rw is refl
+      by_count false is = refl
+
+  cover_told : (steps : List CoverStep) → map (unfilled_step k) (map (filled_step k) steps) ≡ steps
+  cover_told [] = refl
+  cover_told (step ∷ steps) =
+      let sources = source_told step.source in
+      let dequeues = maybe_told step.dequeue in
+      let rest = cover_told steps in
+      λ i. record { source = sources i; dequeue = dequeues i } ∷ rest i
+
+  told_again : (v : Violation) → unfilled_violation k (filled_violation k v) ≡ v
+  told_again (violation.Fresh deq enq) = ap₂ violation.Fresh (place_told deq) (maybe_told enq)
+  told_again (violation.Repeat enq first second) =
+      let e = source_told enq in let d = place_told first in let f = place_told second in λ i. violation.Repeat (e i) (d i) (f i)
+  told_again (violation.Order enq_a enq_b deq_b deq_a) =
+      let a = source_told enq_a in let b = source_told enq_b in let d = place_told deq_b in let c = maybe_told deq_a in
+      λ i. violation.Order (a i) (b i) (d i) (c i)
+  told_again (violation.Witness empty cover) = ap₂ violation.Witness (place_told empty) (cover_told cover)
+
+  -- violations that are one in the filled history are one
+  pub one_when_filled : (v w : Violation) → filled_violation k v ≡ filled_violation k w → v ≡ w
+  one_when_filled v w same = sym (told_again v) ∙ ap (unfilled_violation k) same ∙ told_again w
+
+-- ---- a violation of a filled history is that of the history, filled
+
+module _ (initial : List ℕ) (operations : List Operation) where
+  abbrev k : ℕ
+  k = length initial
+
+  abbrev all : List Operation
+  all = filled initial operations
+
+  -- what isn't the enqueue of an initial value stands behind these
+  stands_behind : (p : ℕ) (o : Operation) → IsAt all p o → ((v : ℕ) → o.kind ≡ Enq v → o.call < 2 * k → ⊥) → k ≤ p
+  stands_behind p o at other = elim (filled_at initial operations p o at) [
+    | inl early ↦
+        let call : 2 * p ≡ o.call = ap (λ (x : Operation). x.call) early.is in
+        let within = early.within in
+        absurd (other early.value (sym (ap (λ (x : Operation). x.kind) early.is)) (omega arith))
+    | inr late ↦ late.behind
+  ]
+
+  place_back : (p : ℕ) (o : Operation) → IsAt all p o → ((v : ℕ) → o.kind ≡ Enq v → o.call < 2 * k → ⊥) → behind k (unfilled_place k p) ≡ p
+  place_back p o at other = let after = stands_behind p o at other in omega arith
+
+  dequeue_back : (p : ℕ) (o : Operation) (v : ℕ) → IsAt all p o → o.kind ≡ Deq v → behind k (unfilled_place k p) ≡ p
+  dequeue_back p o v at is = place_back p o at (λ w enq early. let clash : Deq v ≡ Enq w = sym is ∙ enq in cc)
+
+  source_back : (s : Source) (o : Operation) → IsSource all s o → filled_source k (unfilled_source k s) ≡ s
+  source_back (source.Enq p) o at = by_count (nat_lt p k) refl
+    where
+      by_count : (within : Bool) → nat_lt p k ≡ within
+          → filled_source k (if within then source.Initial p else source.Enq (unfilled_place k p)) ≡ source.Enq p
+      by_count true is = rw is refl
+      by_count false is = let after : k ≤ p = ltb-false p k is in ap source.Enq (omega arith)
+  source_back (source.Initial p) o at = absurd at
+
+  maybe_back : (p : Option ℕ) (o : Option Operation) → IsMaybeAt all p o → MatchOption o ⊤ (λ d. (v : ℕ) × (d.kind ≡ Deq v))
+      → option_map (behind k) (option_map (unfilled_place k) p) ≡ p
+  maybe_back None o at is = refl
+  maybe_back (Some p) None at is = absurd at
+  maybe_back (Some p) (Some o) at is = ap (λ q. Some q) (dequeue_back p o is.0 at is.1)
+
+  cover_back : (steps : List CoverStep) (cover : List Life) → NamesCover all steps cover → AreLives cover
+      → map (filled_step k) (map (unfilled_step k) steps) ≡ steps
+  cover_back [] [] names are = refl
+  cover_back [] (life ∷ cover) names are = absurd names
+  cover_back (step ∷ steps) [] names are = absurd names
+  cover_back (step ∷ steps) (life ∷ cover) names are =
+      let sources = source_back step.source (enqueue_of life) names.0.0 in
+      let dequeues = maybe_back step.dequeue (dequeue_of life) names.0.1 are.1 in
+      let rest = cover_back steps cover names.1 are.2 in
+      λ i. record { source = sources i; dequeue = dequeues i } ∷ rest i
+
+  -- the enqueue that a dequeue returned before, or that was refused, is none of an initial value
+  enqueue_back : (deq : ℕ) (d : Operation) (enq : Option ℕ) (e : Option Operation) → IsAt all deq d → IsMaybeAt all enq e → IsFreshViolation all d e
+      → option_map (behind k) (option_map (unfilled_place k) enq) ≡ enq
+  enqueue_back deq d None e at_d at_e is = refl
+  enqueue_back deq d (Some p) None at_d at_e is = absurd at_e
+  enqueue_back deq d (Some p) (Some e) at_d at_e is = ap (λ q. Some q) (place_back p e at_e too_late)
+    where
+      late : 2 * k ≤ d.ret
+      late = elim (filled_at initial operations deq d at_d) [
+        | inl early ↦ let clash : Enq early.value ≡ Deq is.value = ap (λ (x : Operation). x.kind) early.is ∙ is.dequeues.1 in absurd (cc)
+        | inr later ↦ let ret : later.operation.ret + 2 * k ≡ d.ret = ap (λ (x : Operation). x.ret) later.is in omega arith
+      ]
+
+      too_late : (v : ℕ) → e.kind ≡ Enq v → e.call < 2 * k → ⊥
+      too_late v enq early = elim is.enqueues [
+        | inl refused ↦ let clash : Not is.value ≡ Enq v = sym refused.1 ∙ enq in cc
+        | inr accepted ↦ let after = accepted.1 in omega (arith, late)
+      ]
+
+  pub violation_back : (v : Violation) (breach : Breach) → Names all v breach → IsBreachOf all breach
+      → filled_violation k (unfilled_violation k v) ≡ v
+  violation_back (violation.Fresh deq enq) (fresh d e) names is =
+      ap₂ violation.Fresh (dequeue_back deq d _ names.0 (dequeues e is).1) (enqueue_back deq d enq e names.0 names.1 is)
+    where
+      dequeues : (e : Option Operation) → IsFreshViolation all d e → (v : ℕ) × (d.kind ≡ Deq v)
+      dequeues None is' = (is'.value, is'.dequeues.1)
+      dequeues (Some x) is' = (is'.value, is'.dequeues.1)
+  violation_back (violation.Repeat enq first second) (repeat e d f) names is =
+      let a = source_back enq e names.0 in
+      let b = dequeue_back first d is.value names.1 is.dequeues.1 in
+      let c = dequeue_back second f is.value names.2 is.dequeues_again.1 in
+      λ i. violation.Repeat (a i) (b i) (c i)
+  violation_back (violation.Order enq_a enq_b deq_b deq_a) (order a b d e) names is =
+      let first = source_back enq_a a names.0 in
+      let second = source_back enq_b b names.1 in
+      let third = dequeue_back deq_b d is.b names.2 is.dequeues_b.1 in
+      let last = maybe_back deq_a e names.3 (dequeues e is.dequeued_later) in
+      λ i. violation.Order (first i) (second i) (third i) (last i)
+    where
+      dequeues : (e : Option Operation) → MatchOption e (NoneDid all (Deq is.a)) (λ x. Did all x (Deq is.a) × Precedes d x)
+          → MatchOption e ⊤ (λ d. (v : ℕ) × (d.kind ≡ Deq v))
+      dequeues None none = tt
+      dequeues (Some x) did = (is.a, did.0.1)
+  violation_back (violation.Witness empty cover) (witness o lives) names is =
+      ap₂ violation.Witness
+      (place_back empty o names.0 (λ v enq early. let clash : Empty ≡ Enq v = sym is.answers_empty.1 ∙ enq in cc))
+      (cover_back cover lives names.1 (covers_are_lives all o o lives is.covers))
+  violation_back (violation.Fresh deq enq) (repeat e d f) names is = absurd names
+  violation_back (violation.Fresh deq enq) (order a b d e) names is = absurd names
+  violation_back (violation.Fresh deq enq) (witness o lives) names is = absurd names
+  violation_back (violation.Repeat enq first second) (fresh d e) names is = absurd names
+  violation_back (violation.Repeat enq first second) (order a b d e) names is = absurd names
+  violation_back (violation.Repeat enq first second) (witness o lives) names is = absurd names
+  violation_back (violation.Order enq_a enq_b deq_b deq_a) (fresh d e) names is = absurd names
+  violation_back (violation.Order enq_a enq_b deq_b deq_a) (repeat e d f) names is = absurd names
+  violation_back (violation.Order enq_a enq_b deq_b deq_a) (witness o lives) names is = absurd names
+  violation_back (violation.Witness empty cover) (fresh d e) names is = absurd names
+  violation_back (violation.Witness empty cover) (repeat e d f) names is = absurd names
+  violation_back (violation.Witness empty cover) (order a b d e) names is = absurd names
+
+  -- ---- the places of a yes
+
+  places_back : (places : List ℕ) (listed : List Operation) → ArePlacesOf all places listed
+      → ArePlacesOf operations (filter_map (place_behind k) places) (filter_map (earlier (2 * length initial)) listed)
+  places_back [] [] at = refl
+  places_back [] (o ∷ listed) at = absurd (cc)
+  places_back (p ∷ places) [] at = absurd (cc)
+  places_back (p ∷ places) (o ∷ listed) at =
+      let first : slice_get all p ≡ Some o = cc in
+      let later : map (slice_get all) places ≡ map (λ o. Some o) listed = cc in
+      one_more p o first (places_back places listed later)
+    where
+      one_more : (p : ℕ) (o : Operation) → slice_get all p ≡ Some o
+          → ArePlacesOf operations (filter_map (place_behind k) places) (filter_map (earlier (2 * length initial)) listed)
+          → ArePlacesOf operations (cons_option (place_behind k p) (filter_map (place_behind k) places))
+          (cons_option (earlier (2 * length initial) o) (filter_map (earlier (2 * length initial)) listed))
+      one_more p o at' rest = elim (filled_at initial operations p o at') [
+        | inl early ↦
+            let call : 2 * p ≡ o.call = ap (λ (x : Operation). x.call) early.is in
+            let within = early.within in
+            rw (lt-ltb p k within, earlier_none (2 * k) o (omega arith)) rest
+        | inr late ↦
+            let was : earlier (2 * k) o ≡ Some late.operation = ap (earlier (2 * k)) (sym late.is) ∙ earlier_later (2 * k) late.operation in
+            rw (le-ltb p k late.behind, was) (ap₂ (λ (x : Option Operation) (xs : List (Option Operation)). x ∷ xs) late.stands rest)
+      ]
+
+  -- the order of a yes, behind the enqueues of the initial values
+  pub order_back : (places : List ℕ) (listed : List Operation) → ArePlacesOf all places (filled initial listed)
+      → ArePlacesOf operations (filter_map (place_behind k) places) listed
+  order_back places listed at = subst (ArePlacesOf operations (filter_map (place_behind k) places)) (filled_earlier initial listed)
+      (places_back places (filled initial listed) at)
