@@ -4,7 +4,7 @@ ghost use Rattle.linearizer.specs.Values.{EachIsChoice};
 ghost use Rattle.linearizer.specs.Inner.Placement.{IsOrderOfPlaces, elements_at, lives_in};
 ghost use Rattle.linearizer.specs.Inner.Sweep.{TakesOneOf};
 
-use crate::timed::{Timed, by_dequeue, by_entry, first_left};
+use crate::timed::{Moment, Timed, by_time, first_left};
 use std::alloc::{AllocError, Global};
 use value_match::{Matching, Values};
 
@@ -27,8 +27,8 @@ fn put_in_order(alloc: Global, values: &Values) -> Result<Vec<usize>, AllocError
 {
     let mut ordered = Vec::with_capacity(alloc, values.len())?;
     let mut taken = vec![in alloc; false; values.len()]?;
-    let entries = by_entry(alloc, values)?;
-    let dequeues = by_dequeue(alloc, values)?;
+    let entries = by_time(alloc, values, Moment::Entry)?;
+    let dequeues = by_time(alloc, values, Moment::Dequeue)?;
     let mut first_in = 0;
     let mut first_out = 0;
     while ordered.len() < values.len() {

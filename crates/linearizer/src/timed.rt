@@ -1,9 +1,8 @@
-ghost use Rattle.std.specs.Prelude.{◌<◌, All, Contains, IfOk, length, take};
-ghost use Rattle.value_match.specs.Lives.{dequeue_return, entered_by};
-ghost use Rattle.linearizer.specs.Inner.Sweep.{AreByTime, IsFirstLeft, IsLeft, IsTaken};
+ghost use Rattle.std.specs.Prelude.{◌≡◌, ◌<◌, All, Contains, IfOk, length, take};
+ghost use Rattle.linearizer.specs.Inner.Sweep.{AreByTime, IsFirstLeft, IsLeft, IsTaken, time_at};
 
 use std::alloc::{AllocError, Global};
-use value_match::{Values, settle};
+use value_match::{Life, Values, settle};
 
 /// A value by its place, and one of its times.
 #[derive(Clone, Copy)]
@@ -12,29 +11,38 @@ pub(crate) struct Timed {
     pub(crate) place: usize,
 }
 
-/// The values by the times at which each has entered.
-pub(crate) fn by_entry(alloc: Global, values: &Values) -> Result<Vec<Timed>, AllocError>
-    ensures { IfOk result (λ entries. AreByTime entered_by values.now entries.items) }
-{
-    let mut entries = Vec::with_capacity(alloc, values.len())?;
-    for place in 0..values.len() {
-        let value = values.get(place);
-        let time = value.life.entered_by();
-        entries.push(Timed { time, place })?;
-    }
-    settle(&mut entries, &|entry: &Timed| entry.time);
-    entries.sort_unstable_by_key(|entry| entry.time);
-    Ok(entries)
+/// Which of a value's times is meant.
+#[derive(Clone, Copy)]
+pub(crate) enum Moment {
+    /// That by which it has entered.
+    Entry,
+    /// That at which its dequeue returned.
+    Dequeue,
 }
 
-/// The values by the times at which their dequeues returned.
-pub(crate) fn by_dequeue(alloc: Global, values: &Values) -> Result<Vec<Timed>, AllocError>
-    ensures { IfOk result (λ entries. AreByTime dequeue_return values.now entries.items) }
+impl Moment {
+    fn of(self, life: &Life) -> u64
+        ensures { result ≡ time_at self life.now }
+    {
+        match self {
+            Moment::Entry => life.entered_by(),
+            Moment::Dequeue => life.dequeue_return(),
+        }
+    }
+}
+
+/// The values by their times of one sort.
+pub(crate) fn by_time(
+    alloc: Global,
+    values: &Values,
+    moment: Moment,
+) -> Result<Vec<Timed>, AllocError>
+    ensures { IfOk result (λ entries. AreByTime (time_at moment) values.now entries.items) }
 {
     let mut entries = Vec::with_capacity(alloc, values.len())?;
     for place in 0..values.len() {
         let value = values.get(place);
-        let time = value.life.dequeue_return();
+        let time = moment.of(&value.life);
         entries.push(Timed { time, place })?;
     }
     settle(&mut entries, &|entry: &Timed| entry.time);
