@@ -99,26 +99,34 @@ others_sorted operations names n calls sorted all met moved rises = record {
   rises = rises;
 }
 
--- the sources of the first operations
-pub record HasSources (operations : List Operation) (n : ℕ) (sources : List (Option ℕ)) : Type 0 where
+-- the sources of the first operations, each of them one of its operation's kind
+pub record HasSourcesBy (Is : List Operation → OpKind → Option ℕ → Type 0) (operations : List Operation) (n : ℕ) (sources : List (Option ℕ)) : Type 0 where
   pub one_each : length sources ≡ n
-  pub each : (i : ℕ) (o : Operation) → i < n → IsAt operations i o → IsSourceOf operations o.kind (get_or sources i None)
+  pub each : (i : ℕ) (o : Operation) → i < n → IsAt operations i o → Is operations o.kind (get_or sources i None)
+
+-- they are found
+abbrev pub HasSources : List Operation → ℕ → List (Option ℕ) → Type 0
+HasSources = HasSourcesBy IsSourceOf
+
+-- some of them aren't found yet
+abbrev pub HasNear : List Operation → ℕ → List (Option ℕ) → Type 0
+HasNear = HasSourcesBy IsNearSource
 
 -- the source of one operation more
-pub sources_push : (operations : List Operation) (n : ℕ) (o : Operation) (sources : List (Option ℕ)) (source : Option ℕ) → IsAt operations n o
-    → IsSourceOf operations o.kind source
-    → HasSources operations n sources → HasSources operations (n + 1) (sources ++ source ∷ [])
-sources_push operations n o sources source here is known = record {
+pub sources_push : (Is : List Operation → OpKind → Option ℕ → Type 0) (operations : List Operation) (n : ℕ) (o : Operation)
+    (sources : List (Option ℕ)) (source : Option ℕ) → IsAt operations n o → Is operations o.kind source
+    → HasSourcesBy Is operations n sources → HasSourcesBy Is operations (n + 1) (sources ++ source ∷ [])
+sources_push Is operations n o sources source here is known = record {
   one_each = simp length-append (omega (arith, known.one_each));
-  each = each_more (λ i x. IsSourceOf operations x.kind (get_or (sources ++ source ∷ []) i None)) operations n o here last before;
+  each = each_more (λ i x. Is operations x.kind (get_or (sources ++ source ∷ []) i None)) operations n o here last before;
 }
   where
-    last : IsSourceOf operations o.kind (get_or (sources ++ source ∷ []) n None)
-    last = subst (λ i. IsSourceOf operations o.kind (get_or (sources ++ source ∷ []) i None)) known.one_each
-        (subst (IsSourceOf operations o.kind) (sym (get_or-append_seam sources source [] None)) is)
+    last : Is operations o.kind (get_or (sources ++ source ∷ []) n None)
+    last = subst (λ i. Is operations o.kind (get_or (sources ++ source ∷ []) i None)) known.one_each
+        (subst (Is operations o.kind) (sym (get_or-append_seam sources source [] None)) is)
 
-    before : (i : ℕ) (x : Operation) → i < n → IsAt operations i x → IsSourceOf operations x.kind (get_or (sources ++ source ∷ []) i None)
-    before i x below at = subst (IsSourceOf operations x.kind) (sym (get_or_append_left sources (source ∷ []) None i (omega (arith, known.one_each))))
+    before : (i : ℕ) (x : Operation) → i < n → IsAt operations i x → Is operations x.kind (get_or (sources ++ source ∷ []) i None)
+    before i x below at = subst (Is operations x.kind) (sym (get_or_append_left sources (source ∷ []) None i (omega (arith, known.one_each))))
         (known.each i x below at)
 
 -- the sources of all operations
@@ -150,28 +158,6 @@ none_among calls v i rises point differs k d below same =
     ]
 
 -- ---- sources that are near
-
--- the sources of the first operations, some of them not found yet
-pub record HasNear (operations : List Operation) (n : ℕ) (sources : List (Option ℕ)) : Type 0 where
-  pub one_each : length sources ≡ n
-  pub each : (i : ℕ) (o : Operation) → i < n → IsAt operations i o → IsNearSource operations o.kind (get_or sources i None)
-
--- the source near by of one operation more
-pub near_push : (operations : List Operation) (n : ℕ) (o : Operation) (sources : List (Option ℕ)) (source : Option ℕ) → IsAt operations n o
-    → IsNearSource operations o.kind source
-    → HasNear operations n sources → HasNear operations (n + 1) (sources ++ source ∷ [])
-near_push operations n o sources source here is known = record {
-  one_each = simp length-append (omega (arith, known.one_each));
-  each = each_more (λ i x. IsNearSource operations x.kind (get_or (sources ++ source ∷ []) i None)) operations n o here last before;
-}
-  where
-    last : IsNearSource operations o.kind (get_or (sources ++ source ∷ []) n None)
-    last = subst (λ i. IsNearSource operations o.kind (get_or (sources ++ source ∷ []) i None)) known.one_each
-        (subst (IsNearSource operations o.kind) (sym (get_or-append_seam sources source [] None)) is)
-
-    before : (i : ℕ) (x : Operation) → i < n → IsAt operations i x → IsNearSource operations x.kind (get_or (sources ++ source ∷ []) i None)
-    before i x below at = subst (IsNearSource operations x.kind) (sym
-        (get_or_append_left sources (source ∷ []) None i (omega (arith, known.one_each)))) (known.each i x below at)
 
 -- the sources near by of all operations
 pub near_all : (operations : List Operation) (n : ℕ) (sources : List (Option ℕ)) → length operations ≤ n → n ≤ length operations

@@ -3,7 +3,7 @@ use Rattle.std.proofs.lemmas.Option.{slice_get-get_or}
 use Rattle.history_merge.specs.declared.operation.OpKind.TheVariants.{Enq}
 use Rattle.value_match.specs.Inner.Others.{IsNearSource}
 use Rattle.value_match.specs.Inner.Sources.{IsSourceOf}
-use Rattle.value_match.proofs.CallPlaces.{call_within, near_push, sources_push, sources_all}
+use Rattle.value_match.proofs.CallPlaces.{call_within, sources_push, sources_all}
 use Rattle.value_match.proofs.sources.near_sources.Goals as goal
 
 pub some-requires : goal.some-requires
@@ -15,8 +15,10 @@ loop-operation-preserved c =
     (record { call = 0; ret = 0; thread = 0; kind = Enq 0 }) c.loop-operation-test.true in
     let source = subst (λ kind. IsSourceOf c.args.operations.now kind (Some c.in-Some.place)) (sym c.in-Deq.is) c.in-Some.ensures in
     let near = subst (λ kind. IsNearSource c.args.operations.now kind (Some c.in-Some.place)) (sym c.in-Deq.is) c.in-Some.ensures in
-    rw (c.in_ok-push-3.ensures.items, c.some.ensures)
-    (near_push _ _ _ _ _ here near c.loop-operation.invariant.0, λ all. sources_push _ _ _ _ _ here source (c.loop-operation.invariant.1 all))
+    rw (c.in_ok-push-3.ensures.items, c.some.ensures) (
+      sources_push IsNearSource _ _ _ _ _ here near c.loop-operation.invariant.0,
+      λ all. sources_push IsSourceOf _ _ _ _ _ here source (c.loop-operation.invariant.1 all),
+    )
 
 pub returns-clause-all : goal.returns-clause-all
 returns-clause-all c = λ all. sources_all _ _ _ c.loop-operation-test.false c.loop-operation.auto.operation-index-end (c.loop-operation.invariant.1 all)
