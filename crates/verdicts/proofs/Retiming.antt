@@ -21,6 +21,7 @@ use Rattle.value_match.specs.Violations.{Breach, fresh, repeat, order, witness, 
 use Rattle.value_match.specs.Violations.{IsOrderViolation, IsRepeatViolation, NoFreshViolation, NoOrderViolation, NoRepeatViolation}
 use Rattle.value_match.specs.Choice.{IsChosenBreach, IsChosenCoverFrom, StaysAtLeast}
 use Rattle.value_match.proofs.Lists.{mapped_from, mapped_to, one_deeper}
+use Rattle.verdicts.proofs.Carried.{breach_carried, breach_itself, itself, life_carried, life_itself, mapped_breach, mapped_life}
 use Rattle.verdicts.proofs.CoverGaps.{chosen_are_lives}
 use Rattle.verdicts.proofs.Exactly.{linearizable_exactly}
 use Rattle.verdicts.proofs.Excludes.{breach_excludes_order}
@@ -32,14 +33,11 @@ retimed h o = record { call = h o.call; ret = h o.ret; thread = o.thread; kind =
 
 -- the operations of a life at other tickets
 abbrev pub retimed_life : (ℕ → ℕ) → Life → Life
-retimed_life h life = record { enqueue = retimed h (enqueue_of life); dequeue = option_map (retimed h) (dequeue_of life) }
+retimed_life h = mapped_life (retimed h)
 
 -- those of a violation
 abbrev pub retimed_breach : (ℕ → ℕ) → Breach → Breach
-retimed_breach h (fresh deq enq) = fresh (retimed h deq) (option_map (retimed h) enq)
-retimed_breach h (repeat enq first second) = repeat (retimed h enq) (retimed h first) (retimed h second)
-retimed_breach h (order enq_a enq_b deq_b deq_a) = order (retimed h enq_a) (retimed h enq_b) (retimed h deq_b) (option_map (retimed h) deq_a)
-retimed_breach h (witness empty cover) = witness (retimed h empty) (map (retimed_life h) cover)
+retimed_breach h = mapped_breach (retimed h)
 
 -- later tickets stay later
 abbrev pub Rises : (ℕ → ℕ) → Type 0
@@ -123,21 +121,13 @@ module _ (h : ℕ → ℕ) (rises : Rises h) where
 
     -- ---- lives
 
-    dequeue_there : (v : ℕ) (d : Option Operation) → MatchOption d (NoneDid xs (Deq v)) (λ d. Did xs d (Deq v))
-        → MatchOption (option_map (retimed h) d) (NoneDid ys (Deq v)) (λ d. Did ys d (Deq v))
-    dequeue_there v None none = none_there (Deq v) none
-    dequeue_there v (Some d) did = did_there d (Deq v) did
-
-    dequeue_back : (v : ℕ) (d : Option Operation) → MatchOption (option_map (retimed h) d) (NoneDid ys (Deq v)) (λ d. Did ys d (Deq v))
-        → MatchOption d (NoneDid xs (Deq v)) (λ d. Did xs d (Deq v))
-    dequeue_back v None none = none_back (Deq v) none
-    dequeue_back v (Some d) did = did_back d (Deq v) did
-
     life_there : (life : Life) → IsLife xs life → IsLife ys (retimed_life h life)
-    life_there life is = (is.0, did_there (enqueue_of life) (Enq is.0) is.1, dequeue_there is.0 (dequeue_of life) is.2)
+    life_there life is = life_carried xs ys itself (retimed h) did_there none_there (λ x y. rises x.ret y.call) (λ x y. rises x.ret y.ret) life
+        (subst (IsLife xs) (sym (life_itself life)) is)
 
     life_back : (life : Life) → IsLife ys (retimed_life h life) → IsLife xs life
-    life_back life is = (is.0, did_back (enqueue_of life) (Enq is.0) is.1, dequeue_back is.0 (dequeue_of life) is.2)
+    life_back life is = subst (IsLife xs) (life_itself life)
+        (life_carried ys xs (retimed h) itself did_back none_back (λ x y. below_back x.ret y.call) (λ x y. below_back x.ret y.ret) life is)
 
     maybe_from : (v : ℕ) (d : Option Operation) → MatchOption d (NoneDid ys (Deq v)) (λ d. Did ys d (Deq v))
         → (x : Option Operation) × (option_map (retimed h) x ≡ d)
@@ -162,143 +152,25 @@ module _ (h : ℕ → ℕ) (rises : Rises h) where
 
     -- ---- violations
 
-    late_there : (deq enq : Operation) → IsEnqueuedTooLate xs deq enq → IsEnqueuedTooLate ys (retimed h deq) (retimed h enq)
-    late_there deq enq is = record { value = is.value; dequeues = did_there deq (Deq is.value) is.dequeues; enqueues = by_call is.enqueues }
-      where
-        by_call : Did xs enq (Not is.value) ⊎ (Did xs enq (Enq is.value) × Precedes deq enq)
-            → Did ys (retimed h enq) (Not is.value) ⊎ (Did ys (retimed h enq) (Enq is.value) × Precedes (retimed h deq) (retimed h enq))
-        by_call (inl refused) = inl (did_there enq (Not is.value) refused)
-        by_call (inr late) = inr (did_there enq (Enq is.value) late.0, rises deq.ret enq.call late.1)
-
-    late_back : (deq enq : Operation) → IsEnqueuedTooLate ys (retimed h deq) (retimed h enq) → IsEnqueuedTooLate xs deq enq
-    late_back deq enq is = record { value = is.value; dequeues = did_back deq (Deq is.value) is.dequeues; enqueues = by_call is.enqueues }
-      where
-        by_call : Did ys (retimed h enq) (Not is.value) ⊎ (Did ys (retimed h enq) (Enq is.value) × Precedes (retimed h deq) (retimed h enq))
-            → Did xs enq (Not is.value) ⊎ (Did xs enq (Enq is.value) × Precedes deq enq)
-        by_call (inl refused) = inl (did_back enq (Not is.value) refused)
-        by_call (inr late) = inr (did_back enq (Enq is.value) late.0, below_back deq.ret enq.call late.1)
-
-    fresh_there : (deq : Operation) (enq : Option Operation) → IsFreshViolation xs deq enq
-        → IsFreshViolation ys (retimed h deq) (option_map (retimed h) enq)
-    fresh_there deq None is = record {
-      value = is.value;
-      dequeues = did_there deq (Deq is.value) is.dequeues;
-      not_accepted = none_there (Enq is.value) is.not_accepted;
-      not_refused = none_there (Not is.value) is.not_refused;
-    }
-    fresh_there deq (Some enq) is = late_there deq enq is
-
-    fresh_back : (deq : Operation) (enq : Option Operation) → IsFreshViolation ys (retimed h deq) (option_map (retimed h) enq)
-        → IsFreshViolation xs deq enq
-    fresh_back deq None is = record {
-      value = is.value;
-      dequeues = did_back deq (Deq is.value) is.dequeues;
-      not_accepted = none_back (Enq is.value) is.not_accepted;
-      not_refused = none_back (Not is.value) is.not_refused;
-    }
-    fresh_back deq (Some enq) is = late_back deq enq is
-
-    repeat_there : (enq first second : Operation) → IsRepeatViolation xs enq first second
-        → IsRepeatViolation ys (retimed h enq) (retimed h first) (retimed h second)
-    repeat_there enq first second is = record {
-      value = is.value;
-      enqueues = did_there enq (Enq is.value) is.enqueues;
-      dequeues = did_there first (Deq is.value) is.dequeues;
-      dequeues_again = did_there second (Deq is.value) is.dequeues_again;
-      in_order = rises first.ret second.ret is.in_order;
-    }
-
-    repeat_back : (enq first second : Operation) → IsRepeatViolation ys (retimed h enq) (retimed h first) (retimed h second)
-        → IsRepeatViolation xs enq first second
-    repeat_back enq first second is = record {
-      value = is.value;
-      enqueues = did_back enq (Enq is.value) is.enqueues;
-      dequeues = did_back first (Deq is.value) is.dequeues;
-      dequeues_again = did_back second (Deq is.value) is.dequeues_again;
-      in_order = below_back first.ret second.ret is.in_order;
-    }
-
-    order_there : (enq_a enq_b deq_b : Operation) (deq_a : Option Operation) → IsOrderViolation xs enq_a enq_b deq_b deq_a
-        → IsOrderViolation ys (retimed h enq_a) (retimed h enq_b) (retimed h deq_b) (option_map (retimed h) deq_a)
-    order_there enq_a enq_b deq_b deq_a is = record {
-      a = is.a;
-      b = is.b;
-      enqueues_a = did_there enq_a (Enq is.a) is.enqueues_a;
-      enqueues_b = did_there enq_b (Enq is.b) is.enqueues_b;
-      dequeues_b = did_there deq_b (Deq is.b) is.dequeues_b;
-      enqueued_first = rises enq_a.ret enq_b.call is.enqueued_first;
-      dequeued_later = later deq_a is.dequeued_later;
-    }
-      where
-        later : (d : Option Operation) → MatchOption d (NoneDid xs (Deq is.a)) (λ d. Did xs d (Deq is.a) × Precedes deq_b d)
-            → MatchOption (option_map (retimed h) d) (NoneDid ys (Deq is.a)) (λ d. Did ys d (Deq is.a) × Precedes (retimed h deq_b) d)
-        later None none = none_there (Deq is.a) none
-        later (Some d) did = (did_there d (Deq is.a) did.0, rises deq_b.ret d.call did.1)
-
-    order_back : (enq_a enq_b deq_b : Operation) (deq_a : Option Operation)
-        → IsOrderViolation ys (retimed h enq_a) (retimed h enq_b) (retimed h deq_b) (option_map (retimed h) deq_a)
-        → IsOrderViolation xs enq_a enq_b deq_b deq_a
-    order_back enq_a enq_b deq_b deq_a is = record {
-      a = is.a;
-      b = is.b;
-      enqueues_a = did_back enq_a (Enq is.a) is.enqueues_a;
-      enqueues_b = did_back enq_b (Enq is.b) is.enqueues_b;
-      dequeues_b = did_back deq_b (Deq is.b) is.dequeues_b;
-      enqueued_first = below_back enq_a.ret enq_b.call is.enqueued_first;
-      dequeued_later = later deq_a is.dequeued_later;
-    }
-      where
-        later : (d : Option Operation)
-            → MatchOption (option_map (retimed h) d) (NoneDid ys (Deq is.a)) (λ d. Did ys d (Deq is.a) × Precedes (retimed h deq_b) d)
-            → MatchOption d (NoneDid xs (Deq is.a)) (λ d. Did xs d (Deq is.a) × Precedes deq_b d)
-        later None none = none_back (Deq is.a) none
-        later (Some d) did = (did_back d (Deq is.a) did.0, below_back deq_b.ret d.call did.1)
-
-    cover_there : (empty before : Operation) (cover : List Life) → CoversFrom xs empty before cover
-        → CoversFrom ys (retimed h empty) (retimed h before) (map (retimed_life h) cover)
-    cover_there empty before [] covers = covers
-    cover_there empty before (life ∷ []) covers = (
-      life_there life covers.0,
-      rises (enqueue_of life).ret before.call covers.1,
-      last (dequeue_of life) covers.2,
-    )
-      where
-        last : (d : Option Operation) → MatchOption d ⊤ (λ d. Precedes empty d)
-            → MatchOption (option_map (retimed h) d) ⊤ (λ d. Precedes (retimed h empty) d)
-        last None stays = stays
-        last (Some d) stays = rises empty.ret d.call stays
-    cover_there empty before (life ∷ next ∷ rest) covers = (
-      life_there life covers.0,
-      rises (enqueue_of life).ret before.call covers.1,
-      further (dequeue_of life) covers.2 (λ d. cover_there empty d (next ∷ rest)),
-    )
-      where
-        further : (d : Option Operation) → MatchOption d ⊥ (λ d. CoversFrom xs empty d (next ∷ rest))
-            → ((d : Operation) → CoversFrom xs empty d (next ∷ rest)
-            → CoversFrom ys (retimed h empty) (retimed h d) (map (retimed_life h) (next ∷ rest)))
-            → MatchOption (option_map (retimed h) d) ⊥ (λ d. CoversFrom ys (retimed h empty) d (map (retimed_life h) (next ∷ rest)))
-        further None covers' more = covers'
-        further (Some d) covers' more = more d covers'
-
     -- a violation is one at the other tickets
     pub breach_there : (breach : Breach) → IsBreachOf xs breach → IsBreachOf ys (retimed_breach h breach)
-    breach_there (fresh deq enq) is = fresh_there deq enq is
-    breach_there (repeat enq first second) is = repeat_there enq first second is
-    breach_there (order enq_a enq_b deq_b deq_a) is = order_there enq_a enq_b deq_b deq_a is
-    breach_there (witness empty cover) is = record {
-      answers_empty = did_there empty Empty is.answers_empty;
-      covers = cover_there empty empty cover is.covers;
-    }
+    breach_there breach is = breach_carried xs ys itself (retimed h) did_there none_there (λ x y. rises x.ret y.call) (λ x y. rises x.ret y.ret) breach
+        (subst (IsBreachOf xs) (sym (breach_itself breach)) is)
+
+    -- and was one before
+    breach_back : (breach : Breach) → IsBreachOf ys (retimed_breach h breach) → IsBreachOf xs breach
+    breach_back breach is = subst (IsBreachOf xs) (breach_itself breach)
+        (breach_carried ys xs (retimed h) itself did_back none_back (λ x y. below_back x.ret y.call) (λ x y. below_back x.ret y.ret) breach is)
 
     no_fresh_back : NoFreshViolation ys → NoFreshViolation xs
-    no_fresh_back none deq enq is = none (retimed h deq) (option_map (retimed h) enq) (fresh_there deq enq is)
+    no_fresh_back none deq enq is = none (retimed h deq) (option_map (retimed h) enq) (breach_there (fresh deq enq) is)
 
     no_repeat_back : NoRepeatViolation ys → NoRepeatViolation xs
-    no_repeat_back none enq first second is = none (retimed h enq) (retimed h first) (retimed h second) (repeat_there enq first second is)
+    no_repeat_back none enq first second is = none (retimed h enq) (retimed h first) (retimed h second) (breach_there (repeat enq first second) is)
 
     no_order_back : NoOrderViolation ys → NoOrderViolation xs
     no_order_back none enq_a enq_b deq_b deq_a is = none (retimed h enq_a) (retimed h enq_b) (retimed h deq_b) (option_map (retimed h) deq_a)
-        (order_there enq_a enq_b deq_b deq_a is)
+        (breach_there (order enq_a enq_b deq_b deq_a) is)
 
     -- ---- legal orders
 
@@ -477,15 +349,15 @@ module _ (h : ℕ → ℕ) (rises : Rises h) where
       -- where the violation at the other tickets is the chosen one, it was the chosen one before
       pub chosen_back : (breach : Breach) → IsChosenBreach ys (retimed_breach h breach) → IsChosenBreach xs breach
       chosen_back (fresh deq enq) chosen = record {
-        violates = fresh_back deq enq chosen.violates;
-        first = λ deq' enq' is. at_most_back deq.ret deq'.ret (chosen.first (retimed h deq') (option_map (retimed h) enq') (fresh_there deq' enq' is));
+        violates = breach_back (fresh deq enq) chosen.violates;
+        first = λ deq' enq' is. at_most_back deq.ret deq'.ret (chosen.first (retimed h deq') (option_map (retimed h) enq') (breach_there (fresh deq' enq') is));
       }
       chosen_back (repeat enq first second) chosen = (
         no_fresh_back chosen.0,
         record {
-          violates = repeat_back enq first second chosen.1.violates;
+          violates = breach_back (repeat enq first second) chosen.1.violates;
           soonest = λ enq' first' second' is. at_most_back second.ret second'.ret
-              (chosen.1.soonest (retimed h enq') (retimed h first') (retimed h second') (repeat_there enq' first' second' is));
+              (chosen.1.soonest (retimed h enq') (retimed h first') (retimed h second') (breach_there (repeat enq' first' second') is));
         },
       )
       chosen_back (order enq_a enq_b deq_b deq_a) chosen = (
@@ -495,15 +367,15 @@ module _ (h : ℕ → ℕ) (rises : Rises h) where
           violates = is;
           first = λ enq_a' enq_b' deq_b' deq_a' is'. at_most_back deq_b.ret deq_b'.ret
               (chosen.2.first (retimed h enq_a') (retimed h enq_b') (retimed h deq_b') (option_map (retimed h) deq_a')
-              (order_there enq_a' enq_b' deq_b' deq_a' is'));
+              (breach_there (order enq_a' enq_b' deq_b' deq_a') is'));
           longest = λ enq_a' deq_a' is'. stays_back (record { enqueue = enq_a; dequeue = deq_a }) (record { enqueue = enq_a'; dequeue = deq_a' })
               (later_among deq_b is.a deq_a is.dequeued_later) (later_among deq_b is'.a deq_a' is'.dequeued_later)
-              (chosen.2.longest (retimed h enq_a') (option_map (retimed h) deq_a') (order_there enq_a' enq_b deq_b deq_a' is'));
+              (chosen.2.longest (retimed h enq_a') (option_map (retimed h) deq_a') (breach_there (order enq_a' enq_b deq_b deq_a') is'));
         },
       )
         where
           is : IsOrderViolation xs enq_a enq_b deq_b deq_a
-          is = order_back enq_a enq_b deq_b deq_a chosen.2.violates
+          is = breach_back (order enq_a enq_b deq_b deq_a) chosen.2.violates
       chosen_back (witness empty cover) chosen = (
         no_fresh_back chosen.0,
         no_repeat_back chosen.1,
