@@ -3,10 +3,11 @@
 use crate::small_histories::{by, history_behind, op};
 use history_merge::OpKind::{Deq, Empty};
 use history_merge::{OpId, OpKind, Operation};
+use order_violation::{OrderPair, find_order};
 use std::alloc::{AllocError, Global};
 use std::test::Fail;
 use value_match::Source::{Enq, Initial};
-use value_match::{CoverStep, Source, Violation};
+use value_match::{CoverStep, Matched, Source, Violation, match_values};
 use verdicts::{Verdict, decide};
 
 /// The violation of a history of these operations, of a queue that starts with these values.
@@ -158,5 +159,45 @@ fn an_order_lists_operations_alone(rt: HostRuntime) -> Result<(), Fail> {
         return Err(Fail::from("a no"));
     };
     assert_eq!(rt; order.as_slice(), [id(0), id(2), id(1)].as_slice());
+    Ok(())
+}
+
+/// The pair that is found in the matching of a history of these operations, of a queue that starts with these values.
+fn pair_found(
+    alloc: Global,
+    initial: &[u64],
+    operations: &[Operation],
+) -> Result<Option<OrderPair>, Fail> {
+    let history = history_behind(alloc, initial, operations)?;
+    match match_values(alloc, &history)? {
+        Matched::Clear(matching) => Ok(find_order(alloc, &matching)?),
+        _ => Err(Fail::from("no matching")),
+    }
+}
+
+#[test]
+fn a_finder_names_places_of_the_filled_history(rt: HostRuntime) -> Result<(), Fail> {
+    let pair = OrderPair {
+        enq_a: Enq(id(0)),
+        enq_b: Enq(id(1)),
+        deq_b: id(2),
+        deq_a: None,
+    };
+    let found = pair_found(rt.alloc(), &[5, 6], &[op(0, 1, Deq(6))])?;
+    assert_eq!(rt; found, Some(pair));
+    assert_eq!(rt; pair_found(rt.alloc(), &[5, 6], &[op(0, 1, Deq(5))])?, None);
+    Ok(())
+}
+
+#[test]
+fn a_matching_has_the_enqueues_of_initial_values(rt: HostRuntime) -> Result<(), Fail> {
+    let history = history_behind(rt.alloc(), &[5], &[op(0, 1, Deq(5)), op(2, 3, Empty)])?;
+    let Matched::Clear(matching) = match_values(rt.alloc(), &history)? else {
+        return Err(Fail::from("no matching"));
+    };
+    let operations = [op(0, 1, enqueued(5)), op(2, 3, Deq(5)), op(4, 5, Empty)];
+    assert_eq!(rt; matching.operations(), operations.as_slice());
+    assert_eq!(rt; matching.values().len(), 1);
+    assert_eq!(rt; matching.empties(), [id(2)].as_slice());
     Ok(())
 }

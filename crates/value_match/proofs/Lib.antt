@@ -3,9 +3,11 @@
 -- CallPlaces, FreshDequeues: each dequeue's source, or the chosen dequeue of a value that was not there.
 -- ReturnOrder, TakenPlaces, RepeatedDequeues: two dequeues of one source, the chosen pair of them first.
 -- MatchedDequeues, Lives: the one dequeue of each accepted value; the lives that there are, each once.
+-- FilledOperations: those of a filled history, which are matched where there are initial values.
 -- SortedOut: all operations sorted out into values, empty answers and refused enqueues.
 -- Longest, Fronts: of the values whose enqueues returned before a ticket the one that stays longest.
 pub mod Lists
+pub mod FilledOperations
 pub mod Lives
 pub mod Longest
 pub mod CallPlaces

@@ -3,3 +3,5 @@ pub mod MaybePlaces
 pub mod Named
 pub mod Others
 pub mod Sources
+pub mod Matchable
+pub mod Found

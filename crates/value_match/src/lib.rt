@@ -18,7 +18,7 @@ mod violation;
 
 pub use accepted::Values;
 pub use life::{Life, MatchedValue, NEVER};
-pub use matching::{Matched, Matching};
+pub use matching::{MAX_MATCHED, Matched, Matching};
 pub use settling::settle;
 pub use table::{Front, LongestTable, fronts_of};
 pub use values::{match_operations, match_values};

@@ -2,19 +2,52 @@ ghost use Rattle.std.specs.Prelude.{◌≡◌, map};
 ghost use Rattle.value_match.specs.Accepted.{value_at};
 ghost use Rattle.value_match.specs.Lives.{HoldsLives, HoldsPlaces, is_empty_answer, is_refused};
 ghost use Rattle.value_match.specs.Violations.{IsClear};
+ghost use Rattle.value_match.specs.Inner.Matchable.{IsSortedOutOf, operations_in};
 
 use crate::accepted::{Pair, Values};
 use crate::violation::Violation;
+use event_records::{MAX_EVENTS, MAX_INITIAL};
 use history_merge::{OpId, Operation};
 use std::marker::Model;
+
+/// The most operations that are matched: those of a history, and the enqueues of its initial values.
+pub const MAX_MATCHED: usize = MAX_EVENTS + MAX_INITIAL;
+
+/// The operations of a matching.
+#[derive(Debug, Drop)]
+pub(crate) enum Matchable<'a> {
+    /// Those of a history.
+    Lent(&'a [Operation]),
+    /// Those of a filled history, which nobody else keeps.
+    Own(Vec<Operation>),
+}
+
+impl<'a> Matchable<'a> {
+    fn as_slice(&self) -> &[Operation]
+        ensures { result.now ≡ operations_in self.now }
+    {
+        match self {
+            Matchable::Lent(operations) => operations,
+            Matchable::Own(operations) => operations.as_slice(),
+        }
+    }
+}
+
+/// Operations sorted out: the accepted values with their dequeues, the empty answers and the refused enqueues.
+#[derive(Debug, Drop)]
+pub(crate) struct SortedOut {
+    pub(crate) values: Vec<Pair>,
+    pub(crate) empties: Vec<OpId>,
+    pub(crate) refused: Vec<OpId>,
+}
 
 /// The operations of a complete history in which no dequeue is of a value that was not there, and no value is
 /// dequeued twice; seen as the list of these operations.
 ///
-/// It borrows the operations, by call ticket, and holds a word for each accepted value.
+/// It borrows the operations, by call ticket, or holds those of a filled history; and it holds a word for each accepted value.
 #[derive(Debug, Drop)]
 pub struct Matching<'a> {
-    operations: &'a [Operation],
+    operations: Matchable<'a>,
     values: Vec<Pair>,
     empties: Vec<OpId>,
     refused: Vec<OpId>,
@@ -26,45 +59,38 @@ impl<'a> Model for Matching<'a> {
     ghost use Rattle.value_match.specs.Lives.{HoldsLives, HoldsPlaces, is_empty_answer, is_refused};
     ghost use Rattle.value_match.specs.Accepted.{value_at};
     ghost use Rattle.value_match.specs.Violations.{IsClear};
+    ghost use Rattle.value_match.specs.Inner.Matchable.{operations_in};
 
     ghost Value = { List Operation };
 
-    ghost view = { λ a. a.operations.now };
+    ghost view = { λ a. operations_in a.operations };
 
-    ghost invariant = { λ a. IsClear a.operations.now
-        × HoldsLives a.operations.now (map (value_at a.operations.now) a.values.items)
-        × HoldsPlaces a.operations.now is_empty_answer a.empties.items
-        × HoldsPlaces a.operations.now is_refused a.refused.items };
+    ghost invariant = { λ a. IsClear (operations_in a.operations)
+        × HoldsLives (operations_in a.operations) (map (value_at (operations_in a.operations)) a.values.items)
+        × HoldsPlaces (operations_in a.operations) is_empty_answer a.empties.items
+        × HoldsPlaces (operations_in a.operations) is_refused a.refused.items };
 }
 
 impl<'a> Matching<'a> {
     /// The matching of these operations.
-    pub(crate) fn new(
-        operations: &'a [Operation],
-        values: Vec<Pair>,
-        empties: Vec<OpId>,
-        refused: Vec<OpId>,
-    ) -> Matching<'a>
-        requires clear { IsClear operations.now }
-        requires values { HoldsLives operations.now (map (value_at operations.now) values.items) }
-        requires empties { HoldsPlaces operations.now is_empty_answer empties.items }
-        requires refused { HoldsPlaces operations.now is_refused refused.items }
-        ensures { result ≡ operations.now }
+    pub(crate) fn new(operations: Matchable<'a>, sorted: SortedOut) -> Matching<'a>
+        requires { IsSortedOutOf (operations_in operations) sorted }
+        ensures { result ≡ operations_in operations.entry }
     {
         Matching {
             operations,
-            values,
-            empties,
-            refused,
+            values: sorted.values,
+            empties: sorted.empties,
+            refused: sorted.refused,
         }
     }
 
     /// The operations, in the order of their calls.
-    pub fn operations(&self) -> &'a [Operation]
+    pub fn operations(&self) -> &[Operation]
         ensures operations { result.now ≡ self.now }
         ensures clear { IsClear self.now }
     {
-        self.operations
+        self.operations.as_slice()
     }
 
     /// The accepted values, in the order of their enqueues' calls.
@@ -72,7 +98,7 @@ impl<'a> Matching<'a> {
         ensures values { HoldsLives self.now result }
         ensures clear { IsClear self.now }
     {
-        Values::new(self.operations, self.values.as_slice())
+        Values::new(self.operations.as_slice(), self.values.as_slice())
     }
 
     /// The dequeues that answered empty, in the order of their calls.

@@ -1,7 +1,8 @@
 ghost use Rattle.std.specs.Prelude.{◌≡◌, ◌≤◌, length};
 ghost use Rattle.value_match.specs.Inner.Named as named;
 
-use event_records::{MAX_EVENTS, MAX_THREADS, NAMES_OF_A_THREAD};
+use crate::matching::MAX_MATCHED;
+use event_records::{MAX_THREADS, NAMES_OF_A_THREAD};
 use history_merge::Operation;
 use std::alloc::{AllocError, Global};
 
@@ -18,7 +19,7 @@ pub(crate) struct Names {
 impl Names {
     /// The names of these operations. It takes half a word for each.
     pub(crate) fn new(alloc: Global, operations: &[Operation]) -> Result<Names, AllocError>
-        requires { length operations.now ≤ MAX_EVENTS }
+        requires { length operations.now ≤ MAX_MATCHED }
     {
         let starts = starts_of(operations);
         let mut next = starts;

@@ -4,10 +4,10 @@ ghost use Rattle.value_match.specs.Outcome.{NamesChosenRepeat};
 ghost use Rattle.value_match.specs.Inner.Sources.{HoldsSources, IsByReturn, IsTakenTwice};
 ghost use Rattle.value_match.specs.Violations.{NoFreshViolation};
 
+use crate::matching::MAX_MATCHED;
 use crate::maybe_place::MaybePlace;
 use crate::settling::settle;
 use crate::violation::{Source, Violation};
-use event_records::MAX_EVENTS;
 use history_merge::{OpId, Operation};
 use std::alloc::{AllocError, Global};
 
@@ -18,7 +18,7 @@ pub fn find_repeat(
     sources: &[MaybePlace],
 ) -> Result<Violation, AllocError>
     requires complete { AreComplete operations.now }
-    requires few { length operations.now ≤ MAX_EVENTS }
+    requires few { length operations.now ≤ MAX_MATCHED }
     requires sources { HoldsSources operations.now sources.now }
     requires no_fresh { NoFreshViolation operations.now }
     requires twice { IsTakenTwice sources.now }

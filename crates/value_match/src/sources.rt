@@ -2,10 +2,10 @@ ghost use Rattle.std.specs.Prelude.{◌≤◌, IfOk, IfSome, IsTrue, Some, lengt
 ghost use Rattle.value_match.specs.Inner.Others.{HoldsNear, HoldsOthers};
 ghost use Rattle.value_match.specs.Inner.Sources.{HoldsSources, IsCallPlace, IsSourceOf};
 
+use crate::matching::MAX_MATCHED;
 use crate::maybe_place::MaybePlace;
 use crate::names::Names;
 use crate::others::{Call, is_called_at, named_place, others_of, place_among};
-use event_records::MAX_EVENTS;
 use history_merge::{OpKind, Operation};
 use std::alloc::{AllocError, Global};
 
@@ -24,7 +24,7 @@ struct NearSources {
 /// Time O(n) for n operations where the values have a recorder's names, or leave nearly in the order of their calls. Else
 /// the calls of the other values are sorted by value, and each of their dequeues costs a look-up, O(n log n).
 pub fn sources_of(alloc: Global, operations: &[Operation]) -> Result<Vec<MaybePlace>, AllocError>
-    requires { length operations.now ≤ MAX_EVENTS }
+    requires { length operations.now ≤ MAX_MATCHED }
     ensures { IfOk result (λ sources. HoldsSources operations.now sources.items) }
 {
     let names = Names::new(alloc, operations)?;
@@ -43,7 +43,7 @@ fn near_sources(
     operations: &[Operation],
     names: &Names,
 ) -> Result<NearSources, AllocError>
-    requires { length operations.now ≤ MAX_EVENTS }
+    requires { length operations.now ≤ MAX_MATCHED }
     ensures near { IfOk result (λ near. HoldsNear operations.now near.sources.items) }
     ensures all { IfOk result (λ near. IsTrue near.all_found → HoldsSources operations.now near.sources.items) }
 {
@@ -96,7 +96,7 @@ fn near_place(operations: &[Operation], value: u64, from: usize) -> Option<usize
 
 /// Finds the sources that weren't near, by the names of the values and the calls of the others.
 fn find_others(operations: &[Operation], names: &Names, others: &[Call], sources: &mut [MaybePlace])
-    requires few { length operations.now ≤ MAX_EVENTS }
+    requires few { length operations.now ≤ MAX_MATCHED }
     requires others { HoldsOthers operations.now names.now others.now }
     requires near { HoldsNear operations.now sources.old }
     ensures { HoldsSources operations.now sources.new }
@@ -110,7 +110,7 @@ fn find_others(operations: &[Operation], names: &Names, others: &[Call], sources
 
 /// The place of the call for the value that a dequeue gave, by the value's name or among the calls of the others.
 fn source_of(operations: &[Operation], names: &Names, others: &[Call], kind: OpKind) -> MaybePlace
-    requires few { length operations.now ≤ MAX_EVENTS }
+    requires few { length operations.now ≤ MAX_MATCHED }
     requires others { HoldsOthers operations.now names.now others.now }
     ensures { IsSourceOf operations.now kind result }
 {

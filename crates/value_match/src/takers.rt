@@ -1,8 +1,8 @@
 ghost use Rattle.std.specs.Prelude.{ℕ, ◌<◌, ◌≤◌, IfOk, MatchOption, length};
 ghost use Rattle.value_match.specs.Inner.Sources.{HoldsTakers, IsTakenTwice, TakesFrom};
 
+use crate::matching::MAX_MATCHED;
 use crate::maybe_place::MaybePlace;
-use event_records::MAX_EVENTS;
 use std::alloc::{AllocError, Global};
 
 /// At each place that is a source the place of the operation that takes from it, unless two take from one.
@@ -10,7 +10,7 @@ pub fn takers_of(
     alloc: Global,
     sources: &[MaybePlace],
 ) -> Result<Option<Vec<MaybePlace>>, AllocError>
-    requires few { length sources.now ≤ MAX_EVENTS }
+    requires few { length sources.now ≤ MAX_MATCHED }
     requires within { (i p : ℕ) → TakesFrom sources.now i p → p < length sources.now }
     ensures { IfOk result (λ takers. MatchOption takers (IsTakenTwice sources.now) (λ takers. HoldsTakers sources.now takers.items)) }
 {

@@ -17,7 +17,7 @@ use Rattle.value_match.specs.declared.violation.Violation.TheVariants as violati
 use Rattle.verdicts.specs.Claiming.{IsWithin, IsPlaceWithin}
 use Rattle.verdicts.specs.Verdicts.{HasOperationsFrom, IsExactFrom, IsEvidenceFrom, IsVerdictFrom}
 use Rattle.verdicts.proofs.FewLines.{two_events_each}
-use Rattle.verdicts.proofs.FilledLines.{length_filled}
+use Rattle.value_match.proofs.FilledOperations.{length_filled, none_filled}
 use Rattle.verdicts.specs.Inner.Decided.{IsDecided}
 use Rattle.verdicts.specs.Inner.Unfilling.{place_behind, unfilled_place, unfilled_source, unfilled_step, unfilled_verdict, unfilled_violation}
 use Rattle.verdicts.specs.Shown.{places_of}
@@ -34,15 +34,6 @@ use Rattle.std.proofs.lemmas.List.Elements.{All-map}
 use Rattle.std.proofs.lemmas.Bool.{le-ltb}
 use Rattle.std.proofs.lemmas.Result.{IfOk-weaker}
 use Rattle.std.specs.declared.result.Result.{Result}
-
--- a list without elements
-pub no_elements : (xs : List ℕ) → true ≡ (length xs == 0) → xs ≡ []
-no_elements [] none = refl
-no_elements (x ∷ xs) none = absurd (grind (arith, nat_tests))
-
--- with no initial values the operations of the filled history are the operations
-pub none_filled : (initial : List ℕ) (operations : List Operation) → initial ≡ [] → filled initial operations ≡ operations
-none_filled initial operations none = ap (λ (i : List ℕ). filled i operations) none ∙ filled_with_none operations
 
 module _ (initial : List ℕ) (operations : List Operation) (are : HasOperationsFrom initial operations) where
   pub filled_complete : AreComplete (filled initial operations)

@@ -36,7 +36,7 @@ use Rattle.verdicts.specs.Claiming.{places_of}
 use Rattle.verdicts.specs.Shown.{places_of as places_of_violation}
 use Rattle.verdicts.specs.Verdicts.{IsVerdictFrom}
 use Rattle.verdicts.proofs.CoverGaps.{IsCalledInside, chosen_are_lives, handover, all_stay}
-use Rattle.verdicts.proofs.FilledLines.{length_filled}
+use Rattle.value_match.proofs.FilledOperations.{length_filled}
 use Rattle.verdicts.proofs.NamedPlaces.{IsShownAt, each_shown, zip_lengths}
 
 -- ---- operations apart

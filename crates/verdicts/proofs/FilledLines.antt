@@ -11,6 +11,7 @@ use Rattle.history_merge.specs.declared.operation.OpKind.TheVariants.{Enq}
 use Rattle.history_merge.specs.Initial.{filled, filling_from, later_by}
 use Rattle.history_merge.specs.Operations.{NoneDid}
 use Rattle.history_merge.proofs.Distinct.{contains_at, place_of}
+use Rattle.value_match.proofs.FilledOperations.{length_filling}
 use Rattle.value_match.proofs.Lists.{mapped_from, mapped_to}
 use Rattle.verdicts.specs.Claims.{filling_at}
 use Rattle.std.proofs.lemmas.Bool.{cases_lt, lt-ltb, ltb-true}
@@ -40,10 +41,6 @@ at_filling initial j = at_filling_from 0 initial j ∙ ap (λ (f : ℕ → Opera
   where
     first_clock : filling_from_at 0 j ≡ filling_at j
     first_clock = λ i v. same_operation (filling_from_at 0 j v) (filling_at j v) (omega arith) (omega arith) refl refl i
-
-pub length_filling : (n : ℕ) (initial : List ℕ) → length (filling_from n initial) ≡ length initial
-length_filling n [] = refl
-length_filling n (v ∷ rest) = ap suc (length_filling (n + 2) rest)
 
 -- the place and the value of an enqueue of the filling
 pub filling_place : (initial : List ℕ) (o : Operation) → Contains (filling_from 0 initial) o
@@ -266,10 +263,3 @@ later_earlier n (o ∷ operations) =
 pub filled_earlier : (initial : List ℕ) (listed : List Operation) → filter_map (earlier (2 * length initial)) (filled initial listed) ≡ listed
 filled_earlier initial listed =
     filling_earlier 0 (2 * length initial) initial (map (later_by (2 * length initial)) listed) (omega arith) ∙ later_earlier (2 * length initial) listed
-
-pub length_filled : (initial : List ℕ) (operations : List Operation) → length (filled initial operations) ≡ length initial + length operations
-length_filled initial operations =
-    let front = length_filling 0 initial in
-    let both = length-append (filling_from 0 initial) (map (later_by (2 * length initial)) operations) in
-    let behind : length (map (later_by (2 * length initial)) operations) ≡ length operations = simp length-map in
-    omega arith

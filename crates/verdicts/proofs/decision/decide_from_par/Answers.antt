@@ -1,6 +1,7 @@
 use Rattle.std.proofs.Common.{◌∙◌, subst}
+use Rattle.value_match.proofs.FilledOperations.{no_elements}
 use Rattle.verdicts.specs.Inner.Decided.{IsDecided}
-use Rattle.verdicts.proofs.DecidedFrom.{few_filled, few_operations, no_elements, told_is_decided, told_of_none}
+use Rattle.verdicts.proofs.DecidedFrom.{few_filled, few_operations, told_is_decided, told_of_none}
 use Rattle.verdicts.proofs.decision.decide_from_par.Goals as goal
 
 pub decide_operations_par-requires-clause-few : goal.decide_operations_par-requires-clause-few

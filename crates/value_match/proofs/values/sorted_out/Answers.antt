@@ -6,8 +6,8 @@ use Rattle.value_match.specs.Inner.Sources.{IsDequeuePlace}
 use Rattle.history_merge.specs.declared.operation.Operation.{Operation}
 use Rattle.history_merge.specs.declared.operation.OpKind.TheVariants.{Enq}
 use Rattle.value_match.proofs.SortedOut.{pair_enqueue, pair_dequeue, sorted_enqueue, sorted_empty, sorted_refused, sorted_dequeue}
-use Rattle.value_match.proofs.values.matching_of.Goals as goal
-use Rattle.value_match.proofs.values.matching_of.Goals.{in-Enq+in_ok-push-in-Enq, in-Empty+in_ok-push-in-Empty, in-Not+in_ok-push-in-Not, in-Deq}
+use Rattle.value_match.proofs.values.sorted_out.Goals as goal
+use Rattle.value_match.proofs.values.sorted_out.Goals.{in-Enq+in_ok-push-in-Enq, in-Empty+in_ok-push-in-Empty, in-Not+in_ok-push-in-Not, in-Deq}
 
 -- where there is no operation
 abbrev nowhere : Operation

@@ -2,22 +2,22 @@ use Rattle.std.proofs.Common.{sym, subst}
 use Rattle.std.proofs.lemmas.Option.{MatchOption-at_some}
 use Rattle.value_match.specs.Inner.Sources.{HoldsSources, HoldsTakers, IsTakenTwice}
 use Rattle.value_match.proofs.MatchedDequeues.{clear_from_takers, dequeues_by_enqueues, sources_in_range}
-use Rattle.value_match.proofs.values.match_operations.Goals as goal
+use Rattle.value_match.proofs.values.find.Goals as goal
 
 pub takers_of-requires-clause-within : goal.takers_of-requires-clause-within
 takers_of-requires-clause-within c =
     let holds = subst (HoldsSources c.args.operations.now) (sym c.as_slice-2.ensures.value) c.in_ok-sources.ensures in
     sources_in_range _ _ c.in_default.ensures holds
 
-pub matching_of-requires-clause-clear : goal.matching_of-requires-clause-clear
-matching_of-requires-clause-clear c =
+pub sorted_out-requires-clause-clear : goal.sorted_out-requires-clause-clear
+sorted_out-requires-clause-clear c =
     let holds = subst (HoldsSources c.args.operations.now) (sym c.as_slice-2.ensures.value) c.in_ok-sources.ensures in
     let taken = MatchOption-at_some (IsTakenTwice c.as_slice-2.result.now)
     (λ takers. HoldsTakers c.as_slice-2.result.now takers.items) c.in-Some-2.dequeues c.in-Some-2.is c.in_ok-dequeues.ensures in
     clear_from_takers _ _ _ c.requires.complete c.in_default.ensures holds taken
 
-pub matching_of-requires-clause-dequeues : goal.matching_of-requires-clause-dequeues
-matching_of-requires-clause-dequeues c =
+pub sorted_out-requires-clause-dequeues : goal.sorted_out-requires-clause-dequeues
+sorted_out-requires-clause-dequeues c =
     let holds = subst (HoldsSources c.args.operations.now) (sym c.as_slice-2.ensures.value) c.in_ok-sources.ensures in
     let taken = MatchOption-at_some (IsTakenTwice c.as_slice-2.result.now)
     (λ takers. HoldsTakers c.as_slice-2.result.now takers.items) c.in-Some-2.dequeues c.in-Some-2.is c.in_ok-dequeues.ensures in

@@ -1,7 +1,7 @@
 use Rattle.std.specs.Prelude.{map}
 use Rattle.value_match.specs.Accepted.{value_at}
 use Rattle.value_match.proofs.SortedOut.{IsSortedOut}
-use Rattle.value_match.proofs.values.matching_of.Given as goal
+use Rattle.value_match.proofs.values.sorted_out.Given as goal
 
 abbrev pub invariant-loop-place : goal.invariant-loop-place
 invariant-loop-place l = IsSortedOut l.operations l.place (map (value_at l.operations) l.values.items) l.empties.items l.refused.items
