@@ -10,7 +10,7 @@ use Rattle.history_text.specs.Claims.{IsVerdictTextFault, NoRoomForVerdict}
 use Rattle.text_lines.specs.Input.{Ahead, Ending, Takes}
 use Rattle.history_text.specs.Reading.{HasFirstFault, HasEndFault, HasTextFault, HasVerdictTextFault, HasMore}
 use Rattle.history_text.proofs.OneHistory as histories
-use Rattle.commands.specs.Inputs.{IsFaultOfOneText, IsFaultAfter, AfterHistory, IsFaultOfClaimInput, IsFaultOfDrawableInput, IsHistoryOf}
+use Rattle.commands.specs.Inputs.{IsFaultOfOneText, IsFaultOfHistoryInput, IsFaultAfter, AfterHistory, IsFaultOfClaimInput, IsFaultOfDrawableInput, IsHistoryOf}
 
 -- ---- one text
 
@@ -51,6 +51,15 @@ module _ {A : Type 0} (Has : A → Type 0) (said : A → List ℕ) (IsFirst : En
   end_fault (Some a) (Some b) value Count text taken h = absurd h
   end_fault (Some a) (Some b) value Cut text taken h = absurd h
   end_fault (Some a) (Some b) value Memory text taken h = absurd h
+
+-- a fault of the text of one history
+pub one_history_fault : (input : Option Ahead) (fault : TextFault) → HasTextFault 0 input fault → IfSome input (λ a. IsFaultOfHistoryInput a fault)
+one_history_fault = text_fault HasText text_of (IsTextFault 0) NoRoomForText
+
+-- a fault of what comes after it
+pub history_end_fault : (input left : Option Ahead) (text : HistoryText) (fault : TextFault) → HasText text → Takes input left (text_of text)
+    → HasEndFault left fault → IfSome input (λ a. IsFaultOfHistoryInput a fault)
+history_end_fault = end_fault HasText text_of (IsTextFault 0) NoRoomForText
 
 -- ---- a history, and a verdict on it
 

@@ -25,14 +25,8 @@ where
     ensures fault { IfErr result (λ fault. IfSome (S.ahead reader) (λ input. IsFaultOfHistoryInput input fault)) }
 {
     let mut texts = TextReader::new(reader);
-    let text = match read_any(alloc, &mut texts) {
-        Ok(text) => text,
-        Err(fault) => return Err(fault),
-    };
-    match at_end(&mut texts) {
-        Ok(()) => return Ok(text),
-        Err(fault) => return Err(fault),
-    }
+    let text = read_any(alloc, &mut texts)?;
+    at_end(&mut texts).map(|()| text)
 }
 
 /// The one text of a history that the reader gives, as a history in the making, which keeps none of its events.
@@ -44,14 +38,9 @@ where
     ensures fault { IfErr result (λ fault. IfSome (S.ahead reader) (λ input. IsFaultOfHistoryInput input fault)) }
 {
     let mut texts = TextReader::new(reader);
-    let builder = match gather_any(alloc, &mut texts) {
-        Ok(builder) => builder,
-        Err(fault) => return Err(fault),
-    };
-    match at_end(&mut texts) {
-        Ok(()) => return Ok(builder),
-        Err(fault) => return Err(fault),
-    }
+    let builder = gather_any(alloc, &mut texts)?;
+    at_end(&mut texts)?;
+    Ok(builder)
 }
 
 /// The one schedule that the reader gives.
@@ -63,14 +52,8 @@ where
     ensures fault { IfErr result (λ fault. IfSome (S.ahead reader) (λ input. IsFaultOfScheduleInput input fault)) }
 {
     let mut texts = TextReader::new(reader);
-    let schedule = match read_schedule(alloc, &mut texts) {
-        Ok(schedule) => schedule,
-        Err(fault) => return Err(fault),
-    };
-    match at_end(&mut texts) {
-        Ok(()) => return Ok(schedule),
-        Err(fault) => return Err(fault),
-    }
+    let schedule = read_schedule(alloc, &mut texts)?;
+    at_end(&mut texts).map(|()| schedule)
 }
 
 /// What the text of a history says, and what the verdict text after it claims of it.
@@ -85,14 +68,9 @@ where
     ensures fault { IfErr result (λ fault. IfSome (S.ahead reader) (λ input. IsFaultOfClaimInput input fault)) }
 {
     let mut texts = TextReader::new(reader);
-    let text = match read_any(alloc, &mut texts) {
-        Ok(text) => text,
-        Err(fault) => return Err(fault),
-    };
-    match read_verdict(alloc, &mut texts) {
-        Ok(claimed) => return Ok((text, claimed)),
-        Err(fault) => return Err(fault),
-    }
+    let text = read_any(alloc, &mut texts)?;
+    let claimed = read_verdict(alloc, &mut texts)?;
+    Ok((text, claimed))
 }
 
 /// What the text of a history says, and where anything follows what the verdict text after it claims of it.
@@ -107,19 +85,12 @@ where
     ensures fault { IfErr result (λ fault. IfSome (S.ahead reader) (λ input. IsFaultOfDrawableInput input fault)) }
 {
     let mut texts = TextReader::new(reader);
-    let text = match read_any(alloc, &mut texts) {
-        Ok(text) => text,
-        Err(fault) => return Err(fault),
-    };
-    match is_at_end(&mut texts) {
-        Ok(true) => return Ok((text, None)),
-        Ok(false) => {}
-        Err(fault) => return Err(fault),
+    let text = read_any(alloc, &mut texts)?;
+    if is_at_end(&mut texts)? {
+        return Ok((text, None));
     }
-    match read_verdict(alloc, &mut texts) {
-        Ok(claimed) => return Ok((text, Some(claimed))),
-        Err(fault) => return Err(fault),
-    }
+    let claimed = read_verdict(alloc, &mut texts)?;
+    Ok((text, Some(claimed)))
 }
 
 /// The history that a text says, of either version; or its first fault.
