@@ -1,17 +1,10 @@
 ghost use Rattle.std.specs.Prelude.{◌≤◌, length};
 
+use crate::small_histories::{at, by};
 use event_records::{Event, Lists, MAX_EVENTS, What};
 use history_merge::{History, HistoryFault, OpKind, Operation, history, merge};
 use std::alloc::{AllocError, Global};
 use std::test::Fail;
-
-fn at(ticket: u64, thread: u8, what: What) -> Event {
-    Event {
-        ticket,
-        thread,
-        what,
-    }
-}
 
 /// What `history` answers to these events; want of memory ends the test.
 fn judged(alloc: Global, events: &[Event]) -> Result<Result<History, HistoryFault>, AllocError>
@@ -88,15 +81,6 @@ fn names_the_first_fault(rt: HostRuntime) -> Result<(), Fail> {
     Ok(())
 }
 
-fn operation(thread: u8, kind: OpKind, call: u64, ret: u64) -> Operation {
-    Operation {
-        call,
-        ret,
-        thread,
-        kind,
-    }
-}
-
 #[test]
 fn shows_operations_by_their_calls(rt: HostRuntime) -> Result<(), Fail> {
     let cases: [(&[Event], &[Operation]); 4] = [
@@ -113,10 +97,10 @@ fn shows_operations_by_their_calls(rt: HostRuntime) -> Result<(), Fail> {
                 at(7, 0, What::RetDeq(7)),
             ],
             &[
-                operation(0, OpKind::Enq(7), 0, 2),
-                operation(1, OpKind::Enq(9), 1, 3),
-                operation(0, OpKind::Deq(9), 4, 5),
-                operation(0, OpKind::Deq(7), 6, 7),
+                by(0, 0, 2, OpKind::Enq(7)),
+                by(1, 1, 3, OpKind::Enq(9)),
+                by(0, 4, 5, OpKind::Deq(9)),
+                by(0, 6, 7, OpKind::Deq(7)),
             ],
         ),
         (
@@ -131,10 +115,10 @@ fn shows_operations_by_their_calls(rt: HostRuntime) -> Result<(), Fail> {
                 at(7, 2, What::RetDeq(9)),
             ],
             &[
-                operation(0, OpKind::Enq(7), 0, 6),
-                operation(1, OpKind::Deq(7), 1, 3),
-                operation(2, OpKind::Deq(9), 2, 7),
-                operation(1, OpKind::Enq(9), 4, 5),
+                by(0, 0, 6, OpKind::Enq(7)),
+                by(1, 1, 3, OpKind::Deq(7)),
+                by(2, 2, 7, OpKind::Deq(9)),
+                by(1, 4, 5, OpKind::Enq(9)),
             ],
         ),
         (
@@ -145,8 +129,8 @@ fn shows_operations_by_their_calls(rt: HostRuntime) -> Result<(), Fail> {
                 at(999_999_999_999, 0, What::RetEmpty),
             ],
             &[
-                operation(63, OpKind::Not(u64::MAX), 999_999_999_996, 999_999_999_998),
-                operation(0, OpKind::Empty, 999_999_999_997, 999_999_999_999),
+                by(63, 999_999_999_996, 999_999_999_998, OpKind::Not(u64::MAX)),
+                by(0, 999_999_999_997, 999_999_999_999, OpKind::Empty),
             ],
         ),
     ];
@@ -180,7 +164,7 @@ fn takes_two_hundred_thousand_events(rt: HostRuntime) -> Result<(), Fail> {
     let history = judged(rt.alloc(), events.as_slice())?.expect(&rt, "a complete history");
     let operations = history.operations();
     assert_eq!(rt; operations.len(), 100_000);
-    let last = operation(63, OpKind::Deq(49_999), 199_998, 199_999);
+    let last = by(63, 199_998, 199_999, OpKind::Deq(49_999));
     assert_eq!(rt; operations.last().copied(), Some(last));
     Ok(())
 }

@@ -1,29 +1,13 @@
 //! Histories of a queue that starts with some values.
 ghost use Rattle.std.specs.Prelude.{◌≤◌, length};
 
+use crate::small_histories::{at, by};
 use event_records::{Event, MAX_EVENTS, MAX_INITIAL, What};
 use history_merge::{
     History, HistoryFault, HistoryParts, OpKind, Operation, PreloadedBuilder, fill, history_from,
 };
 use std::alloc::{AllocError, Global};
 use std::test::Fail;
-
-fn at(ticket: u64, thread: u8, what: What) -> Event {
-    Event {
-        ticket,
-        thread,
-        what,
-    }
-}
-
-fn operation(thread: u8, kind: OpKind, call: u64, ret: u64) -> Operation {
-    Operation {
-        call,
-        ret,
-        thread,
-        kind,
-    }
-}
 
 /// What `history_from` answers to these initial values and events; want of memory ends the test.
 fn judged(
@@ -123,8 +107,8 @@ fn gives_its_parts_back(rt: HostRuntime) -> Result<(), Fail> {
         at(6, 0, What::RetNot),
     ];
     let operations = [
-        operation(2, OpKind::Deq(u64::MAX), 3, 5),
-        operation(0, OpKind::Not(6), 4, 6),
+        by(2, 3, 5, OpKind::Deq(u64::MAX)),
+        by(0, 4, 6, OpKind::Not(6)),
     ];
     let history = judged(rt.alloc(), &initial, &events)?.expect(&rt, "a complete history");
     assert_eq!(rt; history.initial(), initial.as_slice());
@@ -144,9 +128,9 @@ fn enqueues_initial_values_before_all_else(rt: HostRuntime) -> Result<(), Fail> 
     assert_eq!(rt;
         filled.as_slice(),
         [
-            operation(0, OpKind::Enq(5), 0, 1),
-            operation(0, OpKind::Enq(6), 2, 3),
-            operation(1, OpKind::Deq(5), 4, 11),
+            by(0, 0, 1, OpKind::Enq(5)),
+            by(0, 2, 3, OpKind::Enq(6)),
+            by(1, 4, 11, OpKind::Deq(5)),
         ]
         .as_slice()
     );

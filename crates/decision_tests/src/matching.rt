@@ -1,19 +1,13 @@
 ghost use Rattle.std.specs.Prelude.{◌≤◌, length};
 
 use crate::deciding::enqueue_of;
+use crate::small_histories::{at, by};
 use event_records::{Event, MAX_EVENTS, What};
-use history_merge::{History, HistoryFault, OpId, OpKind, Operation, history};
+use history_merge::{History, HistoryFault, OpId, OpKind, history};
 use std::alloc::Global;
+use std::process::Abort;
 use std::test::Fail;
 use value_match::{Life, LongestTable, Matched, MatchedValue, Violation, match_values};
-
-fn at(ticket: u64, thread: u8, what: What) -> Event {
-    Event {
-        ticket,
-        thread,
-        what,
-    }
-}
 
 /// The history of these events.
 fn history_of(alloc: Global, events: &[Event]) -> Result<History, HistoryFault>
@@ -35,6 +29,20 @@ fn places(matched: &Matched) -> Option<[Option<OpId>; 3]> {
         }
         _ => None,
     }
+}
+
+/// Checks that the history of these events breaks a rule of the first two kinds, and which places are named.
+fn check_places(
+    rt: &impl Abort,
+    alloc: Global,
+    events: &[Event],
+    named: [Option<usize>; 3],
+) -> Result<(), Fail> {
+    assert!(rt; events.len() <= MAX_EVENTS);
+    let history = history_of(alloc, events)?;
+    let named = named.map(|place| place.map(OpId::new));
+    assert_eq!(rt; places(&match_values(alloc, &history)?), Some(named));
+    Ok(())
 }
 
 #[test]
@@ -96,10 +104,7 @@ fn names_the_dequeue_of_a_value_that_was_not_there(rt: HostRuntime) -> Result<()
         ),
     ];
     for (events, deq, enq) in cases {
-        assert!(rt; events.len() <= MAX_EVENTS);
-        let named = [Some(OpId::new(deq)), enq.map(OpId::new), None];
-        let history = history_of(rt.alloc(), events)?;
-        assert_eq!(rt; places(&match_values(rt.alloc(), &history)?), Some(named));
+        check_places(&rt, rt.alloc(), events, [Some(deq), enq, None])?;
     }
     Ok(())
 }
@@ -158,10 +163,7 @@ fn names_the_first_two_dequeues_of_a_value(rt: HostRuntime) -> Result<(), Fail> 
         ),
     ];
     for (events, enq, first, second) in cases {
-        assert!(rt; events.len() <= MAX_EVENTS);
-        let named = [enq, first, second].map(|place| Some(OpId::new(place)));
-        let history = history_of(rt.alloc(), events)?;
-        assert_eq!(rt; places(&match_values(rt.alloc(), &history)?), Some(named));
+        check_places(&rt, rt.alloc(), events, [enq, first, second].map(Some))?;
     }
     Ok(())
 }
@@ -184,15 +186,9 @@ fn matches_a_history_without_such_violations(rt: HostRuntime) -> Result<(), Fail
     let Matched::Clear(matching) = match_values(rt.alloc(), &history)? else {
         panic!(rt; "no violation of the first two kinds");
     };
-    let operation = |thread, kind, call, ret| Operation {
-        call,
-        ret,
-        thread,
-        kind,
-    };
-    let enq_7 = operation(0, OpKind::Enq(7), 0, 4);
-    let deq_7 = operation(1, OpKind::Deq(7), 1, 3);
-    let enq_9 = operation(2, OpKind::Enq(9), 2, 5);
+    let enq_7 = by(0, 0, 4, OpKind::Enq(7));
+    let deq_7 = by(1, 1, 3, OpKind::Deq(7));
+    let enq_9 = by(2, 2, 5, OpKind::Enq(9));
     let values = [
         MatchedValue {
             life: Life {

@@ -6,6 +6,15 @@ use std::alloc::{AllocError, Global};
 use std::test::Fail;
 use verdicts::ClaimLine;
 
+/// An event.
+pub fn at(ticket: u64, thread: u8, what: What) -> Event {
+    Event {
+        ticket,
+        thread,
+        what,
+    }
+}
+
 /// An operation of thread 0.
 pub fn op(call: u64, ret: u64, kind: OpKind) -> Operation {
     by(0, call, ret, kind)
