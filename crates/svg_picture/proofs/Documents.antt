@@ -11,7 +11,7 @@ use Rattle.verdicts.specs.declared.verifying.Claimed.TheVariants.{Yes, No}
 use Rattle.verdicts.specs.declared.verifying.ViolationKind.TheVariants.{VFresh, VRepeat, VOrd, VWit}
 use Rattle.drawing.specs.declared.bands.Band.{Band}
 use Rattle.drawing.specs.Layout.{label, place_of, initial_place_of}
-use Rattle.svg_picture.specs.declared.layout.Measures.{Measures}
+use Rattle.svg_picture.specs.declared.sheet.Measures.{Measures}
 use Rattle.svg_picture.specs.Markup.{Content, Nothing, Words, Element, Then, each, text_of}
 use Rattle.svg_picture.specs.Layout.{Page, initial_row, parts, width, height}
 use Rattle.svg_picture.specs.Words.{form_class}

@@ -6,8 +6,8 @@ use Rattle.history_merge.specs.declared.operation.Operation.{Operation}
 use Rattle.verdicts.specs.declared.verifying.Claimed.{Claimed}
 use Rattle.text_lines.specs.Lines.{is_line_feed}
 use Rattle.drawing.specs.declared.bands.Band.{Band}
-use Rattle.svg_picture.specs.declared.layout.Measures.{Measures}
-use Rattle.svg_picture.specs.declared.layout.Sheet.{Sheet}
+use Rattle.svg_picture.specs.declared.sheet.Measures.{Measures}
+use Rattle.svg_picture.specs.declared.sheet.Sheet.{Sheet}
 
 -- what a picture is made of: its measures, what the queue holds first, the history, the claim with its bands, and the tickets just
 -- after which the operations of a yes take effect

@@ -19,7 +19,7 @@ use Rattle.drawing.specs.Layout.{digits, label, initial_label, label_width, last
 use Rattle.drawing.specs.Bands.{bands_of, head_text}
 use Rattle.drawing.specs.Captions.{headline, caption}
 use Rattle.drawing.specs.Terminal.{way}
-use Rattle.svg_picture.specs.declared.layout.Measures.{Measures}
+use Rattle.svg_picture.specs.declared.sheet.Measures.{Measures}
 use Rattle.svg_picture.specs.Markup.{Named, Content, Nothing, Words, Element, each, group, number, words, document}
 use Rattle.svg_picture.specs.Layout.{Page, shown, bar_width, thread_x, right, band_x, width, legend_y, top, initial_row, row, effect_row, row_y, call_y, ret_y}
 use Rattle.svg_picture.specs.Layout.{bottom, height, line_count, parts, longest}

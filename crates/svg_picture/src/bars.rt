@@ -1,15 +1,15 @@
 //! The bars of the operations.
 ghost use Rattle.std.specs.Prelude.{◌≡◌, ◌++◌, ◌≤◌, ◌^◌, [], OnOk, IfOk, IfSome, length, codes};
-ghost use Rattle.drawing.specs.Claim.{count_of_lines};
 ghost use Rattle.svg_picture.specs.Markup.{Element, text_of};
 ghost use Rattle.svg_picture.specs.Markup.{Words as InWords};
 ghost use Rattle.svg_picture.specs.Layout.{page_on};
 ghost use Rattle.svg_picture.specs.Picture.{mark, row_of_effect, number_words, bar_words, number_y, pill, bar_number, bar_rect, bar_label, bar_parts, placed_bar, bar, bars};
 
 use crate::elements::{Rect, push_rect, push_text_at};
-use crate::layout::{Sheet, bar_width, call_y, effect_row, ret_y, row, row_y, thread_x};
+use crate::layout::{bar_width, call_y, effect_row, ret_y, row, row_y, thread_x};
 use crate::markup::Attribute::Words;
 use crate::markup::{push_element, push_end, push_number, push_start};
+use crate::sheet::Sheet;
 use crate::words::{corner, kind_word};
 use drawing::{digits, place_of, push_label};
 use history_merge::Operation;
@@ -218,7 +218,6 @@ fn push_bar(
     sheet: &Sheet<'_>,
     operation: Operation,
 ) -> Result<(), AllocError>
-    requires { count_of_lines sheet.now.claimed.now ≤ 400 }
     ensures { OnOk result (text.new.items ≡ text.old.items ++ text_of (bar (page_on sheet.now) operation)) }
 {
     let place = place_of(sheet.claimed, operation);
@@ -232,7 +231,6 @@ pub(crate) fn push_bars(
     text: &mut Vec<u8>,
     sheet: &Sheet<'_>,
 ) -> Result<(), AllocError>
-    requires { count_of_lines sheet.now.claimed.now ≤ 400 }
     ensures { OnOk result (text.new.items ≡ text.old.items ++ text_of (bars (page_on sheet.now))) }
 {
     for operation in sheet.operations {

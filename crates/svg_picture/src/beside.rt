@@ -1,7 +1,6 @@
 //! What stands beside the lanes: the bands of a no, or the order of a yes.
 ghost use Rattle.std.specs.Prelude.{◌≡◌, ◌++◌, ◌∷◌, ◌≤◌, ◌^◌, [], OnOk, IfOk, length, codes, decimal, nat_eq};
 ghost use Rattle.std.specs.List.{concat, enumerate_from, position};
-ghost use Rattle.drawing.specs.Claim.{count_of_lines};
 ghost use Rattle.drawing.specs.Layout.{label};
 ghost use Rattle.svg_picture.specs.Markup.{each, text_of};
 ghost use Rattle.svg_picture.specs.Layout.{page_on};
@@ -10,13 +9,13 @@ ghost use Rattle.svg_picture.specs.Picture.{is_time, first_y, last_y, event_at, 
 use crate::bars::row_of_effect;
 use crate::elements::{Rect, push_rect, push_stroke, push_text_at};
 use crate::layout::{
-    Measures, Sheet, band_x, bottom, call_y, initial_row, ret_y, right, row, row_y, shown,
-    thread_x, top,
+    band_x, bottom, call_y, initial_row, ret_y, right, row, row_y, shown, thread_x, top,
 };
 use crate::lines::head_words;
 use crate::markup::push_number;
+use crate::sheet::{Measures, Sheet};
 use crate::words::form_class;
-use drawing::{Band, Head, digits, push_label, way};
+use drawing::{Band, Head, MOST_DRAWN, digits, push_label, way};
 use event_records::Event;
 use history_merge::Operation;
 use std::alloc::{AllocError, Global};
@@ -325,7 +324,7 @@ fn push_order_lines(
     sheet: &Sheet<'_>,
     operations: &[Operation],
 ) -> Result<(), AllocError>
-    requires { length operations.now ≤ 400 }
+    requires { length operations.now ≤ MOST_DRAWN }
     ensures { OnOk result (text.new.items ≡ text.old.items ++ text_of (each (numbered_line (page_on sheet.now)) (enumerate_from 0 operations.now))) }
 {
     for (i, operation) in operations.iter().enumerate() {
@@ -341,7 +340,6 @@ pub(crate) fn push_order(
     text: &mut Vec<u8>,
     sheet: &Sheet<'_>,
 ) -> Result<(), AllocError>
-    requires { count_of_lines sheet.now.claimed.now ≤ 400 }
     ensures { OnOk result (text.new.items ≡ text.old.items ++ text_of (order (page_on sheet.now) sheet.now.claimed.now)) }
 {
     match sheet.claimed {

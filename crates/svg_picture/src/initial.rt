@@ -1,7 +1,6 @@
 //! The values that the queue holds first, each in a row above those of the events.
 ghost use Rattle.std.specs.Prelude.{◌≡◌, ◌++◌, ◌∷◌, ◌≤◌, ◌^◌, [], OnOk, IfOk, IfSome, codes};
 ghost use Rattle.std.specs.List.{enumerate_from};
-ghost use Rattle.drawing.specs.Claim.{count_of_lines};
 ghost use Rattle.drawing.specs.Layout.{initial_label};
 ghost use Rattle.svg_picture.specs.Markup.{Element, each, text_of};
 ghost use Rattle.svg_picture.specs.Markup.{Words as InWords};
@@ -10,9 +9,10 @@ ghost use Rattle.svg_picture.specs.Picture.{initial_words, initial_number, initi
 
 use crate::bars::{mark, push_number_words, push_pill};
 use crate::elements::{Rect, push_rect, push_text_at};
-use crate::layout::{Sheet, bar_width, initial_row, row_y, top};
+use crate::layout::{bar_width, initial_row, row_y, top};
 use crate::markup::Attribute::Words;
 use crate::markup::{push_element, push_end, push_start};
+use crate::sheet::Sheet;
 use drawing::{initial_place_of, push_initial_label};
 use std::alloc::{AllocError, Global};
 
@@ -138,7 +138,6 @@ fn push_initial_value(
     j: usize,
     value: u64,
 ) -> Result<(), AllocError>
-    requires { count_of_lines sheet.now.claimed.now ≤ 400 }
     ensures { OnOk result (text.new.items ≡ text.old.items ++ text_of (numbered_initial (page_on sheet.now) (j, value))) }
 {
     let place = initial_place_of(sheet.claimed, value);
@@ -150,7 +149,6 @@ fn push_each_initial_value(
     text: &mut Vec<u8>,
     sheet: &Sheet<'_>,
 ) -> Result<(), AllocError>
-    requires { count_of_lines sheet.now.claimed.now ≤ 400 }
     ensures { OnOk result (text.new.items ≡ text.old.items ++ text_of (each (numbered_initial (page_on sheet.now)) (enumerate_from 0 sheet.now.initial.now))) }
 {
     for (j, value) in sheet.initial.iter().enumerate() {
@@ -166,7 +164,6 @@ pub(crate) fn push_initial_values(
     text: &mut Vec<u8>,
     sheet: &Sheet<'_>,
 ) -> Result<(), AllocError>
-    requires { count_of_lines sheet.now.claimed.now ≤ 400 }
     ensures { OnOk result (text.new.items ≡ text.old.items ++ text_of (initial_values (page_on sheet.now) sheet.now.initial.now)) }
 {
     match sheet.initial {

@@ -11,6 +11,7 @@ mod lines;
 mod markup;
 mod picture;
 mod rows;
+mod sheet;
 mod words;
 mod writing;
 

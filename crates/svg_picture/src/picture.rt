@@ -12,11 +12,12 @@ use crate::bars::push_bars;
 use crate::beside::{push_bands, push_order, push_ways};
 use crate::elements::{push_lines_at, push_samples, push_text_at};
 use crate::initial::push_initial_values;
-use crate::layout::{Measures, Sheet, height, legend_y, width};
+use crate::layout::{height, legend_y, width};
 use crate::lines::{line_count, longest_head, longest_line};
 use crate::markup::Attribute::{Number, Words};
 use crate::markup::{push_element, push_end, push_number, push_start};
 use crate::rows::{push_background, push_threads, push_tickets};
+use crate::sheet::{Measures, Sheet};
 use crate::words::{legend, push_style};
 use drawing::{
     Band, MOST_DRAWN, bands_of, count_of_lines, digits, headline, label_width, last_ticket,
@@ -27,7 +28,7 @@ use std::alloc::{AllocError, Global};
 use verdicts::Claimed;
 
 fn caption_of(alloc: Global, claimed: &Claimed) -> Result<Vec<u8>, AllocError>
-    requires { count_of_lines claimed.now ≤ 400 }
+    requires { count_of_lines claimed.now ≤ MOST_DRAWN }
     ensures { IfOk result (λ words. words.items ≡ caption claimed.now) }
 {
     let mut words = Vec::new(alloc);
@@ -38,7 +39,6 @@ fn caption_of(alloc: Global, claimed: &Claimed) -> Result<Vec<u8>, AllocError>
 /// Adds the words above: the headline, the caption, and how to read the picture.
 #[tactic(auto, unfolding(crate::specs::Picture::heading))]
 fn push_heading(alloc: Global, text: &mut Vec<u8>, sheet: &Sheet<'_>) -> Result<(), AllocError>
-    requires { count_of_lines sheet.now.claimed.now ≤ 400 }
     ensures { OnOk result (text.new.items ≡ text.old.items ++ text_of (heading (page_on sheet.now))) }
 {
     let y = legend_y(sheet.measures);
@@ -53,7 +53,7 @@ fn push_heading(alloc: Global, text: &mut Vec<u8>, sheet: &Sheet<'_>) -> Result<
 /// Adds what the picture tells those who don't see it, and its style.
 #[tactic(auto, unfolding(crate::specs::Picture::about))]
 fn push_about(alloc: Global, text: &mut Vec<u8>, claimed: &Claimed) -> Result<(), AllocError>
-    requires { count_of_lines claimed.now ≤ 400 }
+    requires { count_of_lines claimed.now ≤ MOST_DRAWN }
     ensures { OnOk result (text.new.items ≡ text.old.items ++ text_of (about claimed.now)) }
 {
     push_element(text, b"title", &[], headline(claimed))?;
@@ -65,7 +65,6 @@ fn push_about(alloc: Global, text: &mut Vec<u8>, claimed: &Claimed) -> Result<()
 /// Adds what stands above and under the lanes.
 #[tactic(auto, unfolding(crate::specs::Picture::frame))]
 fn push_frame(alloc: Global, text: &mut Vec<u8>, sheet: &Sheet<'_>) -> Result<(), AllocError>
-    requires { count_of_lines sheet.now.claimed.now ≤ 400 }
     ensures { OnOk result (text.new.items ≡ text.old.items ++ text_of (frame (page_on sheet.now))) }
 {
     push_about(alloc, text, sheet.claimed)?;
@@ -77,7 +76,6 @@ fn push_frame(alloc: Global, text: &mut Vec<u8>, sheet: &Sheet<'_>) -> Result<()
 
 #[tactic(auto, unfolding(crate::specs::Picture::inside))]
 fn push_inside(alloc: Global, text: &mut Vec<u8>, sheet: &Sheet<'_>) -> Result<(), AllocError>
-    requires { count_of_lines sheet.now.claimed.now ≤ 400 }
     ensures { OnOk result (text.new.items ≡ text.old.items ++ text_of (inside (page_on sheet.now))) }
 {
     push_frame(alloc, text, sheet)?;
@@ -101,7 +99,6 @@ fn view_box(alloc: Global, m: Measures) -> Result<Vec<u8>, AllocError>
 
 #[tactic(auto, unfolding(crate::specs::Picture::page_content))]
 fn push_page(alloc: Global, text: &mut Vec<u8>, sheet: &Sheet<'_>) -> Result<(), AllocError>
-    requires { count_of_lines sheet.now.claimed.now ≤ 400 }
     ensures { OnOk result (text.new.items ≡ text.old.items ++ text_of (page_content (page_on sheet.now))) }
 {
     let m = sheet.measures;
@@ -149,7 +146,7 @@ fn measures_of(
     claimed: &Claimed,
     bands: &[Band],
 ) -> Result<Measures, AllocError>
-    requires few { count_of_lines claimed.now ≤ 400 }
+    requires few { count_of_lines claimed.now ≤ MOST_DRAWN }
     requires threads { threads.now ≡ threads_of history.now.events }
     requires bands { bands.now ≡ bands_of claimed.now }
     ensures { IfOk result (λ m. m ≡ measures_of history.now claimed.now) }

@@ -5,9 +5,10 @@ ghost use Rattle.svg_picture.specs.Layout.{page_on};
 ghost use Rattle.svg_picture.specs.Picture.{ticket_at, tickets, thread_name, lane_names, threads, row_pattern, patterns, background};
 
 use crate::elements::{Rect, push_hatch, push_rect, push_text_at};
-use crate::layout::{Measures, Sheet, bottom, height, row, row_y, thread_x, top, width};
+use crate::layout::{bottom, height, row, row_y, thread_x, top, width};
 use crate::markup::Attribute::{Number, Words};
 use crate::markup::{push_end, push_number, push_start};
+use crate::sheet::{Measures, Sheet};
 use drawing::digits;
 use event_records::Event;
 use itoa::Buffer;
