@@ -1,9 +1,8 @@
 //! The bars of the operations.
 ghost use Rattle.std.specs.Prelude.{◌≡◌, ◌++◌, ◌≤◌, ◌^◌, [], OnOk, IfOk, IfSome, length, codes};
-ghost use Rattle.svg_picture.specs.Markup.{Element, text_of};
-ghost use Rattle.svg_picture.specs.Markup.{Words as InWords};
+ghost use Rattle.svg_picture.specs.Markup.{text_of};
 ghost use Rattle.svg_picture.specs.Layout.{page_on};
-ghost use Rattle.svg_picture.specs.Picture.{mark, row_of_effect, number_words, bar_words, number_y, pill, bar_number, bar_rect, bar_label, bar_parts, placed_bar, bar, bars};
+ghost use Rattle.svg_picture.specs.Picture.{mark, row_of_effect, number_words, bar_words, number_y, pill, bar_number, bar_rect, bar_label, bar, bars};
 
 use crate::elements::{Rect, push_rect, push_text_at};
 use crate::layout::{bar_width, call_y, effect_row, ret_y, row, row_y, thread_x};
@@ -11,7 +10,7 @@ use crate::markup::Attribute::Words;
 use crate::markup::{push_element, push_end, push_number, push_start};
 use crate::sheet::Sheet;
 use crate::words::{corner, kind_word};
-use drawing::{digits, place_of, push_label};
+use drawing::{MOST_DRAWN, digits, place_of, push_label};
 use history_merge::Operation;
 use itoa::Buffer;
 use std::alloc::{AllocError, Global};
@@ -112,7 +111,7 @@ fn push_bar_number(
     operation: Operation,
     place: Option<usize>,
 ) -> Result<(), AllocError>
-    requires { IfSome place (λ place. place ≤ 1000000) }
+    requires { IfSome place (λ place. place ≤ MOST_DRAWN) }
     ensures { OnOk result (text.new.items ≡ text.old.items ++ text_of (bar_number (page_on sheet.now) operation place)) }
 {
     match place {
@@ -165,53 +164,8 @@ fn push_bar_label(
     push_text_at(text, 7, b"label", x, y, label.as_slice())
 }
 
-fn push_title(
-    alloc: Global,
-    text: &mut Vec<u8>,
-    operation: Operation,
-    place: Option<usize>,
-) -> Result<(), AllocError>
-    ensures { OnOk result (text.new.items ≡ text.old.items ++ text_of (Element (codes "title") [] (InWords (bar_words operation place)))) }
-{
-    let words = bar_words(alloc, operation, place)?;
-    push_element(text, b"title", &[], words.as_slice())
-}
-
-/// What stands within the group of a bar.
-#[tactic(auto, unfolding(crate::specs::Picture::bar_parts))]
-fn push_bar_parts(
-    alloc: Global,
-    text: &mut Vec<u8>,
-    sheet: &Sheet<'_>,
-    operation: Operation,
-    place: Option<usize>,
-) -> Result<(), AllocError>
-    requires { IfSome place (λ place. place ≤ 1000000) }
-    ensures { OnOk result (text.new.items ≡ text.old.items ++ text_of (bar_parts (page_on sheet.now) operation place)) }
-{
-    push_title(alloc, text, operation, place)?;
-    push_bar_rect(text, sheet, operation)?;
-    push_bar_label(alloc, text, sheet, operation)?;
-    push_bar_number(text, sheet, operation, place)
-}
-
-#[tactic(auto, unfolding(crate::specs::Picture::placed_bar))]
-fn push_placed_bar(
-    alloc: Global,
-    text: &mut Vec<u8>,
-    sheet: &Sheet<'_>,
-    operation: Operation,
-    place: Option<usize>,
-) -> Result<(), AllocError>
-    requires { IfSome place (λ place. place ≤ 1000000) }
-    ensures { OnOk result (text.new.items ≡ text.old.items ++ text_of (placed_bar (page_on sheet.now) operation place)) }
-{
-    let class = mark(sheet.claimed, place);
-    push_start(text, b"g", &[Words(b"class", class)])?;
-    push_bar_parts(alloc, text, sheet, operation, place)?;
-    push_end(text, b"g")
-}
-
+/// Adds the bar of an operation, with its title, its label and its number.
+#[tactic(auto, unfolding(crate::specs::Picture::placed_bar, crate::specs::Picture::bar_parts))]
 fn push_bar(
     alloc: Global,
     text: &mut Vec<u8>,
@@ -221,7 +175,14 @@ fn push_bar(
     ensures { OnOk result (text.new.items ≡ text.old.items ++ text_of (bar (page_on sheet.now) operation)) }
 {
     let place = place_of(sheet.claimed, operation);
-    push_placed_bar(alloc, text, sheet, operation, place)
+    let class = mark(sheet.claimed, place);
+    push_start(text, b"g", &[Words(b"class", class)])?;
+    let words = bar_words(alloc, operation, place)?;
+    push_element(text, b"title", &[], words.as_slice())?;
+    push_bar_rect(text, sheet, operation)?;
+    push_bar_label(alloc, text, sheet, operation)?;
+    push_bar_number(text, sheet, operation, place)?;
+    push_end(text, b"g")
 }
 
 /// Adds the bars of the operations.

@@ -2,10 +2,9 @@
 ghost use Rattle.std.specs.Prelude.{◌≡◌, ◌++◌, ◌∷◌, ◌≤◌, ◌^◌, [], OnOk, IfOk, IfSome, codes};
 ghost use Rattle.std.specs.List.{enumerate_from};
 ghost use Rattle.drawing.specs.Layout.{initial_label};
-ghost use Rattle.svg_picture.specs.Markup.{Element, each, text_of};
-ghost use Rattle.svg_picture.specs.Markup.{Words as InWords};
+ghost use Rattle.svg_picture.specs.Markup.{each, text_of};
 ghost use Rattle.svg_picture.specs.Layout.{page_on};
-ghost use Rattle.svg_picture.specs.Picture.{initial_words, initial_number, initial_rect, initial_parts, placed_initial, numbered_initial, initial_values};
+ghost use Rattle.svg_picture.specs.Picture.{initial_words, initial_number, initial_rect, numbered_initial, initial_values};
 
 use crate::bars::{mark, push_number_words, push_pill};
 use crate::elements::{Rect, push_rect, push_text_at};
@@ -13,7 +12,7 @@ use crate::layout::{bar_width, initial_row, row_y, top};
 use crate::markup::Attribute::Words;
 use crate::markup::{push_element, push_end, push_start};
 use crate::sheet::Sheet;
-use drawing::{initial_place_of, push_initial_label};
+use drawing::{MOST_DRAWN, initial_place_of, push_initial_label};
 use std::alloc::{AllocError, Global};
 
 fn initial_label(alloc: Global, value: u64) -> Result<Vec<u8>, AllocError>
@@ -43,7 +42,7 @@ fn push_initial_number(
     place: Option<usize>,
 ) -> Result<(), AllocError>
     requires row { row ≤ 2 ^ 65 }
-    requires place { IfSome place (λ place. place ≤ 1000000) }
+    requires place { IfSome place (λ place. place ≤ MOST_DRAWN) }
     ensures { OnOk result (text.new.items ≡ text.old.items ++ text_of (initial_number (page_on sheet.now) row place)) }
 {
     match place {
@@ -80,57 +79,8 @@ fn push_initial_rect(
     push_text_at(text, 7, b"label", 12, y + 14, label.as_slice())
 }
 
-fn push_initial_title(
-    alloc: Global,
-    text: &mut Vec<u8>,
-    value: u64,
-    place: Option<usize>,
-) -> Result<(), AllocError>
-    ensures { OnOk result (text.new.items ≡ text.old.items ++ text_of (Element (codes "title") [] (InWords (initial_words value place)))) }
-{
-    let words = initial_words(alloc, value, place)?;
-    push_element(text, b"title", &[], words.as_slice())
-}
-
-/// What stands within the group of an initial value.
-#[tactic(auto, unfolding(crate::specs::Picture::initial_parts))]
-fn push_initial_parts(
-    alloc: Global,
-    text: &mut Vec<u8>,
-    sheet: &Sheet<'_>,
-    row: u128,
-    value: u64,
-    place: Option<usize>,
-) -> Result<(), AllocError>
-    requires row { row ≤ 2 ^ 65 }
-    requires place { IfSome place (λ place. place ≤ 1000000) }
-    ensures { OnOk result (text.new.items ≡ text.old.items ++ text_of (initial_parts (page_on sheet.now) row value place)) }
-{
-    push_initial_title(alloc, text, value, place)?;
-    push_initial_rect(alloc, text, sheet, row, value)?;
-    push_initial_number(text, sheet, row, place)
-}
-
-#[tactic(auto, unfolding(crate::specs::Picture::placed_initial))]
-fn push_placed_initial(
-    alloc: Global,
-    text: &mut Vec<u8>,
-    sheet: &Sheet<'_>,
-    row: u128,
-    value: u64,
-    place: Option<usize>,
-) -> Result<(), AllocError>
-    requires row { row ≤ 2 ^ 65 }
-    requires place { IfSome place (λ place. place ≤ 1000000) }
-    ensures { OnOk result (text.new.items ≡ text.old.items ++ text_of (placed_initial (page_on sheet.now) row value place)) }
-{
-    let class = mark(sheet.claimed, place);
-    push_start(text, b"g", &[Words(b"class", class)])?;
-    push_initial_parts(alloc, text, sheet, row, value, place)?;
-    push_end(text, b"g")
-}
-
-/// Adds the initial value at place j.
+/// Adds the initial value at place j, with its title, its bar and its number.
+#[tactic(auto, unfolding(crate::specs::Picture::placed_initial, crate::specs::Picture::initial_parts))]
 fn push_initial_value(
     alloc: Global,
     text: &mut Vec<u8>,
@@ -141,7 +91,14 @@ fn push_initial_value(
     ensures { OnOk result (text.new.items ≡ text.old.items ++ text_of (numbered_initial (page_on sheet.now) (j, value))) }
 {
     let place = initial_place_of(sheet.claimed, value);
-    push_placed_initial(alloc, text, sheet, initial_row(j), value, place)
+    let row = initial_row(j);
+    let class = mark(sheet.claimed, place);
+    push_start(text, b"g", &[Words(b"class", class)])?;
+    let words = initial_words(alloc, value, place)?;
+    push_element(text, b"title", &[], words.as_slice())?;
+    push_initial_rect(alloc, text, sheet, row, value)?;
+    push_initial_number(text, sheet, row, place)?;
+    push_end(text, b"g")
 }
 
 fn push_each_initial_value(
