@@ -4,7 +4,7 @@ ghost use Rattle.std.specs.List.{concat, enumerate_from, position};
 ghost use Rattle.drawing.specs.Layout.{label};
 ghost use Rattle.svg_picture.specs.Markup.{each, text_of};
 ghost use Rattle.svg_picture.specs.Layout.{page_on};
-ghost use Rattle.svg_picture.specs.Picture.{is_time, first_y, last_y, event_at, from_event, from_edge, band_between, drawn_band, formed_band, head_y, band_at, numbered_band, bands, way_from, row_behind, row_of_value, way_mark, ways, order_line, numbered_line, order};
+ghost use Rattle.svg_picture.specs.Picture.{is_time, first_y, last_y, event_at, from_edge, band_between, formed_band, head_y, band_at, numbered_band, bands, way_from, row_behind, row_of_value, way_mark, ways, order_line, numbered_line, order};
 
 use crate::bars::row_of_effect;
 use crate::elements::{Rect, push_rect, push_stroke, push_text_at};
@@ -73,24 +73,8 @@ fn event_at(events: &[Event], ticket: u64) -> Option<Event>
     None
 }
 
-#[tactic(auto, unfolding(crate::specs::Picture::from_event))]
-fn push_from_event(
-    text: &mut Vec<u8>,
-    sheet: &Sheet<'_>,
-    class: &[u8],
-    x: u128,
-    y: u128,
-    event: Option<Event>,
-) -> Result<(), AllocError>
-    ensures { OnOk result (text.new.items ≡ text.old.items ++ text_of (from_event (page_on sheet.now) class.now x y event)) }
-{
-    match event {
-        None => Ok(()),
-        Some(event) => push_stroke(text, class, (thread_x(sheet, event.thread), y), (x, y)),
-    }
-}
-
 /// A dotted line from the lane of the event at an edge.
+#[tactic(auto, unfolding(crate::specs::Picture::from_event))]
 fn push_from_edge(
     text: &mut Vec<u8>,
     sheet: &Sheet<'_>,
@@ -103,10 +87,10 @@ fn push_from_edge(
 {
     match edge {
         None => Ok(()),
-        Some(ticket) => {
-            let event = event_at(sheet.events, ticket);
-            push_from_event(text, sheet, class, x, y, event)
-        }
+        Some(ticket) => match event_at(sheet.events, ticket) {
+            None => Ok(()),
+            Some(event) => push_stroke(text, class, (thread_x(sheet, event.thread), y), (x, y)),
+        },
     }
 }
 
@@ -131,24 +115,8 @@ fn push_band_between(
     push_rect(text, class, 0, area)
 }
 
+/// Adds a band with its dotted lines, where its head has a form.
 #[tactic(auto, unfolding(crate::specs::Picture::drawn_band))]
-fn push_drawn_band(
-    text: &mut Vec<u8>,
-    sheet: &Sheet<'_>,
-    class: &[u8],
-    x: u128,
-    y: u128,
-    band: Band,
-) -> Result<(), AllocError>
-    ensures { OnOk result (text.new.items ≡ text.old.items ++ text_of (drawn_band (page_on sheet.now) class.now x y band)) }
-{
-    let first = first_y(sheet, band.head, band.first);
-    let last = last_y(sheet, band.head, band.last);
-    push_from_edge(text, sheet, class, x, first, band.first)?;
-    push_from_edge(text, sheet, class, x, last, band.last)?;
-    push_band_between(text, class, x, y, first, last)
-}
-
 fn push_formed_band(
     text: &mut Vec<u8>,
     sheet: &Sheet<'_>,
@@ -161,7 +129,13 @@ fn push_formed_band(
 {
     match class {
         [] => Ok(()),
-        [_, ..] => push_drawn_band(text, sheet, class, x, y, band),
+        [_, ..] => {
+            let first = first_y(sheet, band.head, band.first);
+            let last = last_y(sheet, band.head, band.last);
+            push_from_edge(text, sheet, class, x, first, band.first)?;
+            push_from_edge(text, sheet, class, x, last, band.last)?;
+            push_band_between(text, class, x, y, first, last)
+        }
     }
 }
 

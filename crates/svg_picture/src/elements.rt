@@ -108,25 +108,6 @@ fn push_line_at(
     }
 }
 
-fn push_lines_from(
-    text: &mut Vec<u8>,
-    char: u8,
-    class: &[u8],
-    y: u128,
-    words: &[u8],
-) -> Result<(), AllocError>
-    requires { y + 20 * length words.now ≤ 2 ^ 100 }
-    ensures { OnOk result (text.new.items ≡ text.old.items ++ text_of (lines_from char class.now y (parts words.now))) }
-{
-    match split_line(words) {
-        None => push_line_at(text, char, class, y, words),
-        Some((line, rest)) => {
-            push_line_at(text, char, class, y, line)?;
-            push_lines_from(text, char, class, y + 20, rest)
-        }
-    }
-}
-
 /// Adds the lines of a text, each 20 pixels below the one before.
 #[tactic(auto, unfolding(crate::specs::Elements::lines_at))]
 pub(crate) fn push_lines_at(
@@ -136,10 +117,16 @@ pub(crate) fn push_lines_at(
     y: u128,
     words: &[u8],
 ) -> Result<(), AllocError>
-    requires { y ≤ 2 ^ 90 }
+    requires { y + 20 * length words.now ≤ 2 ^ 100 }
     ensures { OnOk result (text.new.items ≡ text.old.items ++ text_of (lines_at char class.now y words.now)) }
 {
-    push_lines_from(text, char, class, y, words)
+    match split_line(words) {
+        None => push_line_at(text, char, class, y, words),
+        Some((line, rest)) => {
+            push_line_at(text, char, class, y, line)?;
+            push_lines_at(text, char, class, y + 20, rest)
+        }
+    }
 }
 
 /// Adds a sample of a bar with its word, and what it means.
