@@ -1,10 +1,11 @@
 //! The words of a picture.
-ghost use Rattle.std.specs.Prelude.{◌≡◌, ◌++◌, ◌+◌, ◌<◌, ◌≤◌, OnOk, length};
+ghost use Rattle.std.specs.Prelude.{◌≡◌, ◌++◌, ◌+◌, ◌≤◌, OnOk, length};
 ghost use Rattle.drawing.specs.Claim.{count_of_lines};
 ghost use Rattle.drawing.specs.Captions.{headline, fresh_reason, fresh_caption, repeat_words, repeat_caption, before_words, overtaking_caption, order_caption, one_of_cover, last_of_cover, cover_caption, witness_words, witness_caption, yes_caption, caption, lane_meanings, number_meaning, initial_meaning, fresh_meanings, sure_and, form_meanings, legend};
 
 use crate::bands::line_value;
 use crate::claim::{line_call, line_kind, line_return};
+use crate::columns::MOST_DRAWN;
 use crate::line::{Piece, push_all};
 use history_merge::OpKind;
 use std::alloc::AllocError;
@@ -158,7 +159,7 @@ fn push_one_of_cover(
     enq: ClaimLine,
     deq: ClaimLine,
 ) -> Result<(), AllocError>
-    requires { number < 1000000 }
+    requires { number ≤ MOST_DRAWN }
     ensures { OnOk result (text.new.items ≡ text.old.items ++ one_of_cover number enq deq) }
 {
     push_all(
@@ -183,7 +184,7 @@ fn push_cover_caption(
     number: u64,
     lines: &[ClaimLine],
 ) -> Result<(), AllocError>
-    requires { number + length lines.now < 1000000 }
+    requires { number + length lines.now ≤ MOST_DRAWN + 1 }
     ensures { OnOk result (text.new.items ≡ text.old.items ++ cover_caption number lines.now) }
 {
     match lines {
@@ -210,7 +211,7 @@ fn push_witness_words(text: &mut Vec<u8>) -> Result<(), AllocError>
 }
 
 fn push_witness_caption(text: &mut Vec<u8>, lines: &[ClaimLine]) -> Result<(), AllocError>
-    requires { length lines.now ≤ 400 }
+    requires { length lines.now ≤ MOST_DRAWN }
     ensures { OnOk result (text.new.items ≡ text.old.items ++ witness_caption lines.now) }
 {
     match lines {
@@ -240,7 +241,7 @@ fn push_yes_caption(text: &mut Vec<u8>) -> Result<(), AllocError>
 /// Adds what a claim says, in sentences, each line with its line feed.
 #[tactic(auto, unfolding(crate::specs::Captions::caption))]
 pub fn push_caption(text: &mut Vec<u8>, claimed: &Claimed) -> Result<(), AllocError>
-    requires { count_of_lines claimed.now ≤ 400 }
+    requires { count_of_lines claimed.now ≤ MOST_DRAWN }
     ensures { OnOk result (text.new.items ≡ text.old.items ++ caption claimed.now) }
 {
     match claimed {

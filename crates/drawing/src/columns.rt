@@ -2,13 +2,16 @@
 ghost use Rattle.std.specs.Prelude.{◌≡◌, ◌+◌, ◌≤◌, ◌<◌, IfOk, length, max, decimal, vec_len, count_by, nat_lt};
 ghost use Rattle.drawing.specs.Layout.{digits, label, initial_label, has_events, threads_of, last_ticket, initial_width, label_width, columns_of, lanes_of};
 
-use event_records::{Event, MAX_THREAD};
+use event_records::{Event, MAX_THREAD, MAX_THREADS};
 use history_merge::{OpKind, Operation};
 use itoa::Buffer;
 use std::alloc::{AllocError, Global};
 
 /// The most initial values and the most operations of a history, and the most lines of a claim, that are drawn.
 pub const MOST_DRAWN: usize = 400;
+
+/// The greatest column where bands, or the order of a yes, stand.
+pub(crate) const MAX_BESIDE: usize = 51 + 22 * MAX_THREADS;
 
 /// Where the columns of a picture of characters stand, from 0.
 #[derive(Clone, Copy, Debug, PartialEq, Eq)]
@@ -117,12 +120,12 @@ pub(crate) fn columns_of(
     widest_label: usize,
     claimed: usize,
 ) -> Columns
-    requires threads { length threads.now ≤ 64 }
+    requires threads { length threads.now ≤ MAX_THREADS }
     requires label { widest_label ≤ 25 }
     ensures columns { result ≡ columns_of events.now threads.now widest_label claimed }
     ensures ticket { result.ticket ≤ 20 }
     ensures lane { result.lane ≤ 22 }
-    ensures beside { result.beside ≤ 1459 }
+    ensures beside { result.beside ≤ MAX_BESIDE }
     ensures wide { 6 ≤ result.ticket }
 {
     let ticket = digits(last_ticket(events)).max(6);
@@ -138,9 +141,9 @@ pub(crate) fn columns_of(
 
 /// How many lanes stand to the left of a thread's.
 fn lanes_before(threads: &[u8], thread: u8) -> usize
-    requires { length threads.now ≤ 64 }
+    requires { length threads.now ≤ MAX_THREADS }
     ensures value { result ≡ count_by (λ lower. nat_lt lower thread) threads.now }
-    ensures few { result ≤ 64 }
+    ensures few { result ≤ MAX_THREADS }
 {
     threads.iter().filter(|lower| **lower < thread).count()
 }
@@ -151,7 +154,7 @@ pub(crate) fn lanes_of(
     columns: Columns,
     threads: &[u8],
 ) -> Result<Vec<Lane>, AllocError>
-    requires few { length threads.now ≤ 64 }
+    requires few { length threads.now ≤ MAX_THREADS }
     requires ticket { columns.ticket ≤ 20 }
     requires lane { columns.lane ≤ 22 }
     ensures { IfOk result (λ lanes. lanes.items ≡ lanes_of columns threads.now) }

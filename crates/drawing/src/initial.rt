@@ -1,17 +1,16 @@
 //! The rows of the values that the queue holds first, in a picture as lines of characters.
-ghost use Rattle.std.specs.Prelude.{◌≡◌, ◌≤◌, ◌++◌, IfOk, IfSome, OnOk, length};
+ghost use Rattle.std.specs.Prelude.{◌≡◌, ◌≤◌, ◌++◌, IfOk, IfSome, OnOk};
 ghost use Rattle.std.specs.List.{flat_map};
 ghost use Rattle.text_lines.specs.Lines.{line};
-ghost use Rattle.drawing.specs.Claim.{count_of_lines};
 ghost use Rattle.drawing.specs.Layout.{initial_label, number_at};
 ghost use Rattle.drawing.specs.Words.{placed, line_of};
 ghost use Rattle.drawing.specs.Terminal.{first_words, initial_way, initial_number, initial_words, initial_row, initial_rows};
 
-use crate::bands::Band;
 use crate::claim::{count_of_lines, shown_by};
-use crate::columns::{Columns, digits};
+use crate::columns::{MOST_DRAWN, digits};
 use crate::line::{Piece, place, push_all, push_line};
 use crate::lookup::initial_place_in;
+use crate::sheet::Sheet;
 use crate::terminal::place_bands;
 use itoa::Buffer;
 use std::alloc::{AllocError, Global};
@@ -24,17 +23,15 @@ pub fn push_initial_label(text: &mut Vec<u8>, value: u64) -> Result<(), AllocErr
     push_all(text, &[Piece::Words(b"init "), Piece::Number(value)])
 }
 
-/// The line above the rows of the initial values.
+/// Adds the line above the rows of the initial values.
 #[tactic(auto, unfolding(crate::specs::Terminal::first_words))]
-fn first_line(alloc: Global, columns: Columns, bands: &[Band]) -> Result<Vec<u8>, AllocError>
-    requires few { length bands.now ≤ 402 }
-    requires beside { columns.beside ≤ 1459 }
-    ensures { IfOk result (λ bytes. bytes.items ≡ line_of (first_words columns bands.now)) }
+fn push_first_line(alloc: Global, text: &mut Vec<u8>, sheet: &Sheet<'_>) -> Result<(), AllocError>
+    ensures { OnOk result (text.new.items ≡ text.old.items ++ line (line_of (first_words sheet.now.columns sheet.now.bands.now))) }
 {
-    let mut bytes = Vec::new(alloc);
-    place(&mut bytes, 0, b"in the queue first")?;
-    place_bands(&mut bytes, columns, bands, None)?;
-    Ok(bytes)
+    let mut first = Vec::new(alloc);
+    place(&mut first, 0, b"in the queue first")?;
+    place_bands(&mut first, sheet, None)?;
+    push_line(text, first.as_slice())
 }
 
 /// The number of a place, at the right of a column at the left.
@@ -43,7 +40,7 @@ fn place_number_at(
     width: usize,
     place_in_claim: Option<usize>,
 ) -> Result<(), AllocError>
-    requires { IfSome place_in_claim (λ place. place ≤ 400) }
+    requires { IfSome place_in_claim (λ place. place ≤ MOST_DRAWN) }
     ensures { OnOk result (line.new.items ≡ placed line.old.items (initial_number width (number_at place_in_claim))) }
 {
     match place_in_claim {
@@ -78,66 +75,43 @@ fn label_of(alloc: Global, value: u64) -> Result<Vec<u8>, AllocError>
     Ok(word)
 }
 
-/// The line of an initial value.
+/// Adds the row of an initial value.
 #[tactic(auto, unfolding(crate::specs::Terminal::initial_words))]
-fn initial_line(
-    alloc: Global,
-    columns: Columns,
-    bands: &[Band],
-    claimed: &Claimed,
-    value: u64,
-) -> Result<Vec<u8>, AllocError>
-    requires claimed { count_of_lines claimed.now ≤ 400 }
-    requires few { length bands.now ≤ 402 }
-    requires beside { columns.beside ≤ 1459 }
-    ensures { IfOk result (λ bytes. bytes.items ≡ line_of (initial_words columns bands.now claimed.now value)) }
-{
-    let width = digits(count_of_lines(claimed) as u64);
-    let label = label_of(alloc, value)?;
-    let mut bytes = Vec::new(alloc);
-    place_number_at(
-        &mut bytes,
-        width,
-        initial_place_in(shown_by(claimed), value),
-    )?;
-    place(&mut bytes, width + 1, label.as_slice())?;
-    place(&mut bytes, columns.beside, initial_way(claimed, value))?;
-    place_bands(&mut bytes, columns, bands, None)?;
-    Ok(bytes)
-}
-
 fn push_initial_row(
     alloc: Global,
     text: &mut Vec<u8>,
-    columns: Columns,
-    bands: &[Band],
-    claimed: &Claimed,
+    sheet: &Sheet<'_>,
     value: u64,
 ) -> Result<(), AllocError>
-    requires claimed { count_of_lines claimed.now ≤ 400 }
-    requires few { length bands.now ≤ 402 }
-    requires beside { columns.beside ≤ 1459 }
-    ensures { OnOk result (text.new.items ≡ text.old.items ++ initial_row columns bands.now claimed.now value) }
+    ensures { OnOk result (text.new.items ≡ text.old.items ++ initial_row sheet.now.columns sheet.now.bands.now sheet.now.claimed.now value) }
 {
-    let bytes = initial_line(alloc, columns, bands, claimed, value)?;
+    let claimed = sheet.claimed;
+    let width = digits(count_of_lines(claimed) as u64);
+    let found = initial_place_in(shown_by(claimed), value);
+    let label = label_of(alloc, value)?;
+    let mut bytes = Vec::new(alloc);
+    place_number_at(&mut bytes, width, found)?;
+    place(&mut bytes, width + 1, label.as_slice())?;
+    place(
+        &mut bytes,
+        sheet.columns.beside,
+        initial_way(claimed, value),
+    )?;
+    place_bands(&mut bytes, sheet, None)?;
     push_line(text, bytes.as_slice())
 }
 
 fn push_each_initial_row(
     alloc: Global,
     text: &mut Vec<u8>,
-    columns: Columns,
-    bands: &[Band],
-    claimed: &Claimed,
+    sheet: &Sheet<'_>,
     initial: &[u64],
 ) -> Result<(), AllocError>
-    requires claimed { count_of_lines claimed.now ≤ 400 }
-    requires few { length bands.now ≤ 402 }
-    requires beside { columns.beside ≤ 1459 }
-    ensures { OnOk result (text.new.items ≡ text.old.items ++ flat_map (initial_row columns bands.now claimed.now) initial.now) }
+    ensures { OnOk result (text.new.items ≡ text.old.items ++ flat_map
+        (initial_row sheet.now.columns sheet.now.bands.now sheet.now.claimed.now) initial.now) }
 {
     for value in initial {
-        push_initial_row(alloc, text, columns, bands, claimed, *value)?;
+        push_initial_row(alloc, text, sheet, *value)?;
     }
     Ok(())
 }
@@ -146,22 +120,17 @@ fn push_each_initial_row(
 pub(crate) fn push_initial_rows(
     alloc: Global,
     text: &mut Vec<u8>,
-    columns: Columns,
-    bands: &[Band],
-    claimed: &Claimed,
+    sheet: &Sheet<'_>,
     initial: &[u64],
 ) -> Result<(), AllocError>
-    requires claimed { count_of_lines claimed.now ≤ 400 }
-    requires few { length bands.now ≤ 402 }
-    requires beside { columns.beside ≤ 1459 }
-    ensures { OnOk result (text.new.items ≡ text.old.items ++ initial_rows columns bands.now claimed.now initial.now) }
+    ensures { OnOk result (text.new.items ≡ text.old.items
+        ++ initial_rows sheet.now.columns sheet.now.bands.now sheet.now.claimed.now initial.now) }
 {
     match initial {
         [] => Ok(()),
         [_, ..] => {
-            let head = first_line(alloc, columns, bands)?;
-            push_line(text, head.as_slice())?;
-            push_each_initial_row(alloc, text, columns, bands, claimed, initial)
+            push_first_line(alloc, text, sheet)?;
+            push_each_initial_row(alloc, text, sheet, initial)
         }
     }
 }

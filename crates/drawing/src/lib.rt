@@ -9,6 +9,7 @@ mod initial;
 mod laws;
 mod line;
 mod lookup;
+mod sheet;
 mod terminal;
 mod writing;
 

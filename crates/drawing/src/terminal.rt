@@ -21,6 +21,7 @@ use crate::columns::{
 use crate::initial::push_initial_rows;
 use crate::line::{Piece, place, push_all, push_line};
 use crate::lookup::{called_at, place_in, under_way};
+use crate::sheet::Sheet;
 use event_records::Event;
 use history_merge::{History, OpKind, Operation};
 use itoa::Buffer;
@@ -48,7 +49,7 @@ fn numbered_call(
     shown: &[ClaimLine],
     operation: Operation,
 ) -> Result<Vec<u8>, AllocError>
-    requires { length shown.now ≤ 400 }
+    requires { length shown.now ≤ MOST_DRAWN }
     ensures { IfOk result (λ word. word.items ≡ codes "[" ++ number_in shown.now operation) }
 {
     let mut word = Vec::from_slice(alloc, b"[")?;
@@ -65,7 +66,7 @@ fn sign(
     ticket: u64,
     operation: Option<Operation>,
 ) -> Result<Vec<u8>, AllocError>
-    requires { length shown.now ≤ 400 }
+    requires { length shown.now ≤ MOST_DRAWN }
     ensures { IfOk result (λ word. word.items ≡ sign shown.now ticket operation) }
 {
     match operation {
@@ -90,7 +91,7 @@ fn place_lanes(
     lanes: &[Lane],
     ticket: u64,
 ) -> Result<(), AllocError>
-    requires { length shown.now ≤ 400 }
+    requires { length shown.now ≤ MOST_DRAWN }
     ensures { OnOk result (line.new.items ≡ with_words line.old.items (lane_words operations.now shown.now lanes.now ticket)) }
 {
     for lane in lanes {
@@ -143,16 +144,13 @@ fn place_band(
 #[tactic(auto, using(crate::proofs::Loops::words_enumerated_more))]
 pub(crate) fn place_bands(
     line: &mut Vec<u8>,
-    columns: Columns,
-    bands: &[Band],
+    sheet: &Sheet<'_>,
     gap: Option<u64>,
 ) -> Result<(), AllocError>
-    requires few { length bands.now ≤ 402 }
-    requires beside { columns.beside ≤ 1459 }
-    ensures { OnOk result (line.new.items ≡ with_words line.old.items (band_words columns bands.now gap)) }
+    ensures { OnOk result (line.new.items ≡ with_words line.old.items (band_words sheet.now.columns sheet.now.bands.now gap)) }
 {
-    for (i, band) in bands.iter().enumerate() {
-        place_band(line, columns.beside + 5 * i, *band, gap)?;
+    for (i, band) in sheet.bands.iter().enumerate() {
+        place_band(line, sheet.columns.beside + 5 * i, *band, gap)?;
     }
     Ok(())
 }
@@ -188,22 +186,9 @@ fn way_word(claimed: &Claimed, operation: Option<Operation>) -> &'static [u8]
     }
 }
 
-/// What the rows of a picture are made of.
-#[derive(Clone, Copy)]
-struct Sheet<'a> {
-    columns: Columns,
-    lanes: &'a [Lane],
-    bands: &'a [Band],
-    operations: &'a [Operation],
-    claimed: &'a Claimed,
-}
-
 /// The line of an event.
 #[tactic(auto, unfolding(crate::specs::Terminal::event_words))]
 fn event_line(alloc: Global, sheet: &Sheet<'_>, ticket: u64) -> Result<Vec<u8>, AllocError>
-    requires claimed { count_of_lines sheet.now.claimed.now ≤ 400 }
-    requires few { length sheet.now.bands.now ≤ 402 }
-    requires beside { sheet.now.columns.beside ≤ 1459 }
     ensures { IfOk result (λ bytes. bytes.items ≡ line_of
         (event_words sheet.now.columns sheet.now.lanes.now sheet.now.bands.now sheet.now.operations.now sheet.now.claimed.now ticket)) }
 {
@@ -226,7 +211,7 @@ fn event_line(alloc: Global, sheet: &Sheet<'_>, ticket: u64) -> Result<Vec<u8>, 
         sheet.columns.beside,
         way_word(sheet.claimed, called),
     )?;
-    place_bands(&mut bytes, sheet.columns, sheet.bands, Some(ticket))?;
+    place_bands(&mut bytes, sheet, Some(ticket))?;
     Ok(bytes)
 }
 
@@ -300,7 +285,6 @@ fn effect_line(
     effect: Effect,
     ticket: u64,
 ) -> Result<Vec<u8>, AllocError>
-    requires beside { sheet.now.columns.beside ≤ 1459 }
     ensures { IfOk result (λ bytes. bytes.items ≡ line_of
         (effect_words sheet.now.columns sheet.now.lanes.now sheet.now.operations.now claimed ticket effect.number effect.operation)) }
 {
@@ -328,7 +312,6 @@ fn push_effect_if(
     effect: Effect,
     ticket: u64,
 ) -> Result<(), AllocError>
-    requires beside { sheet.now.columns.beside ≤ 1459 }
     ensures { OnOk result (text.new.items ≡ text.old.items ++ effect_row_if
         (effect.point == ticket) sheet.now.columns sheet.now.lanes.now sheet.now.operations.now claimed ticket effect.number effect.operation) }
 {
@@ -349,8 +332,7 @@ fn push_effects(
     order: &[Operation],
     ticket: u64,
 ) -> Result<(), AllocError>
-    requires beside { sheet.now.columns.beside ≤ 1459 }
-    requires few { length order.now ≤ 400 }
+    requires { length order.now ≤ MOST_DRAWN }
     ensures { OnOk result (text.new.items ≡ text.old.items ++ effect_rows sheet.now.columns sheet.now.lanes.now sheet.now.operations.now order.now ticket) }
 {
     let mut greatest = 0u64;
@@ -373,9 +355,6 @@ fn push_event(
     sheet: &Sheet<'_>,
     ticket: u64,
 ) -> Result<(), AllocError>
-    requires claimed { count_of_lines sheet.now.claimed.now ≤ 400 }
-    requires few { length sheet.now.bands.now ≤ 402 }
-    requires beside { sheet.now.columns.beside ≤ 1459 }
     ensures { OnOk result (text.new.items ≡ text.old.items
         ++ event_rows sheet.now.columns sheet.now.lanes.now sheet.now.bands.now sheet.now.operations.now sheet.now.claimed.now ticket) }
 {
@@ -390,9 +369,6 @@ fn push_events(
     sheet: &Sheet<'_>,
     events: &[Event],
 ) -> Result<(), AllocError>
-    requires claimed { count_of_lines sheet.now.claimed.now ≤ 400 }
-    requires few { length sheet.now.bands.now ≤ 402 }
-    requires beside { sheet.now.columns.beside ≤ 1459 }
     ensures { OnOk result (text.new.items ≡ text.old.items ++ flat_map
         (λ e. event_rows sheet.now.columns sheet.now.lanes.now sheet.now.bands.now sheet.now.operations.now sheet.now.claimed.now e.ticket) events.now) }
 {
@@ -402,13 +378,13 @@ fn push_events(
     Ok(())
 }
 
-fn place_strokes(line: &mut Vec<u8>, columns: Columns, bands: usize) -> Result<(), AllocError>
-    requires few { bands ≤ 402 }
-    requires beside { columns.beside ≤ 1459 }
-    ensures { OnOk result (line.new.items ≡ with_words line.old.items (strokes columns bands)) }
+/// A stroke under the head of each of so many bands.
+fn place_strokes(line: &mut Vec<u8>, sheet: &Sheet<'_>, bands: usize) -> Result<(), AllocError>
+    requires { bands ≤ length sheet.now.bands.now }
+    ensures { OnOk result (line.new.items ≡ with_words line.old.items (strokes sheet.now.columns bands)) }
 {
     for i in 0..bands {
-        place(line, columns.beside + 5 * i + 1, b"|")?;
+        place(line, sheet.columns.beside + 5 * i + 1, b"|")?;
     }
     Ok(())
 }
@@ -421,46 +397,30 @@ fn head_word(alloc: Global, head: Head) -> Result<Vec<u8>, AllocError>
     Ok(word)
 }
 
-fn head_bytes(alloc: Global, columns: Columns, i: usize, head: Head) -> Result<Vec<u8>, AllocError>
-    requires few { i ≤ 402 }
-    requires beside { columns.beside ≤ 1459 }
-    ensures { IfOk result (λ bytes. bytes.items ≡ line_of (head_words columns i head)) }
-{
-    let mut bytes = Vec::new(alloc);
-    place_strokes(&mut bytes, columns, i)?;
-    let word = head_word(alloc, head)?;
-    place(&mut bytes, columns.beside + 5 * i, word.as_slice())?;
-    Ok(bytes)
-}
-
+/// Adds the line of the head of band i.
 fn push_head_line(
     alloc: Global,
     text: &mut Vec<u8>,
-    columns: Columns,
+    sheet: &Sheet<'_>,
     i: usize,
     head: Head,
 ) -> Result<(), AllocError>
-    requires few { i ≤ 402 }
-    requires beside { columns.beside ≤ 1459 }
-    ensures { OnOk result (text.new.items ≡ text.old.items ++ line (line_of (head_words columns i head))) }
+    requires { i ≤ length sheet.now.bands.now }
+    ensures { OnOk result (text.new.items ≡ text.old.items ++ line (line_of (head_words sheet.now.columns i head))) }
 {
-    let bytes = head_bytes(alloc, columns, i, head)?;
+    let mut bytes = Vec::new(alloc);
+    place_strokes(&mut bytes, sheet, i)?;
+    let word = head_word(alloc, head)?;
+    place(&mut bytes, sheet.columns.beside + 5 * i, word.as_slice())?;
     push_line(text, bytes.as_slice())
 }
 
 #[tactic(auto, unfolding(crate::specs::Terminal::head_lines))]
-fn push_heads(
-    alloc: Global,
-    text: &mut Vec<u8>,
-    columns: Columns,
-    bands: &[Band],
-) -> Result<(), AllocError>
-    requires few { length bands.now ≤ 402 }
-    requires beside { columns.beside ≤ 1459 }
-    ensures { OnOk result (text.new.items ≡ text.old.items ++ head_lines columns bands.now) }
+fn push_heads(alloc: Global, text: &mut Vec<u8>, sheet: &Sheet<'_>) -> Result<(), AllocError>
+    ensures { OnOk result (text.new.items ≡ text.old.items ++ head_lines sheet.now.columns sheet.now.bands.now) }
 {
-    for (i, band) in bands.iter().enumerate() {
-        push_head_line(alloc, text, columns, i, band.head)?;
+    for (i, band) in sheet.bands.iter().enumerate() {
+        push_head_line(alloc, text, sheet, i, band.head)?;
     }
     Ok(())
 }
@@ -475,33 +435,24 @@ fn place_lane_names(line: &mut Vec<u8>, lanes: &[Lane]) -> Result<(), AllocError
 }
 
 #[tactic(auto, unfolding(crate::specs::Terminal::thread_words))]
-fn thread_bytes(alloc: Global, columns: Columns, bands: usize) -> Result<Vec<u8>, AllocError>
-    requires few { bands ≤ 402 }
-    requires ticket { columns.ticket ≤ 20 }
-    requires beside { columns.beside ≤ 1459 }
-    ensures { IfOk result (λ bytes. bytes.items ≡ line_of (thread_words columns bands)) }
+fn thread_bytes(alloc: Global, sheet: &Sheet<'_>) -> Result<Vec<u8>, AllocError>
+    ensures { IfOk result (λ bytes. bytes.items ≡ line_of (thread_words sheet.now.columns (length sheet.now.bands.now))) }
 {
     let mut bytes = Vec::new(alloc);
-    place(&mut bytes, columns.ticket + 2, b"thread")?;
-    place_strokes(&mut bytes, columns, bands)?;
+    place(&mut bytes, sheet.columns.ticket + 2, b"thread")?;
+    place_strokes(&mut bytes, sheet, sheet.bands.len())?;
     Ok(bytes)
 }
 
 #[tactic(auto, unfolding(crate::specs::Terminal::name_words))]
-fn name_bytes(
-    alloc: Global,
-    columns: Columns,
-    lanes: &[Lane],
-    bands: usize,
-) -> Result<Vec<u8>, AllocError>
-    requires few { bands ≤ 402 }
-    requires beside { columns.beside ≤ 1459 }
-    ensures { IfOk result (λ bytes. bytes.items ≡ line_of (name_words columns lanes.now bands)) }
+fn name_bytes(alloc: Global, sheet: &Sheet<'_>) -> Result<Vec<u8>, AllocError>
+    ensures { IfOk result (λ bytes. bytes.items ≡ line_of (name_words sheet.now.columns sheet.now.lanes.now (length sheet.now.bands.now))) }
 {
     let mut bytes = Vec::new(alloc);
-    place(&mut bytes, columns.ticket.saturating_sub(6), b"ticket")?;
-    place_lane_names(&mut bytes, lanes)?;
-    place_strokes(&mut bytes, columns, bands)?;
+    let column = sheet.columns.ticket.saturating_sub(6);
+    place(&mut bytes, column, b"ticket")?;
+    place_lane_names(&mut bytes, sheet.lanes)?;
+    place_strokes(&mut bytes, sheet, sheet.bands.len())?;
     Ok(bytes)
 }
 
@@ -512,33 +463,22 @@ fn push_rows(
     sheet: &Sheet<'_>,
     history: &History,
 ) -> Result<(), AllocError>
-    requires claimed { count_of_lines sheet.now.claimed.now ≤ 400 }
-    requires few { length sheet.now.bands.now ≤ 402 }
-    requires ticket { sheet.now.columns.ticket ≤ 20 }
-    requires beside { sheet.now.columns.beside ≤ 1459 }
     ensures { OnOk result (text.new.items ≡ text.old.items
         ++ rows sheet.now.columns sheet.now.lanes.now sheet.now.bands.now history.now sheet.now.operations.now sheet.now.claimed.now) }
 {
-    push_heads(alloc, text, sheet.columns, sheet.bands)?;
-    let threads = thread_bytes(alloc, sheet.columns, sheet.bands.len())?;
+    push_heads(alloc, text, sheet)?;
+    let threads = thread_bytes(alloc, sheet)?;
     push_line(text, threads.as_slice())?;
-    let names = name_bytes(alloc, sheet.columns, sheet.lanes, sheet.bands.len())?;
+    let names = name_bytes(alloc, sheet)?;
     push_line(text, names.as_slice())?;
-    push_initial_rows(
-        alloc,
-        text,
-        sheet.columns,
-        sheet.bands,
-        sheet.claimed,
-        history.initial(),
-    )?;
+    push_initial_rows(alloc, text, sheet, history.initial())?;
     push_events(alloc, text, sheet, history.events())
 }
 
 /// Adds what stands above the rows: what the picture shows, and how to read it.
 #[tactic(auto, unfolding(crate::specs::Terminal::words))]
 fn push_words(text: &mut Vec<u8>, initial: &[u64], claimed: &Claimed) -> Result<(), AllocError>
-    requires { count_of_lines claimed.now ≤ 400 }
+    requires { count_of_lines claimed.now ≤ MOST_DRAWN }
     ensures { OnOk result (text.new.items ≡ text.old.items ++ words initial.now claimed.now) }
 {
     push_line(text, headline(claimed))?;

@@ -281,7 +281,7 @@ fn push_order_line(
     i: usize,
     operation: Operation,
 ) -> Result<(), AllocError>
-    requires { i ≤ 1000000 }
+    requires { i ≤ MOST_DRAWN }
     ensures { OnOk result (text.new.items ≡ text.old.items ++ text_of (order_line (page_on sheet.now) i operation)) }
 {
     let number = i as u64 + 1;

@@ -5,4 +5,4 @@ use Rattle.drawing.proofs.initial.push_each_initial_row.Given as goal
 
 abbrev pub invariant-loop-value : goal.invariant-loop-value
 invariant-loop-value l =
-    l.text.items ≡ l.fn.text.items ++ flat_map (initial_row l.columns l.bands l.claimed) (take l.value-index l.fn.initial)
+    l.text.items ≡ l.fn.text.items ++ flat_map (initial_row l.sheet.columns l.sheet.bands.now l.sheet.claimed.now) (take l.value-index l.fn.initial)

@@ -5,5 +5,5 @@ use Rattle.drawing.proofs.terminal.place_strokes.Goals as goal
 
 pub loop-i-preserved : goal.loop-i-preserved
 loop-i-preserved c =
-    words_range_step (λ (i : ℕ). record { column = band_column c.args.columns i + 1; bytes = codes "|" }) c.args.line.now.items c.loop-i.i _ _
+    words_range_step (λ (i : ℕ). record { column = band_column c.args.sheet.now.columns i + 1; bytes = codes "|" }) c.args.line.now.items c.loop-i.i _ _
     c.loop-i.invariant c.in_ok-place.ensures

@@ -4,4 +4,4 @@ use Rattle.drawing.specs.Terminal.{strokes}
 use Rattle.drawing.proofs.terminal.place_strokes.Given as goal
 
 abbrev pub invariant-loop-i : goal.invariant-loop-i
-invariant-loop-i l = l.line.items ≡ with_words l.fn.line.items (strokes l.columns l.i)
+invariant-loop-i l = l.line.items ≡ with_words l.fn.line.items (strokes l.sheet.columns l.i)

@@ -1,0 +1,23 @@
+//! What the rows of a picture of characters are made of.
+ghost use Rattle.std.specs.Prelude.{◌+◌, ◌≤◌, length};
+ghost use Rattle.drawing.specs.Claim.{count_of_lines};
+ghost use Rattle.drawing.specs.declared.columns.TheConstants.{MAX_BESIDE, MOST_DRAWN};
+
+use crate::bands::Band;
+use crate::columns::{Columns, Lane};
+use history_merge::Operation;
+use verdicts::Claimed;
+
+/// What the rows of a picture are made of.
+#[derive(Clone, Copy)]
+pub(crate) struct Sheet<'a> {
+    pub columns: Columns,
+    pub lanes: &'a [Lane],
+    pub bands: &'a [Band],
+    pub operations: &'a [Operation],
+    pub claimed: &'a Claimed,
+    ghost few_lines: { count_of_lines claimed.now ≤ MOST_DRAWN },
+    ghost few_bands: { length bands.now ≤ MOST_DRAWN + 2 },
+    ghost ticket: { columns.ticket ≤ 20 },
+    ghost beside: { columns.beside ≤ MAX_BESIDE },
+}
