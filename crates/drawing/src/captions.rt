@@ -1,7 +1,7 @@
 //! The words of a picture.
 ghost use Rattle.std.specs.Prelude.{◌≡◌, ◌++◌, ◌+◌, ◌≤◌, OnOk, length};
 ghost use Rattle.drawing.specs.Claim.{count_of_lines};
-ghost use Rattle.drawing.specs.Captions.{headline, fresh_reason, fresh_caption, repeat_words, repeat_caption, before_words, overtaking_caption, order_caption, one_of_cover, last_of_cover, cover_caption, witness_words, witness_caption, yes_caption, caption, lane_meanings, number_meaning, initial_meaning, fresh_meanings, sure_and, form_meanings, legend};
+ghost use Rattle.drawing.specs.Captions.{headline, fresh_reason, fresh_caption, repeat_words, repeat_caption, before_words, overtaking_caption, order_caption, one_of_cover, last_of_cover, cover_caption, witness_words, witness_caption, yes_caption, caption, lane_meanings, number_meaning, initial_meaning, form_meanings, legend};
 
 use crate::bands::line_value;
 use crate::claim::{line_call, line_kind, line_return};
@@ -198,16 +198,11 @@ fn push_cover_caption(
 }
 
 #[tactic(auto, unfolding(crate::specs::Captions::witness_words))]
-fn push_witness_words(text: &mut Vec<u8>) -> Result<(), AllocError>
-    ensures { OnOk result (text.new.items ≡ text.old.items ++ witness_words) }
+fn witness_words() -> &'static [u8]
+    ensures { result.now ≡ witness_words }
 {
-    push_all(
-        text,
-        &[
-            Piece::Words(b"A dequeue found the queue empty (1), but at each moment of it\n"),
-            Piece::Words(b"some value surely was in the queue:\n"),
-        ],
-    )
+    b"A dequeue found the queue empty (1), but at each moment of it\n\
+some value surely was in the queue:\n"
 }
 
 fn push_witness_caption(text: &mut Vec<u8>, lines: &[ClaimLine]) -> Result<(), AllocError>
@@ -217,25 +212,18 @@ fn push_witness_caption(text: &mut Vec<u8>, lines: &[ClaimLine]) -> Result<(), A
     match lines {
         [] => Ok(()),
         [_, cover @ ..] => {
-            push_witness_words(text)?;
+            text.extend_from_slice(witness_words())?;
             push_cover_caption(text, 2, cover)
         }
     }
 }
 
 #[tactic(auto, unfolding(crate::specs::Captions::yes_caption))]
-fn push_yes_caption(text: &mut Vec<u8>) -> Result<(), AllocError>
-    ensures { OnOk result (text.new.items ≡ text.old.items ++ yes_caption) }
+fn yes_caption() -> &'static [u8]
+    ensures { result.now ≡ yes_caption }
 {
-    push_all(
-        text,
-        &[
-            Piece::Words(b"The numbers give one order in which the operations can have taken\n"),
-            Piece::Words(
-                b"effect. They rise from top to bottom, and each stands within its bar.\n",
-            ),
-        ],
-    )
+    b"The numbers give one order in which the operations can have taken\n\
+effect. They rise from top to bottom, and each stands within its bar.\n"
 }
 
 /// Adds what a claim says, in sentences, each line with its line feed.
@@ -245,7 +233,7 @@ pub fn push_caption(text: &mut Vec<u8>, claimed: &Claimed) -> Result<(), AllocEr
     ensures { OnOk result (text.new.items ≡ text.old.items ++ caption claimed.now) }
 {
     match claimed {
-        Claimed::Yes(_) => push_yes_caption(text),
+        Claimed::Yes(_) => text.extend_from_slice(yes_caption()),
         Claimed::No(kind, lines) => {
             let lines = lines.as_slice();
             match kind {
@@ -280,61 +268,31 @@ fn initial_meaning(initial: &[u64]) -> &'static [u8]
 }
 
 #[tactic(auto, unfolding(crate::specs::Captions::lane_meanings))]
-fn push_lane_meanings(text: &mut Vec<u8>) -> Result<(), AllocError>
-    ensures { OnOk result (text.new.items ≡ text.old.items ++ lane_meanings) }
+fn lane_meanings() -> &'static [u8]
+    ensures { result.now ≡ lane_meanings }
 {
-    push_all(
-        text,
-        &[
-            Piece::Words(b"[    call of an operation\n"),
-            Piece::Words(b"]    its return\n"),
-        ],
-    )
+    b"[    call of an operation\n\
+]    its return\n"
 }
 
-#[tactic(auto, unfolding(crate::specs::Captions::fresh_meanings))]
-fn push_fresh_meanings(text: &mut Vec<u8>) -> Result<(), AllocError>
-    ensures { OnOk result (text.new.items ≡ text.old.items ++ fresh_meanings) }
-{
-    push_all(
-        text,
-        &[
-            Piece::Words(b"xxx  the value surely was not in the queue.\n"),
-            Piece::Words(b":::  within this time it was dequeued nevertheless.\n"),
-        ],
-    )
-}
-
-#[tactic(auto, unfolding(crate::specs::Captions::sure_and))]
-fn push_sure_and(text: &mut Vec<u8>, time: &[u8]) -> Result<(), AllocError>
-    ensures { OnOk result (text.new.items ≡ text.old.items ++ sure_and time.now) }
-{
-    push_all(
-        text,
-        &[
-            Piece::Words(b"###  the value surely was in the queue.\n"),
-            Piece::Words(time),
-        ],
-    )
-}
-
-fn push_form_meanings(text: &mut Vec<u8>, claimed: &Claimed) -> Result<(), AllocError>
-    ensures { OnOk result (text.new.items ≡ text.old.items ++ form_meanings claimed.now) }
+#[tactic(auto, unfolding(crate::specs::Captions::fresh_meanings, crate::specs::Captions::sure_and))]
+fn form_meanings(claimed: &Claimed) -> &'static [u8]
+    ensures { result.now ≡ form_meanings claimed.now }
 {
     match claimed {
-        Claimed::Yes(_) => Ok(()),
-        Claimed::No(kind, _) => match kind {
-            ViolationKind::VFresh => push_fresh_meanings(text),
-            ViolationKind::VRepeat => Ok(()),
-            ViolationKind::VOrd => push_sure_and(
-                text,
-                b":::  within this time the later value went in and out.\n",
-            ),
-            ViolationKind::VWit => push_sure_and(
-                text,
-                b":::  within this time the queue was said to be empty.\n",
-            ),
-        },
+        Claimed::Yes(_) | Claimed::No(ViolationKind::VRepeat, _) => b"",
+        Claimed::No(ViolationKind::VFresh, _) => {
+            b"xxx  the value surely was not in the queue.\n\
+:::  within this time it was dequeued nevertheless.\n"
+        }
+        Claimed::No(ViolationKind::VOrd, _) => {
+            b"###  the value surely was in the queue.\n\
+:::  within this time the later value went in and out.\n"
+        }
+        Claimed::No(ViolationKind::VWit, _) => {
+            b"###  the value surely was in the queue.\n\
+:::  within this time the queue was said to be empty.\n"
+        }
     }
 }
 
@@ -347,8 +305,8 @@ pub(crate) fn push_legend(
 ) -> Result<(), AllocError>
     ensures { OnOk result (text.new.items ≡ text.old.items ++ legend initial.now claimed.now) }
 {
-    push_lane_meanings(text)?;
+    text.extend_from_slice(lane_meanings())?;
     text.extend_from_slice(initial_meaning(initial))?;
     text.extend_from_slice(number_meaning(claimed, initial))?;
-    push_form_meanings(text, claimed)
+    text.extend_from_slice(form_meanings(claimed))
 }
