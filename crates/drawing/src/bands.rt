@@ -225,6 +225,15 @@ pub fn push_head(text: &mut Vec<u8>, head: Head) -> Result<(), AllocError>
     }
 }
 
+/// The words above a band.
+pub fn head_words(alloc: Global, head: Head) -> Result<Vec<u8>, AllocError>
+    ensures { IfOk result (λ words. words.items ≡ head_text head) }
+{
+    let mut words = Vec::new(alloc);
+    push_head(&mut words, head)?;
+    Ok(words)
+}
+
 /// The form of a band in a row of characters.
 pub(crate) fn form(head: Head) -> &'static [u8]
     ensures { result.now ≡ form head }

@@ -52,7 +52,7 @@ fn has_events(events: &[Event], thread: u8) -> bool
 #[tactic(auto, using(crate::proofs::Loops::threads_yes, crate::proofs::Loops::threads_no, crate::proofs::Loops::threads_none))]
 pub fn threads_of(alloc: Global, events: &[Event]) -> Result<Vec<u8>, AllocError>
     ensures threads { IfOk result (λ threads. threads.items ≡ threads_of events.now) }
-    ensures few { IfOk result (λ threads. vec_len threads ≤ 64) }
+    ensures few { IfOk result (λ threads. vec_len threads ≤ MAX_THREADS) }
 {
     let mut threads = Vec::new(alloc);
     for thread in 0..MAX_THREAD + 1 {

@@ -23,6 +23,15 @@ pub fn push_initial_label(text: &mut Vec<u8>, value: u64) -> Result<(), AllocErr
     push_all(text, &[Piece::Words(b"init "), Piece::Number(value)])
 }
 
+/// An initial value, as a line of a verdict says it.
+pub fn initial_label(alloc: Global, value: u64) -> Result<Vec<u8>, AllocError>
+    ensures { IfOk result (λ label. label.items ≡ initial_label value) }
+{
+    let mut label = Vec::new(alloc);
+    push_initial_label(&mut label, value)?;
+    Ok(label)
+}
+
 /// Adds the line above the rows of the initial values.
 #[tactic(auto, unfolding(crate::specs::Terminal::first_words))]
 fn push_first_line(alloc: Global, text: &mut Vec<u8>, sheet: &Sheet<'_>) -> Result<(), AllocError>
@@ -67,14 +76,6 @@ fn initial_way(claimed: &Claimed, value: u64) -> &'static [u8]
     }
 }
 
-fn label_of(alloc: Global, value: u64) -> Result<Vec<u8>, AllocError>
-    ensures { IfOk result (λ word. word.items ≡ initial_label value) }
-{
-    let mut word = Vec::new(alloc);
-    push_initial_label(&mut word, value)?;
-    Ok(word)
-}
-
 /// Adds the row of an initial value.
 #[tactic(auto, unfolding(crate::specs::Terminal::initial_words))]
 fn push_initial_row(
@@ -88,7 +89,7 @@ fn push_initial_row(
     let claimed = sheet.claimed;
     let width = digits(count_of_lines(claimed) as u64);
     let found = initial_place_in(shown_by(claimed), value);
-    let label = label_of(alloc, value)?;
+    let label = initial_label(alloc, value)?;
     let mut bytes = Vec::new(alloc);
     place_number_at(&mut bytes, width, found)?;
     place(&mut bytes, width + 1, label.as_slice())?;

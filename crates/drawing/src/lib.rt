@@ -13,11 +13,11 @@ mod sheet;
 mod terminal;
 mod writing;
 
-pub use bands::{Band, Head, bands_of, push_head};
+pub use bands::{Band, Head, bands_of, head_words, push_head};
 pub use captions::{headline, push_caption};
 pub use claim::{count_of_lines, order_of};
 pub use columns::{Columns, Lane, MOST_DRAWN, digits, label_width, last_ticket, threads_of};
-pub use initial::push_initial_label;
+pub use initial::{initial_label, push_initial_label};
 pub use laws::{
     bars_are_the_operations, effects_rise_within_bars, lanes_stand_apart,
     lines_of_evidence_are_drawn, numbers_are_those_of_the_claim,

@@ -5,14 +5,14 @@ ghost use Rattle.history_merge.specs.Operations.{operations_of};
 ghost use Rattle.drawing.specs.Claim.{count_of_lines};
 ghost use Rattle.text_lines.specs.Lines.{line};
 ghost use Rattle.drawing.specs.Layout.{label, label_width, threads_of, columns_of, lanes_of, number_in};
-ghost use Rattle.drawing.specs.Bands.{bands_of, head_text};
+ghost use Rattle.drawing.specs.Bands.{bands_of};
 ghost use Rattle.drawing.specs.Words.{placed, with_words, line_of};
 ghost use Rattle.drawing.specs.Terminal.{ticket_word, sign, lane_words, label_if, band_column, band_at, band_words, way, way_of, way_word};
 ghost use Rattle.drawing.specs.Terminal.{event_words, effect_sign, effect_lane_words, effect_words, effect_row_if, effect_rows, event_rows};
 ghost use Rattle.drawing.specs.Terminal.{strokes, head_words, head_lines, thread_words, lane_names, name_words, rows, words};
 ghost use Rattle.drawing.specs.Terminal.{terminal_picture};
 
-use crate::bands::{Band, Head, bands_of, form, holds_gap, push_head};
+use crate::bands::{Band, Head, bands_of, form, head_words, holds_gap};
 use crate::captions::{headline, push_caption, push_legend};
 use crate::claim::{count_of_lines, order_of, shown_by};
 use crate::columns::{
@@ -389,14 +389,6 @@ fn place_strokes(line: &mut Vec<u8>, sheet: &Sheet<'_>, bands: usize) -> Result<
     Ok(())
 }
 
-fn head_word(alloc: Global, head: Head) -> Result<Vec<u8>, AllocError>
-    ensures { IfOk result (λ word. word.items ≡ head_text head) }
-{
-    let mut word = Vec::new(alloc);
-    push_head(&mut word, head)?;
-    Ok(word)
-}
-
 /// Adds the line of the head of band i.
 fn push_head_line(
     alloc: Global,
@@ -410,7 +402,7 @@ fn push_head_line(
 {
     let mut bytes = Vec::new(alloc);
     place_strokes(&mut bytes, sheet, i)?;
-    let word = head_word(alloc, head)?;
+    let word = head_words(alloc, head)?;
     place(&mut bytes, sheet.columns.beside + 5 * i, word.as_slice())?;
     push_line(text, bytes.as_slice())
 }

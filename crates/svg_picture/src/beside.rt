@@ -11,11 +11,10 @@ use crate::elements::{Rect, push_rect, push_stroke, push_text_at};
 use crate::layout::{
     band_x, bottom, call_y, initial_row, ret_y, right, row, row_y, shown, thread_x, top,
 };
-use crate::lines::head_words;
 use crate::markup::push_number;
 use crate::sheet::{Measures, Sheet};
 use crate::words::form_class;
-use drawing::{Band, Head, MOST_DRAWN, digits, push_label, way};
+use drawing::{Band, Head, MOST_DRAWN, digits, head_words, push_label, way};
 use event_records::Event;
 use history_merge::Operation;
 use std::alloc::{AllocError, Global};

@@ -1,7 +1,6 @@
 //! The values that the queue holds first, each in a row above those of the events.
 ghost use Rattle.std.specs.Prelude.{◌≡◌, ◌++◌, ◌∷◌, ◌≤◌, ◌^◌, [], OnOk, IfOk, IfSome, codes};
 ghost use Rattle.std.specs.List.{enumerate_from};
-ghost use Rattle.drawing.specs.Layout.{initial_label};
 ghost use Rattle.svg_picture.specs.Markup.{each, text_of};
 ghost use Rattle.svg_picture.specs.Layout.{page_on};
 ghost use Rattle.svg_picture.specs.Picture.{initial_words, initial_number, initial_rect, numbered_initial, initial_values};
@@ -12,16 +11,8 @@ use crate::layout::{bar_width, initial_row, row_y, top};
 use crate::markup::Attribute::Words;
 use crate::markup::{push_element, push_end, push_start};
 use crate::sheet::Sheet;
-use drawing::{MOST_DRAWN, initial_place_of, push_initial_label};
+use drawing::{MOST_DRAWN, initial_label, initial_place_of};
 use std::alloc::{AllocError, Global};
-
-fn initial_label(alloc: Global, value: u64) -> Result<Vec<u8>, AllocError>
-    ensures { IfOk result (λ label. label.items ≡ initial_label value) }
-{
-    let mut label = Vec::new(alloc);
-    push_initial_label(&mut label, value)?;
-    Ok(label)
-}
 
 /// What is told of an initial value.
 #[tactic(auto, unfolding(crate::specs::Picture::initial_words))]

@@ -3,7 +3,7 @@ ghost use Rattle.std.specs.Prelude.{◌≡◌, ◌<◌, ◌∷◌, [], IfSome, M
 ghost use Rattle.drawing.specs.Bands.{head_text};
 ghost use Rattle.svg_picture.specs.Layout.{line_count, longest, parts};
 
-use drawing::{Band, Head, push_head};
+use drawing::{Band, head_words};
 use std::alloc::{AllocError, Global};
 
 /// The bytes before the first line feed and those after it.
@@ -34,15 +34,6 @@ pub(crate) fn longest_line(text: &[u8]) -> usize
         None => text.len(),
         Some((line, rest)) => line.len().max(longest_line(rest)),
     }
-}
-
-/// The words above a band.
-pub(crate) fn head_words(alloc: Global, head: Head) -> Result<Vec<u8>, AllocError>
-    ensures { IfOk result (λ words. words.items ≡ head_text head) }
-{
-    let mut words = Vec::new(alloc);
-    push_head(&mut words, head)?;
-    Ok(words)
 }
 
 /// The length of the longest head of these bands.
