@@ -4,7 +4,7 @@ ghost use Rattle.std.specs.List.{flat_map};
 ghost use Rattle.text_lines.specs.Lines.{line};
 ghost use Rattle.drawing.specs.Layout.{initial_label, number_at};
 ghost use Rattle.drawing.specs.Words.{placed, line_of};
-ghost use Rattle.drawing.specs.Terminal.{first_words, initial_way, initial_number, initial_words, initial_row, initial_rows};
+ghost use Rattle.drawing.specs.Terminal.{first_words, initial_way, initial_number, initial_row, initial_rows};
 
 use crate::claim::{count_of_lines, shown_by};
 use crate::columns::{MOST_DRAWN, digits};

@@ -1,8 +1,7 @@
 //! The elements of a picture.
 ghost use Rattle.std.specs.Prelude.{◌≡◌, ◌+◌, ◌*◌, ◌++◌, ◌≤◌, ◌^◌, OnOk, length};
-ghost use Rattle.svg_picture.specs.Layout.{parts};
 ghost use Rattle.svg_picture.specs.Markup.{text_of, named};
-ghost use Rattle.svg_picture.specs.Elements.{text_at, rect, stroke, line_at, lines_from, lines_at, sample, samples, hatch};
+ghost use Rattle.svg_picture.specs.Elements.{text_at, rect, stroke, line_at, lines_at, sample, samples, hatch};
 
 use crate::lines::split_line;
 use crate::markup::Attribute::{Number, Words};
