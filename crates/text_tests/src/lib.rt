@@ -9,6 +9,8 @@ mod errors;
 #[cfg(test)]
 mod help;
 #[cfg(test)]
+mod outcomes;
+#[cfg(test)]
 mod pictures;
 #[cfg(test)]
 mod schedules;

@@ -1,5 +1,6 @@
 ghost use Rattle.std.specs.Prelude.{◌<◌};
 
+use crate::outcomes::{check_each, known};
 use history_text::{MemorySource, Schedule, TextFault, TextReader, at_end, read_schedule};
 use recorder_core::{Answer, Step};
 use std::alloc::{AllocError, Global};
@@ -12,12 +13,10 @@ fn outcome(
     source: MemorySource<'_>,
 ) -> Result<Result<usize, TextFault>, AllocError> {
     let mut reader = TextReader::new(source);
-    let schedule = match read_schedule(alloc, &mut reader) {
-        Ok(schedule) => schedule,
-        Err(TextFault::Memory) => return Err(AllocError),
-        Err(fault) => return Ok(Err(fault)),
-    };
-    Ok(at_end(&mut reader).map(|()| schedule.steps.as_slice().len()))
+    match known(read_schedule(alloc, &mut reader))? {
+        Ok(schedule) => Ok(at_end(&mut reader).map(|()| schedule.steps.as_slice().len())),
+        Err(fault) => Ok(Err(fault)),
+    }
 }
 
 const TEXT: &[u8] =
@@ -89,14 +88,7 @@ fn first_lines(rt: HostRuntime) -> Result<(), Fail> {
         (b"fifo-history 1\nend 0\n", Err(TextFault::Header)),
         (b"fifo-schedule 1\n", Err(TextFault::Cut)),
     ];
-    for (text, expected) in cases {
-        assert_eq!(rt;
-            outcome(rt.alloc(), MemorySource::new(text))?,
-            expected,
-            "{text:?}"
-        );
-    }
-    Ok(())
+    check_each(&rt, rt.alloc(), &cases, outcome)
 }
 
 #[test]

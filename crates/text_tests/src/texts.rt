@@ -3,6 +3,7 @@ ghost use Rattle.history_merge.specs.Operations.{operations_of};
 ghost use Rattle.history_text.specs.Verdicts.{IsWithin, places_of};
 ghost use Rattle.verdicts.specs.declared.shown.LinePlace.TheVariants.{Op};
 
+use crate::outcomes::{check_each, check_failures, known};
 use event_records::{Event, What};
 use history_merge::{History, OpId, history, history_from};
 use history_text::{
@@ -20,12 +21,10 @@ fn outcome(
     source: MemorySource<'_>,
 ) -> Result<Result<usize, TextFault>, AllocError> {
     let mut reader = TextReader::new(source);
-    let events = match read_history(alloc, &mut reader) {
-        Ok(events) => events,
-        Err(TextFault::Memory) => return Err(AllocError),
-        Err(fault) => return Ok(Err(fault)),
-    };
-    Ok(at_end(&mut reader).map(|()| events.len()))
+    match known(read_history(alloc, &mut reader))? {
+        Ok(events) => Ok(at_end(&mut reader).map(|()| events.len())),
+        Err(fault) => Ok(Err(fault)),
+    }
 }
 
 /// So many digits, with something before and after them.
@@ -170,14 +169,7 @@ fn first_faults(rt: HostRuntime) -> Result<(), Fail> {
             Err(TextFault::Number(4)),
         ),
     ];
-    for (text, expected) in cases {
-        assert_eq!(rt;
-            outcome(rt.alloc(), MemorySource::new(text))?,
-            expected,
-            "{text:?}"
-        );
-    }
-    Ok(())
+    check_each(&rt, rt.alloc(), &cases, outcome)
 }
 
 #[test]
@@ -210,14 +202,7 @@ fn any_pieces_and_any_failure(rt: HostRuntime) -> Result<(), Fail> {
     for most in [1, 7, TEXT.len()] {
         let source = MemorySource::new(TEXT).in_pieces(most);
         assert_eq!(rt; outcome(rt.alloc(), source)?, Ok(8), "in pieces of {most}");
-        for given in 0..TEXT.len() {
-            let source = MemorySource::failing(&TEXT[..given]).in_pieces(most);
-            assert_eq!(rt;
-                outcome(rt.alloc(), source)?,
-                Err(TextFault::Read),
-                "after {given}"
-            );
-        }
+        check_failures(&rt, rt.alloc(), TEXT, most, outcome)?;
     }
     let mut reader = TextReader::new(MemorySource::failing(TEXT));
     assert_eq!(rt; read_history(rt.alloc(), &mut reader)?.len(), 8);

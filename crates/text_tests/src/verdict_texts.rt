@@ -1,3 +1,4 @@
+use crate::outcomes::{check_each, check_failures, known};
 use history_merge::{OpKind, Operation};
 use history_text::{MemorySource, TextFault, TextReader, read_history, read_verdict};
 use std::alloc::{AllocError, Global};
@@ -9,10 +10,9 @@ fn outcome(
     alloc: Global,
     source: MemorySource<'_>,
 ) -> Result<Result<usize, TextFault>, AllocError> {
-    match read_verdict(alloc, &mut TextReader::new(source)) {
+    match known(read_verdict(alloc, &mut TextReader::new(source)))? {
         Ok(Claimed::Yes(lines)) => Ok(Ok(lines.as_slice().len())),
         Ok(Claimed::No(_, lines)) => Ok(Ok(lines.as_slice().len())),
-        Err(TextFault::Memory) => Err(AllocError),
         Err(fault) => Ok(Err(fault)),
     }
 }
@@ -121,14 +121,7 @@ fn first_faults(rt: HostRuntime) -> Result<(), Fail> {
         (b"YES\ninit 5\n", Err(TextFault::Line(2))),
         (b"YES\ninit 5 0 enq 7\n", Err(TextFault::Line(2))),
     ];
-    for (text, expected) in cases {
-        assert_eq!(rt;
-            outcome(rt.alloc(), MemorySource::new(text))?,
-            expected,
-            "{text:?}"
-        );
-    }
-    Ok(())
+    check_each(&rt, rt.alloc(), &cases, outcome)
 }
 
 #[test]
@@ -141,15 +134,7 @@ fn long_lines_and_failures(rt: HostRuntime) -> Result<(), Fail> {
         outcome(rt.alloc(), MemorySource::new(&long))?,
         Err(TextFault::Line(1))
     );
-    for given in 0..YES.len() {
-        let source = MemorySource::failing(&YES[..given]).in_pieces(1);
-        assert_eq!(rt;
-            outcome(rt.alloc(), source)?,
-            Err(TextFault::Read),
-            "after {given}"
-        );
-    }
-    Ok(())
+    check_failures(&rt, rt.alloc(), YES, 1, outcome)
 }
 
 /// How many operations the verdict lists that comes after a history, or its fault.

@@ -1,3 +1,4 @@
+use crate::outcomes::{check_each, check_failures, known};
 use event_records::{Event, What};
 use history_merge::{HistoryParts, PreloadedBuilder, history, history_from};
 use history_text::{
@@ -19,12 +20,10 @@ fn outcome(
     source: MemorySource<'_>,
 ) -> Result<Result<(usize, usize), TextFault>, AllocError> {
     let mut reader = TextReader::new(source);
-    let text = match read_any(alloc, &mut reader) {
-        Ok(text) => text,
-        Err(TextFault::Memory) => return Err(AllocError),
-        Err(fault) => return Ok(Err(fault)),
-    };
-    Ok(at_end(&mut reader).map(|()| (text.initial.len(), text.events.len())))
+    match known(read_any(alloc, &mut reader))? {
+        Ok(text) => Ok(at_end(&mut reader).map(|()| (text.initial.len(), text.events.len()))),
+        Err(fault) => Ok(Err(fault)),
+    }
 }
 
 #[test]
@@ -170,14 +169,7 @@ fn first_faults(rt: HostRuntime) -> Result<(), Fail> {
             Err(TextFault::Trailing),
         ),
     ];
-    for (text, expected) in cases {
-        assert_eq!(rt;
-            outcome(rt.alloc(), MemorySource::new(text))?,
-            expected,
-            "{text:?}"
-        );
-    }
-    Ok(())
+    check_each(&rt, rt.alloc(), &cases, outcome)
 }
 
 #[test]
@@ -206,13 +198,8 @@ fn any_pieces_and_any_failure(rt: HostRuntime) -> Result<(), Fail> {
             Ok((3, 4)),
             "in pieces of {most}"
         );
+        check_failures(&rt, rt.alloc(), TEXT, most, outcome)?;
         for given in 0..TEXT.len() {
-            let failing = MemorySource::failing(&TEXT[..given]).in_pieces(most);
-            assert_eq!(rt;
-                outcome(rt.alloc(), failing)?,
-                Err(TextFault::Read),
-                "fails after {given}"
-            );
             let ending = MemorySource::new(&TEXT[..given]).in_pieces(most);
             assert_eq!(rt;
                 outcome(rt.alloc(), ending)?,

@@ -1,0 +1,65 @@
+//! What the tests of the readers share.
+ghost use Rattle.std.specs.Prelude.{◌≡◌, ◌<◌, IfOk};
+
+use history_text::{MemorySource, TextFault};
+use std::alloc::{AllocError, Global};
+use std::fmt::Debug;
+use std::process::Abort;
+use std::test::Fail;
+
+/// What a reader answered. Want of memory is an error of its own.
+pub fn known<T>(answer: Result<T, TextFault>) -> Result<Result<T, TextFault>, AllocError>
+    ensures { IfOk result (λ known. known ≡ answer) }
+{
+    match answer {
+        Err(TextFault::Memory) => Err(AllocError),
+        answer => Ok(answer),
+    }
+}
+
+/// Checks what each of these inputs gives.
+pub fn check_each<T, F>(
+    rt: &impl Abort,
+    alloc: Global,
+    cases: &[(&[u8], Result<T, TextFault>)],
+    outcome: F,
+) -> Result<(), Fail>
+where
+    T: PartialEq + Debug + Drop,
+    F: Fn(Global, MemorySource<'_>) -> Result<Result<T, TextFault>, AllocError>,
+    requires { F.IsAlwaysCallable outcome }
+{
+    for (text, expected) in cases {
+        assert_eq!(rt;
+            outcome(alloc, MemorySource::new(text))?,
+            *expected,
+            "{text:?}"
+        );
+    }
+    Ok(())
+}
+
+/// Checks that each front of a text gives `Read` where the source fails behind it, in pieces of so many bytes.
+pub fn check_failures<T, F>(
+    rt: &impl Abort,
+    alloc: Global,
+    text: &[u8],
+    most: usize,
+    outcome: F,
+) -> Result<(), Fail>
+where
+    T: PartialEq + Debug + Drop,
+    F: Fn(Global, MemorySource<'_>) -> Result<Result<T, TextFault>, AllocError>,
+    requires pieces { 0 < most }
+    requires outcome { F.IsAlwaysCallable outcome }
+{
+    for given in 0..text.len() {
+        let source = MemorySource::failing(&text[..given]).in_pieces(most);
+        assert_eq!(rt;
+            outcome(alloc, source)?,
+            Err(TextFault::Read),
+            "after {given}"
+        );
+    }
+    Ok(())
+}
