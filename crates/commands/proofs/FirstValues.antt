@@ -23,7 +23,7 @@ use Rattle.stress_run.specs.Recorded.{RecordedView}
 use Rattle.verdicts.specs.declared.verifying.Claimed.{Claimed}
 use Rattle.verdicts.specs.declared.verdict.Verdict.{Verdict}
 use Rattle.verdicts.specs.Claiming.{claim_of}
-use Rattle.verdicts.proofs.DecidedFrom.{no_elements}
+use Rattle.value_match.proofs.FilledOperations.{no_elements}
 use Rattle.history_text.specs.declared.version.Version.{Version}
 use Rattle.history_text.specs.declared.version.Version.TheVariants.{One, Two}
 use Rattle.history_text.specs.Versions.{said_in}
