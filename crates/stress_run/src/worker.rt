@@ -34,7 +34,16 @@ impl Model for Worker {
 
     ghost Value = { WorkerView };
 
-    ghost view = { λ w. record { pass = w.pass; thread = w.ring.thread; asked = w.namer.asked; ring = w.ring.ring; capacity = w.ring.capacity; tries = w.tries; sent = w.ring.sent; stopped = w.stopped } };
+    ghost view = { λ w. record {
+      pass = w.pass;
+      thread = w.ring.thread;
+      asked = w.namer.asked;
+      ring = w.ring.ring;
+      capacity = w.ring.capacity;
+      tries = w.tries;
+      sent = w.ring.sent;
+      stopped = w.stopped;
+    } };
 
     ghost invariant = { λ w. (w.namer.thread ≡ w.ring.thread) × AreTries w.tries × (w.stopped ≡ true → w.ring.capacity ≤ length w.ring.sent) };
 }
@@ -71,7 +80,16 @@ impl Worker {
     pub fn new(pass: Pass, namer: Namer, ring: PushEnd, tries: u32) -> Worker
         requires thread { namer.thread ≡ ring.thread }
         requires tries { AreTries tries }
-        ensures { result ≡ record { pass = pass; thread = ring.thread; asked = namer.asked; ring = ring.ring; capacity = ring.capacity; tries = tries; sent = ring.sent; stopped = false } }
+        ensures { result ≡ record {
+          pass = pass;
+          thread = ring.thread;
+          asked = namer.asked;
+          ring = ring.ring;
+          capacity = ring.capacity;
+          tries = tries;
+          sent = ring.sent;
+          stopped = false;
+        } }
     {
         Worker {
             pass,

@@ -1,5 +1,6 @@
 -- The lines of plans' texts: how they grow by a byte, and that a text is read in one way.
-use Rattle.std.proofs.Common.{◌≡◌, ◌≢◌, ◌⊎◌, inl, inr, ℕ, ◌+◌, ◌<◌, ◌≤◌, true, false, cond, List, [], ◌∷◌, ◌++◌, length, map, take, drop, get_or, All}
+use Rattle.std.proofs.Common.{◌≡◌, ◌≢◌, ◌⊎◌, inl, inr, ℕ, ◌+◌, ◌<◌, ◌≤◌, true, false, cond}
+use Rattle.std.proofs.Common.{List, [], ◌∷◌, ◌++◌, length, map, take, drop, get_or, All}
 use Rattle.std.proofs.Common.{sum_by, count_by, eqb, refl, sym, ap, ◌∙◌, subst, append_assoc, length-append, arith}
 use Rattle.std.specs.List.{slice_split, list_all}
 use Rattle.std.proofs.lemmas.Bool.{and_parts, and_from, leb-true, le-leb}
