@@ -1,5 +1,6 @@
 -- The lives that are listed are the lives that there are, and operations tell them apart.
-use Rattle.std.proofs.Common.{◌≡◌, ◌<◌, ◌⊎◌, Bool, true, false, cond, List, [], ◌∷◌, Option, Some, None, refl, sym, ◌∙◌, ap, subst, inl, inr, arith, ℕ}
+use Rattle.std.proofs.Common.{◌≡◌, ◌<◌, ◌⊎◌, Bool, true, false, cond, List, [], ◌∷◌}
+use Rattle.std.proofs.Common.{Option, Some, None, refl, sym, ◌∙◌, ap, subst, inl, inr, arith, ℕ}
 use Rattle.std.specs.Prelude.{Contains, find, MatchOption}
 use Rattle.std.proofs.lemmas.Bool.{eqb-true, eq-eqb}
 use Rattle.std.proofs.lemmas.List.Elements.{All-contains}
@@ -21,7 +22,8 @@ none_found : {X : Type 0} (p : X → Bool) (xs : List X) (x : X) → find p xs �
 none_found p [] x none among = absurd (not_in_none x among)
 none_found {X} p (z ∷ xs) x none among = pick (λ h there. none_found p xs x h there) (p z) refl none (contains_cons z xs x among)
   where
-    pick : (find p xs ≡ None → Contains xs x → p x ≡ false) → (b : Bool) → p z ≡ b → cond b (Some z) (find p xs) ≡ None → (z ≡ x) ⊎ Contains xs x → p x ≡ false
+    pick : (find p xs ≡ None → Contains xs x → p x ≡ false) → (b : Bool) → p z ≡ b
+        → cond b (Some z) (find p xs) ≡ None → (z ≡ x) ⊎ Contains xs x → p x ≡ false
     pick rest true is h here = cc
     pick rest false is h (inl here) = sym (ap p here) ∙ is
     pick rest false is h (inr there) = rest h there
