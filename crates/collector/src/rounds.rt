@@ -1,7 +1,8 @@
 // All rings together: rounds of draining, and the seal.
 ghost use Rattle.std.specs.Prelude.{◌≡◌, ◌≢◌, ◌≤◌, ◌+◌, IfOk, IfErr, OnOk, OnErr, map, ℕ, true, false};
 ghost use Rattle.std.specs.List.{AllZip};
-ghost use Rattle.collector.specs.Ends.{AreInOrder, AreFresh, AreOwnUpTo, Drains, Fits, IsFirstForeign, StopsAt, count_received, rings_of, threads_of, threads_of_tokens};
+ghost use Rattle.collector.specs.Ends.{AreInOrder, AreFresh, AreOwnUpTo, Drains, Fits, IsFirstForeign, StopsAt, count_received, rings_of};
+ghost use Rattle.collector.specs.Ends.{threads_of, threads_of_tokens};
 ghost use Rattle.collector.specs.declared.rounds.CollectError.TheVariants.{Memory, Uncertified};
 ghost use Rattle.event_records.specs.declared.limits.TheConstants.{MAX_RING};
 

@@ -42,6 +42,10 @@ drawn_as_checked form bytes claimed a b checked draws_a draws_b =
     let of_b = subst (λ front. AnswersFor IsDrawableOf IsFaultOfDrawableInput (Draws form) (input_of (front ++ verdict_text claimed)) b) read.1 draws_b in
     let whole_a : IsDrawableOf (input_of (text_of t)) (alone t) = (is.history, record { bytes = refl; ending = refl }) in
     let claim : ClaimOnText = record { text = t; claimed = claimed } in
-    let whole_b : IsDrawableOf (input_of (text_of t ++ verdict_text claimed)) (with_claim claim) = record { history = is.history; verdict = claim_is_written t claimed is; whole = record { bytes = refl; ending = refl } } in
+    let whole_b : IsDrawableOf (input_of (text_of t ++ verdict_text claimed)) (with_claim claim) = record {
+      history = is.history;
+      verdict = claim_is_written t claimed is;
+      whole = record { bytes = refl; ending = refl };
+    } in
     same_picture form t claimed a b is (drawn_of_value form (input_of (text_of t)) (alone t) a whole_a of_a)
     (drawn_of_value form (input_of (text_of t ++ verdict_text claimed)) (with_claim claim) b whole_b of_b)

@@ -63,7 +63,9 @@ pub none_in_version_1 : (count : ℕ) → run_version count ≡ One → first_va
 none_in_version_1 count is = by_test (count == 0) refl is
   where
     by_test : (b : Bool) → (count == 0) ≡ b → (if b then One else Two) ≡ One → first_values count ≡ []
-    by_test true none one = let many = length-range_with_len LEAST_INITIAL_NAME count in no_elements (first_values count) (sym none ∙ ap (λ n. n == 0) (sym many))
+    by_test true none one =
+        let many = length-range_with_len LEAST_INITIAL_NAME count in
+        no_elements (first_values count) (sym none ∙ ap (λ n. n == 0) (sym many))
     by_test false some one = cc
 
 -- ---- what a run gives

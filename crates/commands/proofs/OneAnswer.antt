@@ -283,7 +283,8 @@ of_history OfText one input a b answers_a answers_b = go answers_a answers_b
     OfWritten : HistoryText → Answer → Type 0
     OfWritten text answer = HasText text × OfText text answer
 
-    written : (answer : Answer) → AnswersFor IsHistoryOf IsFaultOfHistoryInput OfText input answer → AnswersFor IsHistoryOf IsFaultOfHistoryInput OfWritten input answer
+    written : (answer : Answer) → AnswersFor IsHistoryOf IsFaultOfHistoryInput OfText input answer
+        → AnswersFor IsHistoryOf IsFaultOfHistoryInput OfWritten input answer
     written answer (inr faulty) = inr faulty
     written answer (inl read) = inl (record {
       value = read.value;

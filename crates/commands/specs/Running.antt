@@ -9,7 +9,8 @@ use Rattle.clap.specs.declared.error.kind.ErrorKind.{ErrorKind}
 use Rattle.clap.specs.declared.error.kind.ErrorKind.TheVariants as kind
 use Rattle.command_words.specs.Commands.{Request, check, shrink, verify, draw, convert, sim, stress}
 use Rattle.commands.specs.Answers.{Answer, memory_fault, answer_text, answer_status}
-use Rattle.commands.specs.Inputs.{IsHistoryOf, IsFaultOfHistoryInput, IsScheduleOf, IsFaultOfScheduleInput, IsClaimOf, IsFaultOfClaimInput, IsDrawableOf, IsFaultOfDrawableInput}
+use Rattle.commands.specs.Inputs.{IsHistoryOf, IsFaultOfHistoryInput, IsScheduleOf, IsFaultOfScheduleInput, IsClaimOf, IsFaultOfClaimInput}
+use Rattle.commands.specs.Inputs.{IsDrawableOf, IsFaultOfDrawableInput}
 use Rattle.commands.specs.Judging.{AnswersFor, Judges, Shrinks, Verifies, Draws, Converts, Simulates}
 
 -- where the writer refused nothing the text is written whole, with this status; else a front of it is, and the status is 3

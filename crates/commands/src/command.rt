@@ -100,7 +100,8 @@ where
     S: TextSource + Drop,
     requires { IsInRange (request_of task) }
     ensures reads { IfSome (S.ahead reader) (λ input. AnswersOf (request_of task.entry) input (answer_of result)) }
-    ensures stresses { (settings : Settings) → request_of task.entry ≡ stress settings → Stresses (λ s. s.name.now) (λ s. may s.queue) shelf.now settings (answer_of result) }
+    ensures stresses { (settings : Settings) → request_of task.entry ≡ stress settings
+        → Stresses (λ s. s.name.now) (λ s. may s.queue) shelf.now settings (answer_of result) }
     ensures places { NamesPlaces result }
 {
     match task {

@@ -59,7 +59,8 @@ fn draw_history(
 fn draw_claim(alloc: Global, history: &History, claimed: &Claimed, form: PictureForm) -> Outcome
     requires complete { IsSound history.now }
     requires small { IsSmallHistory history.now }
-    ensures found { (version : Version) → AnswersOrNoMemory (DrawsClaim form) (record { text = said_in version history.now; claimed = claimed.now }) (answer_of result) }
+    ensures found { (version : Version)
+        → AnswersOrNoMemory (DrawsClaim form) (record { text = said_in version history.now; claimed = claimed.now }) (answer_of result) }
     ensures places { NamesPlaces result }
 {
     if count_of_lines(claimed) > MOST_DRAWN {
@@ -97,7 +98,8 @@ fn draw_evidence(alloc: Global, history: &History, claimed: &Claimed, form: Pict
     requires small { IsSmallHistory history.now }
     requires few_lines { count_of_lines claimed.now ≤ MOST_DRAWN }
     requires evidence { IsTrueClaim history.now.initial (operations_of history.now.events) claimed.now }
-    ensures found { (version : Version) → AnswersOrNoMemory (IsDrawn form) (record { text = said_in version history.now; claimed = claimed.now }) (answer_of result) }
+    ensures found { (version : Version)
+        → AnswersOrNoMemory (IsDrawn form) (record { text = said_in version history.now; claimed = claimed.now }) (answer_of result) }
     ensures places { NamesPlaces result }
 {
     match picture_in(alloc, history, claimed, form) {

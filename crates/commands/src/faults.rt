@@ -3,7 +3,8 @@ ghost use Rattle.std.specs.Prelude.{◌≡◌, ◌≤◌, ◌++◌, ◌||◌, []
 ghost use Rattle.std.specs.Io.KnownBytes.{Appends};
 ghost use Rattle.text_lines.specs.Lines.{line};
 ghost use Rattle.text_lines.specs.Writing.{AppendsFront, IsWritten, IsRefused};
-ghost use Rattle.commands.specs.Answers.{answer_text, answer_status, answer_of_text_fault, answer_of_history_fault, beginning, fault_status, named, text_fault_name, history_fault_name};
+ghost use Rattle.commands.specs.Answers.{answer_text, answer_status, answer_of_text_fault, answer_of_history_fault, beginning, fault_status, named};
+ghost use Rattle.commands.specs.Answers.{text_fault_name, history_fault_name};
 
 use history_merge::HistoryFault;
 use history_text::{TextFault, TextSink, WriteFault, write_piece};

@@ -6,7 +6,8 @@ ghost use Rattle.history_merge.specs.Faults.{IsFirstFaultFrom};
 ghost use Rattle.history_merge.specs.Initial.{IsCompleteFrom};
 ghost use Rattle.history_text.specs.Versions.{HasText, said_in};
 ghost use Rattle.history_text.specs.Schedules.{IsSetting};
-ghost use Rattle.commands.specs.Inputs.{IsHistoryOf, IsFaultOfHistoryInput, IsScheduleOf, IsFaultOfScheduleInput, IsClaimOf, IsFaultOfClaimInput, IsDrawableOf, IsFaultOfDrawableInput, drawable};
+ghost use Rattle.commands.specs.Inputs.{IsHistoryOf, IsFaultOfHistoryInput, IsScheduleOf, IsFaultOfScheduleInput, IsClaimOf, IsFaultOfClaimInput};
+ghost use Rattle.commands.specs.Inputs.{IsDrawableOf, IsFaultOfDrawableInput, drawable};
 
 use history_merge::{History, HistoryFault, PreloadedBuilder, history_from};
 use history_text::{

@@ -34,7 +34,8 @@ fn claimed_history<S: TextSource>(
 where
     S: Drop,
     ensures claim { IfOk result (λ read. IfSome (S.ahead reader) (λ input. IsClaimOf input (record { text = said_in read.0 read.1; claimed = read.2 }))) }
-    ensures found { IfErr result (λ outcome. IfSome (S.ahead reader) (λ input. AnswersFor IsClaimOf IsFaultOfClaimInput (λ claim. IsFaulty (said_by claim.text)) input (answer_of outcome))) }
+    ensures found { IfErr result (λ outcome. IfSome (S.ahead reader) (λ input.
+        AnswersFor IsClaimOf IsFaultOfClaimInput (λ claim. IsFaulty (said_by claim.text)) input (answer_of outcome))) }
     ensures places { IfErr result NamesPlaces }
 {
     let (text, claimed) = match claim_of(alloc, reader) {

@@ -1,5 +1,6 @@
 -- The lines of evidence are operations and initial values of the history.
-use Rattle.std.proofs.Common.{◌≡◌, ℕ, ◌+◌, ◌*◌, ◌&&◌, inl, inr, Bool, true, false, List, [], ◌∷◌, length, map, Some, None, Option, MatchOption, refl, sym, ap, subst, ◌∙◌, arith, cond}
+use Rattle.std.proofs.Common.{◌≡◌, ℕ, ◌+◌, ◌*◌, ◌&&◌, inl, inr, Bool, true, false, List, [], ◌∷◌, length, map, Some, None, Option, MatchOption}
+use Rattle.std.proofs.Common.{refl, sym, ap, subst, ◌∙◌, arith, cond}
 use Rattle.std.specs.Prelude.{Contains, flat_map, nat_le, option_to_list}
 use Rattle.std.proofs.lemmas.List.Elements.{Contains-append_cases}
 use Rattle.event_records.specs.declared.limits.TheConstants.{MAX_TICKET}
@@ -15,7 +16,7 @@ use Rattle.value_match.proofs.Lists.{one_deeper}
 use Rattle.verdicts.specs.declared.verifying.ClaimLine.{ClaimLine}
 use Rattle.verdicts.specs.declared.verifying.ClaimLine.TheVariants.{Op, Initial}
 use Rattle.verdicts.specs.Claims.{in_filled, stands_for}
-use Rattle.verdicts.proofs.FilledLines.{called_late}
+use Rattle.value_match.proofs.FilledLines.{called_late}
 use Rattle.drawing.specs.Laws.{LinesAreOfHistory}
 use Rattle.drawing.proofs.Numbers.{value_among}
 

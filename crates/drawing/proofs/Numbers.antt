@@ -14,7 +14,8 @@ use Rattle.history_merge.proofs.Completeness.{operations_are_complete}
 use Rattle.history_merge.proofs.Distinct.{contains_at, same_call, found_first}
 use Rattle.verdicts.specs.declared.verifying.ClaimLine.{ClaimLine}
 use Rattle.verdicts.specs.declared.verifying.ClaimLine.TheVariants.{Op, Initial}
-use Rattle.verdicts.specs.Claims.{filling_at, filling_of}
+use Rattle.value_match.specs.Filling.{filling_at}
+use Rattle.verdicts.specs.Claims.{filling_of}
 use Rattle.drawing.specs.Layout.{is_line_of, is_line_of_initial}
 use Rattle.drawing.specs.Laws.{NumbersAreOfLines, LinesHaveNumbers, InitialNumbersAreOfLines, InitialLinesHaveNumbers}
 use Rattle.drawing.proofs.Bars.{found}

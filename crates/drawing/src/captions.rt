@@ -1,7 +1,9 @@
 //! The words of a picture.
 ghost use Rattle.std.specs.Prelude.{◌≡◌, ◌++◌, ◌+◌, ◌≤◌, OnOk, length};
 ghost use Rattle.drawing.specs.Claim.{count_of_lines};
-ghost use Rattle.drawing.specs.Captions.{headline, fresh_reason, fresh_caption, repeat_words, repeat_caption, before_words, overtaking_caption, order_caption, one_of_cover, last_of_cover, cover_caption, witness_words, witness_caption, yes_caption, caption, lane_meanings, number_meaning, initial_meaning, form_meanings, legend};
+ghost use Rattle.drawing.specs.Captions.{headline, fresh_reason, fresh_caption, repeat_words, repeat_caption, before_words, overtaking_caption};
+ghost use Rattle.drawing.specs.Captions.{order_caption, one_of_cover, last_of_cover, cover_caption, witness_words, witness_caption, yes_caption};
+ghost use Rattle.drawing.specs.Captions.{caption, lane_meanings, number_meaning, initial_meaning, form_meanings, legend};
 
 use crate::bands::line_value;
 use crate::claim::{line_call, line_kind, line_return};

@@ -1,4 +1,5 @@
-ghost use Rattle.drawing.specs.Laws.{LanesAreApart, BarsAreOfOperations, NoOtherBars, EffectsAreInBars, EffectsRise, NumbersAreOfLines, LinesHaveNumbers, InitialNumbersAreOfLines, InitialLinesHaveNumbers, LinesAreOfHistory};
+ghost use Rattle.drawing.specs.Laws.{LanesAreApart, BarsAreOfOperations, NoOtherBars, EffectsAreInBars, EffectsRise, NumbersAreOfLines};
+ghost use Rattle.drawing.specs.Laws.{LinesHaveNumbers, InitialNumbersAreOfLines, InitialLinesHaveNumbers, LinesAreOfHistory};
 
 /// The bars in the lanes are the operations, each in the lane of its thread, from its call to its return. The laws are the
 /// contract; the body is empty.

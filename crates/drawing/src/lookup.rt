@@ -1,7 +1,8 @@
 //! Which operation is in a row, and its number in the claim.
 ghost use Rattle.std.specs.Prelude.{◌≡◌, ◌<◌, IfSome, length, nat_eq};
 ghost use Rattle.std.specs.List.{position};
-ghost use Rattle.drawing.specs.Layout.{is_under_way, under_way, called_at, is_line_of, is_line_of_initial, place_in, initial_place_in, place_of, initial_place_of};
+ghost use Rattle.drawing.specs.Layout.{is_under_way, under_way, called_at, is_line_of, is_line_of_initial, place_in, initial_place_in, place_of};
+ghost use Rattle.drawing.specs.Layout.{initial_place_of};
 ghost use Rattle.drawing.specs.Claim.{count_of_lines};
 
 use history_merge::Operation;

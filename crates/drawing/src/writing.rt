@@ -25,7 +25,8 @@ pub fn write_terminal_picture<W: TextSink>(
     // The claim has few enough lines to be drawn.
     requires { count_of_lines claimed.now ≤ MOST_DRAWN }
     ensures ok { IfOk result (λ written. OnOk written (Appends (W.contents writer.old) (W.contents writer.new) (terminal_picture history.now claimed.now))) }
-    ensures err { IfOk result (λ written. OnErr written (AppendsFront (W.contents writer.old) (W.contents writer.new) (terminal_picture history.now claimed.now))) }
+    ensures err { IfOk result (λ written. OnErr written
+        (AppendsFront (W.contents writer.old) (W.contents writer.new) (terminal_picture history.now claimed.now))) }
     ensures refused { IfOk result (λ written. W.has_refused writer.new ≡ (W.has_refused writer.old || is_err written)) }
     ensures written { IfOk result (λ written. OnOk written (IsWritten W.goes writer.old writer.new)) }
     ensures stopped { IfOk result (λ written. OnErr written (IsRefused W.goes writer.old writer.new)) }

@@ -20,7 +20,13 @@ impl Model for PushEnd {
 
     ghost Value = { PushView };
 
-    ghost view = { λ p. record { ring = ring_of_producer p.producer; thread = p.thread; capacity = producer_capacity p.producer; sent = sent p.producer; room = known_free p.producer } };
+    ghost view = { λ p. record {
+      ring = ring_of_producer p.producer;
+      thread = p.thread;
+      capacity = producer_capacity p.producer;
+      sent = sent p.producer;
+      room = known_free p.producer;
+    } };
 
     ghost invariant = { λ p. producer_capacity p.producer ≤ known_free p.producer + length (sent p.producer) };
 }
@@ -67,7 +73,13 @@ impl PushEnd {
 
     pub(crate) fn over(thread: ThreadNo, producer: Producer<Event>) -> PushEnd
         requires { producer_capacity producer ≤ known_free producer + length (sent producer) }
-        ensures { result ≡ record { ring = ring_of_producer producer; thread = thread; capacity = producer_capacity producer; sent = sent producer; room = known_free producer } }
+        ensures { result ≡ record {
+          ring = ring_of_producer producer;
+          thread = thread;
+          capacity = producer_capacity producer;
+          sent = sent producer;
+          room = known_free producer;
+        } }
     {
         PushEnd { thread, producer }
     }

@@ -65,7 +65,8 @@ fn checks(rt: HostRuntime) {
 fn shrinks(rt: HostRuntime) {
     assert_answer(&rt, Command::Shrink, "fifo-history 1\nend 0\n", "YES\n", 0);
     let shown =
-        "fifo-history 1\n0 0 call-enq 7\n1 0 ret-enq\n2 0 call-enq 9\n3 0 ret-enq\n4 0 call-deq\n5 0 ret-deq 9\nend 6\nNO VOrd\n0 1 0 enq 7\n2 3 0 enq 9\n4 5 0 deq 9\n";
+        "fifo-history 1\n0 0 call-enq 7\n1 0 ret-enq\n2 0 call-enq 9\n3 0 ret-enq\n4 0 call-deq\n5 0 ret-deq 9\nend 6\n\
+         NO VOrd\n0 1 0 enq 7\n2 3 0 enq 9\n4 5 0 deq 9\n";
     assert_answer(&rt, Command::Shrink, ONE_MORE, shown, 1);
     assert_answer(&rt, Command::Shrink, "fifo\n", "REFUSED Header\n", 2);
 }

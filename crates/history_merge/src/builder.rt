@@ -81,7 +81,8 @@ impl HistoryBuilder {
     /// [`HistoryFault`]. Where no event has a fault, the least call ticket without return is `Pending`. `Memory` comes where a
     /// growth was refused, and then says nothing of the events.
     pub fn finish(self) -> Result<Vec<Operation>, HistoryFault>
-        ensures outcome { (events : List Event) → HasGathered events self → MatchResult result (λ operations. operations.items ≡ operations_of events) (IsFirstFault events) }
+        ensures outcome { (events : List Event) → HasGathered events self
+            → MatchResult result (λ operations. operations.items ≡ operations_of events) (IsFirstFault events) }
         ensures complete { (events : List Event) → HasGathered events self → IfOk result (λ _. IsCompleteHistory events) }
         ensures refused { (events : List Event) → HasGathered events self → IfErr result (λ fault. IsCompleteHistory events → fault ≡ HistoryFault.Memory) }
     {

@@ -15,7 +15,8 @@ pub(crate) trait Collects<T> {
     ghost Adds: { Self → Self → List T → Type 0 };
 
     fn add(&mut self, item: T) -> Result<(), AllocError>
-        ensures { (first : Self) (items : List T) → Adds first self.old items → length items < MAX_EVENTS → OnOk result (Adds first self.new (items ++ item ∷ [])) };
+        ensures { (first : Self) (items : List T) → Adds first self.old items → length items < MAX_EVENTS
+            → OnOk result (Adds first self.new (items ++ item ∷ [])) };
 
     /// None was added yet.
     ghost none: { (first : Self) → Adds first first [] };

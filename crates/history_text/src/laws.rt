@@ -22,7 +22,8 @@ pub fn a_text_has_one_history()
 
 /// No text of a history is a proper front of another.
 pub fn no_text_begins_another()
-    ensures { (first second : List Event) (more : List ℕ) → HasHistoryText first → HasHistoryText second → history_text first ++ more ≡ history_text second → more ≡ [] }
+    ensures { (first second : List Event) (more : List ℕ) → HasHistoryText first → HasHistoryText second
+        → history_text first ++ more ≡ history_text second → more ≡ [] }
 {}
 
 /// A text of either version says one thing: it has one version, one list of initial values, and one of events.
@@ -42,7 +43,8 @@ pub fn a_text_has_one_schedule()
 
 /// No text of a schedule is a proper front of another.
 pub fn no_schedule_text_begins_another()
-    ensures { (first second : Schedule) (more : List ℕ) → HasScheduleText first → HasScheduleText second → schedule_text first ++ more ≡ schedule_text second → more ≡ [] }
+    ensures { (first second : Schedule) (more : List ℕ) → HasScheduleText first → HasScheduleText second
+        → schedule_text first ++ more ≡ schedule_text second → more ≡ [] }
 {}
 
 /// A text is the text of one claim.
@@ -60,11 +62,14 @@ pub fn a_claim_on_a_text_has_a_text()
 
 /// An input has one first fault, as the text of a history of version 1 or of either version, of a schedule or of a verdict.
 pub fn one_first_fault()
-    ensures history { (lines : ℕ) (ending : Ending) (bytes : List ℕ) (f g : TextFault) → IsHistoryTextFault lines ending bytes f → IsHistoryTextFault lines ending bytes g → f ≡ g }
-    ensures either { (lines : ℕ) (ending : Ending) (bytes : List ℕ) (f g : TextFault) → IsTextFault lines ending bytes f → IsTextFault lines ending bytes g → f ≡ g }
+    ensures history { (lines : ℕ) (ending : Ending) (bytes : List ℕ) (f g : TextFault) → IsHistoryTextFault lines ending bytes f
+        → IsHistoryTextFault lines ending bytes g → f ≡ g }
+    ensures either { (lines : ℕ) (ending : Ending) (bytes : List ℕ) (f g : TextFault)
+        → IsTextFault lines ending bytes f → IsTextFault lines ending bytes g → f ≡ g }
     ensures schedule { (lines : ℕ) (ending : Ending) (bytes : List ℕ) (f g : TextFault) → IsScheduleTextFault lines ending bytes f
         → IsScheduleTextFault lines ending bytes g → f ≡ g }
-    ensures verdict { (lines : ℕ) (ending : Ending) (bytes : List ℕ) (f g : TextFault) → IsVerdictTextFault lines ending bytes f → IsVerdictTextFault lines ending bytes g → f ≡ g }
+    ensures verdict { (lines : ℕ) (ending : Ending) (bytes : List ℕ) (f g : TextFault) → IsVerdictTextFault lines ending bytes f
+        → IsVerdictTextFault lines ending bytes g → f ≡ g }
 {}
 
 /// Where a text stands at the front of the input, that has no fault of such a text; for a verdict, where the text is all of the
@@ -76,5 +81,6 @@ pub fn a_text_has_no_fault()
         → IsTextFault lines ending (text_of text ++ rest) fault → ⊥ }
     ensures schedule { (lines : ℕ) (ending : Ending) (schedule : Schedule) (rest : List ℕ) (fault : TextFault) → HasScheduleText schedule
         → IsScheduleTextFault lines ending (schedule_text schedule ++ rest) fault → ⊥ }
-    ensures verdict { (lines : ℕ) (claimed : Claimed) (fault : TextFault) → HasVerdictText claimed → IsVerdictTextFault lines EndOfInput (verdict_text claimed) fault → ⊥ }
+    ensures verdict { (lines : ℕ) (claimed : Claimed) (fault : TextFault) → HasVerdictText claimed
+        → IsVerdictTextFault lines EndOfInput (verdict_text claimed) fault → ⊥ }
 {}

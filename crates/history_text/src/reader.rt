@@ -16,7 +16,8 @@ ghost use Rattle.history_text.specs.Versions.{lines_before_events, count_before_
 ghost use Rattle.history_text.specs.Schedules.{schedule_text, setting_fields, setting_in as judged_setting, HasScheduleText, IsSetting};
 ghost use Rattle.history_text.specs.Verdicts.{verdict_text};
 ghost use Rattle.history_text.specs.Claims.{claim_length, HasVerdictText, first_line};
-ghost use Rattle.history_text.specs.Reading.{HasHistoryTextFault, HasTextFault, HasScheduleTextFault, HasVerdictTextFault, HasEndFault, TellsEnd, BeginsWith, IsAll};
+ghost use Rattle.history_text.specs.Reading.{HasHistoryTextFault, HasTextFault, HasScheduleTextFault, HasVerdictTextFault, HasEndFault, TellsEnd};
+ghost use Rattle.history_text.specs.Reading.{BeginsWith, IsAll};
 ghost use Rattle.history_text.specs.Inner.Taking.{TakesLine, StopsInLine, TakesItem, TakesItems, HasNoLine, HasHeaderFault, HasNoVersion};
 ghost use Rattle.history_text.specs.Inner.Taking.{HasLineFault, HasFirstLineFault, HasItemFault, HasItemsFault, HasFaultAmong};
 ghost use Rattle.history_text.specs.Inner.Taking.{HasInitialFault, IsOfInput};
@@ -612,7 +613,8 @@ pub fn read_any<R: TextSource>(
     ensures text { IfOk result (λ t. HasText t × Takes reader.old.left reader.new.left (text_of t)) }
 
     // Where a text of either version stands at the front it is read, unless memory is refused.
-    ensures whole { (text : HistoryText) → HasText text → BeginsWith reader.old.left (text_of text) → MatchResult result (λ t. t ≡ text) (λ fault. fault ≡ TextFault.Memory) }
+    ensures whole { (text : HistoryText) → HasText text → BeginsWith reader.old.left (text_of text)
+        → MatchResult result (λ t. t ≡ text) (λ fault. fault ≡ TextFault.Memory) }
 
     // A fault is the first one.
     ensures fault { IfErr result (HasTextFault reader.old.lines reader.old.left) }

@@ -32,8 +32,9 @@ accept_answer (Enqueue value) items = refl
 accept_answer Dequeue [] = refl
 accept_answer Dequeue (first ∷ rest) = rw (same_number first) refl
 
-one_effect : (setting : Setting) (o : Option Question) (steps : List Step) → accept_all setting.initial (effect_kinds setting steps) ≡ Some (queue setting steps) →
-    accept_all setting.initial (with_last (effect_kinds setting steps) (option_map
+one_effect : (setting : Setting) (o : Option Question) (steps : List Step)
+    → accept_all setting.initial (effect_kinds setting steps) ≡ Some (queue setting steps)
+    → accept_all setting.initial (with_last (effect_kinds setting steps) (option_map
     (λ (asked : Question). kind_told asked (option_map_or (λ (a : Question). queue_answer a (queue setting steps)) o NoValue)) o)) ≡ Some
     (option_map_or (λ (asked : Question). queue_after asked (queue setting steps)) o (queue setting steps))
 one_effect setting None steps h = h

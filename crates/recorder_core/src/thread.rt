@@ -1,7 +1,8 @@
 //! One thread of the machine.
 ghost use Rattle.std.specs.Prelude.{◌≡◌, ◌+◌, ◌<◌, true, false, nat_le, min, IfOk, OnOk, OnErr, None, Some, [], ◌∷◌, ◌++◌, length, find, take, drop};
 ghost use Rattle.std.specs.Result.{result_err};
-ghost use Rattle.recorder_core.specs.declared.step.StepRefused.TheVariants.{Closed, Held, NothingHeld, RingFull, Pending as PendingRefused, NotPending, NoAnswer, AnswerTaken, Memory};
+ghost use Rattle.recorder_core.specs.declared.step.StepRefused.TheVariants.{Closed, Held, NothingHeld, RingFull, Pending as PendingRefused};
+ghost use Rattle.recorder_core.specs.declared.step.StepRefused.TheVariants.{NotPending, NoAnswer, AnswerTaken, Memory};
 ghost use Rattle.recorder_core.specs.Inner.Seen.{seen, none_other, when_pushing, given_answer, is_thread_done};
 ghost use Rattle.recorder_core.specs.After.{is_out_of_memory};
 ghost use Rattle.recorder_core.specs.Schedule.{with_last};

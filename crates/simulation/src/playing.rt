@@ -51,7 +51,8 @@ pub fn simulate(
 ) -> Result<Simulation, AllocError>
     requires threads { (1 ≤ threads) × (threads ≤ MAX_THREADS) }
     requires ring { (MIN_RING ≤ ring) × (ring ≤ MAX_RING) }
-    ensures rejections { IfOk result (λ played. played.rejections ≡ rejections (record { threads = threads; ring = ring; initial = [] }) (schedule_of steps.now)) }
+    ensures rejections { IfOk result (λ played. played.rejections
+        ≡ rejections (record { threads = threads; ring = ring; initial = [] }) (schedule_of steps.now)) }
     ensures ending { IfOk result (λ played. EndsSo (record { threads = threads; ring = ring; initial = [] }) (schedule_of steps.now) played.ending) }
 {
     let mut machine = Machine::new(alloc, threads, ring)?;

@@ -13,7 +13,11 @@ use Rattle.stress_run.specs.declared.faults.RunFault.{RunFault}
 use Rattle.stress_run.specs.declared.faults.RunFault.TheVariants.{Limit, Memory, Stalled, CloseLost, Uncertified, Preload}
 
 no_names : AreInitialNames []
-no_names = record { not_too_many = omega arith; are_distinct = λ j k d before below. absurd (omega (arith, below)); above_names = λ k d below. absurd (omega (arith, below)) }
+no_names = record {
+  not_too_many = omega arith;
+  are_distinct = λ j k d before below. absurd (omega (arith, below));
+  above_names = λ k d below. absurd (omega (arith, below));
+}
 
 module _ (may : Question → Answer → Type 0) (initial : List ℕ) (rows : List (List Kind)) (sizes : SizesView) where
   -- its fault is one that a run from these values may have

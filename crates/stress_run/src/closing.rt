@@ -1,5 +1,6 @@
 // The end of a run: rings are closed and passes joined.
-ghost use Rattle.std.specs.Prelude.{◌≡◌, ◌⊎◌, ◌++◌, ◌∷◌, [], ◌+◌, IfOk, IfErr, IsOk, IsErr, OnErr, IfSome, IfNone, IsSome, Some, None, All, IsPermutation, false};
+ghost use Rattle.std.specs.Prelude.{◌≡◌, ◌⊎◌, ◌++◌, ◌∷◌, [], ◌+◌, IfOk, IfErr, IsOk, IsErr, OnErr, IfSome, IfNone, IsSome, Some, None, All};
+ghost use Rattle.std.specs.Prelude.{IsPermutation, false};
 ghost use Rattle.stress_run.specs.Crew.{IsFaultOfWorker, IsNotAfterStall, token_of};
 ghost use Rattle.stress_run.specs.Inner.Crew.{AreClosed, Stands};
 ghost use Rattle.stress_run.specs.Faults.{IsNotAfter};

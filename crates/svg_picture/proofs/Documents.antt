@@ -215,7 +215,8 @@ clean_ways page (No VWit lines) = tt
 
 clean_order_line : (page : Page) (i : ℕ) (o : Operation) → IsClean (order_line page i o)
 unfolding order_line
-clean_order_line page i o = clean_text _ _ _ _ _ refl (plain_concat (decimal (i + 1) ∷ codes " " ∷ label o.kind ∷ []) (decimal_plain (i + 1), (refl, (label_plain o.kind, tt))))
+clean_order_line page i o = clean_text _ _ _ _ _ refl
+    (plain_concat (decimal (i + 1) ∷ codes " " ∷ label o.kind ∷ []) (decimal_plain (i + 1), (refl, (label_plain o.kind, tt))))
 
 clean_order : (page : Page) (claimed : Claimed) → IsClean (order page claimed)
 unfolding order
@@ -334,7 +335,8 @@ clean_inside page = (
 
 view_box_plain : (m : Measures) → are_plain (view_box m) ≡ true
 unfolding view_box
-view_box_plain m = plain_concat (codes "0 0 " ∷ decimal (width m) ∷ codes " " ∷ decimal (height m) ∷ []) (refl, (decimal_plain (width m), (refl, (decimal_plain (height m), tt))))
+view_box_plain m = plain_concat (codes "0 0 " ∷ decimal (width m) ∷ codes " " ∷ decimal (height m) ∷ [])
+    (refl, (decimal_plain (width m), (refl, (decimal_plain (height m), tt))))
 
 -- a picture is a document
 pub pictures_are_well_formed : PicturesAreWellFormed

@@ -23,7 +23,8 @@ each_more f xs i d within = ap (λ (cs : List Content). text_of (group cs)) (map
 pub each_step : {X : Type 0} (f : X → Content) (text : List ℕ) (xs : List X) (i : ℕ) (d : X) (old new : List ℕ) → i < length xs
     → old ≡ text ++ text_of (each f (take i xs)) → new ≡ old ++ text_of (f (get_or xs i d)) → new ≡ text ++ text_of (each f (take (i + 1) xs))
 each_step f text xs i d old new within before now =
-    now ∙ ap (λ (t : List ℕ). t ++ text_of (f (get_or xs i d))) before ∙ append_assoc text _ _ ∙ ap (λ (t : List ℕ). text ++ t) (sym (each_more f xs i d within))
+    now ∙ ap (λ (t : List ℕ). t ++ text_of (f (get_or xs i d))) before ∙ append_assoc text _ _
+    ∙ ap (λ (t : List ℕ). text ++ t) (sym (each_more f xs i d within))
 
 -- the content of one element more, with its place
 pub each_enumerated_more : {X : Type 0} (f : ℕ × X → Content) (xs : List X) (i : ℕ) (d : X) → i < length xs

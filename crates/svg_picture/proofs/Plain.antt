@@ -1,5 +1,6 @@
 -- Digits and fixed words have no byte that means markup.
-use Rattle.std.proofs.Common.{◌≡◌, ℕ, zero, suc, ◌+◌, ◌<◌, ◌≤◌, ◌/◌, ◌%◌, ◌==◌, ◌&&◌, Bool, true, false, cond, List, [], ◌∷◌, ◌++◌, codes, Option, Some, None, arith, refl, ap₂, ◌∙◌}
+use Rattle.std.proofs.Common.{◌≡◌, ℕ, zero, suc, ◌+◌, ◌<◌, ◌≤◌, ◌/◌, ◌%◌, ◌==◌, ◌&&◌, Bool, true, false, cond, List, [], ◌∷◌, ◌++◌, codes, Option}
+use Rattle.std.proofs.Common.{Some, None, arith, refl, ap₂, ◌∙◌}
 use Rattle.std.specs.Prelude.{⊤, nat_lt, decimal}
 use Rattle.std.specs.Fmt.{digits, digits_onto, digit_glyph}
 use Rattle.std.specs.List.{concat, onto_first}
@@ -19,7 +20,8 @@ use Rattle.drawing.specs.declared.bands.Head.TheVariants.{SurelyIn, NotIn, Deque
 use Rattle.drawing.specs.Claim.{line_kind, line_call, line_return}
 use Rattle.drawing.specs.Layout.{label, initial_label}
 use Rattle.drawing.specs.Bands.{head_text, line_value}
-use Rattle.drawing.specs.Captions.{headline, caption, yes_caption, overtaking_caption, one_of_cover, last_of_cover, witness_words, fresh_caption, repeat_caption}
+use Rattle.drawing.specs.Captions.{headline, caption, yes_caption, overtaking_caption, one_of_cover, last_of_cover, witness_words, fresh_caption}
+use Rattle.drawing.specs.Captions.{repeat_caption}
 use Rattle.drawing.specs.Captions.{order_caption, cover_caption, witness_caption, fresh_reason, value_text, repeat_words, before_words, moment_text}
 use Rattle.drawing.specs.Terminal.{way}
 use Rattle.svg_picture.specs.Layout.{parts}

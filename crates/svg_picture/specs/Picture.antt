@@ -1,5 +1,6 @@
 -- The picture of a history and what is claimed of it: the whole as a tree of elements, and its text.
-use Rattle.std.specs.Prelude.{ℕ, ◌+◌, ◌-◌, ◌*◌, max, Bool, true, false, if◌then◌else◌, Option, Some, None, List, [], ◌∷◌, ◌++◌, length, map, codes, decimal, nat_eq, slice_get}
+use Rattle.std.specs.Prelude.{ℕ, ◌+◌, ◌-◌, ◌*◌, max, Bool, true, false, if◌then◌else◌, Option, Some, None, List, [], ◌∷◌, ◌++◌, length, map, codes}
+use Rattle.std.specs.Prelude.{decimal, nat_eq, slice_get}
 use Rattle.std.specs.Prelude.{find}
 use Rattle.std.specs.List.{concat, enumerate_from, position, range_with_len}
 use Rattle.event_records.specs.declared.event.Event.{Event}

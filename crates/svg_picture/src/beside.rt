@@ -4,7 +4,9 @@ ghost use Rattle.std.specs.List.{concat, enumerate_from, position};
 ghost use Rattle.drawing.specs.Layout.{label};
 ghost use Rattle.svg_picture.specs.Markup.{each, text_of};
 ghost use Rattle.svg_picture.specs.Layout.{page_on};
-ghost use Rattle.svg_picture.specs.Picture.{is_time, first_y, last_y, event_at, from_edge, band_between, formed_band, head_y, band_at, numbered_band, bands, way_from, row_behind, row_of_value, way_mark, ways, order_line, numbered_line, order};
+ghost use Rattle.svg_picture.specs.Picture.{is_time, first_y, last_y, event_at, from_edge, band_between, formed_band, head_y, band_at};
+ghost use Rattle.svg_picture.specs.Picture.{numbered_band, bands, way_from, row_behind, row_of_value, way_mark, ways, order_line, numbered_line};
+ghost use Rattle.svg_picture.specs.Picture.{order};
 
 use crate::bars::row_of_effect;
 use crate::elements::{Rect, push_rect, push_stroke, push_text_at};

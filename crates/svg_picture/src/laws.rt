@@ -1,4 +1,5 @@
-ghost use Rattle.svg_picture.specs.Laws.{PicturesAreWellFormed, RowsRise, InitialRowsRise, InitialRowsAreFirst, BarsOverlapInTime, EffectsAreInBars, EffectsRise, LanesAreApart};
+ghost use Rattle.svg_picture.specs.Laws.{PicturesAreWellFormed, RowsRise, InitialRowsRise, InitialRowsAreFirst, BarsOverlapInTime};
+ghost use Rattle.svg_picture.specs.Laws.{EffectsAreInBars, EffectsRise, LanesAreApart};
 
 /// A picture is a well-formed document: each element is closed, and no value or words have a byte that means markup. The law is
 /// the contract; the body is empty.

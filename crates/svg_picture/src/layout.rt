@@ -1,6 +1,7 @@
 //! Where things stand in a picture, in pixels.
 ghost use Rattle.std.specs.Prelude.{◌≡◌, ◌≤◌, ◌^◌};
-ghost use Rattle.svg_picture.specs.Layout.{page_on, shown, order_width, left, bar_width, lane_width, lane_x, thread_x, right, band_x, width, legend_y, top, initial_rows, initial_row, row, effect_row, row_y, call_y, ret_y, bottom, height};
+ghost use Rattle.svg_picture.specs.Layout.{page_on, shown, order_width, left, bar_width, lane_width, lane_x, thread_x, right, band_x, width};
+ghost use Rattle.svg_picture.specs.Layout.{legend_y, top, initial_rows, initial_row, row, effect_row, row_y, call_y, ret_y, bottom, height};
 
 use crate::sheet::{Measures, Sheet};
 

@@ -7,7 +7,8 @@ use Rattle.stress_run.proofs.Preloads.{fault_from, names_no_value}
 use Rattle.stress_run.proofs.runs.run_from.Goals as goal
 
 pub returns-clause-fits : goal.returns-clause-fits
-returns-clause-fits g c = subst (λ (values : List ℕ). IfOk c.run_within.result (λ r. (merged : List Event) → IsMerged r.lists merged → IsCompleteFrom values merged))
+returns-clause-fits g c =
+    subst (λ (values : List ℕ). IfOk c.run_within.result (λ r. (merged : List Event) → IsMerged r.lists merged → IsCompleteFrom values merged))
     c.in_ok-held.ensures.items c.run_within.ensures.fits
 
 pub returns-clause-fault : goal.returns-clause-fault
