@@ -52,7 +52,7 @@ pub fn compare(rt: &impl Abort, alloc: Global, history: &History) -> Result<Kind
     Ok(kind)
 }
 
-/// Compares the answers about the matching of a history.
+/// Compares the answers about the matching of a history of a queue that is empty first, whose filled history is itself.
 fn compare_clear(
     rt: &impl Abort,
     alloc: Global,
@@ -62,7 +62,7 @@ fn compare_clear(
     let values = listed(alloc, matching)?;
     let pair = plain_pair(&values);
     assert_eq!(rt; find_order(alloc, matching)?, pair);
-    let witness = plain_witness(alloc, matching, &values)?;
+    let witness = plain_witness(alloc, matching.filled(), &values)?;
     let found = find_witness(alloc, matching)?;
     assert!(rt; is_same_witness(&found, &witness));
     compare_gaps(rt, alloc, matching, &values)?;
@@ -82,7 +82,7 @@ fn value_at(values: &Values, place: usize) -> Option<MatchedValue> {
 
 /// The accepted values.
 fn listed(alloc: Global, matching: &Matching) -> Result<Vec<MatchedValue>, AllocError> {
-    let values = matching.values();
+    let values = matching.filled().values();
     (0..values.len())
         .filter_map(|place| value_at(&values, place))
         .collect(alloc)
@@ -101,9 +101,10 @@ fn plain_answer(
     }
     match witness {
         PlainWitness::Covered(empty, cover) => Ok(Plain::Witness(empty, cover)),
-        PlainWitness::Gaps(gaps) => Ok(Plain::Legal(plain_linearization(
-            alloc, matching, values, &gaps,
-        )?)),
+        PlainWitness::Gaps(gaps) => {
+            let order = plain_linearization(alloc, matching.filled(), values, &gaps)?;
+            Ok(Plain::Legal(order))
+        }
     }
 }
 
@@ -152,9 +153,11 @@ fn compare_gaps(
     matching: &Matching,
     values: &[MatchedValue],
 ) -> Result<(), Fail> {
-    for empty in matching.empties() {
-        let found = gap_for(alloc, matching, *empty)?;
-        let answer = operation_at(matching, *empty)?;
+    let empties = matching.empties();
+    for index in 0..empties.len() {
+        let empty = empties.get(index);
+        let found = gap_for(alloc, matching, empty)?;
+        let answer = operation_at(matching.filled(), empty)?;
         match found {
             GapAnswer::Free(gap) => {
                 assert_eq!(rt;

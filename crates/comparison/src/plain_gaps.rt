@@ -3,7 +3,7 @@
 use history_merge::{OpId, Operation};
 use std::alloc::{AllocError, Global};
 use std::test::Fail;
-use value_match::{CoverStep, Life, MatchedValue, Matching, Source};
+use value_match::{CoverStep, FilledMatching, Life, MatchedValue, Source};
 
 /// Whether the value surely is in the queue at this gap.
 fn covers(life: &Life, gap: u64) -> bool {
@@ -100,14 +100,14 @@ pub enum PlainWitness {
 }
 
 /// The operation at a place of a history.
-pub fn operation_at(matching: &Matching, id: OpId) -> Result<Operation, Fail> {
+pub fn operation_at(matching: &FilledMatching, id: OpId) -> Result<Operation, Fail> {
     Ok(*matching.operations().get(id.place()).ok_or("no operation")?)
 }
 
 /// The least free gap of each empty answer, or the covered one that returned first with its cover.
 pub fn plain_witness(
     alloc: Global,
-    matching: &Matching,
+    matching: &FilledMatching,
     values: &[MatchedValue],
 ) -> Result<PlainWitness, Fail> {
     let mut gaps = Vec::new(alloc);

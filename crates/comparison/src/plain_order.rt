@@ -2,7 +2,7 @@
 
 use history_merge::OpId;
 use std::alloc::{AllocError, Global};
-use value_match::{Life, MatchedValue, Matching};
+use value_match::{FilledMatching, Life, MatchedValue};
 
 /// Where an operation stands: its gap, the class within the gap, and the rank within the class.
 type Position = (u64, u8, u64);
@@ -112,7 +112,7 @@ fn value_positions(
 /// The chosen order of all operations, where each empty answer has its gap.
 pub fn plain_linearization(
     alloc: Global,
-    matching: &Matching,
+    matching: &FilledMatching,
     values: &[MatchedValue],
     gaps: &[u64],
 ) -> Result<Vec<OpId>, AllocError> {

@@ -89,10 +89,11 @@ fn first_gap(alloc: Global, history: &History) -> Result<GapAnswer, Fail> {
     let Matched::Clear(matching) = match_values(alloc, history)? else {
         return Err(Fail::from("a value that was not there, or came twice"));
     };
-    for empty in matching.empties() {
-        return Ok(gap_for(alloc, &matching, *empty)?);
+    let empties = matching.empties();
+    if empties.len() == 0 {
+        return Err(Fail::from("no empty answer"));
     }
-    Err(Fail::from("no empty answer"))
+    Ok(gap_for(alloc, &matching, empties.get(0))?)
 }
 
 #[test]

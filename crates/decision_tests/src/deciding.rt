@@ -111,11 +111,15 @@ pub(crate) fn matching_of<'a>(
 }
 
 /// What is found of the window of the first empty answer.
-fn first_answer(alloc: Global, matching: &Matching) -> Result<Option<GapAnswer>, AllocError> {
-    match matching.empties().first() {
-        None => Ok(None),
-        Some(empty) => Ok(Some(gap_for(alloc, matching, *empty)?)),
+pub(crate) fn first_answer(
+    alloc: Global,
+    matching: &Matching,
+) -> Result<Option<GapAnswer>, AllocError> {
+    let empties = matching.empties();
+    if empties.len() == 0 {
+        return Ok(None);
     }
+    Ok(Some(gap_for(alloc, matching, empties.get(0))?))
 }
 
 /// The kinds of verdict.

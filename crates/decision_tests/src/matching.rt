@@ -207,13 +207,13 @@ fn matches_a_history_without_such_violations(rt: HostRuntime) -> Result<(), Fail
             dequeue: None,
         },
     ];
-    let accepted = matching.values();
+    let accepted = matching.filled().values();
     assert_eq!(rt; accepted.len(), 2);
     for place in 0..2 {
         assert_eq!(rt; accepted.get(place), values[place]);
     }
-    assert_eq!(rt; matching.empties(), [OpId::new(4)].as_slice());
-    assert_eq!(rt; matching.refused(), [OpId::new(3)].as_slice());
+    assert_eq!(rt; matching.filled().empties(), [OpId::new(4)].as_slice());
+    assert_eq!(rt; matching.filled().refused(), [OpId::new(3)].as_slice());
     assert_eq!(rt; matching.operations().len(), 5);
     Ok(())
 }
@@ -238,7 +238,7 @@ fn finds_the_longest_of_the_values_before_a_ticket(rt: HostRuntime) -> Result<()
     let Matched::Clear(matching) = match_values(rt.alloc(), &history)? else {
         panic!(rt; "no violation of the first two kinds");
     };
-    let table = LongestTable::new(rt.alloc(), matching.values())?;
+    let table = LongestTable::new(rt.alloc(), matching.filled().values())?;
     // Up to each limit, the call of the longest value's enqueue.
     let cases = [
         (0, None),

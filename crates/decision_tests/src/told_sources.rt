@@ -1,13 +1,15 @@
 //! Where the values of a verdict come from: an initial value by its place among these, an operation by its own.
 
+use crate::deciding::first_answer;
 use crate::small_histories::{by, history_behind, op};
+use empty_witness::{GapAnswer, WitnessAnswer, find_witness};
 use history_merge::OpKind::{Deq, Empty};
-use history_merge::{OpId, OpKind, Operation};
+use history_merge::{History, OpId, OpKind, Operation};
 use order_violation::{OrderPair, find_order};
 use std::alloc::{AllocError, Global};
 use std::test::Fail;
 use value_match::Source::{Enq, Initial};
-use value_match::{CoverStep, Matched, Source, Violation, match_values};
+use value_match::{CoverStep, Matched, Matching, Places, Source, Violation, match_values};
 use verdicts::{Verdict, decide};
 
 /// The violation of a history of these operations, of a queue that starts with these values.
@@ -162,6 +164,14 @@ fn an_order_lists_operations_alone(rt: HostRuntime) -> Result<(), Fail> {
     Ok(())
 }
 
+/// The matching of a history in which each dequeue is of a value that was there, and none is of the value of another.
+fn matching_of(history: &History, alloc: Global) -> Result<Matching<'_>, Fail> {
+    match match_values(alloc, history)? {
+        Matched::Clear(matching) => Ok(matching),
+        _ => Err(Fail::from("no matching")),
+    }
+}
+
 /// The pair that is found in the matching of a history of these operations, of a queue that starts with these values.
 fn pair_found(
     alloc: Global,
@@ -169,18 +179,15 @@ fn pair_found(
     operations: &[Operation],
 ) -> Result<Option<OrderPair>, Fail> {
     let history = history_behind(alloc, initial, operations)?;
-    match match_values(alloc, &history)? {
-        Matched::Clear(matching) => Ok(find_order(alloc, &matching)?),
-        _ => Err(Fail::from("no matching")),
-    }
+    Ok(find_order(alloc, &matching_of(&history, alloc)?)?)
 }
 
 #[test]
-fn a_finder_names_places_of_the_filled_history(rt: HostRuntime) -> Result<(), Fail> {
+fn a_pair_names_initial_values(rt: HostRuntime) -> Result<(), Fail> {
     let pair = OrderPair {
-        enq_a: Enq(id(0)),
-        enq_b: Enq(id(1)),
-        deq_b: id(2),
+        enq_a: Initial(0),
+        enq_b: Initial(1),
+        deq_b: id(0),
         deq_a: None,
     };
     let found = pair_found(rt.alloc(), &[5, 6], &[op(0, 1, Deq(6))])?;
@@ -189,15 +196,115 @@ fn a_finder_names_places_of_the_filled_history(rt: HostRuntime) -> Result<(), Fa
     Ok(())
 }
 
+/// The value 5 is dequeued; and then come an empty answer and a refused enqueue.
+fn left_empty() -> [Operation; 3] {
+    [op(0, 1, Deq(5)), op(2, 3, Empty), op(4, 5, OpKind::Not(8))]
+}
+
 #[test]
-fn a_matching_has_the_enqueues_of_initial_values(rt: HostRuntime) -> Result<(), Fail> {
-    let history = history_behind(rt.alloc(), &[5], &[op(0, 1, Deq(5)), op(2, 3, Empty)])?;
-    let Matched::Clear(matching) = match_values(rt.alloc(), &history)? else {
-        return Err(Fail::from("no matching"));
-    };
-    let operations = [op(0, 1, enqueued(5)), op(2, 3, Deq(5)), op(4, 5, Empty)];
-    assert_eq!(rt; matching.operations(), operations.as_slice());
-    assert_eq!(rt; matching.values().len(), 1);
-    assert_eq!(rt; matching.empties(), [id(2)].as_slice());
+fn a_matching_shows_the_history(rt: HostRuntime) -> Result<(), Fail> {
+    let history = history_behind(rt.alloc(), &[5], &left_empty())?;
+    let matching = matching_of(&history, rt.alloc())?;
+    assert_eq!(rt; matching.initial(), [5].as_slice());
+    assert_eq!(rt; matching.operations(), left_empty().as_slice());
     Ok(())
+}
+
+#[test]
+fn a_matching_shows_the_filled_history(rt: HostRuntime) -> Result<(), Fail> {
+    let history = history_behind(rt.alloc(), &[5], &left_empty())?;
+    let matching = matching_of(&history, rt.alloc())?;
+    let filled = matching.filled();
+    let first = filled.operations().first().copied();
+    assert_eq!(rt; first, Some(op(0, 1, enqueued(5))));
+    assert_eq!(rt; filled.values().len(), 1);
+    assert_eq!(rt; filled.empties(), [id(2)].as_slice());
+    Ok(())
+}
+
+#[test]
+fn a_matching_names_empty_answers_and_refused_enqueues(rt: HostRuntime) -> Result<(), Fail> {
+    let history = history_behind(rt.alloc(), &[5], &left_empty())?;
+    let matching = matching_of(&history, rt.alloc())?;
+    assert_eq!(rt; only_of(&matching.empties()), Some(id(1)));
+    assert_eq!(rt; only_of(&matching.refused()), Some(id(2)));
+    Ok(())
+}
+
+/// The one place in the list, where there is one.
+fn only_of(places: &Places) -> Option<OpId> {
+    (places.len() == 1).then(|| places.get(0))
+}
+
+#[test]
+fn enqueues_of_initial_values_have_tickets_below_zero(rt: HostRuntime) -> Result<(), Fail> {
+    let history = history_behind(rt.alloc(), &[5, 6], &[op(0, 1, Deq(5))])?;
+    let matching = matching_of(&history, rt.alloc())?;
+    for (clock, ticket) in [(0, -2), (1, -2), (2, -1), (3, -1), (4, 0), (5, 1)] {
+        assert_eq!(rt; matching.ticket(clock), ticket);
+    }
+    Ok(())
+}
+
+/// The gap that is found for the first empty answer, or the sources of the cover of its window.
+fn gap_or_sources(alloc: Global, matching: &Matching) -> Result<(Option<u64>, Vec<Source>), Fail> {
+    match first_answer(alloc, matching)?.ok_or("no empty answer")? {
+        GapAnswer::Free(gap) => Ok((Some(gap), Vec::new(alloc))),
+        GapAnswer::Covered(cover) => {
+            let sources = cover.as_slice().iter().map(|step| step.source);
+            Ok((None, sources.collect(alloc)?))
+        }
+    }
+}
+
+#[test]
+fn a_gap_is_told_by_tickets_of_the_history(rt: HostRuntime) -> Result<(), Fail> {
+    let alloc = rt.alloc();
+    let history = history_behind(
+        alloc,
+        &[5, 6],
+        &[op(0, 1, Deq(5)), by(1, 2, 5, Deq(6)), op(3, 4, Empty)],
+    )?;
+    let (gap, _) = gap_or_sources(alloc, &matching_of(&history, alloc)?)?;
+    assert_eq!(rt; gap, Some(3));
+    let history = history_behind(alloc, &[5, 6], &[op(0, 1, Deq(5)), op(2, 3, Empty)])?;
+    let (gap, sources) = gap_or_sources(alloc, &matching_of(&history, alloc)?)?;
+    assert_eq!(rt; gap, None);
+    assert_eq!(rt; sources.as_slice(), [Initial(1)].as_slice());
+    Ok(())
+}
+
+#[test]
+fn free_gaps_are_told_by_tickets_of_the_history(rt: HostRuntime) -> Result<(), Fail> {
+    let alloc = rt.alloc();
+    let history = history_behind(
+        alloc,
+        &[5],
+        &[op(0, 1, Deq(5)), op(2, 3, Empty), op(4, 5, enqueued(7))],
+    )?;
+    let matching = matching_of(&history, alloc)?;
+    let gaps = match find_witness(alloc, &matching)? {
+        WitnessAnswer::Gaps(gaps) => gaps,
+        WitnessAnswer::Covered { .. } => return Err(Fail::from("a covered window")),
+    };
+    assert_eq!(rt; gaps.as_slice(), [2].as_slice());
+    Ok(())
+}
+
+#[test]
+fn a_covered_answer_is_told_by_its_place_in_the_history(rt: HostRuntime) -> Result<(), Fail> {
+    let alloc = rt.alloc();
+    let history = history_behind(alloc, &[5], &[op(0, 1, enqueued(7)), op(2, 3, Empty)])?;
+    match find_witness(alloc, &matching_of(&history, alloc)?)? {
+        WitnessAnswer::Gaps(_) => Err(Fail::from("no covered window")),
+        WitnessAnswer::Covered { empty, cover } => {
+            let step = CoverStep {
+                source: Initial(0),
+                dequeue: None,
+            };
+            assert_eq!(rt; empty, id(1));
+            assert_eq!(rt; cover.as_slice(), [step].as_slice());
+            Ok(())
+        }
+    }
 }

@@ -3,6 +3,7 @@
 -- Outside, FreeGaps: the least gap of a window outside of the spans, or none: then the window is covered.
 -- Walks, Covers: the walk along a covered window that takes the value that stays longest gives the chosen cover, the shortest.
 -- Answers: the same of all empty answers, and of covered ones the first to return.
+-- Told: what is found of a filled history's windows, told by the history's own places and tickets.
 pub mod Joined
 pub mod Outside
 pub mod ValueSpans
@@ -10,3 +11,4 @@ pub mod Covers
 pub mod FreeGaps
 pub mod Walks
 pub mod Answers
+pub mod Told

@@ -6,12 +6,16 @@ ghost use Rattle.empty_witness.specs.Inner.Covered.{NamesChosenCover};
 
 use history_merge::Operation;
 use std::alloc::{AllocError, Global};
-use value_match::{Cover, CoverStep, LongestTable, Matching, Source};
+use value_match::{Cover, CoverStep, FilledMatching, LongestTable, Source};
 
 /// The chosen cover of a window that is covered.
 ///
 /// Time O(n log n) for n values: a table of them, and a look-up for each step.
-pub fn cover_of(alloc: Global, matching: &Matching, answer: &Operation) -> Result<Cover, AllocError>
+pub fn cover_of(
+    alloc: Global,
+    matching: &FilledMatching,
+    answer: &Operation,
+) -> Result<Cover, AllocError>
     requires is_empty { Did matching.now answer.now Empty }
     requires covered { IsCovered matching.now answer.now }
     ensures { IfOk result (λ cover. NamesChosenCover matching.now answer.now cover) }

@@ -23,7 +23,8 @@ fn first_outside(spans: &[Span], from: u64) -> u64
 /// The least free gap in the window of an operation of a history, if there is one, by the spans of the history.
 pub fn least_free_gap(spans: &[Span], answer: &Operation) -> Option<u64>
     requires { AreApart spans.now }
-    ensures { (operations : List Operation) → AreSpansOf operations spans.now → MatchOption result (IsCovered operations answer.now) (λ c. IsLeastFreeGap operations answer.now c) }
+    ensures { (operations : List Operation) → AreSpansOf operations spans.now
+        → MatchOption result (IsCovered operations answer.now) (λ c. IsLeastFreeGap operations answer.now c) }
 {
     let gap = first_outside(spans, answer.call);
     (gap < answer.ret).then_some(gap)

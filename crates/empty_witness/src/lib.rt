@@ -6,6 +6,7 @@ mod cover;
 mod gaps;
 mod search;
 mod spans;
+mod unfilling;
 
 pub use answer::{GapAnswer, Gaps, WitnessAnswer};
 pub use search::{EmptyAnswer, Windows, find_witness, gap_for, sooner_of, windows_at, witness_of};

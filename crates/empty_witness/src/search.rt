@@ -1,7 +1,8 @@
 ghost use Rattle.std.specs.Prelude.{◌≡◌, ◌++◌, ℕ, List, All, IfOk};
 ghost use Rattle.history_merge.specs.declared.operation.OpKind.TheVariants.{Empty};
 ghost use Rattle.history_merge.specs.Operations.{Did, IsAt};
-ghost use Rattle.empty_witness.specs.Answers.{IsEmptyAnswerAt, IsGapAnswer, IsWitnessAnswer};
+ghost use Rattle.value_match.specs.Filling.{filled_operations};
+ghost use Rattle.empty_witness.specs.Answers.{IsEmptyAnswerAt, IsGapAnswer, IsGapAnswerFrom, IsWitnessAnswer, IsWitnessAnswerFrom};
 ghost use Rattle.empty_witness.specs.Covered.{AreAllWindows, AreWindowsAt, IsFirstCovered, IsSoonerOf};
 ghost use Rattle.empty_witness.specs.Spans.{AreSpansOf};
 
@@ -9,18 +10,19 @@ use crate::answer::{GapAnswer, Gaps, WitnessAnswer};
 use crate::cover::cover_of;
 use crate::gaps::least_free_gap;
 use crate::spans::{Span, spans_of};
+use crate::unfilling::{unfilled_gap_answer, unfilled_witness_answer};
 use history_merge::{OpId, Operation};
 use std::alloc::{AllocError, Global};
-use value_match::Matching;
+use value_match::{FilledMatching, Matching};
 
-/// An empty answer, with its place.
+/// An empty answer of a filled history, with its place there.
 #[derive(Clone, Copy, Debug)]
 pub struct EmptyAnswer {
     pub place: OpId,
     pub operation: Operation,
 }
 
-/// What is found of the windows of some empty answers.
+/// What is found of the windows of some empty answers of a filled history, by its clocks.
 #[derive(Debug, Drop)]
 pub enum Windows {
     /// None is covered: the least free gap of each, in their order.
@@ -31,10 +33,26 @@ pub enum Windows {
 
 /// The least free gap in the window of an empty answer, or the chosen cover of the window.
 ///
-/// Gap c is the place just after ticket c, and an operation's window has the gaps from its call to before its return.
-/// Time O(n log n) for n values, whatever the width of the window: a sort of the values' stays, and one more where the
-/// window is covered. The error is want of memory alone.
+/// Gap c is the place just after ticket c, and an operation's window has the gaps from its call to before its return. Places and
+/// tickets are the history's; a cover names its initial values too. Time O(n log n) for n values, whatever the width of the
+/// window: a sort of the values' stays, and one more where the window is covered. The error is want of memory alone.
 pub fn gap_for(alloc: Global, matching: &Matching, empty: OpId) -> Result<GapAnswer, AllocError>
+    requires { IsEmptyAnswerAt matching.now.operations empty }
+    ensures { IfOk result (IsGapAnswerFrom matching.now.initial matching.now.operations empty) }
+{
+    let initial_count = matching.initial().len();
+    prove!(empty.place() < matching.operations().len());
+    let place = OpId::new(initial_count + empty.place());
+    let answer = gap_in_filled(alloc, matching.filled(), place)?;
+    unfilled_gap_answer(alloc, initial_count, answer)
+}
+
+/// The same of a filled history.
+fn gap_in_filled(
+    alloc: Global,
+    matching: &FilledMatching,
+    empty: OpId,
+) -> Result<GapAnswer, AllocError>
     requires { IsEmptyAnswerAt matching.now empty }
     ensures { IfOk result (λ answer. IsGapAnswer matching.now empty answer) }
 {
@@ -47,24 +65,38 @@ pub fn gap_for(alloc: Global, matching: &Matching, empty: OpId) -> Result<GapAns
 }
 
 /// The least free gap of each empty answer, in the order of their calls, or the chosen empty answer whose window is
-/// covered, with its cover.
+/// covered, with its cover; by the places and tickets of the history.
 ///
 /// Time O((n + m) log n) for n values and m empty answers: the values' stays are sorted once, and each window is one
 /// look-up among them. The error is want of memory alone.
 pub fn find_witness(alloc: Global, matching: &Matching) -> Result<WitnessAnswer, AllocError>
-    ensures { IfOk result (λ answer. IsWitnessAnswer matching.now answer) }
+    ensures { IfOk result (IsWitnessAnswerFrom matching.now.initial matching.now.operations) }
 {
-    let spans = spans_of(alloc, matching)?;
-    let windows = windows_at(alloc, matching, spans.as_slice(), matching.empties())?;
+    let filled = matching.filled();
+    let spans = spans_of(alloc, filled)?;
+    let windows = windows_at(alloc, filled, spans.as_slice(), filled.empties())?;
     witness_of(alloc, matching, windows)
 }
 
-/// The answer of `find_witness`, by what is found of the windows of all empty answers.
+/// The answer of `find_witness`, by what is found of the windows of all empty answers of the filled history.
 ///
 /// Time O(n log n) for n values where a window is covered, for its cover. The error is want of memory alone.
 pub fn witness_of(
     alloc: Global,
     matching: &Matching,
+    windows: Windows,
+) -> Result<WitnessAnswer, AllocError>
+    requires { AreAllWindows (filled_operations matching.now) windows }
+    ensures { IfOk result (IsWitnessAnswerFrom matching.now.initial matching.now.operations) }
+{
+    let answer = witness_in_filled(alloc, matching.filled(), windows)?;
+    unfilled_witness_answer(alloc, matching.initial().len(), answer)
+}
+
+/// The same by the places and clocks of the filled history.
+fn witness_in_filled(
+    alloc: Global,
+    matching: &FilledMatching,
     windows: Windows,
 ) -> Result<WitnessAnswer, AllocError>
     requires { AreAllWindows matching.now windows }
@@ -80,7 +112,7 @@ pub fn witness_of(
 }
 
 /// The empty answer at this place.
-fn answer_at(matching: &Matching, empty: OpId) -> EmptyAnswer
+fn answer_at(matching: &FilledMatching, empty: OpId) -> EmptyAnswer
     requires { IsEmptyAnswerAt matching.now empty }
     ensures place { result.place ≡ empty }
     ensures at { IsAt matching.now empty result.operation }
@@ -103,13 +135,13 @@ pub fn sooner_of(first: EmptyAnswer, second: EmptyAnswer) -> EmptyAnswer
     }
 }
 
-/// What is found of the windows of the empty answers at these places, by the spans of the history: each window is one
+/// What is found of the windows of the empty answers at these places of a filled history, by its spans: each window is one
 /// look-up.
 ///
 /// Time O(m log n) for m places and n spans. The error is want of memory alone.
 pub fn windows_at(
     alloc: Global,
-    matching: &Matching,
+    matching: &FilledMatching,
     spans: &[Span],
     empties: &[OpId],
 ) -> Result<Windows, AllocError>
@@ -133,7 +165,7 @@ pub fn windows_at(
 
 /// Of an empty answer whose window is covered and those of others whose windows are, the one that returned first.
 fn first_covered(
-    matching: &Matching,
+    matching: &FilledMatching,
     spans: &[Span],
     covered: EmptyAnswer,
     others: &[OpId],

@@ -3,7 +3,7 @@ ghost use Rattle.std.specs.List.Sorted.{IsNonDecreasingBy};
 ghost use Rattle.empty_witness.specs.Spans.{AreJoined, AreSpansOf, holds_some, stay_of};
 
 use std::alloc::{AllocError, Global};
-use value_match::{Life, Matching, Values, settle};
+use value_match::{FilledMatching, Life, Values, settle};
 
 /// The gaps from the start to before the end.
 #[derive(Clone, Copy, Debug)]
@@ -15,7 +15,7 @@ pub struct Span {
 /// The spans in which the gaps lie at which some value surely is in the queue, by rising start; no two touch.
 ///
 /// Time O(n log n) for n values.
-pub fn spans_of(alloc: Global, matching: &Matching) -> Result<Vec<Span>, AllocError>
+pub fn spans_of(alloc: Global, matching: &FilledMatching) -> Result<Vec<Span>, AllocError>
     ensures { IfOk result (λ spans. AreSpansOf matching.now spans.items) }
 {
     let mut stays = stays_of(alloc, &matching.values())?;

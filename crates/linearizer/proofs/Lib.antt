@@ -7,6 +7,7 @@
 -- Runs, LegalOrder, OneOrder: by their positions the operations are a run that the queue accepts, the one chosen order.
 -- PlacedValues, Additions, Merging, Keys, Sorting, ChosenPlaces: the lists of placed operations, merged, are that order.
 -- NoneTwice, Partition: each operation stands in one of these lists, once.
+-- Told: the order of a filled history is told by the places of the history, and takes its gaps by tickets.
 pub mod Choices
 pub mod Times
 pub mod Opposites
@@ -33,3 +34,4 @@ pub mod Sorting
 pub mod NoneTwice
 pub mod Partition
 pub mod ChosenPlaces
+pub mod Told

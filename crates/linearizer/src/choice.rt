@@ -6,10 +6,13 @@ ghost use Rattle.linearizer.specs.Inner.Sweep.{TakesOneOf};
 
 use crate::timed::{Moment, Timed, by_time, first_left};
 use std::alloc::{AllocError, Global};
-use value_match::{Matching, Values};
+use value_match::{FilledMatching, Values};
 
 /// The accepted values in their chosen order, as their places in `matching.values()`.
-pub(crate) fn ordered_places(alloc: Global, matching: &Matching) -> Result<Vec<usize>, AllocError>
+pub(crate) fn ordered_places(
+    alloc: Global,
+    matching: &FilledMatching,
+) -> Result<Vec<usize>, AllocError>
     ensures clear { IsClear matching.now }
     ensures order { IfOk result (λ places. IsOrderOfPlaces matching.now places.items) }
 {

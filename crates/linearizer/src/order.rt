@@ -1,25 +1,82 @@
-ghost use Rattle.std.specs.Prelude.{IfOk};
-ghost use Rattle.value_match.specs.Violations.{NoOrderViolation};
+ghost use Rattle.std.specs.Prelude.{◌≡◌, ◌≤◌, All, IfOk, filter_map, map};
+ghost use Rattle.event_records.specs.declared.limits.TheConstants.{MAX_CLOCK};
+ghost use Rattle.value_match.specs.Filling.{filled_gap, filled_operations};
 ghost use Rattle.value_match.specs.Lives.{AreLeastFreeGaps};
-ghost use Rattle.linearizer.specs.Order.{AreChosenAndLegal};
+ghost use Rattle.value_match.specs.Unfilling.{place_behind};
+ghost use Rattle.value_match.specs.Violations.{NoOrderViolation};
+ghost use Rattle.linearizer.specs.Order.{AreChosenAndLegal, AreChosenAndLegalFrom, AreLeastFreeGapsFrom};
 
 use crate::placing::{idles_of, merge};
 use history_merge::OpId;
 use std::alloc::{AllocError, Global};
-use value_match::Matching;
+use value_match::{FilledMatching, Matching};
 
 /// The chosen order of all operations of a history without violations, as their places in
-/// `matching.operations()`. The queue accepts it, and it keeps precedence (Herlihy and Wing 1990).
+/// `matching.operations()`. The queue, which holds the initial values first, accepts it, and it keeps precedence (Herlihy and
+/// Wing 1990).
 ///
 /// Of two operations the one at the lower gap stands first, where gap `c` is the time between
 /// tickets `c` and `c + 1`. `gaps` has the least free gap of each empty answer, in the order of
 /// their calls. The only error is want of memory, of which the call takes a few words for each accepted value, empty answer
-/// and refused enqueue, and one for each operation. Its time grows as that of a sort.
+/// and refused enqueue, and one for each operation; where there are initial values, one more for each operation and empty answer.
+/// Its time grows as that of a sort.
 pub fn linearize(alloc: Global, matching: &Matching, gaps: &[u64]) -> Result<Vec<OpId>, AllocError>
+    requires no_order_violation { NoOrderViolation (filled_operations matching.now) }
+    requires least_free_gaps { AreLeastFreeGapsFrom matching.now.initial matching.now.operations gaps.now }
+    ensures { IfOk result (λ places. AreChosenAndLegalFrom matching.now.initial matching.now.operations places.items) }
+{
+    let initial_count = matching.initial().len();
+    if initial_count == 0 {
+        return order_in_filled(alloc, matching.filled(), gaps);
+    }
+    let clocks = filled_gaps(alloc, initial_count, gaps)?;
+    let places = order_in_filled(alloc, matching.filled(), clocks.as_slice())?;
+    unfilled_order(alloc, initial_count, places.as_slice())
+}
+
+/// The same of a filled history.
+fn order_in_filled(
+    alloc: Global,
+    matching: &FilledMatching,
+    gaps: &[u64],
+) -> Result<Vec<OpId>, AllocError>
     requires no_order_violation { NoOrderViolation matching.now }
     requires least_free_gaps { AreLeastFreeGaps matching.now gaps.now }
     ensures { IfOk result (λ places. AreChosenAndLegal matching.now places.items) }
 {
     let idles = idles_of(alloc, matching, gaps)?;
     merge(alloc, matching, &idles)
+}
+
+/// The gaps by the clocks of the filled history.
+fn filled_gaps(alloc: Global, initial_count: usize, gaps: &[u64]) -> Result<Vec<u64>, AllocError>
+    requires { All (λ gap. filled_gap initial_count gap ≤ MAX_CLOCK) gaps.now }
+    ensures { IfOk result (λ clocks. clocks.items ≡ map (filled_gap initial_count) gaps.now) }
+{
+    let mut clocks = Vec::with_capacity(alloc, gaps.len())?;
+    for gap in gaps {
+        clocks.push(*gap + 2 * initial_count as u64)?;
+    }
+    Ok(clocks)
+}
+
+/// The places of an order without the enqueues of the initial values.
+fn unfilled_order(
+    alloc: Global,
+    initial_count: usize,
+    places: &[OpId],
+) -> Result<Vec<OpId>, AllocError>
+    ensures { IfOk result (λ told. told.items ≡ filter_map (place_behind initial_count) places.now) }
+{
+    places
+        .iter()
+        .filter_map(|place| place_behind(initial_count, *place))
+        .collect(alloc)
+}
+
+/// The place, where it is behind the initial values.
+fn place_behind(initial_count: usize, place: OpId) -> Option<OpId>
+    ensures { result ≡ place_behind initial_count place }
+{
+    place.place().checked_sub(initial_count).map(OpId::new)
 }

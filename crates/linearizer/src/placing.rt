@@ -11,14 +11,14 @@ use crate::choice::ordered_places;
 use crate::position::{Placed, Position};
 use history_merge::OpId;
 use std::alloc::{AllocError, Global};
-use value_match::{Matching, NEVER};
+use value_match::{FilledMatching, NEVER};
 
 /// The operations by rising position.
 ///
 /// The enqueues rise, the dequeues do, and the idle operations are sorted: the three lists are merged.
 pub(crate) fn merge(
     alloc: Global,
-    matching: &Matching,
+    matching: &FilledMatching,
     idles: &[Placed],
 ) -> Result<Vec<OpId>, AllocError>
     requires { NeverFall idles.now }
@@ -52,7 +52,11 @@ pub(crate) struct Merged {
 }
 
 /// The gap of the enqueue of each value, in the order of the values.
-fn enqueue_gaps(alloc: Global, matching: &Matching, order: &[usize]) -> Result<Vec<u64>, AllocError>
+fn enqueue_gaps(
+    alloc: Global,
+    matching: &FilledMatching,
+    order: &[usize],
+) -> Result<Vec<u64>, AllocError>
     requires { IsOrderOfPlaces matching.now order.now }
     ensures { IfOk result (λ gaps. AreEnqueueGaps (lives_at matching.now order.now) gaps.items) }
 {
@@ -69,7 +73,7 @@ fn enqueue_gaps(alloc: Global, matching: &Matching, order: &[usize]) -> Result<V
 /// Adds the enqueues in the order of the values, each after the other operations that stand before it.
 fn place_enqueues(
     places: &mut Vec<OpId>,
-    matching: &Matching,
+    matching: &FilledMatching,
     order: &[usize],
     gaps: &[u64],
     idles: &[Placed],
@@ -78,7 +82,8 @@ fn place_enqueues(
     requires order { IsOrderOfPlaces matching.now order.now }
     requires gaps { AreEnqueueGaps (lives_at matching.now order.now) gaps.now }
     requires idles { NeverFall idles.now }
-    ensures { IfOk result (λ so_far. IsMergedUpTo matching.now (lives_at matching.now order.now) idles.now (length order.now) so_far.dequeues so_far.left so_far.idles places.new.items) }
+    ensures { IfOk result (λ so_far. IsMergedUpTo matching.now (lives_at matching.now order.now) idles.now (length order.now)
+        so_far.dequeues so_far.left so_far.idles places.new.items) }
 {
     let values = matching.values();
     let mut so_far = Merged {
@@ -101,7 +106,7 @@ fn place_enqueues(
 fn place_dequeues(
     places: &mut Vec<OpId>,
     so_far: &mut Merged,
-    matching: &Matching,
+    matching: &FilledMatching,
     order: &[usize],
     gaps: &[u64],
     idles: &[Placed],
@@ -149,7 +154,8 @@ fn place_idles(
 ) -> Result<(), AllocError>
     requires { NeverFall idles.now }
     ensures adds { OnOk result ((operations : List Operation) (lives : List Life) (i j left : ℕ) → NoneBelow (IsValueFrom lives i j) before
-        → IsMergedUpTo operations lives idles.now i j left count.old places.old.items → IsMergedUpTo operations lives idles.now i j left count.new places.new.items) }
+        → IsMergedUpTo operations lives idles.now i j left count.old places.old.items
+        → IsMergedUpTo operations lives idles.now i j left count.new places.new.items) }
     ensures up_to { OnOk result (NoneBelow (IsIdleFrom idles.now count.new) before) }
 {
     while *count < idles.len() {
@@ -176,7 +182,7 @@ fn stands_after(placed: &Placed, position: Option<Position>) -> bool
 /// The empty answers and the refused enqueues, by rising position.
 pub(crate) fn idles_of(
     alloc: Global,
-    matching: &Matching,
+    matching: &FilledMatching,
     gaps: &[u64],
 ) -> Result<Vec<Placed>, AllocError>
     requires { AreLeastFreeGaps matching.now gaps.now }
@@ -193,7 +199,7 @@ pub(crate) fn idles_of(
 /// Adds the empty answers.
 fn place_empties(
     placed: &mut Vec<Placed>,
-    matching: &Matching,
+    matching: &FilledMatching,
     gaps: &[u64],
 ) -> Result<(), AllocError>
     requires { AreLeastFreeGaps matching.now gaps.now }
@@ -208,7 +214,7 @@ fn place_empties(
 }
 
 /// Adds the refused enqueues.
-fn place_refused(placed: &mut Vec<Placed>, matching: &Matching) -> Result<(), AllocError>
+fn place_refused(placed: &mut Vec<Placed>, matching: &FilledMatching) -> Result<(), AllocError>
     ensures { OnOk result (Adds matching.now (filter is_refused matching.now) placed.old.items placed.new.items) }
 {
     let operations = matching.operations();

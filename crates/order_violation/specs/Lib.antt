@@ -1,2 +1,3 @@
 pub mod Overtaking
 pub mod Pairs
+pub mod Inner

@@ -1,8 +1,10 @@
 -- A pair of values dequeued against the order of their enqueues.
-use Rattle.std.specs.Prelude.{Option, None, Some, List}
+use Rattle.std.specs.Prelude.{ℕ, Option, None, Some, List, length, option_map}
 use Rattle.history_merge.specs.declared.operation.Operation.{Operation}
+use Rattle.history_merge.specs.Initial.{filled}
 use Rattle.history_merge.specs.Operations.{IsAt}
 use Rattle.value_match.specs.Lives.{IsMaybeAt}
+use Rattle.value_match.specs.Filling.{behind, filled_source}
 use Rattle.value_match.specs.Outcome.{IsSource}
 use Rattle.value_match.specs.Violations.{NoOrderViolation}
 use Rattle.value_match.specs.Choice.{IsChosenOrderViolation}
@@ -24,3 +26,16 @@ pub record IsChosenPair (operations : List Operation) (pair : OrderPair) : Type 
 abbrev pub IsOrderAnswer : List Operation → Option OrderPair → Type 0
 IsOrderAnswer operations None = NoOrderViolation operations
 IsOrderAnswer operations (Some pair) = IsChosenPair operations pair
+
+-- the pair by the places of the filled history
+abbrev pub filled_pair : ℕ → OrderPair → OrderPair
+filled_pair initial_count pair = record {
+  enq_a = filled_source initial_count pair.enq_a;
+  enq_b = filled_source initial_count pair.enq_b;
+  deq_b = behind initial_count pair.deq_b;
+  deq_a = option_map (behind initial_count) pair.deq_a;
+}
+
+-- the chosen pair of a history, or none: as it is in its filled history
+abbrev pub IsOrderAnswerFrom : List ℕ → List Operation → Option OrderPair → Type 0
+IsOrderAnswerFrom initial operations found = IsOrderAnswer (filled initial operations) (option_map (filled_pair (length initial)) found)

@@ -1,5 +1,5 @@
 ghost use Rattle.std.specs.Prelude.{◌≡◌, ◌≤◌, IfOk};
-ghost use Rattle.order_violation.specs.Pairs.{IsOrderAnswer};
+ghost use Rattle.order_violation.specs.Pairs.{IsOrderAnswerFrom};
 ghost use Rattle.parallel_finders.specs.declared.TheConstants.{MAX_PIECES};
 
 use crate::MIN_ITEMS;
@@ -22,9 +22,9 @@ pub fn find_order_par<R: Threads + Sync>(
     pieces: usize,
 ) -> Result<Option<OrderPair>, AllocError>
     requires { (1 ≤ pieces) × (pieces ≤ MAX_PIECES) }
-    ensures { IfOk result (λ found. IsOrderAnswer matching.now found) }
+    ensures { IfOk result (IsOrderAnswerFrom matching.now.initial matching.now.operations) }
 {
-    if matching.values().len() < MIN_ITEMS {
+    if matching.filled().values().len() < MIN_ITEMS {
         find_order(alloc, matching)
     } else {
         order_in_pieces(rt, alloc, matching, pieces)
@@ -38,11 +38,11 @@ pub fn order_in_pieces<R: Threads + Sync>(
     matching: &Matching,
     pieces: usize,
 ) -> Result<Option<OrderPair>, AllocError>
-    ensures { IfOk result (λ found. IsOrderAnswer matching.now found) }
+    ensures { IfOk result (IsOrderAnswerFrom matching.now.initial matching.now.operations) }
 {
-    let table = table_of(rt, alloc, matching.values())?;
+    let table = table_of(rt, alloc, matching.filled().values())?;
     let first = first_overtaking_par(rt, &table, table.values(), pieces);
-    Ok(chosen_pair(&table, first))
+    Ok(chosen_pair(matching, &table, first))
 }
 
 /// The table of these values.

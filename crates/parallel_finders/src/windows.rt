@@ -10,14 +10,14 @@ use empty_witness::{EmptyAnswer, Span, Windows, sooner_of, windows_at};
 use history_merge::OpId;
 use std::alloc::{AllocError, Global};
 use std::thread::{Threads, join};
-use value_match::Matching;
+use value_match::FilledMatching;
 
 /// What is found of the windows of the empty answers at these places, searched in pieces.
 #[cycle(halves)]
 pub fn windows_at_par<R: Threads + Sync>(
     rt: &R,
     alloc: Global,
-    matching: &Matching,
+    matching: &FilledMatching,
     spans: &[Span],
     empties: &[OpId],
     pieces: usize,

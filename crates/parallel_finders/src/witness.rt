@@ -1,5 +1,5 @@
 ghost use Rattle.std.specs.Prelude.{◌≤◌, IfOk};
-ghost use Rattle.empty_witness.specs.Answers.{IsWitnessAnswer};
+ghost use Rattle.empty_witness.specs.Answers.{IsWitnessAnswerFrom};
 ghost use Rattle.empty_witness.specs.Spans.{AreSpansOf};
 ghost use Rattle.parallel_finders.specs.declared.TheConstants.{MAX_PIECES};
 
@@ -9,7 +9,7 @@ use crate::windows::windows_at_par;
 use empty_witness::{Span, WitnessAnswer, find_witness, join_spans, stays_of, witness_of};
 use std::alloc::{AllocError, Global};
 use std::thread::Threads;
-use value_match::Matching;
+use value_match::{FilledMatching, Matching};
 
 /// What `find_witness` answers, by a search in pieces that may run at once.
 ///
@@ -24,12 +24,12 @@ pub fn find_witness_par<R: Threads + Sync>(
     pieces: usize,
 ) -> Result<WitnessAnswer, AllocError>
     requires { (1 ≤ pieces) × (pieces ≤ MAX_PIECES) }
-    ensures { IfOk result (λ answer. IsWitnessAnswer matching.now answer) }
+    ensures { IfOk result (IsWitnessAnswerFrom matching.now.initial matching.now.operations) }
 {
-    if matching.values().len() < MIN_ITEMS {
+    if matching.filled().values().len() < MIN_ITEMS {
         return find_witness(alloc, matching);
     }
-    let few = matching.empties().len() < MIN_ITEMS;
+    let few = matching.filled().empties().len() < MIN_ITEMS;
     witness_in_pieces(rt, alloc, matching, if few { 1 } else { pieces })
 }
 
@@ -40,15 +40,16 @@ pub fn witness_in_pieces<R: Threads + Sync>(
     matching: &Matching,
     pieces: usize,
 ) -> Result<WitnessAnswer, AllocError>
-    ensures { IfOk result (λ answer. IsWitnessAnswer matching.now answer) }
+    ensures { IfOk result (IsWitnessAnswerFrom matching.now.initial matching.now.operations) }
 {
-    let spans = spans_of_par(rt, alloc, matching)?;
+    let filled = matching.filled();
+    let spans = spans_of_par(rt, alloc, filled)?;
     let windows = windows_at_par(
         rt,
         alloc,
-        matching,
+        filled,
         spans.as_slice(),
-        matching.empties(),
+        filled.empties(),
         pieces,
     )?;
     witness_of(alloc, matching, windows)
@@ -58,7 +59,7 @@ pub fn witness_in_pieces<R: Threads + Sync>(
 fn spans_of_par<R: Threads + Sync>(
     rt: &R,
     alloc: Global,
-    matching: &Matching,
+    matching: &FilledMatching,
 ) -> Result<Vec<Span>, AllocError>
     ensures { IfOk result (λ spans. AreSpansOf matching.now spans.items) }
 {

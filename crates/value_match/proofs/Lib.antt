@@ -4,6 +4,7 @@
 -- ReturnOrder, TakenPlaces, RepeatedDequeues: two dequeues of one source, the chosen pair of them first.
 -- MatchedDequeues, Lives: the one dequeue of each accepted value; the lives that there are, each once.
 -- FilledOperations: those of a filled history, which are matched where there are initial values.
+-- FilledLines, CoverLives, Unfilled: what is found of a filled history is found of the history, by its own places.
 -- SortedOut: all operations sorted out into values, empty answers and refused enqueues.
 -- Longest, Fronts: of the values whose enqueues returned before a ticket the one that stays longest.
 pub mod Lists
@@ -18,3 +19,6 @@ pub mod RepeatedDequeues
 pub mod MatchedDequeues
 pub mod SortedOut
 pub mod Fronts
+pub mod FilledLines
+pub mod CoverLives
+pub mod Unfilled

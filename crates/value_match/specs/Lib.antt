@@ -5,4 +5,6 @@ pub mod Accepted
 pub mod Outcome
 pub mod Longest
 pub mod Fronts
+pub mod Filling
+pub mod Unfilling
 pub mod Inner

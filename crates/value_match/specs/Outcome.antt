@@ -1,7 +1,8 @@
 -- What a violation names, and what matching answers.
-use Rattle.std.specs.Prelude.{◌≡◌, List, Option}
+use Rattle.std.specs.Prelude.{◌≡◌, ℕ, List, Option, length}
 use Rattle.std.specs.List.{AllZip}
 use Rattle.history_merge.specs.declared.operation.Operation.{Operation}
+use Rattle.history_merge.specs.Initial.{filled}
 use Rattle.history_merge.specs.Operations.{IsAt}
 use Rattle.value_match.specs.declared.life.Life.{Life}
 use Rattle.value_match.specs.declared.violation.CoverStep.{CoverStep}
@@ -14,6 +15,7 @@ use Rattle.value_match.specs.declared.matching.Matched.TheVariants as matched
 use Rattle.value_match.specs.Lives.{IsMaybeAt, dequeue_of, enqueue_of}
 use Rattle.value_match.specs.Violations.{Breach, fresh, repeat, order, witness, IsClear}
 use Rattle.value_match.specs.Choice.{IsChosenBreach}
+use Rattle.value_match.specs.Filling.{filled_violation}
 
 -- the source is this enqueue: operations alone have no initial values
 abbrev pub IsSource : List Operation → Source → Operation → Type 0
@@ -49,8 +51,12 @@ NamesChosenRepeat operations violation =
     (enq : Operation) × (first : Operation) × (second : Operation) × Names operations violation (repeat enq first second)
     × IsChosenBreach operations (repeat enq first second)
 
--- a matching where the first two kinds of violation are absent, else the chosen violation of the first of them
-abbrev pub IsMatchedOf : List Operation → Matched → Type 0
-IsMatchedOf operations (matched.Clear matching) = (matching ≡ operations) × IsClear operations
-IsMatchedOf operations (matched.Fresh violation) = NamesChosenFresh operations violation
-IsMatchedOf operations (matched.Repeat violation) = NamesChosenRepeat operations violation
+-- a matching of the history where the first two kinds of violation are absent in its filled history, else the chosen violation of
+-- the first of them
+abbrev pub IsMatchedFrom : List ℕ → List Operation → Matched → Type 0
+IsMatchedFrom initial operations (matched.Clear matching) =
+    (matching ≡ record { initial = initial; operations = operations }) × IsClear (filled initial operations)
+IsMatchedFrom initial operations (matched.Fresh violation) =
+    NamesChosenFresh (filled initial operations) (filled_violation (length initial) violation)
+IsMatchedFrom initial operations (matched.Repeat violation) =
+    NamesChosenRepeat (filled initial operations) (filled_violation (length initial) violation)

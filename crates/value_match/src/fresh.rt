@@ -70,7 +70,8 @@ fn sooner(operations: &[Operation], place: Option<usize>, other: usize) -> usize
     requires place { IfSome place (λ p. p < length operations.now) }
     requires other { other < length operations.now }
     ensures none { place ≡ None → result ≡ other }
-    ensures some { IfSome place (λ p. (o x : Operation) → IsAt operations.now p o → IsAt operations.now other x → result ≡ (if nat_lt o.ret x.ret then p else other)) }
+    ensures some { IfSome place (λ p. (o x : Operation) → IsAt operations.now p o → IsAt operations.now other x
+        → result ≡ (if nat_lt o.ret x.ret then p else other)) }
 {
     match place {
         Some(place) if operations[place].ret < operations[other].ret => place,

@@ -29,7 +29,8 @@ pub(crate) fn is_called_at(operations: &[Operation], value: u64, place: usize) -
 /// The place that the value's name tells, where the value was called there.
 #[inline(always)]
 pub(crate) fn named_place(operations: &[Operation], names: &Names, value: u64) -> Option<usize>
-    ensures { MatchOption result (¬ (IsNamed operations.now names.now value)) (λ place. (place ≡ place_of names.now value) × IsNamed operations.now names.now value) }
+    ensures { MatchOption result (¬ (IsNamed operations.now names.now value))
+        (λ place. (place ≡ place_of names.now value) × IsNamed operations.now names.now value) }
 {
     let place = names.place_of(value);
     if is_called_at(operations, value, place) {

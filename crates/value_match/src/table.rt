@@ -155,7 +155,8 @@ fn longer_place(values: &Values, so_far: Option<usize>, place: usize) -> usize
     requires so_far { IfSome so_far (λ p. p < length values.now) }
     requires place { place < length values.now }
     ensures within { result < length values.now }
-    ensures longer { (d : MatchedValue) → MatchOption so_far (result ≡ place) (λ p. IsLongerOf (slice_index_or values.now p d) (slice_index_or values.now place d) (slice_index_or values.now result d)) }
+    ensures longer { (d : MatchedValue) → MatchOption so_far (result ≡ place)
+        (λ p. IsLongerOf (slice_index_or values.now p d) (slice_index_or values.now place d) (slice_index_or values.now result d)) }
 {
     match so_far {
         Some(longest) if stays_at_least(values, longest, place) => longest,

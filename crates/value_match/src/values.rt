@@ -1,8 +1,10 @@
-ghost use Rattle.std.specs.Prelude.{◌≡◌, ◌<◌, ◌≤◌, ◌^◌, IfOk, IfSome, length};
+ghost use Rattle.std.specs.Prelude.{◌≡◌, ◌<◌, ◌≤◌, ◌^◌, IfOk, IfSome, List, length};
+ghost use Rattle.event_records.specs.declared.event.Event.{Event};
+ghost use Rattle.event_records.specs.declared.limits.TheConstants.{MAX_EVENTS, MAX_INITIAL};
 ghost use Rattle.history_merge.specs.Complete.{AreComplete};
-ghost use Rattle.history_merge.specs.Initial.{filled};
+ghost use Rattle.history_merge.specs.Initial.{IsCompleteFrom, filled};
 ghost use Rattle.history_merge.specs.Operations.{operations_of};
-ghost use Rattle.value_match.specs.Outcome.{IsMatchedOf};
+ghost use Rattle.value_match.specs.Outcome.{IsMatchedFrom};
 ghost use Rattle.value_match.specs.Inner.Found.{IsFoundOf};
 ghost use Rattle.value_match.specs.Inner.Matchable.{IsSortedOutOf, operations_in};
 ghost use Rattle.value_match.specs.Inner.Sources.{HoldsDequeues};
@@ -10,11 +12,12 @@ ghost use Rattle.value_match.specs.Violations.{IsClear};
 
 use crate::accepted::Pair;
 use crate::fresh::find_fresh;
-use crate::matching::{MAX_MATCHED, Matchable, Matched, Matching, SortedOut};
+use crate::matching::{FilledMatching, MAX_MATCHED, Matchable, Matched, Matching, SortedOut};
 use crate::maybe_place::MaybePlace;
 use crate::repeat::find_repeat;
 use crate::sources::sources_of;
 use crate::takers::takers_of;
+use crate::unfilling::unfilled_violation;
 use crate::violation::Violation;
 use history_merge::{History, OpId, OpKind, Operation, fill};
 use std::alloc::{AllocError, Global};
@@ -33,8 +36,8 @@ pub(crate) enum Found {
 /// where a value was dequeued twice: the value whose second dequeue returns first, with its first two dequeues by
 /// return. Else `Clear`. The error is want of memory alone.
 ///
-/// Initial values count as enqueued before all else: what is matched, and named by its places, are the operations of the filled
-/// history, as `fill` of `history_merge` gives them.
+/// Initial values count as enqueued before all else: what is matched are the operations of the filled history, as `fill` of
+/// `history_merge` gives them. A violation names the history's own operations and initial values.
 ///
 /// Time O(n) for n operations of values that have a recorder's names, or leave nearly in the order of their calls; else the
 /// calls of the others are sorted by value, O(n log n). Where a value is dequeued twice, O(n log n) for a sort by return.
@@ -42,36 +45,62 @@ pub(crate) enum Found {
 /// each operation, and two more for each call or dequeue that is sorted. Where there are initial values the answer holds the
 /// filled history's operations.
 pub fn match_values(alloc: Global, history: &History) -> Result<Matched<'_>, AllocError>
-    ensures { IfOk result (λ matched. IsMatchedOf (filled history.now.initial (operations_of history.now.events)) matched) }
+    ensures { IfOk result (IsMatchedFrom history.now.initial (operations_of history.now.events)) }
 {
-    let initial = history.initial();
+    match_from(alloc, history.initial(), history.operations())
+}
+
+/// The same of the initial values and the operations of a history, where its events aren't kept.
+pub fn match_from<'a>(
+    alloc: Global,
+    initial: &'a [u64],
+    operations: &'a [Operation],
+) -> Result<Matched<'a>, AllocError>
+    requires history { (events : List Event) × IsCompleteFrom initial.now events × (operations.now ≡ operations_of events) }
+    requires few_initial { length initial.now ≤ MAX_INITIAL }
+    requires few { length operations.now ≤ MAX_EVENTS }
+    ensures { IfOk result (IsMatchedFrom initial.now operations.now) }
+{
     if initial.is_empty() {
-        return match_operations(alloc, history.operations());
+        let found = find(alloc, operations)?;
+        return matched(
+            alloc,
+            initial,
+            operations,
+            Matchable::Lent(operations),
+            found,
+        );
     }
-    let operations = fill(alloc, initial, history.operations())?;
-    let found = find(alloc, operations.as_slice())?;
-    Ok(matched(Matchable::Own(operations), found))
+    let filled = fill(alloc, initial, operations)?;
+    let found = find(alloc, filled.as_slice())?;
+    matched(alloc, initial, operations, Matchable::Own(filled), found)
 }
 
-/// The same of the operations of a queue that is empty first.
-pub fn match_operations(alloc: Global, operations: &[Operation]) -> Result<Matched<'_>, AllocError>
-    requires complete { AreComplete operations.now }
-    requires few { length operations.now ≤ MAX_MATCHED }
-    ensures { IfOk result (λ matched. IsMatchedOf operations.now matched) }
-{
-    let found = find(alloc, operations)?;
-    Ok(matched(Matchable::Lent(operations), found))
-}
-
-/// What is found of these operations, with them.
-fn matched<'a>(operations: Matchable<'a>, found: Found) -> Matched<'a>
-    requires { IsFoundOf (operations_in operations) found }
-    ensures { IsMatchedOf (operations_in operations.entry) result }
+/// What is found of a history, by what is found of its filled history.
+fn matched<'a>(
+    alloc: Global,
+    initial: &'a [u64],
+    operations: &'a [Operation],
+    all: Matchable<'a>,
+    found: Found,
+) -> Result<Matched<'a>, AllocError>
+    requires all { operations_in all ≡ filled initial.now operations.now }
+    requires found { IsFoundOf (operations_in all) found }
+    ensures { IfOk result (IsMatchedFrom initial.now operations.now) }
 {
     match found {
-        Found::Clear(sorted) => Matched::Clear(Matching::new(operations, sorted)),
-        Found::Fresh(violation) => Matched::Fresh(violation),
-        Found::Repeat(violation) => Matched::Repeat(violation),
+        Found::Clear(sorted) => {
+            let matching = FilledMatching::new(all, sorted);
+            Ok(Matched::Clear(Matching::new(initial, operations, matching)))
+        }
+        Found::Fresh(violation) => {
+            let told = unfilled_violation(alloc, initial.len(), violation)?;
+            Ok(Matched::Fresh(told))
+        }
+        Found::Repeat(violation) => {
+            let told = unfilled_violation(alloc, initial.len(), violation)?;
+            Ok(Matched::Repeat(told))
+        }
     }
 }
 

@@ -3,8 +3,7 @@ use history_merge::OpId;
 
 /// Where an accepted value comes from.
 ///
-/// What is found of operations alone names enqueues. What `decide` of `verdicts` answers of a queue that held values first
-/// names these too.
+/// What is found of a filled history names enqueues alone; what is told of a history names its initial values too.
 #[derive(Clone, Copy, Debug, PartialEq, Eq)]
 pub enum Source {
     /// The accepted enqueue at this place among the operations.

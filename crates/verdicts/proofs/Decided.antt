@@ -1,38 +1,59 @@
 -- A chosen violation decides a history, and so does a chosen order that is legal.
-use Rattle.std.proofs.Common.{◌≡◌, ◌⊎◌, ℕ, List, Option, None, Some, refl, subst, inl, inr}
+use Rattle.std.proofs.Common.{◌≡◌, ◌⊎◌, ◌<◌, ℕ, List, Option, None, Some, length, map, refl, subst, inl, inr}
+use Rattle.std.specs.Prelude.{All}
+use Rattle.std.proofs.lemmas.List.Elements.{All-map}
 use Rattle.history_merge.specs.declared.operation.Operation.{Operation}
 use Rattle.history_merge.specs.Complete.{AreComplete}
+use Rattle.history_merge.specs.Initial.{filled}
+use Rattle.history_merge.proofs.Filled.{linearizable_from_exactly}
 use Rattle.value_match.specs.declared.violation.Violation.{Violation}
 use Rattle.value_match.specs.declared.violation.Violation.TheVariants as violation
 use Rattle.value_match.specs.declared.violation.CoverStep.{CoverStep}
-use Rattle.value_match.specs.Violations.{fresh, repeat, order, witness, IsClear, NoOrderViolation}
+use Rattle.value_match.specs.Violations.{fresh, repeat, order, witness, IsClear, NoOrderViolation, lines_of}
 use Rattle.value_match.specs.declared.matching.Matched.{Matched}
 use Rattle.value_match.specs.declared.matching.Matched.TheVariants as matched
-use Rattle.value_match.specs.Outcome.{IsChosenViolation, IsMatchedOf}
+use Rattle.value_match.specs.Outcome.{IsChosenViolation, IsMatchedFrom}
 use Rattle.order_violation.specs.declared.pair.OrderPair.{OrderPair}
-use Rattle.order_violation.specs.Pairs.{IsChosenPair, IsOrderAnswer}
+use Rattle.order_violation.specs.Pairs.{IsChosenPair, IsOrderAnswerFrom}
 use Rattle.empty_witness.specs.declared.answer.WitnessAnswer.TheVariants as found
 use Rattle.empty_witness.specs.Answers.{IsWitnessAnswer}
-use Rattle.linearizer.specs.Order.{AreChosenAndLegal}
+use Rattle.linearizer.specs.Order.{AreChosenAndLegalFrom}
+use Rattle.verdicts.specs.declared.shown.LinePlace.TheVariants as place
 use Rattle.verdicts.specs.declared.verdict.Verdict.TheVariants.{Yes, No}
-use Rattle.verdicts.specs.Inner.Decided.{IsDecided}
+use Rattle.verdicts.specs.Claiming.{IsPlaceWithin}
+use Rattle.verdicts.specs.Inner.Decided.{IsDecidedFrom}
+use Rattle.verdicts.specs.Shown.{places_of}
+use Rattle.verdicts.specs.Verdicts.{IsChosenFrom}
 use Rattle.verdicts.proofs.Excludes.{breach_excludes_order}
 use Rattle.verdicts.proofs.Chosen.{chosen_is_breach}
+use Rattle.verdicts.proofs.NamedPlaces.{all_within, each_shown, in_range}
 
 -- a chosen violation decides
-pub no_is_decided : (operations : List Operation) (violation : Violation) → AreComplete operations → IsChosenViolation operations violation
-    → IsDecided operations (No violation)
-no_is_decided operations violation complete chosen =
-    let breach = chosen_is_breach operations chosen.0 complete chosen.2 in
-    record { chosen = chosen; evidence = (chosen.0, chosen.1, breach); exact = λ linear. breach_excludes_order operations chosen.0 complete breach linear }
+pub no_is_decided : (initial : List ℕ) (operations : List Operation) (violation : Violation) → AreComplete (filled initial operations)
+    → IsChosenFrom initial operations violation → IsDecidedFrom initial operations (No violation)
+no_is_decided initial operations violation complete chosen =
+    let all = filled initial operations in
+    let breach = chosen_is_breach all chosen.0 complete chosen.2 in
+    record {
+      chosen = chosen;
+      evidence = (chosen.0, chosen.1, breach);
+      exact = λ exists. breach_excludes_order all chosen.0 complete breach ((linearizable_from_exactly initial operations).0 exists);
+      places = all_within initial operations (places_of violation) (lines_of chosen.0) (each_shown initial operations violation chosen.0 chosen.1);
+    }
+
+-- places of operations
+all_operations : (initial : List ℕ) (operations : List Operation) (places : List ℕ) → All (λ p. p < length operations) places
+    → All (IsPlaceWithin initial operations) (map place.Op places)
+all_operations initial operations places each = All-map (IsPlaceWithin initial operations) place.Op places each
 
 -- a chosen order decides
-pub yes_is_decided : (operations : List Operation) (places : List ℕ) → AreChosenAndLegal operations places → IsDecided operations (Yes places)
-yes_is_decided operations places chosen = record {
+pub yes_is_decided : (initial : List ℕ) (operations : List Operation) (places : List ℕ) → AreChosenAndLegalFrom initial operations places
+    → IsDecidedFrom initial operations (Yes places)
+yes_is_decided initial operations places chosen = record {
   chosen = (chosen.0, chosen.1, chosen.2);
   evidence = (chosen.0, chosen.1, chosen.3);
-  exact =
-      (chosen.0, chosen.3);
+  exact = (chosen.0, chosen.3);
+  places = all_operations initial operations places (in_range operations places chosen.0 chosen.1);
 }
 
 -- the chosen pair is the chosen violation where the first two kinds are absent
@@ -48,20 +69,23 @@ pub witness_is_chosen : (operations : List Operation) (empty : ℕ) (cover : Lis
 witness_is_chosen operations empty cover clear none is = (witness is.0 is.1, (is.2, is.3), (clear.no_fresh, clear.no_repeat, none, is.4))
 
 -- what matching answers where it refuses is the chosen violation
-pub refused_is_chosen : (operations : List Operation) (answer : Matched) (violation : Violation) → IsMatchedOf operations answer
-    → (answer ≡ matched.Fresh violation) ⊎ (answer ≡ matched.Repeat violation) → IsChosenViolation operations violation
-refused_is_chosen operations answer violation is (inl same) = let h = subst (IsMatchedOf operations) same is in (fresh h.0 h.1, h.2, h.3)
-refused_is_chosen operations answer violation is (inr same) = let h = subst (IsMatchedOf operations) same is in (repeat h.0 h.1 h.2, h.3, h.4)
+refused_is_chosen : (initial : List ℕ) (operations : List Operation) (answer : Matched) (violation : Violation)
+    → IsMatchedFrom initial operations answer → (answer ≡ matched.Fresh violation) ⊎ (answer ≡ matched.Repeat violation)
+    → IsChosenFrom initial operations violation
+refused_is_chosen initial operations answer violation is (inl same) =
+    let h = subst (IsMatchedFrom initial operations) same is in (fresh h.0 h.1, h.2, h.3)
+refused_is_chosen initial operations answer violation is (inr same) =
+    let h = subst (IsMatchedFrom initial operations) same is in (repeat h.0 h.1 h.2, h.3, h.4)
 
 -- so the no is decided
-pub refused_is_decided : (operations : List Operation) (answer : Matched) (violation : Violation) → AreComplete operations
-    → IsMatchedOf operations answer → (answer ≡ matched.Fresh violation) ⊎ (answer ≡ matched.Repeat violation)
-    → IsDecided operations (No violation)
-refused_is_decided operations answer violation complete is refused =
-    no_is_decided operations violation complete (refused_is_chosen operations answer violation is refused)
+pub refused_is_decided : (initial : List ℕ) (operations : List Operation) (answer : Matched) (violation : Violation)
+    → AreComplete (filled initial operations) → IsMatchedFrom initial operations answer
+    → (answer ≡ matched.Fresh violation) ⊎ (answer ≡ matched.Repeat violation) → IsDecidedFrom initial operations (No violation)
+refused_is_decided initial operations answer violation complete is refused =
+    no_is_decided initial operations violation complete (refused_is_chosen initial operations answer violation is refused)
 
 -- where no pair is found there is no order violation
-pub order_is_absent : (operations : List Operation) (answer : Option OrderPair) → IsOrderAnswer operations answer
-    → ((pair : OrderPair) → answer ≡ Some pair → ⊥) → NoOrderViolation operations
-order_is_absent operations None none not = none
-order_is_absent operations (Some pair) is not = absurd (not pair refl)
+pub order_is_absent : (initial : List ℕ) (operations : List Operation) (answer : Option OrderPair) → IsOrderAnswerFrom initial operations answer
+    → ((pair : OrderPair) → answer ≡ Some pair → ⊥) → NoOrderViolation (filled initial operations)
+order_is_absent initial operations None none not = none
+order_is_absent initial operations (Some pair) is not = absurd (not pair refl)

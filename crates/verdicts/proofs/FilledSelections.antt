@@ -1,5 +1,6 @@
 -- A selection of a filled history is the filled history of the selection, at other clocks.
-use Rattle.std.proofs.Common.{◌≡◌, ℕ, ◌+◌, ◌-◌, ◌*◌, ◌<◌, Bool, true, false, cond, List, [], ◌∷◌, ◌++◌, length, refl, sym, ◌∙◌, ap, arith, map}
+use Rattle.std.proofs.Common.{◌≡◌, ℕ, ◌+◌, ◌-◌, ◌*◌, ◌<◌, Bool, true, false, cond, List}
+use Rattle.std.proofs.Common.{[], ◌∷◌, ◌++◌, length, refl, sym, ◌∙◌, ap, arith, map}
 use Rattle.std.specs.Prelude.{filter, nat_lt}
 use Rattle.std.proofs.lemmas.Bool.{ltb-false, ltb-true, le-ltb}
 use Rattle.std.proofs.lemmas.List.{map-append}
@@ -10,7 +11,7 @@ use Rattle.history_merge.specs.declared.operation.OpKind.TheVariants.{Enq}
 use Rattle.history_merge.specs.Initial.{filled, filling_from, later_by}
 use Rattle.history_merge.proofs.Later.{not_later}
 use Rattle.verdicts.specs.Selection.{selects}
-use Rattle.verdicts.proofs.FilledLines.{same_operation}
+use Rattle.value_match.proofs.FilledLines.{same_operation}
 use Rattle.verdicts.proofs.Retiming.{Rises, map_map, retimed}
 
 -- ---- clocks

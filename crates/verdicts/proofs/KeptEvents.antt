@@ -1,5 +1,6 @@
 -- Some operations of a complete history, with both their events, make a complete history.
-use Rattle.std.proofs.Common.{◌≡◌, ◌≢◌, ℕ, zero, suc, ◌<◌, ◌≤◌, Bool, true, false, cond, List, [], ◌∷◌, Option, Some, None, refl, sym, ◌∙◌, ap, subst}
+use Rattle.std.proofs.Common.{◌≡◌, ◌≢◌, ℕ, zero, suc, ◌<◌, ◌≤◌, Bool, true, false, cond, List, [], ◌∷◌}
+use Rattle.std.proofs.Common.{Option, Some, None, refl, sym, ◌∙◌, ap, subst}
 use Rattle.std.proofs.Common.{arith, nat_eq}
 use Rattle.std.specs.Prelude.{All, AllPairs, Contains, filter, filter_map, find, IsTrue, MatchBool, ⊤}
 use Rattle.std.specs.List.{cons_option}
@@ -39,7 +40,8 @@ pub first_is_found : {X : Type 0} (p : X → Bool) (xs : List X) (r : X) (rest :
 first_is_found p [] r rest same = cc
 first_is_found {X} p (x ∷ xs) r rest same = pick (p x) (first_is_found p xs r rest) same
   where
-    pick : (b : Bool) → (filter p xs ≡ r ∷ rest → find p xs ≡ Some r) → cond b (x ∷ filter p xs) (filter p xs) ≡ r ∷ rest → cond b (Some x) (find p xs) ≡ Some r
+    pick : (b : Bool) → (filter p xs ≡ r ∷ rest → find p xs ≡ Some r)
+        → cond b (x ∷ filter p xs) (filter p xs) ≡ r ∷ rest → cond b (Some x) (find p xs) ≡ Some r
     pick true more h = let here : x ≡ r = cc in ap (λ y. Some y) here
     pick false more h = more h
 

@@ -1,7 +1,7 @@
 -- The way of the argument, from what is found to what is claimed, verified and shrunk:
 -- Excludes: beside a violation no order is legal. Linearizable, Exactly: without one there is a legal order.
--- Unfilled, DecidedFrom: what is found of a filled history is found of the history.
--- Chosen, Decided, OneVerdict: the chosen violation or order decides, and is the only one.
+-- DecidedFrom, Chosen, Decided, OneVerdict: the chosen violation or order of a history decides, and is the only one.
+-- NoneTold: with no initial values what is told is what is found.
 -- Lookups, ClaimedBreaches, ClaimedCovers, ClaimedOrders: when the lines of a claim are evidence.
 -- NamedLines, NamedPlaces, TrueClaims, FewLines: what a verdict claims, and that this is true.
 -- SameLists, Selections, ChosenSelections, CoverGaps: what stays of the violations in a selection of the operations.
@@ -18,9 +18,7 @@ pub mod Exactly
 pub mod Chosen
 pub mod Decided
 pub mod DecidedFrom
-pub mod Unfilled
 pub mod Lookups
-pub mod FilledLines
 pub mod ClaimedLines
 pub mod ClaimedBreaches
 pub mod ClaimedCovers
@@ -47,3 +45,4 @@ pub mod FewLines
 pub mod EventsHeld
 pub mod OneSelection
 pub mod LinesTell
+pub mod NoneTold

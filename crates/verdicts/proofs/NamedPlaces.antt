@@ -26,9 +26,9 @@ use Rattle.verdicts.specs.declared.shown.LinePlace.TheVariants.{Op, Initial}
 use Rattle.verdicts.specs.declared.verifying.ClaimLine.{ClaimLine}
 use Rattle.verdicts.specs.declared.verifying.ClaimLine.TheVariants as line
 use Rattle.verdicts.specs.Claiming.{IsPlaceWithin, line_at, lines_at, lines_of_history}
-use Rattle.verdicts.specs.Filling.{behind, filled_source, filled_step, filled_violation}
+use Rattle.value_match.specs.Filling.{behind, filled_source, filled_step, filled_violation}
 use Rattle.verdicts.specs.Shown.{maybe_place, place_of_source, places_of, places_of_step}
-use Rattle.verdicts.proofs.FilledLines.{filled_at}
+use Rattle.value_match.proofs.FilledLines.{filled_at}
 use Rattle.verdicts.proofs.ShownLines.{accepted_value, early_line, later_line, line_of}
 
 -- ---- lists, element by element

@@ -1,7 +1,7 @@
 -- What is found of a history is the only thing that can be found of it.
 use Rattle.std.proofs.Common.{◌≡◌, ℕ, ◌*◌, ◌<◌, ◌≤◌, true, List, [], ◌∷◌, length, map, filter, Option, Some, None}
 use Rattle.std.proofs.Common.{refl, sym, ◌∙◌, ap, ap₂, subst, inl, inr, arith}
-use Rattle.std.specs.Prelude.{slice_get}
+use Rattle.std.specs.Prelude.{option_map, slice_get}
 use Rattle.std.specs.List.{AllZip}
 use Rattle.std.proofs.lemmas.Bool.{cases_order}
 use Rattle.std.proofs.lemmas.List.{append_cancel_left}
@@ -18,6 +18,7 @@ use Rattle.history_merge.proofs.Completeness.{operations_are_complete}
 use Rattle.history_merge.proofs.Filled.{filled_are_complete, linearizable_from_exactly}
 use Rattle.history_merge.proofs.Later.{later_injective}
 use Rattle.value_match.specs.declared.life.Life.{Life}
+use Rattle.value_match.specs.declared.matching.Matched.{Matched}
 use Rattle.value_match.specs.declared.matching.Matched.TheVariants as matched
 use Rattle.value_match.specs.declared.violation.CoverStep.{CoverStep}
 use Rattle.value_match.specs.declared.violation.Source.{Source}
@@ -26,21 +27,25 @@ use Rattle.value_match.specs.declared.violation.Violation.{Violation}
 use Rattle.value_match.specs.declared.violation.Violation.TheVariants as violation
 use Rattle.value_match.specs.Lives.{IsMaybeAt, IsLeastFreeGap, IsCovered, is_empty_answer, dequeue_of, enqueue_of}
 use Rattle.value_match.specs.Choice.{IsChosenCover}
-use Rattle.value_match.specs.Outcome.{IsSource, Names, NamesCover, IsMatchedOf, IsChosenViolation}
+use Rattle.value_match.specs.Outcome.{IsSource, Names, NamesChosenFresh, NamesChosenRepeat, NamesCover, IsMatchedFrom, IsChosenViolation}
 use Rattle.value_match.specs.Violations.{Breach, fresh, repeat, order, witness, IsBreachOf, IsClear}
 use Rattle.value_match.proofs.Lists.{passes_filter}
 use Rattle.order_violation.specs.declared.pair.OrderPair.{OrderPair}
+use Rattle.order_violation.specs.Pairs.{IsOrderAnswer, filled_pair}
+use Rattle.empty_witness.specs.Answers.{IsGapAnswer, IsWitnessAnswer, filled_gap_answer, filled_witness_answer}
+use Rattle.empty_witness.specs.declared.answer.GapAnswer.{GapAnswer}
+use Rattle.empty_witness.specs.declared.answer.WitnessAnswer.{WitnessAnswer}
 use Rattle.empty_witness.specs.declared.answer.GapAnswer.TheVariants as gap
 use Rattle.empty_witness.specs.declared.answer.WitnessAnswer.TheVariants as found
 use Rattle.linearizer.proofs.OneOrder.{chosen_order_is_one, operations_rise}
 use Rattle.linearizer.proofs.Positions.{beside}
 use Rattle.verdicts.specs.declared.verdict.Verdict.TheVariants.{Yes, No}
-use Rattle.verdicts.specs.Filling.{filled_violation}
+use Rattle.value_match.specs.Filling.{behind, filled_gap, filled_step, filled_violation}
 use Rattle.verdicts.specs.Verdicts.{IsChosenFrom}
 use Rattle.verdicts.specs.Laws.{VerdictIsOne, MatchedIsOne, PairIsOne, GapIsOne, WitnessIsOne}
 use Rattle.verdicts.proofs.Chosen.{one_chosen_breach, one_order, one_cover, one_witness}
 use Rattle.verdicts.proofs.Excludes.{breach_excludes_order}
-use Rattle.verdicts.proofs.Unfilled.{one_when_filled}
+use Rattle.value_match.proofs.Unfilled.{one_when_filled}
 
 -- an operation stands at one place
 one_place_at : (operations : List Operation) (p q : ℕ) (o : Operation) → AreComplete operations → IsAt operations p o → IsAt operations q o → p ≡ q
@@ -184,49 +189,79 @@ verdict_is_one initial events (No v) (No w) complete few x exact_x y exact_y =
     ap (λ named. No named) (chosen_from_is_one initial events v w complete few x y)
 
 -- a matching excludes the violations that matching finds
-not_clear : (operations : List Operation) (v : Violation) → IsClear operations → IsMatchedOf operations (matched.Fresh v) → ⊥
+not_clear : (operations : List Operation) (v : Violation) → IsClear operations → NamesChosenFresh operations v → ⊥
 not_clear operations v clear is = clear.no_fresh is.0 is.1 is.3.violates
 
-not_repeated : (operations : List Operation) (v : Violation) → IsClear operations → IsMatchedOf operations (matched.Repeat v) → ⊥
+not_repeated : (operations : List Operation) (v : Violation) → IsClear operations → NamesChosenRepeat operations v → ⊥
 not_repeated operations v clear is = clear.no_repeat is.0 is.1 is.2 is.4.1.violates
 
 -- a history has one answer of the matching
 pub matched_is_one : MatchedIsOne
-matched_is_one operations (matched.Clear m) (matched.Clear n) complete x y = ap (λ matching. matched.Clear matching) (x.0 ∙ sym y.0)
-matched_is_one operations (matched.Clear m) (matched.Fresh v) complete x y = absurd (not_clear operations v x.1 y)
-matched_is_one operations (matched.Clear m) (matched.Repeat v) complete x y = absurd (not_repeated operations v x.1 y)
-matched_is_one operations (matched.Fresh v) (matched.Clear m) complete x y = absurd (not_clear operations v y.1 x)
-matched_is_one operations (matched.Repeat v) (matched.Clear m) complete x y = absurd (not_repeated operations v y.1 x)
-matched_is_one operations (matched.Fresh v) (matched.Repeat w) complete x y = absurd (y.4.0 x.0 x.1 x.3.violates)
-matched_is_one operations (matched.Repeat v) (matched.Fresh w) complete x y = absurd (x.4.0 y.0 y.1 y.3.violates)
-matched_is_one operations (matched.Fresh v) (matched.Fresh w) complete x y =
-    let b : Breach = fresh x.0 x.1 in
-    let c : Breach = fresh y.0 y.1 in
-    ap (λ named. matched.Fresh named) (one_violation operations v w b c complete (one_chosen_breach operations b c complete x.3 y.3) x.2 y.2)
-matched_is_one operations (matched.Repeat v) (matched.Repeat w) complete x y =
-    let b : Breach = repeat x.0 x.1 x.2 in
-    let c : Breach = repeat y.0 y.1 y.2 in
-    ap (λ named. matched.Repeat named) (one_violation operations v w b c complete (one_chosen_breach operations b c complete x.4 y.4) x.3 y.3)
+matched_is_one initial operations = one
+  where
+    k : ℕ
+    k = length initial
+
+    all : List Operation
+    all = filled initial operations
+
+    one : (x y : Matched) → AreComplete all → IsMatchedFrom initial operations x → IsMatchedFrom initial operations y → x ≡ y
+    one (matched.Clear m) (matched.Clear n) complete x y = ap (λ matching. matched.Clear matching) (x.0 ∙ sym y.0)
+    one (matched.Clear m) (matched.Fresh v) complete x y = absurd (not_clear all (filled_violation k v) x.1 y)
+    one (matched.Clear m) (matched.Repeat v) complete x y = absurd (not_repeated all (filled_violation k v) x.1 y)
+    one (matched.Fresh v) (matched.Clear m) complete x y = absurd (not_clear all (filled_violation k v) y.1 x)
+    one (matched.Repeat v) (matched.Clear m) complete x y = absurd (not_repeated all (filled_violation k v) y.1 x)
+    one (matched.Fresh v) (matched.Repeat w) complete x y = absurd (y.4.0 x.0 x.1 x.3.violates)
+    one (matched.Repeat v) (matched.Fresh w) complete x y = absurd (x.4.0 y.0 y.1 y.3.violates)
+    one (matched.Fresh v) (matched.Fresh w) complete x y =
+        let b : Breach = fresh x.0 x.1 in
+        let c : Breach = fresh y.0 y.1 in
+        ap (λ named. matched.Fresh named) (one_when_filled k v w
+        (one_violation all (filled_violation k v) (filled_violation k w) b c complete (one_chosen_breach all b c complete x.3 y.3) x.2 y.2))
+    one (matched.Repeat v) (matched.Repeat w) complete x y =
+        let b : Breach = repeat x.0 x.1 x.2 in
+        let c : Breach = repeat y.0 y.1 y.2 in
+        ap (λ named. matched.Repeat named) (one_when_filled k v w
+        (one_violation all (filled_violation k v) (filled_violation k w) b c complete (one_chosen_breach all b c complete x.4 y.4) x.3 y.3))
 
 -- the pair that an order violation names
 abbrev pair_of : Violation → OrderPair
 pair_of (violation.Order a b d c) = record { enq_a = a; enq_b = b; deq_b = d; deq_a = c }
 pair_of _ = record { enq_a = source.Enq 0; enq_b = source.Enq 0; deq_b = 0; deq_a = None }
 
+-- the violation that a pair shows
+abbrev violation_of : OrderPair → Violation
+violation_of pair = violation.Order pair.enq_a pair.enq_b pair.deq_b pair.deq_a
+
+-- pairs that are one in the filled history are one
+pairs_told : (k : ℕ) (x y : Option OrderPair) → option_map (filled_pair k) x ≡ option_map (filled_pair k) y → x ≡ y
+pairs_told k None None same = refl
+pairs_told k None (Some q) same = cc
+pairs_told k (Some p) None same = cc
+pairs_told k (Some p) (Some q) same =
+    let one : filled_pair k p ≡ filled_pair k q = cc in
+    let violations : filled_violation k (violation_of p) ≡ filled_violation k (violation_of q) = ap violation_of one in
+    ap (λ pair. Some pair) (ap pair_of (one_when_filled k (violation_of p) (violation_of q) violations))
+
 -- one pair is found
 pub pair_is_one : PairIsOne
-pair_is_one operations None None complete x y = refl
-pair_is_one operations None (Some q) complete x y = absurd (x y.enq_a y.enq_b y.deq_b y.deq_a y.is_chosen.violates)
-pair_is_one operations (Some p) None complete x y = absurd (y x.enq_a x.enq_b x.deq_b x.deq_a x.is_chosen.violates)
-pair_is_one operations (Some p) (Some q) complete x y =
-    let b : Breach = order x.enq_a x.enq_b x.deq_b x.deq_a in
-    let c : Breach = order y.enq_a y.enq_b y.deq_b y.deq_a in
-    let breaches : b ≡ c = one_order operations x.enq_a x.enq_b x.deq_b y.enq_a y.enq_b y.deq_b x.deq_a y.deq_a complete x.is_chosen y.is_chosen in
-    let v : Violation = violation.Order p.enq_a p.enq_b p.deq_b p.deq_a in
-    let w : Violation = violation.Order q.enq_a q.enq_b q.deq_b q.deq_a in
-    let violations = one_violation operations v w b c complete breaches (x.at_a, x.at_b, x.dequeued_b, x.dequeued_a)
-    (y.at_a, y.at_b, y.dequeued_b, y.dequeued_a) in
-    ap (λ pair. Some pair) (ap pair_of violations)
+pair_is_one initial operations x y complete at_x at_y =
+    pairs_told (length initial) x y (one (option_map (filled_pair (length initial)) x) (option_map (filled_pair (length initial)) y) at_x at_y)
+  where
+    all : List Operation
+    all = filled initial operations
+
+    one : (x y : Option OrderPair) → IsOrderAnswer all x → IsOrderAnswer all y → x ≡ y
+    one None None x y = refl
+    one None (Some q) x y = absurd (x y.enq_a y.enq_b y.deq_b y.deq_a y.is_chosen.violates)
+    one (Some p) None x y = absurd (y x.enq_a x.enq_b x.deq_b x.deq_a x.is_chosen.violates)
+    one (Some p) (Some q) x y =
+        let b : Breach = order x.enq_a x.enq_b x.deq_b x.deq_a in
+        let c : Breach = order y.enq_a y.enq_b y.deq_b y.deq_a in
+        let breaches : b ≡ c = one_order all x.enq_a x.enq_b x.deq_b y.enq_a y.enq_b y.deq_b x.deq_a y.deq_a complete x.is_chosen y.is_chosen in
+        let violations = one_violation all (violation_of p) (violation_of q) b c complete breaches (x.at_a, x.at_b, x.dequeued_b, x.dequeued_a)
+        (y.at_a, y.at_b, y.dequeued_b, y.dequeued_a) in
+        ap (λ pair. Some pair) (ap pair_of violations)
 
 one_least_gap : (operations : List Operation) (o : Operation) (c d : ℕ) → IsLeastFreeGap operations o c → IsLeastFreeGap operations o d → c ≡ d
 one_least_gap operations o c d x y = let le = x.least d y.in_window y.is_free in let ge = y.least c x.in_window x.is_free in omega arith
@@ -235,21 +270,59 @@ one_least_gap operations o c d x y = let le = x.least d y.in_window y.is_free in
 free_or_covered : (operations : List Operation) (o : Operation) (c : ℕ) → IsLeastFreeGap operations o c → IsCovered operations o → ⊥
 free_or_covered operations o c free covered = let stays = covered c free.in_window in free.is_free stays.0 stays.1 stays.2
 
--- one gap is found
-pub gap_is_one : GapIsOne
-gap_is_one operations place (gap.Free c) (gap.Free d) clear x y =
+-- one gap is found in the filled history
+one_gap : (operations : List Operation) (place : ℕ) (x y : GapAnswer) → IsClear operations → IsGapAnswer operations place x
+    → IsGapAnswer operations place y → x ≡ y
+one_gap operations place (gap.Free c) (gap.Free d) clear x y =
     let same = one_at operations place x.0 y.0 x.1 y.1 in
     ap (λ c. gap.Free c) (one_least_gap operations y.0 c d (subst (λ o. IsLeastFreeGap operations o c) same x.2) y.2)
-gap_is_one operations place (gap.Free c) (gap.Covered cover) clear x y =
+one_gap operations place (gap.Free c) (gap.Covered cover) clear x y =
     let same = one_at operations place x.0 y.0 x.1 y.2 in
     absurd (free_or_covered operations y.0 c (subst (λ o. IsLeastFreeGap operations o c) same x.2) y.4)
-gap_is_one operations place (gap.Covered cover) (gap.Free c) clear x y =
+one_gap operations place (gap.Covered cover) (gap.Free c) clear x y =
     let same = one_at operations place y.0 x.0 y.1 x.2 in
     absurd (free_or_covered operations x.0 c (subst (λ o. IsLeastFreeGap operations o c) same y.2) x.4)
-gap_is_one operations place (gap.Covered steps) (gap.Covered steps') clear x y =
+one_gap operations place (gap.Covered steps) (gap.Covered steps') clear x y =
     let same = one_at operations place x.0 y.0 x.2 y.2 in
     let lives = one_cover operations y.0 y.0.call x.1 y.1 clear (subst (λ o. IsChosenCover operations o x.1) same x.5) y.5 in
     ap (λ steps. gap.Covered steps) (one_named_cover operations steps steps' y.1 clear.complete (subst (NamesCover operations steps) lives x.3) y.3)
+
+-- gaps that are one by the clocks are one
+gap_told : (k c d : ℕ) → filled_gap k c ≡ filled_gap k d → c ≡ d
+gap_told k c d same = omega (arith, same)
+
+gaps_told : (k : ℕ) (cs ds : List ℕ) → map (filled_gap k) cs ≡ map (filled_gap k) ds → cs ≡ ds
+gaps_told k [] [] same = refl
+gaps_told k [] (d ∷ ds) same = cc
+gaps_told k (c ∷ cs) [] same = cc
+gaps_told k (c ∷ cs) (d ∷ ds) same =
+    let first : filled_gap k c ≡ filled_gap k d = cc in
+    let rest : map (filled_gap k) cs ≡ map (filled_gap k) ds = cc in
+    ap₂ (λ (n : ℕ) (ns : List ℕ). n ∷ ns) (gap_told k c d first) (gaps_told k cs ds rest)
+
+-- and covers that are one in the filled history
+covers_told : (k place : ℕ) (cover cover' : List CoverStep) → map (filled_step k) cover ≡ map (filled_step k) cover' → cover ≡ cover'
+covers_told k place cover cover' same = ap steps_of
+    (one_when_filled k (violation.Witness place cover) (violation.Witness place cover') (ap (violation.Witness (behind k place)) same))
+  where
+    steps_of : Violation → List CoverStep
+    steps_of (violation.Witness place cover) = cover
+    steps_of _ = []
+
+-- one gap is found
+pub gap_is_one : GapIsOne
+gap_is_one initial operations place x y clear at_x at_y =
+    told x y (one_gap (filled initial operations) (behind (length initial) place) (filled_gap_answer (length initial) x)
+    (filled_gap_answer (length initial) y) clear at_x at_y)
+  where
+    told : (x y : GapAnswer) → filled_gap_answer (length initial) x ≡ filled_gap_answer (length initial) y → x ≡ y
+    told (gap.Free c) (gap.Free d) same =
+        let one : filled_gap (length initial) c ≡ filled_gap (length initial) d = cc in ap (λ c. gap.Free c) (gap_told (length initial) c d one)
+    told (gap.Free c) (gap.Covered cover) same = cc
+    told (gap.Covered cover) (gap.Free c) same = cc
+    told (gap.Covered steps) (gap.Covered steps') same =
+        let one : map (filled_step (length initial)) steps ≡ map (filled_step (length initial)) steps' = cc in
+        ap (λ steps. gap.Covered steps) (covers_told (length initial) 0 steps steps' one)
 
 one_list_of_gaps : (operations answers : List Operation) (cs ds : List ℕ) → AllZip (λ o c. IsLeastFreeGap operations o c) answers cs
     → AllZip (λ o c. IsLeastFreeGap operations o c) answers ds → cs ≡ ds
@@ -270,13 +343,13 @@ none_covered operations gaps o each did covered =
     let free = beside (λ o c. IsLeastFreeGap operations o c) (filter is_empty_answer operations) gaps place.0 o each place.1 in
     free_or_covered operations o free.0 free.2 covered
 
--- one answer of the search for covered windows is found
-pub witness_is_one : WitnessIsOne
-witness_is_one operations (found.Gaps cs) (found.Gaps ds) clear x y =
+-- one answer of the search for covered windows is found in the filled history
+one_answer : (operations : List Operation) (x y : WitnessAnswer) → IsClear operations → IsWitnessAnswer operations x → IsWitnessAnswer operations y → x ≡ y
+one_answer operations (found.Gaps cs) (found.Gaps ds) clear x y =
     ap (λ gaps. found.Gaps gaps) (one_list_of_gaps operations (filter is_empty_answer operations) cs ds x y)
-witness_is_one operations (found.Gaps cs) (found.Covered place cover) clear x y = absurd (none_covered operations cs y.0 x y.4.answers_empty y.4.is_covered)
-witness_is_one operations (found.Covered place cover) (found.Gaps cs) clear x y = absurd (none_covered operations cs x.0 y x.4.answers_empty x.4.is_covered)
-witness_is_one operations (found.Covered p steps) (found.Covered q steps') clear x y =
+one_answer operations (found.Gaps cs) (found.Covered place cover) clear x y = absurd (none_covered operations cs y.0 x y.4.answers_empty y.4.is_covered)
+one_answer operations (found.Covered place cover) (found.Gaps cs) clear x y = absurd (none_covered operations cs x.0 y x.4.answers_empty x.4.is_covered)
+one_answer operations (found.Covered p steps) (found.Covered q steps') clear x y =
     let b : Breach = witness x.0 x.1 in
     let c : Breach = witness y.0 y.1 in
     let breaches : b ≡ c = one_witness operations x.0 y.0 x.1 y.1 clear x.4 y.4 in
@@ -287,3 +360,19 @@ witness_is_one operations (found.Covered p steps) (found.Covered q steps') clear
   where
     covered : violation.Witness p steps ≡ violation.Witness q steps' → found.Covered p steps ≡ found.Covered q steps'
     covered same = cc
+
+-- one answer of the search for covered windows is found
+pub witness_is_one : WitnessIsOne
+witness_is_one initial operations x y clear at_x at_y =
+    told x y (one_answer (filled initial operations) (filled_witness_answer (length initial) x) (filled_witness_answer (length initial) y) clear at_x at_y)
+  where
+    told : (x y : WitnessAnswer) → filled_witness_answer (length initial) x ≡ filled_witness_answer (length initial) y → x ≡ y
+    told (found.Gaps cs) (found.Gaps ds) same =
+        let one : map (filled_gap (length initial)) cs ≡ map (filled_gap (length initial)) ds = cc in
+        ap (λ gaps. found.Gaps gaps) (gaps_told (length initial) cs ds one)
+    told (found.Gaps cs) (found.Covered place cover) same = cc
+    told (found.Covered place cover) (found.Gaps cs) same = cc
+    told (found.Covered p steps) (found.Covered q steps') same =
+        let places : behind (length initial) p ≡ behind (length initial) q = cc in
+        let one : map (filled_step (length initial)) steps ≡ map (filled_step (length initial)) steps' = cc in
+        ap₂ found.Covered (omega (arith, places)) (covers_told (length initial) p steps steps' one)

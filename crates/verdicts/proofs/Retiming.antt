@@ -1,5 +1,6 @@
 -- Operations at other tickets in the same order: the same ones violate, the same violation is chosen, and the same orders are legal.
-use Rattle.std.proofs.Common.{◌≡◌, ℕ, zero, suc, ◌+◌, ◌-◌, ◌<◌, ◌≤◌, ◌⊎◌, Bool, true, false, List, [], ◌∷◌, Option, Some, None, refl, sym, ◌∙◌, ap, subst}
+use Rattle.std.proofs.Common.{◌≡◌, ℕ, zero, suc, ◌+◌, ◌-◌, ◌<◌, ◌≤◌, ◌⊎◌, Bool, true, false}
+use Rattle.std.proofs.Common.{List, [], ◌∷◌, Option, Some, None, refl, sym, ◌∙◌, ap, subst}
 use Rattle.std.proofs.Common.{inl, inr, arith, map}
 use Rattle.std.specs.Prelude.{AllPairs, Contains, MatchBool, MatchOption, nat_lt, option_map, ⊤}
 use Rattle.std.proofs.lemmas.Bool.{cases_order, ltb-false, ltb-true, le-ltb, lt-ltb}
@@ -17,15 +18,15 @@ use Rattle.history_merge.proofs.Distinct.{call_before_return, return_in_range}
 use Rattle.value_match.specs.declared.life.Life.{Life}
 use Rattle.value_match.specs.declared.life.TheConstants.{NEVER}
 use Rattle.value_match.specs.Lives.{IsCovered, IsLife, call_or_never, dequeue_call, dequeue_of, enqueue_of, enqueue_return}
-use Rattle.value_match.specs.Violations.{Breach, fresh, repeat, order, witness, CoversFrom, IsBreachOf, IsEnqueuedTooLate, IsFreshViolation}
-use Rattle.value_match.specs.Violations.{IsOrderViolation, IsRepeatViolation, NoFreshViolation, NoOrderViolation, NoRepeatViolation}
+use Rattle.value_match.specs.Violations.{Breach, fresh, repeat, order, witness, IsBreachOf, IsFreshViolation}
+use Rattle.value_match.specs.Violations.{IsOrderViolation, NoFreshViolation, NoOrderViolation, NoRepeatViolation}
 use Rattle.value_match.specs.Choice.{IsChosenBreach, IsChosenCoverFrom, StaysAtLeast}
 use Rattle.value_match.proofs.Lists.{mapped_from, mapped_to, one_deeper}
 use Rattle.verdicts.proofs.Carried.{breach_carried, breach_itself, itself, life_carried, life_itself, mapped_breach, mapped_life}
 use Rattle.verdicts.proofs.CoverGaps.{chosen_are_lives}
 use Rattle.verdicts.proofs.Exactly.{linearizable_exactly}
 use Rattle.verdicts.proofs.Excludes.{breach_excludes_order}
-use Rattle.verdicts.proofs.FilledLines.{same_operation}
+use Rattle.value_match.proofs.FilledLines.{same_operation}
 
 -- the same operation at other tickets
 abbrev pub retimed : (ℕ → ℕ) → Operation → Operation

@@ -11,7 +11,7 @@ use Rattle.verdicts.specs.declared.verifying.ClaimLine.{ClaimLine}
 use Rattle.verdicts.specs.declared.verifying.ClaimLine.TheVariants.{Op, Initial}
 use Rattle.verdicts.specs.Selection.{value_of}
 use Rattle.verdicts.specs.Inner.Selecting.{call_in, value_in}
-use Rattle.verdicts.proofs.FilledLines.{same_operation}
+use Rattle.value_match.proofs.FilledLines.{same_operation}
 use Rattle.verdicts.proofs.Retiming.{Rises, retimed}
 
 -- the value of an accepted enqueue

@@ -24,7 +24,8 @@ use Rattle.value_match.specs.Choice.{IsChosenBreach}
 use Rattle.value_match.proofs.Lists.{kept, keeps, mapped_from, mapped_to, one_deeper, passed_filter}
 use Rattle.verdicts.specs.declared.verifying.ClaimLine.{ClaimLine}
 use Rattle.verdicts.specs.declared.verifying.Claimed.TheVariants as claimed
-use Rattle.verdicts.specs.Claims.{filling_at, kind_of}
+use Rattle.value_match.specs.Filling.{filling_at}
+use Rattle.verdicts.specs.Claims.{kind_of}
 use Rattle.verdicts.specs.Claiming.{line_at}
 use Rattle.verdicts.specs.Selection.{AreLinearizable, ArePartOf, Contents, IsMinimal, KeepsViolation, StaysChosen, contents_of, select, selects, value_of}
 use Rattle.verdicts.specs.Selection.{violation_lines}
@@ -33,7 +34,7 @@ use Rattle.verdicts.specs.Verdicts.{filled_of, IsChosenFrom}
 use Rattle.verdicts.specs.Inner.Selecting.{SelectsNamed, call_in, holds_ticket, value_in}
 use Rattle.verdicts.proofs.Chosen.{chosen_is_breach}
 use Rattle.verdicts.proofs.ChosenSelections.{stays_chosen}
-use Rattle.verdicts.proofs.FilledLines.{filling_place, filling_stands}
+use Rattle.value_match.proofs.FilledLines.{filling_place, filling_stands}
 use Rattle.verdicts.proofs.FilledSelections.{lifted, lifted_late, lifted_rises, selected_behind, selected_of_filled}
 use Rattle.verdicts.proofs.KeptTickets.{selected_are_complete}
 use Rattle.verdicts.proofs.Minimal.{AreMinimal, all_or_one, selection_is_minimal, stays_violation}
@@ -44,9 +45,9 @@ use Rattle.verdicts.proofs.ShownLines.{call_of_line, line_of, line_of_call, same
 use Rattle.verdicts.proofs.ShrunkEvents.{kept_filled_are_complete, kept_is_complete_from, no_longer, operations_kept}
 use Rattle.verdicts.proofs.TrueClaims.{same_kind_from}
 use Rattle.verdicts.proofs.ViolationPlaces.{retimed_kind, retimed_lines, violation_at}
-use Rattle.verdicts.proofs.Unfilled.{violation_back}
-use Rattle.verdicts.specs.Filling.{filled_violation}
-use Rattle.verdicts.specs.Inner.Unfilling.{unfilled_violation}
+use Rattle.value_match.proofs.Unfilled.{violation_back}
+use Rattle.value_match.specs.Filling.{filled_violation}
+use Rattle.value_match.specs.Unfilling.{unfilled_violation}
 
 -- tests that pass together are one
 same_tests : (a b : Bool) → (a ≡ true → b ≡ true) → (b ≡ true → a ≡ true) → a ≡ b

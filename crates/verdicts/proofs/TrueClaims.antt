@@ -1,5 +1,6 @@
 -- The claim of a verdict lists the operations and the initial values that the verdict names.
-use Rattle.std.proofs.Common.{◌≡◌, ◌≢◌, ℕ, zero, suc, ◌-◌, ◌*◌, ◌<◌, not, cond, List, [], ◌∷◌, length, map, Option, Some, None, refl, sym, ◌∙◌}
+use Rattle.std.proofs.Common.{◌≡◌, ◌≢◌, ℕ, zero, suc, ◌-◌, ◌*◌, ◌<◌, not, cond, List, [], ◌∷◌, length, map}
+use Rattle.std.proofs.Common.{Option, Some, None, refl, sym, ◌∙◌}
 use Rattle.std.proofs.Common.{ap, subst, arith, inl, inr, nat_lt, nat_eq}
 use Rattle.std.specs.Prelude.{AllPairs, slice_get, option_map, position, Contains}
 use Rattle.std.specs.List.{cons_option, prefix_len, AllZip}
@@ -21,13 +22,14 @@ use Rattle.value_match.specs.Outcome.{Names}
 use Rattle.value_match.specs.Violations.{Breach, fresh, repeat, order, witness, lines_of}
 use Rattle.verdicts.specs.declared.verifying.ClaimLine.TheVariants.{Initial}
 use Rattle.verdicts.specs.declared.verdict.Verdict.TheVariants as found
-use Rattle.verdicts.specs.Claims.{filling_at, kind_of, stands_for}
+use Rattle.value_match.specs.Filling.{filling_at}
+use Rattle.verdicts.specs.Claims.{kind_of, stands_for}
 use Rattle.verdicts.specs.Claiming.{operations_at, violation_kind}
 use Rattle.verdicts.specs.Laws.{EvidenceIsTrueClaim}
 use Rattle.verdicts.specs.Shown.{places_of as places_of_violation}
-use Rattle.verdicts.proofs.FilledLines.{filled_at}
+use Rattle.value_match.proofs.FilledLines.{filled_at}
 use Rattle.verdicts.proofs.NamedPlaces.{IsShownAt, each_shown, shown_lines}
-use Rattle.verdicts.specs.Filling.{filled_violation}
+use Rattle.value_match.specs.Filling.{filled_violation}
 use Rattle.verdicts.specs.declared.shown.LinePlace.{LinePlace}
 use Rattle.verdicts.proofs.ShownLines.{accepted_value, early_line, later_line, line_of}
 use Rattle.value_match.proofs.Lists.{one_deeper}

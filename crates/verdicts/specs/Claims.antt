@@ -1,10 +1,10 @@
 -- What is claimed of a history, and when that is so.
-use Rattle.std.specs.Prelude.{◌≡◌, ℕ, ◌+◌, ◌*◌, ◌&&◌, nat_le, nat_eq, List, length, map, position, Option, Some, None, option_map, if◌then◌else◌}
+use Rattle.std.specs.Prelude.{◌≡◌, ℕ, ◌*◌, ◌&&◌, nat_le, nat_eq, List, length, map, position, Option, Some, None, option_map, if◌then◌else◌}
 use Rattle.event_records.specs.declared.limits.TheConstants.{MAX_TICKET}
 use Rattle.history_merge.specs.declared.operation.Operation.{Operation}
-use Rattle.history_merge.specs.declared.operation.OpKind.TheVariants.{Enq}
 use Rattle.history_merge.specs.Initial.{filled, later_by}
 use Rattle.history_merge.specs.Legal.{IsLegalOrderFrom}
+use Rattle.value_match.specs.Filling.{filling_at}
 use Rattle.value_match.specs.Violations.{Breach, fresh, repeat, order, witness, IsBreachOf, lines_of}
 use Rattle.verdicts.specs.declared.verifying.ClaimLine.{ClaimLine}
 use Rattle.verdicts.specs.declared.verifying.ClaimLine.TheVariants.{Op, Initial}
@@ -23,10 +23,6 @@ kind_of (witness empty cover) = VWit
 -- the operations are those of a violation of this kind
 abbrev pub ShowsViolation : List Operation → ViolationKind → List Operation → Type 0
 ShowsViolation operations kind shown = (breach : Breach) × (kind_of breach ≡ kind) × (lines_of breach ≡ shown) × IsBreachOf operations breach
-
--- in the filled history, the enqueue of the initial value v at place j
-abbrev pub filling_at : ℕ → ℕ → Operation
-filling_at j v = record { call = 2 * j; ret = 2 * j + 1; thread = 0; kind = Enq v }
 
 -- in the filled history, the enqueue of this value where it is an initial one
 abbrev pub filling_of : List ℕ → ℕ → Option Operation

@@ -1,6 +1,5 @@
 pub mod Verdicts
 pub mod Claims
-pub mod Filling
 pub mod Laws
 pub mod Selection
 pub mod Shown

@@ -15,7 +15,7 @@ use Rattle.verdicts.specs.declared.verdict.Verdict.TheVariants.{No}
 use Rattle.verdicts.specs.declared.verifying.ClaimLine.{ClaimLine}
 use Rattle.verdicts.specs.Claiming.{claim_of, lines_at, lines_of_history}
 use Rattle.verdicts.specs.Shown.{places_of}
-use Rattle.verdicts.specs.Filling.{filled_violation}
+use Rattle.value_match.specs.Filling.{filled_violation}
 use Rattle.verdicts.specs.Verdicts.{IsChosenFrom, filled_of}
 
 -- the value of an operation; an empty answer has none

@@ -12,7 +12,7 @@ use Rattle.value_match.specs.Outcome.{Names, IsChosenViolation}
 use Rattle.linearizer.specs.Order.{IsChosenOrder}
 use Rattle.verdicts.specs.declared.verdict.Verdict.{Verdict}
 use Rattle.verdicts.specs.declared.verdict.Verdict.TheVariants.{Yes, No}
-use Rattle.verdicts.specs.Filling.{filled_violation}
+use Rattle.value_match.specs.Filling.{filled_violation}
 
 -- the violation of a history is the chosen one of its filled history
 abbrev pub IsChosenFrom : List ℕ → List Operation → Violation → Type 0

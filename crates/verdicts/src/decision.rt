@@ -1,24 +1,22 @@
-ghost use Rattle.std.specs.Prelude.{◌≡◌, ◌≤◌, IfOk, length};
-ghost use Rattle.history_merge.specs.Complete.{AreComplete};
+ghost use Rattle.std.specs.Prelude.{◌≡◌, ◌≤◌, IfOk};
 ghost use Rattle.history_merge.specs.Operations.{operations_of};
+ghost use Rattle.value_match.specs.Filling.{filled_operations};
 ghost use Rattle.value_match.specs.Violations.{IsClear, NoOrderViolation};
-ghost use Rattle.empty_witness.specs.Answers.{IsWitnessAnswer};
+ghost use Rattle.empty_witness.specs.Answers.{IsWitnessAnswerFrom};
 ghost use Rattle.parallel_finders.specs.declared.TheConstants.{MAX_PIECES};
 ghost use Rattle.verdicts.specs.Claiming.{IsWithin};
-ghost use Rattle.verdicts.specs.Inner.Decided.{IsDecided};
+ghost use Rattle.verdicts.specs.Inner.Decided.{IsDecidedFrom};
 ghost use Rattle.verdicts.specs.Verdicts.{HasOperationsFrom, IsEvidenceFrom, IsExactFrom, IsVerdictFrom};
 
-use crate::unfilling::unfilled;
 use crate::verdict::{Order, Verdict};
 use empty_witness::{WitnessAnswer, find_witness};
-use event_records::MAX_EVENTS;
-use history_merge::{History, Operation, fill};
+use history_merge::{History, Operation};
 use linearizer::linearize;
 use order_violation::{OrderPair, find_order};
 use parallel_finders::{find_order_par, find_witness_par};
 use std::alloc::{AllocError, Global};
 use std::thread::Threads;
-use value_match::{Matched, Matching, Violation, match_operations};
+use value_match::{Matched, Matching, Violation, match_from};
 
 /// Whether a history has a legal order (Herlihy and Wing 1990) for a queue that holds the initial values first: yes with the
 /// chosen order, no with the chosen violation, which is of the first kind that is present: a value that was not there, a
@@ -47,21 +45,7 @@ pub fn decide_from(
     ensures exact { IfOk result (λ verdict. IsExactFrom initial.now operations.now verdict) }
     ensures places { IfOk result (λ verdict. IsWithin initial.now operations.now verdict) }
 {
-    if initial.is_empty() {
-        return decide_operations(alloc, operations);
-    }
-    let filled = fill(alloc, initial, operations)?;
-    let verdict = decide_operations(alloc, filled.as_slice())?;
-    unfilled(alloc, initial.len(), verdict)
-}
-
-/// The same of operations that are complete, by ticket or by clock, for a queue that is empty first.
-fn decide_operations(alloc: Global, operations: &[Operation]) -> Result<Verdict, AllocError>
-    requires complete { AreComplete operations.now }
-    requires few { length operations.now ≤ MAX_EVENTS }
-    ensures { IfOk result (λ verdict. IsDecided operations.now verdict) }
-{
-    match match_operations(alloc, operations)? {
+    match match_from(alloc, initial, operations)? {
         Matched::Clear(matching) => decide_matching(alloc, &matching),
         Matched::Fresh(violation) => Ok(Verdict::No(violation)),
         Matched::Repeat(violation) => Ok(Verdict::No(violation)),
@@ -103,27 +87,7 @@ pub fn decide_from_par<R: Threads + Sync>(
     ensures exact { IfOk result (λ verdict. IsExactFrom initial.now operations.now verdict) }
     ensures places { IfOk result (λ verdict. IsWithin initial.now operations.now verdict) }
 {
-    if initial.is_empty() {
-        return decide_operations_par(rt, alloc, operations, pieces);
-    }
-    let filled = fill(alloc, initial, operations)?;
-    let verdict = decide_operations_par(rt, alloc, filled.as_slice(), pieces)?;
-    unfilled(alloc, initial.len(), verdict)
-}
-
-/// The same of operations that are complete, by ticket or by clock, for a queue that is empty first.
-fn decide_operations_par<R: Threads + Sync>(
-    rt: &R,
-    alloc: Global,
-    operations: &[Operation],
-    pieces: usize,
-) -> Result<Verdict, AllocError>
-    requires complete { AreComplete operations.now }
-    requires few { length operations.now ≤ MAX_EVENTS }
-    requires pieces { (1 ≤ pieces) × (pieces ≤ MAX_PIECES) }
-    ensures { IfOk result (λ verdict. IsDecided operations.now verdict) }
-{
-    match match_operations(alloc, operations)? {
+    match match_from(alloc, initial, operations)? {
         Matched::Clear(matching) => decide_matching_par(rt, alloc, &matching, pieces),
         Matched::Fresh(violation) => Ok(Verdict::No(violation)),
         Matched::Repeat(violation) => Ok(Verdict::No(violation)),
@@ -132,8 +96,8 @@ fn decide_operations_par<R: Threads + Sync>(
 
 /// The verdict where each dequeue is of a value that was there, and no value is dequeued twice.
 fn decide_matching(alloc: Global, matching: &Matching) -> Result<Verdict, AllocError>
-    requires { IsClear matching.now }
-    ensures { IfOk result (λ verdict. IsDecided matching.now verdict) }
+    requires { IsClear (filled_operations matching.now) }
+    ensures { IfOk result (IsDecidedFrom matching.now.initial matching.now.operations) }
 {
     if let Some(pair) = find_order(alloc, matching)? {
         return Ok(Verdict::No(violation_of(pair)));
@@ -149,9 +113,9 @@ fn decide_matching_par<R: Threads + Sync>(
     matching: &Matching,
     pieces: usize,
 ) -> Result<Verdict, AllocError>
-    requires clear { IsClear matching.now }
+    requires clear { IsClear (filled_operations matching.now) }
     requires pieces { (1 ≤ pieces) × (pieces ≤ MAX_PIECES) }
-    ensures { IfOk result (λ verdict. IsDecided matching.now verdict) }
+    ensures { IfOk result (IsDecidedFrom matching.now.initial matching.now.operations) }
 {
     if let Some(pair) = find_order_par(rt, alloc, matching, pieces)? {
         return Ok(Verdict::No(violation_of(pair)));
@@ -166,10 +130,10 @@ fn decide_in_order(
     matching: &Matching,
     answer: WitnessAnswer,
 ) -> Result<Verdict, AllocError>
-    requires clear { IsClear matching.now }
-    requires in_order { NoOrderViolation matching.now }
-    requires answer { IsWitnessAnswer matching.now answer }
-    ensures { IfOk result (λ verdict. IsDecided matching.now verdict) }
+    requires clear { IsClear (filled_operations matching.now) }
+    requires in_order { NoOrderViolation (filled_operations matching.now) }
+    requires answer { IsWitnessAnswerFrom matching.now.initial matching.now.operations answer }
+    ensures { IfOk result (IsDecidedFrom matching.now.initial matching.now.operations) }
 {
     match answer {
         WitnessAnswer::Covered { empty, cover } => {

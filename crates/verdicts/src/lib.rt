@@ -10,7 +10,6 @@ mod lookup;
 mod selection;
 mod shown;
 mod shrinking;
-mod unfilling;
 mod verdict;
 mod verifying;
 
@@ -19,7 +18,7 @@ pub use decision::{decide, decide_from, decide_from_par, decide_par};
 pub use history_merge::{History, HistoryFault, OpId, OpKind, Operation, history};
 pub use laws::{
     a_verdict_has_few_lines, evidence_is_a_true_claim, lines_tell_a_violation, no_legal_order,
-    one_finding, one_verdict, violations_are_all,
+    one_finding, one_verdict, told_as_found_of_none, violations_are_all,
 };
 pub use shown::LinePlace;
 pub use shrinking::shrink;

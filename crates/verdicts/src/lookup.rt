@@ -3,7 +3,8 @@ ghost use Rattle.std.specs.Prelude.{◌≡◌, ◌*◌, ◌<◌, ◌≤◌, ◌�
 ghost use Rattle.event_records.specs.declared.limits.TheConstants.{MAX_INITIAL};
 ghost use Rattle.history_merge.specs.Initial.{filling_from};
 ghost use Rattle.history_merge.specs.Operations.{Did, NoneDid, operations_of};
-ghost use Rattle.verdicts.specs.Claims.{filling_at, filling_of, in_filled, stands_for};
+ghost use Rattle.value_match.specs.Filling.{filling_at};
+ghost use Rattle.verdicts.specs.Claims.{filling_of, in_filled, stands_for};
 ghost use Rattle.verdicts.specs.Inner.Claims.{CallsRise, all_of, IsLookedUp};
 
 use crate::verifying::ClaimLine;

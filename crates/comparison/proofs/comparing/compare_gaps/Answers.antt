@@ -1,7 +1,8 @@
+use Rattle.std.proofs.Common.{arith}
 use Rattle.empty_witness.proofs.Answers.{answer_is_empty, places_are_empty}
 use Rattle.comparison.proofs.comparing.compare_gaps.Goals as goal
 
 pub gap_for-requires : goal.gap_for-requires
 gap_for-requires g c =
-    answer_is_empty _ c.empties-empty-items.result.now c.loop-empty.empty-index c.empty-item.result
-    (places_are_empty _ c.empties-empty-items.result.now c.empties-empty-items.ensures) c.loop-empty-test.true c.empty-item.is
+    answer_is_empty _ c.empties-empties.result c.loop-index.index c.get-empty.result (places_are_empty _ c.empties-empties.result c.empties-empties.ensures)
+    (omega (arith, c.loop-index-test.true, c.len-index-end.ensures)) c.get-empty.ensures

@@ -1,18 +1,18 @@
-use Rattle.std.proofs.Common.{subst, sym}
-use Rattle.value_match.specs.Lives.{AreLeastFreeGaps}
-use Rattle.empty_witness.specs.Covered.{AreAllWindows}
-use Rattle.empty_witness.proofs.Answers.{first_is_chosen, gaps_are_all}
+use Rattle.std.proofs.Common.{ℕ, List, ◌∙◌, ap, length, subst}
+use Rattle.std.proofs.lemmas.Result.{IfOk-weaker}
+use Rattle.history_merge.specs.declared.operation.Operation.{Operation}
+use Rattle.empty_witness.specs.Answers.{IsWitnessAnswer, IsWitnessAnswerFrom}
+use Rattle.empty_witness.specs.Inner.Unfilling.{unfilled_witness_answer}
+use Rattle.empty_witness.proofs.Told.{witness_told}
 use Rattle.empty_witness.proofs.search.witness_of.Goals as goal
 
-pub returns-in-Free : goal.returns-in-Free
-returns-in-Free c =
-    let operations = c.args.matching.now in
-    let all = subst (AreAllWindows operations) c.in-Free.is c.requires in
-    subst (AreLeastFreeGaps operations) (sym c.from_vec.ensures) (gaps_are_all operations all.0 _ all.1 all.2)
-
-pub returns-in_ok-cover_of-in-Covered : goal.returns-in_ok-cover_of-in-Covered
-returns-in_ok-cover_of-in-Covered c =
-    let operations = c.args.matching.now in
-    let all = subst (AreAllWindows operations) c.in-Covered.is c.requires in
-    let cover = c.in_ok-cover_of-in-Covered.ensures in
-    (c.in-Covered.first.operation, cover.0, all.2.at, cover.1, first_is_chosen operations all.0 c.in-Covered.first cover.0 all.1 all.2 cover.2, cover.3)
+pub returns : goal.returns
+returns c =
+    let initial = c.args.matching.now.initial in
+    let operations = c.args.matching.now.operations in
+    let answer = c.in_ok-answer.answer in
+    let is = subst (λ (all : List Operation). IsWitnessAnswer all answer) c.filled.ensures c.in_ok-answer.ensures in
+    let many = ap (λ (i : List ℕ). length i) c.initial.ensures.initial in
+    IfOk-weaker c.unfilled_witness_answer.result _ (IsWitnessAnswerFrom initial operations)
+    (λ told same. witness_told initial operations answer told is (same ∙ ap (λ (n : ℕ). unfilled_witness_answer n answer) many))
+    c.unfilled_witness_answer.ensures

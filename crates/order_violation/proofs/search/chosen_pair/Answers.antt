@@ -1,23 +1,15 @@
-use Rattle.std.proofs.Common.{subst, sym}
-use Rattle.order_violation.specs.Overtaking.{FindsFirst}
-use Rattle.order_violation.specs.Pairs.{IsOrderAnswer}
-use Rattle.order_violation.proofs.Chosen.{no_overtaking, is_chosen_pair, dequeue_is_named}
+use Rattle.std.proofs.Common.{◌∙◌, ℕ, List, ap, length, subst, sym}
+use Rattle.history_merge.specs.Initial.{filled}
+use Rattle.order_violation.specs.Pairs.{IsChosenPair, IsOrderAnswer, filled_pair}
+use Rattle.order_violation.specs.Inner.Unfilling.{unfilled_pair}
+use Rattle.order_violation.proofs.Told.{told_is_chosen}
 use Rattle.order_violation.proofs.search.chosen_pair.Goals as goal
 
-pub returns-in_err-b : goal.returns-in_err-b
-returns-in_err-b c = λ operations clear holds.
-    let values = c.args.table.now in
-    subst (IsOrderAnswer operations) (sym c.from_residual.ensures)
-    (no_overtaking operations values clear holds (subst (FindsFirst values values) c.in_err-b.was c.requires))
-
-pub returns-in_err-b-2 : goal.returns-in_err-b-2
-returns-in_err-b-2 c = λ operations clear holds.
-    let values = c.args.table.now in
-    absurd (dequeue_is_named operations values clear holds c.in_ok-a.a c.in_ok-b.b
-    (subst (FindsFirst values values) c.in_ok-b.was c.requires) c.in_ok-a.ensures c.in_err-b-2.was)
-
 pub returns : goal.returns
-returns c = λ operations clear holds.
-    let values = c.args.table.now in
-    is_chosen_pair operations values clear holds c.in_ok-a.a c.in_ok-b.b
-    (subst (FindsFirst values values) c.in_ok-b.was c.requires) c.in_ok-a.ensures _ c.in_ok-b-2.was
+returns c =
+    let initial = c.args.matching.now.initial in
+    let operations = c.args.matching.now.operations in
+    let all = filled initial operations in
+    let found = subst (IsOrderAnswer all) c.in_ok-pair.was (c.pair_by.ensures all c.initial-initial_count.ensures.clear c.requires.lives) in
+    let told = c.unfilled_pair.ensures ∙ ap (λ (i : List ℕ). unfilled_pair (length i) c.in_ok-pair.pair) c.initial-initial_count.ensures.initial in
+    subst (λ p. IsChosenPair all (filled_pair (length initial) p)) (sym told) (told_is_chosen initial operations c.in_ok-pair.pair found)

@@ -1,7 +1,7 @@
 use Rattle.std.proofs.Common.{◌≡◌, rules, tests}
 use Rattle.std.proofs.lemmas.Iterator.{cases_from_all, YieldsList-from_slice}
 use Rattle.history_merge.specs.declared.operation.OpKind.TheVariants.{Enq}
-use Rattle.verdicts.proofs.FilledLines.{none_fills_from_cases}
+use Rattle.value_match.proofs.FilledLines.{none_fills_from_cases}
 use Rattle.verdicts.proofs.lookup.none_fills.Goals as goal
 
 pub returns : goal.returns

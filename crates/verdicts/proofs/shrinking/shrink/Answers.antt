@@ -8,7 +8,7 @@ use Rattle.verdicts.proofs.ChosenSelections.{has_shortest_cover}
 use Rattle.verdicts.proofs.ShrunkEvents.{no_longer}
 use Rattle.verdicts.proofs.ShrunkHistories.{IsShrunk, IsWhole, are_complete, are_selected, are_shrunk, few_events}
 use Rattle.verdicts.proofs.shrinking.shrink.Goals as goal
-use Rattle.verdicts.specs.Filling.{filled_violation}
+use Rattle.value_match.specs.Filling.{filled_violation}
 use Rattle.verdicts.specs.Verdicts.{filled_of}
 
 pub whole_history-requires-clause-few_initial : goal.whole_history-requires-clause-few_initial

@@ -1,6 +1,6 @@
 use Rattle.std.proofs.Common.{◌∙◌, sym, ap, Some}
 use Rattle.std.specs.Prelude.{option_map}
-use Rattle.verdicts.specs.Claims.{filling_at}
+use Rattle.value_match.specs.Filling.{filling_at}
 use Rattle.verdicts.proofs.lookup.Filled.filling_of.Goals as goal
 
 pub returns-in_err-place : goal.returns-in_err-place

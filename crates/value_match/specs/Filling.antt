@@ -1,10 +1,35 @@
--- A violation of a history as one of its filled history, where the initial values are enqueued before all else.
-use Rattle.std.specs.Prelude.{ℕ, ◌+◌, nat_lt, map, option_map, if◌then◌else◌}
+-- What is told of a history, as the same of its filled history, where the initial values are enqueued before all else.
+use Rattle.std.specs.Prelude.{ℕ, ◌+◌, ◌*◌, ◌/◌, nat_lt, ℤ, pos, ◌-ℤ◌, List, map, option_map, if◌then◌else◌}
+use Rattle.history_merge.specs.declared.operation.Operation.{Operation}
+use Rattle.history_merge.specs.declared.operation.OpKind.TheVariants as kind
+use Rattle.history_merge.specs.Initial.{filled}
 use Rattle.value_match.specs.declared.violation.CoverStep.{CoverStep}
 use Rattle.value_match.specs.declared.violation.Source.{Source}
 use Rattle.value_match.specs.declared.violation.Source.TheVariants.{Enq, Initial}
 use Rattle.value_match.specs.declared.violation.Violation.{Violation}
 use Rattle.value_match.specs.declared.violation.Violation.TheVariants.{Fresh, Repeat, Order, Witness}
+
+-- what a matching is of: a history's initial values and its operations
+pub record MatchingView : Type 0 where
+  pub initial : List ℕ
+  pub operations : List Operation
+
+-- the operations of its filled history
+abbrev pub filled_operations : MatchingView → List Operation
+filled_operations matching = filled matching.initial matching.operations
+
+-- in the filled history, the enqueue of the initial value v at place j
+abbrev pub filling_at : ℕ → ℕ → Operation
+filling_at j v = record { call = 2 * j; ret = 2 * j + 1; thread = 0; kind = kind.Enq v }
+
+-- a gap, by the clocks of the filled history
+abbrev pub filled_gap : ℕ → ℕ → ℕ
+filled_gap initial_count c = c + 2 * initial_count
+
+-- the ticket of a clock: the enqueue of the j-th of k initial values has the ticket j - k, at its call and at its return
+abbrev pub ticket_of : ℕ → ℕ → ℤ
+ticket_of initial_count clock =
+    if nat_lt clock (2 * initial_count) then pos (clock / 2) -ℤ pos initial_count else pos clock -ℤ pos (2 * initial_count)
 
 -- behind so many initial values, the place of an operation
 abbrev pub behind : ℕ → ℕ → ℕ

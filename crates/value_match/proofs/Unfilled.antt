@@ -1,12 +1,13 @@
--- A verdict on a filled history, told by the places of the history, says the same.
-use Rattle.std.proofs.Common.{◌≡◌, ℕ, ◌+◌, ◌*◌, ◌<◌, ◌≤◌, Bool, true, false, List, [], ◌∷◌, length, map, Option, Some, None}
+-- What is found of a filled history, told by the places of the history, says the same.
+use Rattle.std.proofs.Common.{◌≡◌, ℕ, ◌+◌, ◌-◌, ◌*◌, ◌<◌, ◌≤◌, Bool, true, false, List, [], ◌∷◌, ◌++◌, length, map, Option, Some, None}
 use Rattle.std.proofs.Common.{refl, sym, ◌∙◌, ap, ap₂, subst, arith, inl, inr, nat_lt}
-use Rattle.std.specs.Prelude.{MatchOption, filter_map, if◌then◌else◌, option_map, slice_get, ⊤}
+use Rattle.std.specs.Prelude.{MatchOption, filter, filter_map, if◌then◌else◌, option_map, slice_get, ⊤}
 use Rattle.std.specs.List.{cons_option}
+use Rattle.std.proofs.lemmas.List.Elements.{filter-append}
 use Rattle.std.proofs.lemmas.Bool.{le-ltb, lt-ltb, ltb-false}
 use Rattle.history_merge.specs.declared.operation.Operation.{Operation}
 use Rattle.history_merge.specs.declared.operation.OpKind.TheVariants.{Enq, Deq, Empty, Not}
-use Rattle.history_merge.specs.Initial.{filled}
+use Rattle.history_merge.specs.Initial.{filled, filling_from, later_by}
 use Rattle.history_merge.specs.Legal.{ArePlacesOf}
 use Rattle.history_merge.specs.Operations.{Did, IsAt, NoneDid, Precedes}
 use Rattle.value_match.specs.declared.life.Life.{Life}
@@ -15,13 +16,13 @@ use Rattle.value_match.specs.declared.violation.Source.{Source}
 use Rattle.value_match.specs.declared.violation.Source.TheVariants as source
 use Rattle.value_match.specs.declared.violation.Violation.{Violation}
 use Rattle.value_match.specs.declared.violation.Violation.TheVariants as violation
-use Rattle.value_match.specs.Lives.{IsMaybeAt, dequeue_of, enqueue_of}
-use Rattle.value_match.specs.Outcome.{IsSource, Names, NamesCover}
+use Rattle.value_match.specs.Lives.{HoldsPlaces, IsMaybeAt, dequeue_of, enqueue_of, is_empty_answer, is_refused}
+use Rattle.value_match.specs.Outcome.{IsSource, Names, NamesCover, NamesChosenFresh, NamesChosenRepeat}
 use Rattle.value_match.specs.Violations.{Breach, fresh, repeat, order, witness, IsBreachOf, IsFreshViolation}
-use Rattle.verdicts.specs.Filling.{behind, filled_source, filled_step, filled_violation}
-use Rattle.verdicts.specs.Inner.Unfilling.{place_behind, unfilled_place, unfilled_source, unfilled_step, unfilled_violation}
-use Rattle.verdicts.proofs.FilledLines.{earlier, earlier_later, earlier_none, filled_at, filled_earlier}
-use Rattle.verdicts.proofs.LinesTell.{AreLives, covers_are_lives}
+use Rattle.value_match.specs.Filling.{behind, filled_source, filled_step, filled_violation}
+use Rattle.value_match.specs.Unfilling.{place_behind, unfilled_place, unfilled_source, unfilled_step, unfilled_violation}
+use Rattle.value_match.proofs.FilledLines.{earlier, earlier_later, earlier_none, filled_at, filled_earlier, one_later}
+use Rattle.value_match.proofs.CoverLives.{AreLives, covers_are_lives}
 
 -- ---- told again, a violation of a history is the same
 
@@ -41,7 +42,7 @@ module _ (k : ℕ) where
       by_count true is = rw is refl
       by_count false is = refl
 
-  cover_told : (steps : List CoverStep) → map (unfilled_step k) (map (filled_step k) steps) ≡ steps
+  pub cover_told : (steps : List CoverStep) → map (unfilled_step k) (map (filled_step k) steps) ≡ steps
   cover_told [] = refl
   cover_told (step ∷ steps) =
       let sources = source_told step.source in
@@ -72,7 +73,7 @@ module _ (initial : List ℕ) (operations : List Operation) where
   all = filled initial operations
 
   -- what isn't the enqueue of an initial value stands behind these
-  stands_behind : (p : ℕ) (o : Operation) → IsAt all p o → ((v : ℕ) → o.kind ≡ Enq v → o.call < 2 * k → ⊥) → k ≤ p
+  pub stands_behind : (p : ℕ) (o : Operation) → IsAt all p o → ((v : ℕ) → o.kind ≡ Enq v → o.call < 2 * k → ⊥) → k ≤ p
   stands_behind p o at other = elim (filled_at initial operations p o at) [
     | inl early ↦
         let call : 2 * p ≡ o.call = ap (λ (x : Operation). x.call) early.is in
@@ -81,13 +82,13 @@ module _ (initial : List ℕ) (operations : List Operation) where
     | inr late ↦ late.behind
   ]
 
-  place_back : (p : ℕ) (o : Operation) → IsAt all p o → ((v : ℕ) → o.kind ≡ Enq v → o.call < 2 * k → ⊥) → behind k (unfilled_place k p) ≡ p
+  pub place_back : (p : ℕ) (o : Operation) → IsAt all p o → ((v : ℕ) → o.kind ≡ Enq v → o.call < 2 * k → ⊥) → behind k (unfilled_place k p) ≡ p
   place_back p o at other = let after = stands_behind p o at other in omega arith
 
-  dequeue_back : (p : ℕ) (o : Operation) (v : ℕ) → IsAt all p o → o.kind ≡ Deq v → behind k (unfilled_place k p) ≡ p
+  pub dequeue_back : (p : ℕ) (o : Operation) (v : ℕ) → IsAt all p o → o.kind ≡ Deq v → behind k (unfilled_place k p) ≡ p
   dequeue_back p o v at is = place_back p o at (λ w enq early. let clash : Deq v ≡ Enq w = sym is ∙ enq in cc)
 
-  source_back : (s : Source) (o : Operation) → IsSource all s o → filled_source k (unfilled_source k s) ≡ s
+  pub source_back : (s : Source) (o : Operation) → IsSource all s o → filled_source k (unfilled_source k s) ≡ s
   source_back (source.Enq p) o at = by_count (nat_lt p k) refl
     where
       by_count : (within : Bool) → nat_lt p k ≡ within
@@ -96,13 +97,13 @@ module _ (initial : List ℕ) (operations : List Operation) where
       by_count false is = let after : k ≤ p = ltb-false p k is in ap source.Enq (omega arith)
   source_back (source.Initial p) o at = absurd at
 
-  maybe_back : (p : Option ℕ) (o : Option Operation) → IsMaybeAt all p o → MatchOption o ⊤ (λ d. (v : ℕ) × (d.kind ≡ Deq v))
+  pub maybe_back : (p : Option ℕ) (o : Option Operation) → IsMaybeAt all p o → MatchOption o ⊤ (λ d. (v : ℕ) × (d.kind ≡ Deq v))
       → option_map (behind k) (option_map (unfilled_place k) p) ≡ p
   maybe_back None o at is = refl
   maybe_back (Some p) None at is = absurd at
   maybe_back (Some p) (Some o) at is = ap (λ q. Some q) (dequeue_back p o is.0 at is.1)
 
-  cover_back : (steps : List CoverStep) (cover : List Life) → NamesCover all steps cover → AreLives cover
+  pub cover_back : (steps : List CoverStep) (cover : List Life) → NamesCover all steps cover → AreLives cover
       → map (filled_step k) (map (unfilled_step k) steps) ≡ steps
   cover_back [] [] names are = refl
   cover_back [] (life ∷ cover) names are = absurd names
@@ -173,6 +174,69 @@ module _ (initial : List ℕ) (operations : List Operation) where
   violation_back (violation.Witness empty cover) (repeat e d f) names is = absurd names
   violation_back (violation.Witness empty cover) (order a b d e) names is = absurd names
 
+  -- the chosen violation of the first two kinds
+  pub fresh_back : (v : Violation) → NamesChosenFresh all v → NamesChosenFresh all (filled_violation k (unfilled_violation k v))
+  fresh_back v chosen = subst (NamesChosenFresh all) (sym (violation_back v (fresh chosen.0 chosen.1) chosen.2 chosen.3.violates)) chosen
+
+  pub repeat_back : (v : Violation) → NamesChosenRepeat all v → NamesChosenRepeat all (filled_violation k (unfilled_violation k v))
+  repeat_back v chosen =
+      subst (NamesChosenRepeat all) (sym (violation_back v (repeat chosen.0 chosen.1 chosen.2) chosen.3 chosen.4.1.violates)) chosen
+
+  -- ---- lists of places
+
+  -- what stands at places of the filled history, and was called at a ticket of the history, stands at the places told
+  places_told : (places : List ℕ) (listed : List Operation) → ArePlacesOf all places (map (later_by (2 * length initial)) listed)
+      → ArePlacesOf operations (map (unfilled_place k) places) listed
+  places_told [] [] at = refl
+  places_told [] (o ∷ listed) at = absurd (cc)
+  places_told (p ∷ places) [] at = absurd (cc)
+  places_told (p ∷ places) (o ∷ listed) at =
+      let first : slice_get all p ≡ Some (later_by (2 * length initial) o) = cc in
+      let later : map (slice_get all) places ≡ map (λ o. Some o) (map (later_by (2 * length initial)) listed) = cc in
+      ap₂ (λ (x : Option Operation) (xs : List (Option Operation)). x ∷ xs) (one_told p o first) (places_told places listed later)
+    where
+      one_told : (p : ℕ) (o : Operation) → slice_get all p ≡ Some (later_by (2 * length initial) o) → slice_get operations (p - k) ≡ Some o
+      one_told p o at' = elim (filled_at initial operations p (later_by (2 * length initial) o) at') [
+        | inl early ↦
+            let call : 2 * p ≡ o.call + 2 * length initial = ap (λ (x : Operation). x.call) early.is in
+            let within = early.within in
+            absurd (omega arith)
+        | inr late ↦ late.stands ∙ ap (λ x. Some x) (one_later (2 * length initial) late.operation o late.is)
+      ]
+
+  -- an operation that no enqueue is, by a test, is one of the history, later
+  filter_filled : (test : Operation → Bool) → ((o : Operation) (v : ℕ) → o.kind ≡ Enq v → test o ≡ false)
+      → ((o : Operation) → test (later_by (2 * length initial) o) ≡ test o)
+      → filter test all ≡ map (later_by (2 * length initial)) (filter test operations)
+  filter_filled test none same =
+      filter-append test (filling_from 0 initial) (map (later_by (2 * length initial)) operations)
+      ∙ ap (λ xs. xs ++ filter test (map (later_by (2 * length initial)) operations)) (no_filling 0 initial)
+      ∙ later_passes operations
+    where
+      no_filling : (clock : ℕ) (values : List ℕ) → filter test (filling_from clock values) ≡ []
+      no_filling clock [] = refl
+      no_filling clock (v ∷ values) = rw (none (record { call = clock; ret = clock + 1; thread = 0; kind = Enq v }) v refl) (no_filling (clock + 2) values)
+
+      later_passes : (os : List Operation) → filter test (map (later_by (2 * length initial)) os) ≡ map (later_by (2 * length initial)) (filter test os)
+      later_passes [] = refl
+      later_passes (o ∷ os) = by_test (test o) refl (later_passes os)
+        where
+          by_test : (b : Bool) → test o ≡ b
+              → filter test (map (later_by (2 * length initial)) os) ≡ map (later_by (2 * length initial)) (filter test os)
+              → filter test (map (later_by (2 * length initial)) (o ∷ os)) ≡ map (later_by (2 * length initial)) (filter test (o ∷ os))
+          by_test true is rest = rw (same o, is) (ap (λ xs. later_by (2 * length initial) o ∷ xs) rest)
+          by_test false is rest = rw (same o, is) rest
+
+  -- the places of the empty answers and of the refused enqueues
+  pub empties_told : (places : List ℕ) → HoldsPlaces all is_empty_answer places
+      → HoldsPlaces operations is_empty_answer (map (unfilled_place k) places)
+  empties_told places holds = places_told places (filter is_empty_answer operations)
+      (subst (ArePlacesOf all places) (filter_filled is_empty_answer (λ o v is. rw is refl) (λ o. refl)) holds)
+
+  pub refused_told : (places : List ℕ) → HoldsPlaces all is_refused places → HoldsPlaces operations is_refused (map (unfilled_place k) places)
+  refused_told places holds = places_told places (filter is_refused operations)
+      (subst (ArePlacesOf all places) (filter_filled is_refused (λ o v is. rw is refl) (λ o. refl)) holds)
+
   -- ---- the places of a yes
 
   places_back : (places : List ℕ) (listed : List Operation) → ArePlacesOf all places listed
@@ -204,3 +268,28 @@ module _ (initial : List ℕ) (operations : List Operation) where
       → ArePlacesOf operations (filter_map (place_behind k) places) listed
   order_back places listed at = subst (ArePlacesOf operations (filter_map (place_behind k) places)) (filled_earlier initial listed)
       (places_back places (filled initial listed) at)
+
+-- ---- with no initial values it is so as it stands
+
+pub place_with_none : (p : ℕ) → unfilled_place 0 p ≡ p
+place_with_none p = omega arith
+
+pub order_with_none : (places : List ℕ) → filter_map (place_behind 0) places ≡ places
+order_with_none [] = refl
+order_with_none (p ∷ places) = rw (le-ltb p 0 (omega arith)) (ap₂ (λ (q : ℕ) (ps : List ℕ). q ∷ ps) (place_with_none p) (order_with_none places))
+
+maybe_with_none : (p : Option ℕ) → option_map (unfilled_place 0) p ≡ p
+maybe_with_none None = refl
+maybe_with_none (Some p) = ap (λ q. Some q) (place_with_none p)
+
+source_with_none : (s : Source) → unfilled_source 0 s ≡ s
+source_with_none (source.Enq p) = rw (le-ltb p 0 (omega arith)) (ap source.Enq (place_with_none p))
+source_with_none (source.Initial p) = refl
+
+pub cover_with_none : (steps : List CoverStep) → map (unfilled_step 0) steps ≡ steps
+cover_with_none [] = refl
+cover_with_none (step ∷ steps) =
+    let sources = source_with_none step.source in
+    let dequeues = maybe_with_none step.dequeue in
+    let rest = cover_with_none steps in
+    λ i. record { source = sources i; dequeue = dequeues i } ∷ rest i

@@ -13,9 +13,8 @@ use Rattle.history_merge.specs.Operations.{NoneDid}
 use Rattle.history_merge.proofs.Distinct.{contains_at, place_of}
 use Rattle.value_match.proofs.FilledOperations.{length_filling}
 use Rattle.value_match.proofs.Lists.{mapped_from, mapped_to}
-use Rattle.verdicts.specs.Claims.{filling_at}
+use Rattle.value_match.specs.Filling.{filling_at}
 use Rattle.std.proofs.lemmas.Bool.{cases_lt, lt-ltb, ltb-true}
-use Rattle.std.proofs.lemmas.List.{length-append, length-map}
 
 -- the enqueue of the initial value at this place, where the first clock is another
 abbrev filling_from_at : ℕ → ℕ → ℕ → Operation

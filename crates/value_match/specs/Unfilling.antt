@@ -1,12 +1,10 @@
--- A verdict on a filled history, by the places of the history.
-use Rattle.std.specs.Prelude.{ℕ, ◌-◌, nat_lt, filter_map, map, Option, Some, None, option_map, if◌then◌else◌}
+-- What is found of a filled history, by the places of the history.
+use Rattle.std.specs.Prelude.{ℕ, ◌-◌, nat_lt, map, Option, Some, None, option_map, if◌then◌else◌}
 use Rattle.value_match.specs.declared.violation.CoverStep.{CoverStep}
 use Rattle.value_match.specs.declared.violation.Source.{Source}
 use Rattle.value_match.specs.declared.violation.Source.TheVariants.{Enq, Initial}
 use Rattle.value_match.specs.declared.violation.Violation.{Violation}
 use Rattle.value_match.specs.declared.violation.Violation.TheVariants.{Fresh, Repeat, Order, Witness}
-use Rattle.verdicts.specs.declared.verdict.Verdict.{Verdict}
-use Rattle.verdicts.specs.declared.verdict.Verdict.TheVariants.{Yes, No}
 
 -- the place of an operation, which stands behind so many initial values
 abbrev pub unfilled_place : ℕ → ℕ → ℕ
@@ -37,8 +35,3 @@ unfilled_violation initial_count (Order enq_a enq_b deq_b deq_a) =
     Order (unfilled_source initial_count enq_a) (unfilled_source initial_count enq_b) (unfilled_place initial_count deq_b)
     (option_map (unfilled_place initial_count) deq_a)
 unfilled_violation initial_count (Witness empty cover) = Witness (unfilled_place initial_count empty) (map (unfilled_step initial_count) cover)
-
--- a verdict: a yes without the enqueues of the initial values
-abbrev pub unfilled_verdict : ℕ → Verdict → Verdict
-unfilled_verdict initial_count (Yes places) = Yes (filter_map (place_behind initial_count) places)
-unfilled_verdict initial_count (No violation) = No (unfilled_violation initial_count violation)

@@ -1,0 +1,73 @@
+//! What is found of the windows of a filled history, told by the places and tickets of the history.
+ghost use Rattle.std.specs.Prelude.{◌≡◌, IfOk, map};
+ghost use Rattle.empty_witness.specs.Inner.Unfilling.{unfilled_gap, unfilled_gap_answer, unfilled_witness_answer};
+
+use crate::answer::{GapAnswer, Gaps, WitnessAnswer};
+use std::alloc::{AllocError, Global};
+use value_match::{unfilled_cover, unfilled_place};
+
+/// The answer for one window.
+pub fn unfilled_gap_answer(
+    alloc: Global,
+    initial_count: usize,
+    answer: GapAnswer,
+) -> Result<GapAnswer, AllocError>
+    ensures { IfOk result (λ told. told ≡ unfilled_gap_answer initial_count answer) }
+{
+    match answer {
+        GapAnswer::Free(gap) => Ok(GapAnswer::Free(unfilled_gap(initial_count, gap))),
+        GapAnswer::Covered(cover) => {
+            let told = unfilled_cover(alloc, initial_count, cover)?;
+            Ok(GapAnswer::Covered(told))
+        }
+    }
+}
+
+/// The answer for all windows.
+pub fn unfilled_witness_answer(
+    alloc: Global,
+    initial_count: usize,
+    answer: WitnessAnswer,
+) -> Result<WitnessAnswer, AllocError>
+    ensures { IfOk result (λ told. told ≡ unfilled_witness_answer initial_count answer) }
+{
+    match answer {
+        WitnessAnswer::Gaps(gaps) => {
+            let told = unfilled_gaps(alloc, initial_count, gaps)?;
+            Ok(WitnessAnswer::Gaps(told))
+        }
+        WitnessAnswer::Covered { empty, cover } => {
+            let told = unfilled_cover(alloc, initial_count, cover)?;
+            Ok(WitnessAnswer::Covered {
+                empty: unfilled_place(initial_count, empty),
+                cover: told,
+            })
+        }
+    }
+}
+
+/// The gaps; nothing is done where there are no initial values.
+fn unfilled_gaps(alloc: Global, initial_count: usize, gaps: Gaps) -> Result<Gaps, AllocError>
+    ensures { IfOk result (λ told. told ≡ map (unfilled_gap initial_count) gaps) }
+{
+    if initial_count == 0 {
+        return Ok(gaps);
+    }
+    let told = each_unfilled(alloc, initial_count, gaps.as_slice())?;
+    Ok(Gaps::from_vec(told))
+}
+
+fn each_unfilled(alloc: Global, initial_count: usize, gaps: &[u64]) -> Result<Vec<u64>, AllocError>
+    ensures { IfOk result (λ told. told.items ≡ map (unfilled_gap initial_count) gaps.now) }
+{
+    gaps.iter()
+        .map(|gap| unfilled_gap(initial_count, *gap))
+        .collect(alloc)
+}
+
+/// The gap, which comes after the enqueues of the initial values, of two tickets each.
+fn unfilled_gap(initial_count: usize, gap: u64) -> u64
+    ensures { result ≡ unfilled_gap initial_count gap }
+{
+    gap.saturating_sub((initial_count as u64).saturating_mul(2))
+}

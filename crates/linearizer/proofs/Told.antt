@@ -1,0 +1,63 @@
+-- The order of a filled history, told by the places and tickets of the history.
+use Rattle.std.proofs.Common.{◌≡◌, ℕ, ◌≤◌, List, [], ◌∷◌, length, map, ◌∙◌, ap, subst, arith}
+use Rattle.std.specs.Prelude.{All, filter, filter_map}
+use Rattle.std.specs.List.{AllZip}
+use Rattle.std.proofs.lemmas.List.Elements.{All-cons, All-filter, All-head, All-nil, All-tail, Contains-get_or}
+use Rattle.std.proofs.lemmas.List.Folds.{map_fixed}
+use Rattle.event_records.specs.declared.limits.TheConstants.{MAX_CLOCK}
+use Rattle.history_merge.specs.declared.operation.Operation.{Operation}
+use Rattle.history_merge.specs.Initial.{filled}
+use Rattle.history_merge.specs.Legal.{ArePlacesOf}
+use Rattle.history_merge.proofs.Distinct.{return_in_range}
+use Rattle.history_merge.proofs.Filled.{all_filled_orders}
+use Rattle.value_match.specs.Filling.{filled_gap}
+use Rattle.value_match.specs.Lives.{AreLeastFreeGaps, IsLeastFreeGap, is_empty_answer}
+use Rattle.value_match.specs.Unfilling.{place_behind}
+use Rattle.value_match.specs.Violations.{IsClear}
+use Rattle.value_match.proofs.Unfilled.{order_back, order_with_none}
+use Rattle.linearizer.specs.Order.{AreChosenAndLegal, AreChosenAndLegalFrom, AreLeastFreeGapsFrom, IsChosenOrder}
+
+-- gaps in windows of operations that return in range are in range
+below_returns : (operations listed : List Operation) (k : ℕ) (gaps : List ℕ) → All (λ o. o.ret ≤ MAX_CLOCK) listed
+    → AllZip (λ o c. IsLeastFreeGap operations o c) listed (map (filled_gap k) gaps) → All (λ gap. filled_gap k gap ≤ MAX_CLOCK) gaps
+below_returns operations listed k [] returns zip = All-nil (λ gap. filled_gap k gap ≤ MAX_CLOCK)
+below_returns operations [] k (gap ∷ gaps) returns zip = absurd zip
+below_returns operations (o ∷ listed) k (gap ∷ gaps) returns zip =
+    let returned = All-head (λ (x : Operation). x.ret ≤ MAX_CLOCK) o listed returns in
+    let below = zip.0.in_window.1 in
+    All-cons (λ g. filled_gap k g ≤ MAX_CLOCK) gap gaps (omega (arith, returned, below))
+    (below_returns operations listed k gaps (All-tail (λ (x : Operation). x.ret ≤ MAX_CLOCK) o listed returns) zip.1)
+
+module _ (initial : List ℕ) (operations : List Operation) where
+  abbrev all : List Operation
+  all = filled initial operations
+
+  -- each least free gap is before a return, so its clock is in range
+  pub gaps_in_range : (gaps : List ℕ) → IsClear all → AreLeastFreeGapsFrom initial operations gaps
+      → All (λ gap. filled_gap (length initial) gap ≤ MAX_CLOCK) gaps
+  gaps_in_range gaps clear free =
+      below_returns all (filter is_empty_answer all) (length initial) gaps
+      (All-filter is_empty_answer (λ o. o.ret ≤ MAX_CLOCK) all
+      (λ i d below. return_in_range all _ clear.complete (Contains-get_or all i d below))) free
+
+  -- the chosen order, which begins with the enqueues of the initial values, without these
+  pub order_told : (places : List ℕ) → AreChosenAndLegal all places
+      → AreChosenAndLegalFrom initial operations (filter_map (place_behind (length initial)) places)
+  order_told places is =
+      let legal = all_filled_orders initial operations is.0 is.3 in (
+        legal.0,
+        order_back initial operations places legal.0 (subst (ArePlacesOf all places) legal.1 is.1),
+        subst (IsChosenOrder all) legal.1 is.2,
+        legal.2,
+      )
+
+  -- with no initial values the gaps are as they stand
+  pub gaps_of_none : (gaps : List ℕ) → length initial ≡ 0 → AreLeastFreeGapsFrom initial operations gaps → AreLeastFreeGaps all gaps
+  gaps_of_none gaps none free =
+      let same = map_fixed (filled_gap (length initial)) gaps (λ i d below. omega (arith, none)) in
+      subst (AreLeastFreeGaps all) same free
+
+  -- and so are the places
+  pub order_of_none : (places : List ℕ) → length initial ≡ 0 → AreChosenAndLegal all places → AreChosenAndLegalFrom initial operations places
+  order_of_none places none is =
+      subst (AreChosenAndLegalFrom initial operations) (ap (λ k. filter_map (place_behind k) places) none ∙ order_with_none places) (order_told places is)

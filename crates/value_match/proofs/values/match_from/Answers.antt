@@ -1,0 +1,13 @@
+use Rattle.std.proofs.Common.{◌∙◌, ap, arith, length, sym}
+use Rattle.value_match.proofs.FilledOperations.{length_filled, no_elements, none_filled}
+use Rattle.value_match.proofs.values.match_from.Goals as goal
+
+pub matched-requires-clause-all : goal.matched-requires-clause-all
+matched-requires-clause-all c =
+    sym (none_filled c.args.initial.now c.args.operations.now (no_elements c.args.initial.now c.if-is_empty.ensures))
+
+pub find-requires-2-clause-few : goal.find-requires-2-clause-few
+find-requires-2-clause-few c =
+    let all = ap length (c.as_slice.ensures.value ∙ c.in_ok-filled.ensures.filled) in
+    let long = length_filled c.args.initial.now c.args.operations.now in
+    omega (arith, all, long, c.requires.few_initial, c.requires.few)

@@ -1,0 +1,55 @@
+ghost use Rattle.std.specs.Prelude.{◌≡◌, ◌<◌, length, map, slice_index_or};
+ghost use Rattle.value_match.specs.Unfilling.{unfilled_place};
+
+use crate::unfilling::unfilled_place;
+use history_merge::OpId;
+use std::marker::Model;
+
+/// Places of operations of a history, seen as the list of them.
+///
+/// It borrows those of the filled history.
+#[derive(Debug, Drop)]
+pub struct Places<'a> {
+    initial_count: usize,
+    filled: &'a [OpId],
+}
+
+impl<'a> Model for Places<'a> {
+    ghost use Rattle.std.specs.Prelude.{ℕ, List, map};
+    ghost use Rattle.value_match.specs.Unfilling.{unfilled_place};
+
+    ghost Value = { List ℕ };
+
+    ghost view = { λ a. map (unfilled_place a.initial_count) a.filled.now };
+}
+
+impl<'a> Places<'a> {
+    /// The places behind so many initial values.
+    pub(crate) fn new(initial_count: usize, filled: &'a [OpId]) -> Places<'a>
+        ensures { result ≡ map (unfilled_place initial_count) filled.now }
+    {
+        Places {
+            initial_count,
+            filled,
+        }
+    }
+
+    /// How many there are.
+    pub fn len(&self) -> usize
+        ensures { result ≡ length self.now }
+    {
+        self.filled.len()
+    }
+
+    /// The one at this place of the list.
+    pub fn get(&self, place: usize) -> OpId
+        requires { place < length self.now }
+        ensures { result ≡ slice_index_or self.now place result }
+    {
+        let filled = self.filled;
+        if place >= filled.len() {
+            unreachable!("there are as many places as in the filled history");
+        }
+        unfilled_place(self.initial_count, filled[place])
+    }
+}
