@@ -1,7 +1,5 @@
 -- From what is drawn of a history to what `draw` answers.
 use Rattle.std.proofs.Common.{◌≡◌, ◌<◌, Option, Some, None, arith, refl, sym, subst, inl, inr}
-use Rattle.history_merge.specs.declared.fault.HistoryFault.{HistoryFault}
-use Rattle.history_merge.specs.Faults.{IsFirstFaultFrom}
 use Rattle.history_merge.specs.Initial.{HistoryView}
 use Rattle.history_merge.specs.Operations.{operations_of}
 use Rattle.verdicts.specs.declared.verifying.Claimed.{Claimed}
@@ -14,10 +12,10 @@ use Rattle.drawing.specs.Claim.{count_of_lines}
 use Rattle.drawing.specs.declared.columns.TheConstants.{MOST_DRAWN}
 use Rattle.history_text.specs.declared.version.HistoryText.{HistoryText}
 use Rattle.command_words.specs.declared.options.PictureForm.{PictureForm}
-use Rattle.commands.specs.Answers.{Answer, refused_size, answer_of_history_fault}
+use Rattle.commands.specs.Answers.{Answer, refused_size}
 use Rattle.commands.specs.Inputs.{drawable}
-use Rattle.commands.specs.Judging.{AnswersOrNoMemory, Draws, DrawsAlone, DrawsClaim, IsDrawn, IsSmallHistory, IsSound, IsTooLarge, IsVerdictClaim, said_by}
-use Rattle.commands.proofs.Findings.{fault_or}
+use Rattle.commands.specs.Judging.{AnswersOrNoMemory, Draws, DrawsAlone, DrawsClaim, IsDrawn, IsFaulty, said_by}
+use Rattle.commands.specs.Judging.{IsSmallHistory, IsSound, IsTooLarge, IsVerdictClaim}
 
 -- a claim is that of the verdict
 pub claims_verdict : (history : HistoryView) (verdict : Verdict) (claimed : Claimed) → IsVerdictFrom history.initial (operations_of history.events) verdict
@@ -58,7 +56,8 @@ drawn_claim form text claimed answer (inl drawn) = inl (inr (inr (inr drawn)))
 drawn_claim form text claimed answer (inr memory) = inr memory
 
 -- whatever is claimed of it, a history has its first fault
-pub faulty_history : (form : PictureForm) (text : HistoryText) (claimed : Option Claimed) (fault : HistoryFault)
-    → IsFirstFaultFrom text.initial text.events fault → AnswersOrNoMemory (Draws form) (drawable text claimed) (answer_of_history_fault fault)
-faulty_history form text None fault first = fault_or (said_by text) fault first
-faulty_history form text (Some claimed) fault first = fault_or (said_by text) fault first
+pub faulty_history : (form : PictureForm) (text : HistoryText) (claimed : Option Claimed) (answer : Answer)
+    → AnswersOrNoMemory IsFaulty (said_by text) answer → AnswersOrNoMemory (Draws form) (drawable text claimed) answer
+faulty_history form text claimed answer (inr memory) = inr memory
+faulty_history form text None answer (inl faulty) = inl (inl faulty)
+faulty_history form text (Some claimed) answer (inl faulty) = inl (inl faulty)

@@ -1,5 +1,5 @@
 -- From the fault of a list of events, or of an input, to what is answered of it.
-use Rattle.std.proofs.Common.{◌≡◌, ◌∙◌, ℕ, ◌≤◌, ◌⊎◌, List, [], length, arith, Option, Some, None, IfSome, inl, inr, refl, sym, ap, subst}
+use Rattle.std.proofs.Common.{◌≡◌, ◌∙◌, ℕ, ◌≤◌, ◌⊎◌, List, [], length, arith, Option, Some, None, IfSome, inl, inr, refl, ap}
 use Rattle.history_merge.specs.declared.fault.HistoryFault.{HistoryFault}
 use Rattle.history_merge.specs.declared.fault.HistoryFault.TheVariants.{TicketOrder, BadThread, CallWhilePending, ReturnWithoutCall, WrongReturn}
 use Rattle.history_merge.specs.declared.fault.HistoryFault.TheVariants.{DuplicateValue, Pending, Memory, InitialTwice}
@@ -13,16 +13,14 @@ use Rattle.event_records.specs.declared.limits.TheConstants.{MAX_INITIAL}
 use Rattle.history_text.specs.declared.version.HistoryText.{HistoryText}
 use Rattle.history_text.specs.declared.version.Version.{Version}
 use Rattle.history_text.specs.declared.version.Version.TheVariants.{One, Two}
-use Rattle.history_text.specs.Versions.{HasText, HaveValueLines, said_in}
+use Rattle.history_text.specs.Versions.{HasText, HaveValueLines}
 use Rattle.verdicts.specs.declared.verdict.Verdict.{Verdict}
 use Rattle.verdicts.specs.Claiming.{claim_of}
 use Rattle.verdicts.specs.Verdicts.{HasOperationsFrom, IsEvidenceFrom, IsExactFrom, IsVerdictFrom}
-use Rattle.verdicts.specs.declared.verdict.Verdict.TheVariants as verdict
-use Rattle.history_merge.specs.declared.operation.Operation.{Operation}
 use Rattle.std.specs.Prelude.{filter}
 use Rattle.verdicts.specs.Selection.{ArePartOf}
 use Rattle.verdicts.proofs.DecidedFrom.{history_has}
-use Rattle.commands.specs.Answers.{Answer, judged, memory_fault, answer_of_history_fault}
+use Rattle.commands.specs.Answers.{Answer, memory_fault, answer_of_history_fault}
 use Rattle.text_lines.specs.declared.fault.TextFault.{TextFault}
 use Rattle.text_lines.specs.Input.{Ahead}
 use Rattle.commands.specs.Judging.{IsFaulty, IsShrunk, IsVerdictClaim, AnswersFor, AnswersOrNoMemory, IsGathered, Shrinks, from_none, said_by}
@@ -90,38 +88,12 @@ is_from_none history none = λ i. record { initial = none i; events = history.ev
 
 -- ---- what is shrunk
 
--- a yes of `shrink` is its verdict
-pub shrunk_yes : (text : HistoryText) (version : Version) (history : HistoryView) (initial : List ℕ) (operations : List Operation) (order : List ℕ)
-    → said_in version history ≡ text → initial ≡ history.initial → operations ≡ operations_of history.events
-    → IsCompleteFrom history.initial history.events → IsVerdictFrom history.initial (operations_of history.events) (verdict.Yes order)
-    → IsEvidenceFrom history.initial (operations_of history.events) (verdict.Yes order)
-    → IsExactFrom history.initial (operations_of history.events) (verdict.Yes order)
-    → AnswersOrNoMemory Shrinks text (judged (claim_of initial operations (verdict.Yes order)))
-shrunk_yes text version history initial operations order same same_initial same_operations complete chosen evidence exact =
-    subst (λ t. AnswersOrNoMemory Shrinks t (judged (claim_of initial operations (verdict.Yes order)))) same
-    (inl (inr (inl (
-      exact,
-      record {
-        complete = complete;
-        claimed = claim_of history.initial (operations_of history.events) (verdict.Yes order);
-        right = decided_claim history (verdict.Yes order) chosen evidence exact;
-        is = λ i. judged (claim_of (same_initial i) (same_operations i) (verdict.Yes order));
-      },
-    ))))
-
 -- what shows a no is what `shrink` answers
-pub shrunk_no : (text : HistoryText) (version : Version) (history : HistoryView) (answer : Answer) → said_in version history ≡ text
-    → AnswersOrNoMemory IsShrunk (said_in version history) answer → AnswersOrNoMemory Shrinks text answer
-shrunk_no text version history answer same (inl shrunk) = subst (λ t. AnswersOrNoMemory Shrinks t answer) same (inl (inr (inr shrunk)))
-shrunk_no text version history answer same (inr memory) = inr memory
+pub shrunk_no : (text : HistoryText) (answer : Answer) → AnswersOrNoMemory IsShrunk text answer → AnswersOrNoMemory Shrinks text answer
+shrunk_no text answer (inl shrunk) = inl (inr (inr shrunk))
+shrunk_no text answer (inr memory) = inr memory
 
--- a text of the first version has no initial values
-pub none_of_first : (text : HistoryText) (version : Version) (history : HistoryView) → HasText text → said_in version history ≡ text → version ≡ One
-    → history.initial ≡ []
-none_of_first text version history has same first =
-    subst (λ v. HaveValueLines v history.initial) first (subst (λ (t : HistoryText). HaveValueLines t.version t.initial) (sym same) has.initial)
-
--- nor has a part of none
+-- a part of none is none
 pub part_of_none : (whole part : List ℕ) → ArePartOf whole part → whole ≡ [] → part ≡ []
 part_of_none whole part is none = is.1 ∙ ap (filter is.0) none
 

@@ -1,13 +1,12 @@
 //! `convert`: a history in version 2 of its text.
 ghost use Rattle.std.specs.Prelude.{IfSome};
 ghost use Rattle.commands.specs.Inputs.{IsHistoryOf, IsFaultOfHistoryInput};
-ghost use Rattle.commands.specs.Judging.{AnswersFor, AnswersOrNoMemory, Converts};
+ghost use Rattle.commands.specs.Judging.{AnswersFor, Converts};
 ghost use Rattle.commands.specs.Outcomes.{answer_of, NamesPlaces};
-ghost use Rattle.history_text.specs.Versions.{HasText};
 
-use crate::input::{history_of, text_of};
+use crate::input::given_history;
 use crate::outcome::Outcome;
-use history_text::{HistoryText, TextSource};
+use history_text::TextSource;
 use std::alloc::Global;
 
 /// What `convert` finds in what the reader gives.
@@ -17,20 +16,8 @@ where
     ensures found { IfSome (S.ahead reader) (λ input. AnswersFor IsHistoryOf IsFaultOfHistoryInput Converts input (answer_of result)) }
     ensures places { NamesPlaces result }
 {
-    match text_of(alloc, reader) {
-        Ok(text) => convert_text(alloc, text),
-        Err(fault) => Outcome::TextFailed(fault),
-    }
-}
-
-/// The history that a text says, or its first fault.
-fn convert_text(alloc: Global, text: HistoryText) -> Outcome
-    requires { HasText text }
-    ensures found { AnswersOrNoMemory Converts text (answer_of result) }
-    ensures places { NamesPlaces result }
-{
-    match history_of(alloc, text) {
-        Ok(history) => Outcome::Converted(history),
-        Err(fault) => Outcome::HistoryFailed(fault),
+    match given_history(alloc, reader) {
+        Ok((_version, history)) => Outcome::Converted(history),
+        Err(outcome) => outcome,
     }
 }

@@ -31,8 +31,8 @@ where
         Err(fault) => return Outcome::TextFailed(fault),
     };
     match history_of(alloc, text) {
-        Ok(history) => draw_history(alloc, &history, &claimed, form),
-        Err(fault) => Outcome::HistoryFailed(fault),
+        Ok((_version, history)) => draw_history(alloc, &history, &claimed, form),
+        Err(outcome) => outcome,
     }
 }
 

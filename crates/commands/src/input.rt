@@ -2,23 +2,25 @@
 ghost use Rattle.std.specs.Prelude.{◌≡◌, IfOk, IfErr, IfSome};
 ghost use Rattle.history_merge.specs.Gathering.{HasGatheredFrom};
 ghost use Rattle.history_text.specs.declared.version.HistoryText.{HistoryText};
-ghost use Rattle.history_merge.specs.Faults.{IsFirstFaultFrom};
 ghost use Rattle.history_merge.specs.Initial.{IsCompleteFrom};
 ghost use Rattle.history_text.specs.Versions.{HasText, said_in};
 ghost use Rattle.history_text.specs.Schedules.{IsSetting};
 ghost use Rattle.commands.specs.Inputs.{IsHistoryOf, IsFaultOfHistoryInput, IsScheduleOf, IsFaultOfScheduleInput, IsClaimOf, IsFaultOfClaimInput};
 ghost use Rattle.commands.specs.Inputs.{IsDrawableOf, IsFaultOfDrawableInput, drawable};
+ghost use Rattle.commands.specs.Judging.{IsFaulty, AnswersFor, AnswersOrNoMemory, said_by};
+ghost use Rattle.commands.specs.Outcomes.{answer_of, NamesPlaces};
 
-use history_merge::{History, HistoryFault, PreloadedBuilder, history_from};
+use crate::outcome::Outcome;
+use history_merge::{History, PreloadedBuilder, history_from};
 use history_text::{
-    HistoryText, Schedule, TextFault, TextReader, TextSource, at_end, gather_any, is_at_end,
-    read_any, read_schedule, read_verdict,
+    HistoryText, Schedule, TextFault, TextReader, TextSource, Version, at_end, gather_any,
+    is_at_end, read_any, read_schedule, read_verdict,
 };
 use std::alloc::Global;
 use verdicts::Claimed;
 
 /// What the one text of a history that the reader gives says, of either version.
-pub fn text_of<S: TextSource>(alloc: Global, reader: S) -> Result<HistoryText, TextFault>
+fn text_of<S: TextSource>(alloc: Global, reader: S) -> Result<HistoryText, TextFault>
 where
     S: Drop,
     ensures text { IfOk result (λ text. IfSome (S.ahead reader) (λ input. IsHistoryOf input text)) }
@@ -94,17 +96,38 @@ where
     Ok((text, Some(claimed)))
 }
 
-/// The history that a text says, of either version; or its first fault.
-pub fn history_of(alloc: Global, text: HistoryText) -> Result<History, HistoryFault>
+/// The one history that the reader gives, and the version of its text; or what is found where there is none.
+pub fn given_history<S: TextSource>(alloc: Global, reader: S) -> Result<(Version, History), Outcome>
+where
+    S: Drop,
+    ensures history { IfOk result (λ read. IfSome (S.ahead reader) (λ input. IsHistoryOf input (said_in read.0 read.1))) }
+    ensures has { IfOk result (λ read. HasText (said_in read.0 read.1)) }
+    ensures complete { IfOk result (λ read. IsCompleteFrom read.1.initial read.1.events) }
+    ensures found { IfErr result (λ outcome. IfSome (S.ahead reader) (λ input.
+        AnswersFor IsHistoryOf IsFaultOfHistoryInput (λ text. IsFaulty (said_by text)) input (answer_of outcome))) }
+    ensures places { IfErr result NamesPlaces }
+{
+    match text_of(alloc, reader) {
+        Ok(text) => history_of(alloc, text),
+        Err(fault) => Err(Outcome::TextFailed(fault)),
+    }
+}
+
+/// The history that a text says, and its version; or what is found where it says none.
+pub fn history_of(alloc: Global, text: HistoryText) -> Result<(Version, History), Outcome>
     requires { HasText text }
-    ensures history { IfOk result (λ history. said_in text.version history ≡ text) }
-    ensures complete { IfOk result (λ history. IsCompleteFrom history.initial history.events) }
-    ensures fault { IfErr result (IsFirstFaultFrom text.initial text.events) }
+    ensures history { IfOk result (λ read. said_in read.0 read.1 ≡ text) }
+    ensures complete { IfOk result (λ read. IsCompleteFrom read.1.initial read.1.events) }
+    ensures found { IfErr result (λ outcome. AnswersOrNoMemory IsFaulty (said_by text) (answer_of outcome)) }
+    ensures places { IfErr result NamesPlaces }
 {
     let HistoryText {
-        version: _version,
+        version,
         initial,
         events,
     } = text;
-    history_from(alloc, initial.into_vec(), events.into_vec())
+    match history_from(alloc, initial.into_vec(), events.into_vec()) {
+        Ok(history) => Ok((version, history)),
+        Err(fault) => Err(Outcome::HistoryFailed(fault)),
+    }
 }

@@ -1,18 +1,19 @@
 //! `shrink`: what shows that a history is not linearizable, and no more.
 ghost use Rattle.std.specs.Prelude.{◌≡◌, [], IfOk, IfSome};
+ghost use Rattle.history_merge.specs.Initial.{IsCompleteFrom};
 ghost use Rattle.history_merge.specs.Legal.{IsLinearizableFrom};
 ghost use Rattle.history_merge.specs.Operations.{operations_of};
 ghost use Rattle.history_text.specs.declared.version.Version.TheVariants.{One};
-ghost use Rattle.history_text.specs.Versions.{HasText, said_in};
+ghost use Rattle.history_text.specs.Versions.{said_in};
 ghost use Rattle.verdicts.specs.Verdicts.{IsChosenFrom};
 ghost use Rattle.commands.specs.Inputs.{IsHistoryOf, IsFaultOfHistoryInput};
 ghost use Rattle.commands.specs.Judging.{Shrinks, IsShrunk, AnswersFor, AnswersOrNoMemory};
 ghost use Rattle.commands.specs.Outcomes.{answer_of, NamesPlaces};
 
-use crate::input::{history_of, text_of};
+use crate::input::given_history;
 use crate::outcome::Outcome;
 use history_merge::{History, HistoryParts};
-use history_text::{HistoryText, TextSource, Version};
+use history_text::{TextSource, Version};
 use std::alloc::{AllocError, Global};
 use value_match::Violation;
 use verdicts::{Verdict, decide};
@@ -24,29 +25,25 @@ where
     ensures found { IfSome (S.ahead reader) (λ input. AnswersFor IsHistoryOf IsFaultOfHistoryInput Shrinks input (answer_of result)) }
     ensures places { NamesPlaces result }
 {
-    match text_of(alloc, reader) {
-        Ok(text) => shrink_text(alloc, text),
-        Err(fault) => Outcome::TextFailed(fault),
+    match given_history(alloc, reader) {
+        Ok((version, history)) => shrink_history(alloc, version, history),
+        Err(outcome) => outcome,
     }
 }
 
-/// What `shrink` finds in what a text says.
-fn shrink_text(alloc: Global, text: HistoryText) -> Outcome
-    requires { HasText text }
-    ensures found { AnswersOrNoMemory Shrinks text (answer_of result) }
+/// What `shrink` finds in a history, of a text of this version.
+fn shrink_history(alloc: Global, version: Version, history: History) -> Outcome
+    requires version { version ≡ One → history.initial ≡ [] }
+    requires complete { IsCompleteFrom history.initial history.events }
+    ensures found { AnswersOrNoMemory Shrinks (said_in version history) (answer_of result) }
     ensures places { NamesPlaces result }
 {
-    let version = text.version;
-    let history = match history_of(alloc, text) {
-        Ok(history) => history,
-        Err(fault) => return Outcome::HistoryFailed(fault),
-    };
     match decide(alloc, &history) {
         Ok(Verdict::Yes(order)) => match parts_of(alloc, history) {
             Ok(parts) => Outcome::Judged(parts, Verdict::Yes(order)),
             Err(_) => Outcome::MemoryFault,
         },
-        Ok(Verdict::No(violation)) => shrink_history(alloc, version, &history, &violation),
+        Ok(Verdict::No(violation)) => shrink_violation(alloc, version, &history, &violation),
         Err(_) => Outcome::MemoryFault,
     }
 }
@@ -64,7 +61,7 @@ fn parts_of(alloc: Global, history: History) -> Result<HistoryParts, AllocError>
 }
 
 /// What shows the chosen violation of a history, of a text of this version.
-fn shrink_history(
+fn shrink_violation(
     alloc: Global,
     version: Version,
     history: &History,

@@ -42,11 +42,8 @@ where
         Ok(read) => read,
         Err(fault) => return Err(Outcome::TextFailed(fault)),
     };
-    let version = text.version;
-    match history_of(alloc, text) {
-        Ok(history) => return Ok((version, history, claimed)),
-        Err(fault) => return Err(Outcome::HistoryFailed(fault)),
-    }
+    let (version, history) = history_of(alloc, text)?;
+    Ok((version, history, claimed))
 }
 
 /// Whether the claim is evidence in the history.
