@@ -19,9 +19,10 @@ from concurrent.futures import ThreadPoolExecutor
 PROGRAM, LIBRARY, FOLDER, EXAMPLES = sys.argv[1:5]
 # No command makes more calls of a kind than this with these inputs.
 MOST_CALLS = 2000
-# A run that takes longer hangs.
-SECONDS = 20
-LANES = max(2, os.cpu_count() or 2)
+# A run that takes longer hangs. One whose collector had no memory tries its pushes a million times, and yields after each.
+SECONDS = 60
+# As many at once as processors that this process may use.
+LANES = max(2, len(os.sched_getaffinity(0)))
 
 MEMORY = (3, b"FAULT Memory\n")
 READ = (3, b"FAULT Read\n")

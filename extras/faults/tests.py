@@ -16,9 +16,11 @@ TESTS, LIBRARY, FOLDER = sys.argv[1:4]
 # No test makes more growths than this.
 MOST_GROWTHS = 2000
 # A test that takes longer hangs.
-SECONDS = 20
+SECONDS = 60
+# As many at once as processors that this process may use.
+LANES = len(os.sched_getaffinity(0))
 # So many are refused before it is asked whether there are more.
-STRIDE = 4 * (os.cpu_count() or 2)
+STRIDE = 4 * LANES
 
 
 def listed():
@@ -60,7 +62,7 @@ def refused_in_turn(pool, test, wrong):
 def main():
     begun, wrong, refused = time.time(), [], 0
     tests = listed()
-    with ThreadPoolExecutor(os.cpu_count() or 2) as pool:
+    with ThreadPoolExecutor(LANES) as pool:
         for test in tests:
             count = refused_in_turn(pool, test, wrong)
             if count == 0:
