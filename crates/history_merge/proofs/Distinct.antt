@@ -250,26 +250,23 @@ same_return operations x y complete in_x in_y same =
     same_call operations x y complete in_x in_y
     (same_return_same_call complete.0 complete.1.tickets_rise x y (trace_of operations x complete in_x) (trace_of operations y complete in_y) same)
 
--- returns have tickets in the range of the events'
-pub return_within : {n : ℕ} (events : List Event) (o : Operation) → IsCompleteUpTo n events → Contains (operations_of events) o → o.ret ≤ n
-return_within {n} events o complete among =
+-- calls and returns have tickets in the range of the events'
+pub operation_within : {n : ℕ} (events : List Event) (o : Operation) → IsCompleteUpTo n events → Contains (operations_of events) o
+    → (o.call ≤ n) × (o.ret ≤ n)
+operation_within {n} events o complete among =
     let t = traced events o among in
-    let bound = complete.tickets_in_range t.returned_at t.answer (slice_get_within events t.returned_at t.answer t.at_return) in
-    let here : t.answer.ticket ≤ n = subst (λ e. e.ticket ≤ n) (get_or_from_slice_get events t.returned_at t.answer t.answer t.at_return) bound in
-    omega (arith, t.made.returned)
-
--- operations are called before the tickets' end
-pub call_within : {n : ℕ} (events : List Event) (o : Operation) → IsCompleteUpTo n events → Contains (operations_of events) o → o.call ≤ n
-call_within {n} events o complete among =
-    let t = traced events o among in
-    let bound = complete.tickets_in_range t.called_at t.call (slice_get_within events t.called_at t.call t.at_call) in
-    let here : t.call.ticket ≤ n = subst (λ e. e.ticket ≤ n) (get_or_from_slice_get events t.called_at t.call t.call t.at_call) bound in
-    omega (arith, t.made.called)
+    let call = at_place t.called_at t.call t.at_call in
+    let ret = at_place t.returned_at t.answer t.at_return in
+    (omega (arith, t.made.called, call), omega (arith, t.made.returned, ret))
+  where
+    at_place : (i : ℕ) (e : Event) → slice_get events i ≡ Some e → e.ticket ≤ n
+    at_place i e at =
+        subst (λ e. e.ticket ≤ n) (get_or_from_slice_get events i e e at) (complete.tickets_in_range i e (slice_get_within events i e at))
 
 -- returns have tickets in their range
 pub return_in_range : (operations : List Operation) (o : Operation) → AreComplete operations → Contains operations o → o.ret ≤ MAX_CLOCK
 return_in_range operations o complete among =
-    return_within complete.0 o complete.1 (subst (λ os. Contains os o) complete.2 among)
+    (operation_within complete.0 o complete.1 (subst (λ os. Contains os o) complete.2 among)).1
 
 -- an operation is called before it returns
 pub call_before_return : (operations : List Operation) (o : Operation) → AreComplete operations → Contains operations o → o.call < o.ret

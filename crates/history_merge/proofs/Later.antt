@@ -1,7 +1,7 @@
 -- Operations and events that all come so much later.
 use Rattle.std.proofs.Common.{◌≡◌, ℕ, ◌+◌, ◌-◌, Bool, true, false, cond, List, [], ◌∷◌, Option, Some, None}
 use Rattle.std.proofs.Common.{refl, sym, ◌∙◌, ap, subst, arith, nat_eq}
-use Rattle.std.specs.Prelude.{All, AllPairs, IsPermutation, find, map, option_map}
+use Rattle.std.specs.Prelude.{All, AllPairs, IsPermutation, find, get_or, map, option_map}
 use Rattle.std.specs.List.{cons_option}
 use Rattle.std.proofs.lemmas.List.{get_or-map, length-map}
 use Rattle.std.proofs.lemmas.List.Elements.{All-map}
@@ -29,7 +29,8 @@ there_and_back n o =
     ap (λ m. record { call = m; ret = (o.ret + n) - n; thread = o.thread; kind = o.kind }) (let same : (o.call + n) - n ≡ o.call = omega arith in same)
     ∙ ap (λ m. record { call = o.call; ret = m; thread = o.thread; kind = o.kind }) (let same : (o.ret + n) - n ≡ o.ret = omega arith in same)
 
-map_map : {X Y Z : Type 0} (f : X → Y) (g : Y → Z) (xs : List X) → map g (map f xs) ≡ map (λ x. g (f x)) xs
+-- one map after another is one map
+pub map_map : {X Y Z : Type 0} (f : X → Y) (g : Y → Z) (xs : List X) → map g (map f xs) ≡ map (λ x. g (f x)) xs
 map_map f g [] = refl
 map_map f g (x ∷ xs) = ap (λ zs. g (f x) ∷ zs) (map_map f g xs)
 
@@ -43,21 +44,29 @@ later_injective n xs ys same = sym (all_back n xs) ∙ ap (map (earlier_by n)) s
 same_kinds : (n : ℕ) (operations : List Operation) → map (λ o. o.kind) (map (later_by n) operations) ≡ map (λ o. o.kind) operations
 same_kinds n operations = map_map (later_by n) (λ o. o.kind) operations
 
+-- what changes no kind, and gives none precedence that hadn't it, keeps an order legal
+pub legal_moved : (move : Operation → Operation) (queue : List ℕ) (operations order : List Operation)
+    → ((xs : List Operation) → map (λ o. o.kind) (map move xs) ≡ map (λ o. o.kind) xs)
+    → ((x y : Operation) → Precedes (move x) (move y) → Precedes x y)
+    → IsLegalOrderFrom queue operations order → IsLegalOrderFrom queue (map move operations) (map move order)
+legal_moved move queue operations order kinds back legal = record {
+  holds_each_once = IsPermutation-map move operations order legal.holds_each_once;
+  extends_precedence = apart;
+  is_accepted = subst (IsAccepted queue) (sym (kinds order)) legal.is_accepted;
+}
+  where
+    apart : AllPairs (λ earlier later. ¬ (Precedes later earlier)) (map move order)
+    apart i j d below inside precedes =
+        let long = length-map order move in
+        let early = get_or-map move order i d d (omega arith) in
+        let late = get_or-map move order j d d (omega arith) in
+        legal.extends_precedence i j d below (omega arith)
+        (back (get_or order j d) (get_or order i d) (omega (arith, precedes, ap (λ (o : Operation). o.call) early, ap (λ (o : Operation). o.ret) late)))
+
 -- so much later nothing of an order changes
 pub legal_later : (n : ℕ) (queue : List ℕ) (operations order : List Operation) → IsLegalOrderFrom queue operations order
     → IsLegalOrderFrom queue (map (later_by n) operations) (map (later_by n) order)
-legal_later n queue operations order legal = record {
-  holds_each_once = IsPermutation-map (later_by n) operations order legal.holds_each_once;
-  extends_precedence = apart;
-  is_accepted = subst (IsAccepted queue) (sym (same_kinds n order)) legal.is_accepted;
-}
-  where
-    apart : AllPairs (λ earlier later. ¬ (Precedes later earlier)) (map (later_by n) order)
-    apart i j d below inside precedes =
-        let long = length-map order (later_by n) in
-        let early = get_or-map (later_by n) order i d d (omega arith) in
-        let late = get_or-map (later_by n) order j d d (omega arith) in
-        legal.extends_precedence i j d below (omega arith) (omega (arith, precedes, ap (λ o. o.call) early, ap (λ o. o.ret) late))
+legal_later n queue operations order = legal_moved (later_by n) queue operations order (same_kinds n) (λ x y precedes. omega (arith, precedes))
 
 -- and an order of operations that are all so much later is one of these
 pub legal_earlier : (n : ℕ) (queue : List ℕ) (operations found : List Operation) → IsLegalOrderFrom queue (map (later_by n) operations) found

@@ -6,6 +6,8 @@ use Rattle.history_merge.specs.declared.operation.OpKind.{OpKind}
 use Rattle.history_merge.specs.declared.operation.OpKind.TheVariants.{Enq, Deq, Empty, Not}
 use Rattle.history_merge.specs.Operations.{IsInWindow, Did, NoneDid}
 use Rattle.history_merge.proofs.Distinct.{contains_cons, not_in_none, place_of, one_at, same_call}
+use Rattle.history_merge.proofs.Places.{put_in_by}
+use Rattle.history_merge.proofs.Runs.{put_in}
 use Rattle.value_match.specs.declared.life.Life.{Life}
 use Rattle.value_match.specs.Lives.{IsLife, IsLeastFreeGap, AreLeastFreeGaps, is_dequeue_of, is_empty_answer, dequeue_of, enqueue_of}
 use Rattle.value_match.specs.Violations.{IsClear, NoOrderViolation}
@@ -23,41 +25,31 @@ same_number v w =
     let cases : (v ≡ w) ⊎ ((v < w) ⊎ (w < v)) = grind arith in
     elim cases [ inl same ↦ inl same | inr (inl less) ↦ inr (λ e. omega arith) | inr (inr more) ↦ inr (λ e. omega arith) ]
 
-is_enqueue : (k : OpKind) (v : ℕ) → (k ≡ Enq v) ⊎ ¬ (k ≡ Enq v)
-is_enqueue (Enq w) v = elim (same_number w v) [ inl same ↦ inl (ap (λ u. Enq u) same) | inr differ ↦ inr (λ e. differ (value e)) ]
+some_or_not : (o : Option ℕ) (v : ℕ) → (o ≡ Some v) ⊎ ¬ (o ≡ Some v)
+some_or_not (Some w) v = elim (same_number w v) [ inl same ↦ inl (ap (λ u. Some u) same) | inr differ ↦ inr (λ e. differ (value e)) ]
   where
-    value : Enq w ≡ Enq v → w ≡ v
+    value : Some w ≡ Some v → w ≡ v
     value e = cc
-is_enqueue (Deq w) v = inr (λ e. clash e)
+some_or_not None v = inr (λ e. clash e)
   where
-    clash : Deq w ≡ Enq v → ⊥
-    clash e = cc
-is_enqueue Empty v = inr (λ e. clash e)
-  where
-    clash : Empty ≡ Enq v → ⊥
-    clash e = cc
-is_enqueue (Not w) v = inr (λ e. clash e)
-  where
-    clash : Not w ≡ Enq v → ⊥
+    clash : None ≡ Some v → ⊥
     clash e = cc
 
-is_refusal : (k : OpKind) (v : ℕ) → (k ≡ Not v) ⊎ ¬ (k ≡ Not v)
-is_refusal (Not w) v = elim (same_number w v) [ inl same ↦ inl (ap (λ u. Not u) same) | inr differ ↦ inr (λ e. differ (value e)) ]
-  where
-    value : Not w ≡ Not v → w ≡ v
-    value e = cc
-is_refusal (Deq w) v = inr (λ e. clash e)
-  where
-    clash : Deq w ≡ Not v → ⊥
-    clash e = cc
-is_refusal Empty v = inr (λ e. clash e)
-  where
-    clash : Empty ≡ Not v → ⊥
-    clash e = cc
-is_refusal (Enq w) v = inr (λ e. clash e)
-  where
-    clash : Enq w ≡ Not v → ⊥
-    clash e = cc
+-- an operation did this or not, where only what did this gives this value
+decided : (gives : OpKind → Option ℕ) (kind : OpKind) (v : ℕ) → gives kind ≡ Some v → ((k : OpKind) → gives k ≡ Some v → k ≡ kind)
+    → (k : OpKind) → (k ≡ kind) ⊎ ¬ (k ≡ kind)
+decided gives kind v gave by k = elim (some_or_not (gives k) v) [ inl is ↦ inl (by k is) | inr not ↦ inr (λ same. not (ap gives same ∙ gave)) ]
+
+-- the value that was not taken
+abbrev refused_value : OpKind → Option ℕ
+refused_value (Not v) = Some v
+refused_value _ = None
+
+refused_by : (k : OpKind) (v : ℕ) → refused_value k ≡ Some v → k ≡ Not v
+refused_by (Not w) v e = let same : w ≡ v = cc in ap (λ u. Not u) same
+refused_by (Enq w) v e = cc
+refused_by (Deq w) v e = cc
+refused_by Empty v e = cc
 
 one_did : (kind : OpKind) → ((k : OpKind) → (k ≡ kind) ⊎ ¬ (k ≡ kind)) → (operations : List Operation)
     → ((o : Operation) × Did operations o kind) ⊎ NoneDid operations kind
@@ -73,9 +65,9 @@ one_did kind decide (x ∷ operations) = elim (decide x.kind) [
 -- what is dequeued was enqueued
 enqueue_of_dequeued : (operations : List Operation) (o : Operation) (v : ℕ) → IsClear operations → Did operations o (Deq v)
     → (e : Operation) × Did operations e (Enq v)
-enqueue_of_dequeued operations o v clear did = elim (one_did (Enq v) (λ k. is_enqueue k v) operations) [
+enqueue_of_dequeued operations o v clear did = elim (one_did (Enq v) (decided put_in (Enq v) v refl (λ k. put_in_by k v)) operations) [
   | inl found ↦ found
-  | inr none ↦ elim (one_did (Not v) (λ k. is_refusal k v) operations) [
+  | inr none ↦ elim (one_did (Not v) (decided refused_value (Not v) v refl (λ k. refused_by k v)) operations) [
     | inl refused ↦ absurd (clear.no_fresh o (Some refused.0) (record { value = v; dequeues = did; enqueues = inl refused.1 }))
     | inr none' ↦ absurd (clear.no_fresh o None (record { value = v; dequeues = did; not_accepted = none; not_refused = none' }))
   ]

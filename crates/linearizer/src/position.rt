@@ -34,19 +34,23 @@ pub(crate) struct Placed {
 impl Placed {
     ghost use Rattle.linearizer.specs.Inner.Placement.{position_of};
 
+    fn at(operation: OpId, gap: u64, class: Class, rank: u64) -> Placed
+        ensures operation { result.operation ≡ operation }
+        ensures position { result.position ≡ record { gap = gap; class = class; rank = rank } }
+    {
+        let position = Position { gap, class, rank };
+        Placed {
+            operation,
+            position,
+        }
+    }
+
     /// The enqueue of the value at this place of the order of values.
     pub(crate) fn enqueue(operation: OpId, gap: u64, place: usize) -> Placed
         ensures operation { result.operation ≡ operation }
         ensures position { position_of result.position ≡ record { gap = gap; class = enqueues; rank = place } }
     {
-        Placed {
-            operation,
-            position: Position {
-                gap,
-                class: Class::Enqueue,
-                rank: place as u64,
-            },
-        }
+        Placed::at(operation, gap, Class::Enqueue, place as u64)
     }
 
     /// The dequeue of the value at this place of the order of values.
@@ -63,14 +67,7 @@ impl Placed {
         } else {
             Class::OtherDequeue
         };
-        Placed {
-            operation,
-            position: Position {
-                gap,
-                class,
-                rank: place as u64,
-            },
-        }
+        Placed::at(operation, gap, class, place as u64)
     }
 
     /// An operation that changes nothing.
@@ -78,13 +75,6 @@ impl Placed {
         ensures operation { result.operation ≡ operation }
         ensures position { position_of result.position ≡ record { gap = gap; class = idle_answers; rank = call } }
     {
-        Placed {
-            operation,
-            position: Position {
-                gap,
-                class: Class::Idle,
-                rank: call,
-            },
-        }
+        Placed::at(operation, gap, Class::Idle, call)
     }
 }

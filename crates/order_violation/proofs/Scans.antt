@@ -34,25 +34,23 @@ no_later_than values candidates x y le later = All-weaker (ComesNoLater values x
 pub sooner_is_first : (values low high : List MatchedValue) (a b r : MatchedValue) → IsFirstOvertaking values low a → IsFirstOvertaking values high b
     → IsSoonerOf a b r → IsFirstOvertaking values (low ++ high) r
 sooner_is_first values low high a b r is_a is_b sooner = elim sooner.is_one [
-  | inl same ↦ record {
-    among = subst (Contains (low ++ high)) (sym same) (Contains-append_left low high a is_a.among);
-    overtaken = is_a.overtaken;
-    overtaken_among = is_a.overtaken_among;
-    overtakes = subst (λ (y : MatchedValue). Overtakes y.life is_a.overtaken.life) (sym same) is_a.overtakes;
-    first = first;
-  }
-  | inr same ↦ record {
-    among = subst (Contains (low ++ high)) (sym same) (Contains-append_right low high b is_b.among);
-    overtaken = is_b.overtaken;
-    overtaken_among = is_b.overtaken_among;
-    overtakes = subst (λ (y : MatchedValue). Overtakes y.life is_b.overtaken.life) (sym same) is_b.overtakes;
-    first = first;
-  }
+  | inl same ↦ one_of low a is_a same (Contains-append_left low high a is_a.among)
+  | inr same ↦ one_of high b is_b same (Contains-append_right low high b is_b.among)
 ]
   where
     first : All (ComesNoLater values r) (low ++ high)
     first = All-append (ComesNoLater values r) low high (no_later_than values low a r sooner.before_first is_a.first)
         (no_later_than values high b r sooner.before_second is_b.first)
+
+    one_of : (side : List MatchedValue) (x : MatchedValue) → IsFirstOvertaking values side x → r ≡ x → Contains (low ++ high) x
+        → IsFirstOvertaking values (low ++ high) r
+    one_of side x is same among = record {
+      among = subst (Contains (low ++ high)) (sym same) among;
+      overtaken = is.overtaken;
+      overtaken_among = is.overtaken_among;
+      overtakes = subst (λ (y : MatchedValue). Overtakes y.life is.overtaken.life) (sym same) is.overtakes;
+      first = first;
+    }
 
 -- where none of the others overtakes a value, the first is the first of all
 pub low_is_first : (values low high : List MatchedValue) (a : MatchedValue) → IsFirstOvertaking values low a

@@ -9,10 +9,10 @@ use Rattle.std.proofs.lemmas.List.Folds.{map_fixed}
 use Rattle.history_merge.specs.declared.operation.Operation.{Operation}
 use Rattle.history_merge.specs.declared.operation.OpKind.TheVariants.{Enq}
 use Rattle.history_merge.specs.Initial.{filled, filling_from, later_by}
-use Rattle.history_merge.proofs.Later.{not_later}
+use Rattle.history_merge.proofs.Later.{map_map, not_later}
 use Rattle.verdicts.specs.Selection.{selects}
 use Rattle.value_match.proofs.FilledLines.{same_operation}
-use Rattle.verdicts.proofs.Retiming.{Rises, map_map, retimed}
+use Rattle.verdicts.proofs.Retiming.{Rises, retimed}
 
 -- ---- clocks
 

@@ -165,21 +165,16 @@ module _ (initial : List ℕ) (operations : List Operation) where
   all_within (p ∷ places) (o ∷ listed) each =
       All-cons (IsPlaceWithin initial operations) p places (place_within p (line_of (2 * k) o) each.0.0) (all_within places listed each.1)
 
+  line_held : {A : Type 0} (as_line : A → ClaimLine) (xs : List A) (p : ℕ) (l : ClaimLine) → option_map as_line (slice_get xs p) ≡ Some l
+      → Contains (map as_line xs) l
+  line_held {A = A} as_line xs p l at = held (slice_get xs p) refl at
+    where
+      held : (o : Option A) → slice_get xs p ≡ o → option_map as_line o ≡ Some l → Contains (map as_line xs) l
+      held None is at' = cc
+      held (Some x) is at' =
+          let one : as_line x ≡ l = cc in subst (Contains (map as_line xs)) one (mapped_to as_line xs x (contains_at xs p x is))
+
   -- the line at a place is one of the history
   pub line_there : (place : LinePlace) (l : ClaimLine) → line_at initial operations place ≡ Some l → Contains (lines_of_history initial operations) l
-  line_there (Op p) l at = held (slice_get operations p) refl at
-    where
-      held : (o : Option Operation) → slice_get operations p ≡ o → option_map line.Op o ≡ Some l → Contains (lines_of_history initial operations) l
-      held None is at' = cc
-      held (Some o) is at' =
-          let one : line.Op o ≡ l = cc in
-          subst (Contains (lines_of_history initial operations)) one (Contains-append_right (map line.Initial initial) (map line.Op operations) (line.Op o)
-          (mapped_to line.Op operations o (contains_at operations p o is)))
-  line_there (Initial p) l at = held (slice_get initial p) refl at
-    where
-      held : (v : Option ℕ) → slice_get initial p ≡ v → option_map line.Initial v ≡ Some l → Contains (lines_of_history initial operations) l
-      held None is at' = cc
-      held (Some v) is at' =
-          let one : line.Initial v ≡ l = cc in
-          subst (Contains (lines_of_history initial operations)) one (Contains-append_left (map line.Initial initial) (map line.Op operations) (line.Initial v)
-          (mapped_to line.Initial initial v (contains_at initial p v is)))
+  line_there (Op p) l at = Contains-append_right (map line.Initial initial) (map line.Op operations) l (line_held line.Op operations p l at)
+  line_there (Initial p) l at = Contains-append_left (map line.Initial initial) (map line.Op operations) l (line_held line.Initial initial p l at)

@@ -2,10 +2,8 @@
 use Rattle.std.proofs.Common.{◌≡◌, ℕ, zero, suc, ◌+◌, ◌-◌, ◌<◌, ◌≤◌, ◌⊎◌, Bool, true, false}
 use Rattle.std.proofs.Common.{List, [], ◌∷◌, Option, Some, None, refl, sym, ◌∙◌, ap, subst}
 use Rattle.std.proofs.Common.{inl, inr, arith, map}
-use Rattle.std.specs.Prelude.{AllPairs, Contains, MatchBool, MatchOption, nat_lt, option_map, ⊤}
+use Rattle.std.specs.Prelude.{Contains, MatchBool, MatchOption, nat_lt, option_map, ⊤}
 use Rattle.std.proofs.lemmas.Bool.{cases_order, ltb-false, ltb-true, le-ltb, lt-ltb}
-use Rattle.std.proofs.lemmas.List.{get_or-map, length-map}
-use Rattle.std.proofs.lemmas.List.Sorted.{IsPermutation-map}
 use Rattle.event_records.specs.declared.limits.TheConstants.{MAX_CLOCK}
 use Rattle.history_merge.specs.declared.operation.Operation.{Operation}
 use Rattle.history_merge.specs.declared.operation.OpKind.{OpKind}
@@ -13,8 +11,8 @@ use Rattle.history_merge.specs.declared.operation.OpKind.TheVariants.{Enq, Deq, 
 use Rattle.history_merge.specs.Complete.{AreComplete}
 use Rattle.history_merge.specs.Legal.{IsLegalOrder, IsLinearizable}
 use Rattle.history_merge.specs.Operations.{Did, NoneDid, Precedes}
-use Rattle.history_merge.specs.Queue.{IsAccepted}
 use Rattle.history_merge.proofs.Distinct.{call_before_return, return_in_range}
+use Rattle.history_merge.proofs.Later.{legal_moved, map_map}
 use Rattle.value_match.specs.declared.life.Life.{Life}
 use Rattle.value_match.specs.declared.life.TheConstants.{NEVER}
 use Rattle.value_match.specs.Lives.{IsCovered, IsLife, call_or_never, dequeue_call, dequeue_of, enqueue_of, enqueue_return}
@@ -47,10 +45,6 @@ Rises h = (a b : ℕ) → a < b → h a < h b
 -- one of the operations, if it is one
 abbrev IsMaybeAmong : List Operation → Option Operation → Type 0
 IsMaybeAmong operations d = MatchOption d ⊤ (Contains operations)
-
-pub map_map : {X Y Z : Type 0} (f : X → Y) (g : Y → Z) (xs : List X) → map g (map f xs) ≡ map (λ x. g (f x)) xs
-map_map f g [] = refl
-map_map f g (x ∷ xs) = ap (λ zs. g (f x) ∷ zs) (map_map f g xs)
 
 none_mapped : {X Y : Type 0} (f : X → Y) (xs : List X) → map f xs ≡ [] → xs ≡ []
 none_mapped f [] none = refl
@@ -176,19 +170,8 @@ module _ (h : ℕ → ℕ) (rises : Rises h) where
     -- ---- legal orders
 
     order_stays : (found : List Operation) → IsLegalOrder xs found → IsLegalOrder ys (map (retimed h) found)
-    order_stays found legal = record {
-      holds_each_once = IsPermutation-map (retimed h) xs found legal.holds_each_once;
-      extends_precedence = apart;
-      is_accepted = subst (IsAccepted []) (sym (map_map (retimed h) (λ o. o.kind) found)) legal.is_accepted;
-    }
-      where
-        apart : AllPairs (λ earlier later. ¬ (Precedes later earlier)) (map (retimed h) found)
-        apart i j d below inside precedes =
-            let long = length-map found (retimed h) in
-            let early = get_or-map (retimed h) found i d d (omega arith) in
-            let late = get_or-map (retimed h) found j d d (omega arith) in
-            legal.extends_precedence i j d below (omega arith) (below_back _ _
-            (omega (arith, precedes, ap (λ (o : Operation). o.call) early, ap (λ (o : Operation). o.ret) late)))
+    order_stays found =
+        legal_moved (retimed h) [] xs found (map_map (retimed h) (λ o. o.kind)) (λ x y. below_back x.ret y.call)
 
     pub linearizable_there : IsLinearizable xs → IsLinearizable ys
     linearizable_there found = (map (retimed h) found.0, order_stays found.0 found.1)

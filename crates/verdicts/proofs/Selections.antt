@@ -72,6 +72,10 @@ module _ (operations : List Operation) (values empties : ℕ → Bool) where
       let value = sym (selects_by_value (enqueue_of life) is.0 (Enq is.0) is.1.1 refl) ∙ selects_it in
       (is.0, did_in_selected (enqueue_of life) (Enq is.0) is.1 selects_it, dequeue_in_selected is.0 (dequeue_of life) value is.2)
 
+  further : {P Q : Operation → Type 0} (dequeue : Option Operation) → MatchOption dequeue ⊥ P → ((d : Operation) → P d → Q d) → MatchOption dequeue ⊥ Q
+  further None covers more = covers
+  further (Some d) covers more = more d covers
+
   cover_in_whole : (empty before : Operation) (cover : List Life) → CoversFrom selected empty before cover → CoversFrom operations empty before cover
   cover_in_whole empty before [] covers = covers
   cover_in_whole empty before (life ∷ []) covers = (life_in_whole life covers.0, covers.1, covers.2)
@@ -81,12 +85,6 @@ module _ (operations : List Operation) (values empties : ℕ → Bool) where
     further (dequeue_of life) covers.2
         (λ d. cover_in_whole empty d (next ∷ rest)),
   )
-    where
-      further : (dequeue : Option Operation) → MatchOption dequeue ⊥ (λ d. CoversFrom selected empty d (next ∷ rest))
-          → ((d : Operation) → CoversFrom selected empty d (next ∷ rest) → CoversFrom operations empty d (next ∷ rest))
-          → MatchOption dequeue ⊥ (λ d. CoversFrom operations empty d (next ∷ rest))
-      further None covers' more = covers'
-      further (Some d) covers' more = more d covers'
 
   cover_in_selected : (empty before : Operation) (cover : List Life) → CoversFrom operations empty before cover
       → ((life : Life) → Contains cover life → selects values empties (enqueue_of life) ≡ true) → CoversFrom selected empty before cover
@@ -98,12 +96,6 @@ module _ (operations : List Operation) (values empties : ℕ → Bool) where
     further (dequeue_of life) covers.2 (λ d covers'. cover_in_selected empty d (next ∷ rest) covers'
         (λ x among. each x (one_deeper life (next ∷ rest) x among))),
   )
-    where
-      further : (dequeue : Option Operation) → MatchOption dequeue ⊥ (λ d. CoversFrom operations empty d (next ∷ rest))
-          → ((d : Operation) → CoversFrom operations empty d (next ∷ rest) → CoversFrom selected empty d (next ∷ rest))
-          → MatchOption dequeue ⊥ (λ d. CoversFrom selected empty d (next ∷ rest))
-      further None covers' more = covers'
-      further (Some d) covers' more = more d covers'
 
   never_in_whole : (deq : Operation) → IsNeverEnqueued selected deq → IsNeverEnqueued operations deq
   never_in_whole deq is =

@@ -15,7 +15,7 @@ use Rattle.history_merge.specs.Complete.{called_values}
 use Rattle.history_merge.specs.Initial.{IsCompleteFrom, filled}
 use Rattle.history_merge.specs.Legal.{ArePlacesOf, IsLegalOrderFrom}
 use Rattle.history_merge.specs.Operations.{operations_of}
-use Rattle.history_merge.proofs.Distinct.{call_within, contains_at, pairs_at, return_within, contains_cons, not_in_none, place_of}
+use Rattle.history_merge.proofs.Distinct.{contains_at, operation_within, pairs_at, contains_cons, not_in_none, place_of}
 use Rattle.value_match.specs.declared.violation.Violation.{Violation}
 use Rattle.value_match.specs.declared.violation.Violation.TheVariants.{Fresh, Repeat, Order, Witness}
 use Rattle.value_match.specs.Outcome.{Names}
@@ -89,11 +89,12 @@ module _ (initial : List ℕ) (events : List Event) (whole : IsCompleteFrom init
         ∙ ap (option_map (λ j. filling_at j early.value)) (place_of_value initial p early.value apart early.stands) ∙ ap (λ o. Some o) early.is
     | inr late ↦
         let among = contains_at (operations_of events) (p - length initial) late.operation late.stands in
+        let within = operation_within events late.operation whole.complete among in
         ap (λ o. stands_for initial (line_of (2 * length initial) o)) (sym late.is)
         ∙ ap (stands_for initial) (later_line (2 * length initial) late.operation)
         ∙ rw (
-          le-leb late.operation.call MAX_TICKET (call_within events late.operation whole.complete among),
-          le-leb late.operation.ret MAX_TICKET (return_within events late.operation whole.complete among),
+          le-leb late.operation.call MAX_TICKET within.0,
+          le-leb late.operation.ret MAX_TICKET within.1,
         ) (ap (λ o. Some o) late.is)
   ]
     where

@@ -47,8 +47,7 @@ pub fn decide_from(
 {
     match match_from(alloc, initial, operations)? {
         Matched::Clear(matching) => decide_matching(alloc, &matching),
-        Matched::Fresh(violation) => Ok(Verdict::No(violation)),
-        Matched::Repeat(violation) => Ok(Verdict::No(violation)),
+        Matched::Fresh(violation) | Matched::Repeat(violation) => Ok(Verdict::No(violation)),
     }
 }
 
@@ -89,8 +88,7 @@ pub fn decide_from_par<R: Threads + Sync>(
 {
     match match_from(alloc, initial, operations)? {
         Matched::Clear(matching) => decide_matching_par(rt, alloc, &matching, pieces),
-        Matched::Fresh(violation) => Ok(Verdict::No(violation)),
-        Matched::Repeat(violation) => Ok(Verdict::No(violation)),
+        Matched::Fresh(violation) | Matched::Repeat(violation) => Ok(Verdict::No(violation)),
     }
 }
 
