@@ -90,14 +90,19 @@ head_text (InAndOut v) = concat (decimal v ∷ codes " in and out" ∷ [])
 head_text SaidEmpty = codes "empty"
 head_text (InOrOut v) = concat (decimal v ∷ codes " in or out" ∷ [])
 
+-- the word for a band: for a value that surely is in the queue, for one that surely isn't, and for the time beside them; nothing
+-- where there is no band
+abbrev pub form_words : Head → List ℕ → List ℕ → List ℕ → List ℕ
+form_words (SurelyIn v) sure absent time = sure
+form_words (NotIn v) sure absent time = absent
+form_words (Dequeued v) sure absent time = time
+form_words (InAndOut v) sure absent time = time
+form_words SaidEmpty sure absent time = time
+form_words (InOrOut v) sure absent time = []
+
 -- the form of a band in a row
 abbrev pub form : Head → List ℕ
-form (SurelyIn v) = codes "###"
-form (NotIn v) = codes "xxx"
-form (Dequeued v) = codes ":::"
-form (InAndOut v) = codes ":::"
-form SaidEmpty = codes ":::"
-form (InOrOut v) = []
+form head = form_words head (codes "###") (codes "xxx") (codes ":::")
 
 -- the band has begun at this gap: that just after a ticket, or none for that before all tickets
 abbrev pub has_begun : Option ℕ → Option ℕ → Bool

@@ -66,16 +66,18 @@ abbrev pub moment_text : Option ℕ → List ℕ
 moment_text None = codes "the start"
 moment_text (Some ticket) = codes "ticket " ++ decimal ticket
 
+-- from when on a value of a cover surely was in the queue, with the number of its enqueue
+unfoldable pub cover_from : ℕ → ClaimLine → List ℕ
+cover_from number enq = concat (value_text enq ∷ codes " from " ∷ moment_text (line_return enq) ∷ codes " (" ∷ decimal number ∷ [])
+
 -- from when to when a value of a cover surely was in the queue, with the numbers of its enqueue and its dequeue
 unfoldable pub one_of_cover : ℕ → ClaimLine → ClaimLine → List ℕ
 one_of_cover number enq deq =
-    concat (value_text enq ∷ codes " from " ∷ moment_text (line_return enq) ∷ codes " (" ∷ decimal number
-    ∷ codes ") to " ∷ moment_text (line_call deq) ∷ codes " (" ∷ decimal (number + 1) ∷ line (codes ")") ∷ [])
+    cover_from number enq ++ concat (codes ") to " ∷ moment_text (line_call deq) ∷ codes " (" ∷ decimal (number + 1) ∷ line (codes ")") ∷ [])
 
 -- from when on the last value of a cover surely was in the queue
 unfoldable pub last_of_cover : ℕ → ClaimLine → List ℕ
-last_of_cover number enq =
-    concat (value_text enq ∷ codes " from " ∷ moment_text (line_return enq) ∷ codes " (" ∷ decimal number ∷ line (codes ") on") ∷ [])
+last_of_cover number enq = cover_from number enq ++ line (codes ") on")
 
 -- the lines of the values of a cover, numbered from here on
 abbrev pub cover_caption : ℕ → List ClaimLine → List ℕ
@@ -111,11 +113,17 @@ caption (No VWit lines) = witness_caption lines
 unfoldable pub lane_meanings : List ℕ
 lane_meanings = concat (line (codes "[    call of an operation") ∷ line (codes "]    its return") ∷ [])
 
+-- the words for a yes, for a no of operations alone, and for a no where the queue holds values first
+abbrev pub claim_words : Claimed → List ℕ → List ℕ → List ℕ → List ℕ → List ℕ
+claim_words (Yes order) initial certain shown with_values = certain
+claim_words (No kind lines) [] certain shown with_values = shown
+claim_words (No kind lines) (v ∷ initial) certain shown with_values = with_values
+
 -- what a number means
 abbrev pub number_meaning : Claimed → List ℕ → List ℕ
-number_meaning (Yes order) initial = line (codes "1    number 1 in the order, where it takes effect")
-number_meaning (No kind lines) [] = line (codes "1    number 1 of the operations that show it")
-number_meaning (No kind lines) (v ∷ initial) = line (codes "1    number 1 of the values and operations that show it")
+number_meaning claimed initial =
+    claim_words claimed initial (line (codes "1    number 1 in the order, where it takes effect"))
+    (line (codes "1    number 1 of the operations that show it")) (line (codes "1    number 1 of the values and operations that show it"))
 
 -- what the rows of initial values mean, where there are some
 abbrev pub initial_meaning : List ℕ → List ℕ

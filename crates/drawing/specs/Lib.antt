@@ -6,3 +6,4 @@ pub mod Claim
 pub mod Terminal
 pub mod Laws
 pub mod Inner
+pub mod Writing

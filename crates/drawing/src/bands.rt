@@ -3,10 +3,10 @@ ghost use Rattle.std.specs.Prelude.{◌≡◌, ◌++◌, ◌∷◌, ◌+◌, ◌
 ghost use Rattle.drawing.specs.Claim.{count_of_lines, line_call, line_kind, line_return};
 ghost use Rattle.std.specs.List.{concat};
 ghost use Rattle.drawing.specs.Bands.{value_of, line_value, sure_until, time_of, absent_until, call_if_taken, cover_bands, fresh_bands};
-ghost use Rattle.drawing.specs.Bands.{order_bands, witness_bands, repeat_bands, bands_of, head_text, form, has_begun, goes_on, holds_gap};
+ghost use Rattle.drawing.specs.Bands.{order_bands, witness_bands, repeat_bands, bands_of, head_text, form_words, form, has_begun, goes_on, holds_gap};
 
 use crate::claim::{line_call, line_kind, line_return};
-use crate::line::{Piece, push_all};
+use crate::line::{Added, Piece, push_all};
 use history_merge::OpKind;
 use std::alloc::{AllocError, Global};
 use verdicts::{ClaimLine, Claimed, ViolationKind};
@@ -79,22 +79,28 @@ fn call_if_taken(line: ClaimLine) -> Option<u64>
     }
 }
 
-fn push_fresh(bands: &mut Vec<Band>, deq: ClaimLine, last: Option<u64>) -> Result<(), AllocError>
+/// Adds two bands.
+fn push_two(bands: &mut Vec<Band>, left: Band, right: Band) -> Added
+    ensures bands { OnOk result (bands.new.items ≡ bands.old.items ++ (left ∷ right ∷ [])) }
+    ensures few { OnOk result (vec_len bands.new ≤ vec_len bands.old + 2) }
+{
+    bands.push(left)?;
+    bands.push(right)?;
+    Ok(())
+}
+
+fn push_fresh(bands: &mut Vec<Band>, deq: ClaimLine, last: Option<u64>) -> Added
     ensures bands { OnOk result (bands.new.items ≡ bands.old.items ++ (absent_until (line_value deq) last ∷ time_of (Head.Dequeued (line_value deq))
         (line_call deq) (line_return deq) ∷ [])) }
     ensures few { OnOk result (vec_len bands.new ≤ vec_len bands.old + 2) }
 {
     let value = line_value(deq);
-    bands.push(Band {
-        head: Head::NotIn(value),
-        first: None,
-        last,
-    })?;
-    bands.push(time_of(Head::Dequeued(value), line_call(deq), line_return(deq)))?;
-    Ok(())
+    let absent = time_of(Head::NotIn(value), None, last);
+    let time = time_of(Head::Dequeued(value), line_call(deq), line_return(deq));
+    push_two(bands, absent, time)
 }
 
-fn push_fresh_bands(bands: &mut Vec<Band>, lines: &[ClaimLine]) -> Result<(), AllocError>
+fn push_fresh_bands(bands: &mut Vec<Band>, lines: &[ClaimLine]) -> Added
     ensures bands { OnOk result (bands.new.items ≡ bands.old.items ++ fresh_bands lines.now) }
     ensures few { OnOk result (vec_len bands.new ≤ vec_len bands.old + 2) }
 {
@@ -111,18 +117,17 @@ fn push_order(
     last: Option<u64>,
     enq_b: ClaimLine,
     deq_b: ClaimLine,
-) -> Result<(), AllocError>
+) -> Added
     ensures bands { OnOk result (bands.new.items ≡ bands.old.items ++ (sure_until enq_a last ∷ time_of (Head.InAndOut (line_value enq_b))
         (line_call enq_b) (line_return deq_b) ∷ [])) }
     ensures few { OnOk result (vec_len bands.new ≤ vec_len bands.old + 2) }
 {
     let head = Head::InAndOut(line_value(enq_b));
-    bands.push(sure_until(enq_a, last))?;
-    bands.push(time_of(head, line_call(enq_b), line_return(deq_b)))?;
-    Ok(())
+    let time = time_of(head, line_call(enq_b), line_return(deq_b));
+    push_two(bands, sure_until(enq_a, last), time)
 }
 
-fn push_order_bands(bands: &mut Vec<Band>, lines: &[ClaimLine]) -> Result<(), AllocError>
+fn push_order_bands(bands: &mut Vec<Band>, lines: &[ClaimLine]) -> Added
     ensures bands { OnOk result (bands.new.items ≡ bands.old.items ++ order_bands lines.now) }
     ensures few { OnOk result (vec_len bands.new ≤ vec_len bands.old + 2) }
 {
@@ -135,7 +140,7 @@ fn push_order_bands(bands: &mut Vec<Band>, lines: &[ClaimLine]) -> Result<(), Al
     }
 }
 
-fn push_cover_bands(bands: &mut Vec<Band>, lines: &[ClaimLine]) -> Result<(), AllocError>
+fn push_cover_bands(bands: &mut Vec<Band>, lines: &[ClaimLine]) -> Added
     ensures bands { OnOk result (bands.new.items ≡ bands.old.items ++ cover_bands lines.now) }
     ensures few { OnOk result (vec_len bands.new ≤ vec_len bands.old + length lines.now) }
 {
@@ -152,7 +157,7 @@ fn push_cover_bands(bands: &mut Vec<Band>, lines: &[ClaimLine]) -> Result<(), Al
     }
 }
 
-fn push_witness_bands(bands: &mut Vec<Band>, lines: &[ClaimLine]) -> Result<(), AllocError>
+fn push_witness_bands(bands: &mut Vec<Band>, lines: &[ClaimLine]) -> Added
     ensures bands { OnOk result (bands.new.items ≡ bands.old.items ++ witness_bands lines.now) }
     ensures few { OnOk result (vec_len bands.new ≤ vec_len bands.old + length lines.now + 1) }
 {
@@ -166,18 +171,14 @@ fn push_witness_bands(bands: &mut Vec<Band>, lines: &[ClaimLine]) -> Result<(), 
     }
 }
 
-fn push_repeat_bands(bands: &mut Vec<Band>, lines: &[ClaimLine]) -> Result<(), AllocError>
+fn push_repeat_bands(bands: &mut Vec<Band>, lines: &[ClaimLine]) -> Added
     ensures bands { OnOk result (bands.new.items ≡ bands.old.items ++ repeat_bands lines.now) }
     ensures few { OnOk result (vec_len bands.new ≤ vec_len bands.old + 1) }
 {
     match lines {
         [] => Ok(()),
         [enq, ..] => {
-            bands.push(Band {
-                head: Head::InOrOut(line_value(*enq)),
-                first: None,
-                last: None,
-            })?;
+            bands.push(time_of(Head::InOrOut(line_value(*enq)), None, None))?;
             Ok(())
         }
     }
@@ -205,14 +206,14 @@ pub fn bands_of(alloc: Global, claimed: &Claimed) -> Result<Vec<Band>, AllocErro
 }
 
 /// Adds a number, and words after it.
-fn push_numbered(text: &mut Vec<u8>, number: u64, words: &[u8]) -> Result<(), AllocError>
+fn push_numbered(text: &mut Vec<u8>, number: u64, words: &[u8]) -> Added
     ensures { OnOk result (text.new.items ≡ text.old.items ++ concat (decimal number ∷ words.now ∷ [])) }
 {
     push_all(text, &[Piece::Number(number), Piece::Words(words)])
 }
 
 /// Adds the words above a band.
-pub fn push_head(text: &mut Vec<u8>, head: Head) -> Result<(), AllocError>
+pub fn push_head(text: &mut Vec<u8>, head: Head) -> Added
     ensures { OnOk result (text.new.items ≡ text.old.items ++ head_text head) }
 {
     match head {
@@ -234,16 +235,29 @@ pub fn head_words(alloc: Global, head: Head) -> Result<Vec<u8>, AllocError>
     Ok(words)
 }
 
+/// The word for a band: this for a value that surely is in the queue, that for one that surely isn't, and the last for the time
+/// beside them. Nothing where there is no band.
+pub fn form_words(
+    head: Head,
+    sure: &'static [u8],
+    absent: &'static [u8],
+    time: &'static [u8],
+) -> &'static [u8]
+    ensures { result.now ≡ form_words head sure.now absent.now time.now }
+{
+    match head {
+        Head::SurelyIn(_) => sure,
+        Head::NotIn(_) => absent,
+        Head::Dequeued(_) | Head::InAndOut(_) | Head::SaidEmpty => time,
+        Head::InOrOut(_) => b"",
+    }
+}
+
 /// The form of a band in a row of characters.
 pub(crate) fn form(head: Head) -> &'static [u8]
     ensures { result.now ≡ form head }
 {
-    match head {
-        Head::SurelyIn(_) => b"###",
-        Head::NotIn(_) => b"xxx",
-        Head::Dequeued(_) | Head::InAndOut(_) | Head::SaidEmpty => b":::",
-        Head::InOrOut(_) => b"",
-    }
+    form_words(head, b"###", b"xxx", b":::")
 }
 
 fn has_begun(first: Option<u64>, gap: Option<u64>) -> bool

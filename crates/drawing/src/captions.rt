@@ -2,15 +2,14 @@
 ghost use Rattle.std.specs.Prelude.{◌≡◌, ◌++◌, ◌+◌, ◌≤◌, OnOk, length};
 ghost use Rattle.drawing.specs.Claim.{count_of_lines};
 ghost use Rattle.drawing.specs.Captions.{headline, fresh_reason, fresh_caption, repeat_words, repeat_caption, before_words, overtaking_caption};
-ghost use Rattle.drawing.specs.Captions.{order_caption, one_of_cover, last_of_cover, cover_caption, witness_words, witness_caption, yes_caption};
-ghost use Rattle.drawing.specs.Captions.{caption, lane_meanings, number_meaning, initial_meaning, form_meanings, legend};
+ghost use Rattle.drawing.specs.Captions.{order_caption, cover_from, one_of_cover, last_of_cover, cover_caption, witness_words, witness_caption, yes_caption};
+ghost use Rattle.drawing.specs.Captions.{caption, lane_meanings, claim_words, number_meaning, initial_meaning, form_meanings, legend};
 
 use crate::bands::line_value;
 use crate::claim::{line_call, line_kind, line_return};
 use crate::columns::MOST_DRAWN;
-use crate::line::{Piece, push_all};
+use crate::line::{Added, Piece, push_all};
 use history_merge::OpKind;
-use std::alloc::AllocError;
 use verdicts::{ClaimLine, Claimed, ViolationKind};
 
 /// What a picture shows, in a line.
@@ -37,7 +36,7 @@ fn fresh_reason(kind: OpKind) -> &'static [u8]
     }
 }
 
-fn push_fresh_caption(text: &mut Vec<u8>, lines: &[ClaimLine]) -> Result<(), AllocError>
+fn push_fresh_caption(text: &mut Vec<u8>, lines: &[ClaimLine]) -> Added
     ensures { OnOk result (text.new.items ≡ text.old.items ++ fresh_caption lines.now) }
 {
     match lines {
@@ -68,7 +67,7 @@ fn repeat_words(enq: ClaimLine) -> &'static [u8]
     }
 }
 
-fn push_repeat_caption(text: &mut Vec<u8>, lines: &[ClaimLine]) -> Result<(), AllocError>
+fn push_repeat_caption(text: &mut Vec<u8>, lines: &[ClaimLine]) -> Added
     ensures { OnOk result (text.new.items ≡ text.old.items ++ repeat_caption lines.now) }
 {
     match lines {
@@ -98,7 +97,7 @@ fn push_overtaking_caption<'x>(
     b: ClaimLine,
     between: &'x [u8],
     end: &'x [u8],
-) -> Result<(), AllocError>
+) -> Added
     ensures { OnOk result (text.new.items ≡ text.old.items ++ overtaking_caption a b between.now end.now) }
 {
     let first = line_value(a);
@@ -119,7 +118,7 @@ fn push_overtaking_caption<'x>(
     )
 }
 
-fn push_order_caption(text: &mut Vec<u8>, lines: &[ClaimLine]) -> Result<(), AllocError>
+fn push_order_caption(text: &mut Vec<u8>, lines: &[ClaimLine]) -> Added
     ensures { OnOk result (text.new.items ≡ text.old.items ++ order_caption lines.now) }
 {
     match lines {
@@ -137,9 +136,9 @@ fn push_order_caption(text: &mut Vec<u8>, lines: &[ClaimLine]) -> Result<(), All
     }
 }
 
-#[tactic(auto, unfolding(crate::specs::Captions::last_of_cover))]
-fn push_last_of_cover(text: &mut Vec<u8>, number: u64, enq: ClaimLine) -> Result<(), AllocError>
-    ensures { OnOk result (text.new.items ≡ text.old.items ++ last_of_cover number enq) }
+#[tactic(auto, unfolding(crate::specs::Captions::cover_from))]
+fn push_cover_from(text: &mut Vec<u8>, number: u64, enq: ClaimLine) -> Added
+    ensures { OnOk result (text.new.items ≡ text.old.items ++ cover_from number enq) }
 {
     push_all(
         text,
@@ -149,29 +148,27 @@ fn push_last_of_cover(text: &mut Vec<u8>, number: u64, enq: ClaimLine) -> Result
             Piece::Moment(line_return(enq)),
             Piece::Words(b" ("),
             Piece::Number(number),
-            Piece::Words(b") on\n"),
         ],
     )
 }
 
+#[tactic(auto, unfolding(crate::specs::Captions::last_of_cover))]
+fn push_last_of_cover(text: &mut Vec<u8>, number: u64, enq: ClaimLine) -> Added
+    ensures { OnOk result (text.new.items ≡ text.old.items ++ last_of_cover number enq) }
+{
+    push_cover_from(text, number, enq)?;
+    text.extend_from_slice(b") on\n")
+}
+
 #[tactic(auto, unfolding(crate::specs::Captions::one_of_cover))]
-fn push_one_of_cover(
-    text: &mut Vec<u8>,
-    number: u64,
-    enq: ClaimLine,
-    deq: ClaimLine,
-) -> Result<(), AllocError>
+fn push_one_of_cover(text: &mut Vec<u8>, number: u64, enq: ClaimLine, deq: ClaimLine) -> Added
     requires { number ≤ MOST_DRAWN }
     ensures { OnOk result (text.new.items ≡ text.old.items ++ one_of_cover number enq deq) }
 {
+    push_cover_from(text, number, enq)?;
     push_all(
         text,
         &[
-            Piece::Number(line_value(enq)),
-            Piece::Words(b" from "),
-            Piece::Moment(line_return(enq)),
-            Piece::Words(b" ("),
-            Piece::Number(number),
             Piece::Words(b") to "),
             Piece::Moment(line_call(deq)),
             Piece::Words(b" ("),
@@ -181,11 +178,7 @@ fn push_one_of_cover(
     )
 }
 
-fn push_cover_caption(
-    text: &mut Vec<u8>,
-    number: u64,
-    lines: &[ClaimLine],
-) -> Result<(), AllocError>
+fn push_cover_caption(text: &mut Vec<u8>, number: u64, lines: &[ClaimLine]) -> Added
     requires { number + length lines.now ≤ MOST_DRAWN + 1 }
     ensures { OnOk result (text.new.items ≡ text.old.items ++ cover_caption number lines.now) }
 {
@@ -207,7 +200,7 @@ fn witness_words() -> &'static [u8]
 some value surely was in the queue:\n"
 }
 
-fn push_witness_caption(text: &mut Vec<u8>, lines: &[ClaimLine]) -> Result<(), AllocError>
+fn push_witness_caption(text: &mut Vec<u8>, lines: &[ClaimLine]) -> Added
     requires { length lines.now ≤ MOST_DRAWN }
     ensures { OnOk result (text.new.items ≡ text.old.items ++ witness_caption lines.now) }
 {
@@ -230,7 +223,7 @@ effect. They rise from top to bottom, and each stands within its bar.\n"
 
 /// Adds what a claim says, in sentences, each line with its line feed.
 #[tactic(auto, unfolding(crate::specs::Captions::caption))]
-pub fn push_caption(text: &mut Vec<u8>, claimed: &Claimed) -> Result<(), AllocError>
+pub fn push_caption(text: &mut Vec<u8>, claimed: &Claimed) -> Added
     requires { count_of_lines claimed.now ≤ MOST_DRAWN }
     ensures { OnOk result (text.new.items ≡ text.old.items ++ caption claimed.now) }
 {
@@ -248,16 +241,35 @@ pub fn push_caption(text: &mut Vec<u8>, claimed: &Claimed) -> Result<(), AllocEr
     }
 }
 
+/// The first words for a yes, the second for a no of operations alone, and the last for a no where the queue holds values first.
+pub fn claim_words(
+    claimed: &Claimed,
+    initial: &[u64],
+    yes: &'static [u8],
+    no: &'static [u8],
+    values: &'static [u8],
+) -> &'static [u8]
+    ensures { result.now ≡ claim_words claimed.now initial.now yes.now no.now values.now }
+{
+    match claimed {
+        Claimed::Yes(_) => yes,
+        Claimed::No(_, _) => match initial {
+            [] => no,
+            [_, ..] => values,
+        },
+    }
+}
+
 fn number_meaning(claimed: &Claimed, initial: &[u64]) -> &'static [u8]
     ensures { result.now ≡ number_meaning claimed.now initial.now }
 {
-    match claimed {
-        Claimed::Yes(_) => b"1    number 1 in the order, where it takes effect\n",
-        Claimed::No(_, _) => match initial {
-            [] => b"1    number 1 of the operations that show it\n",
-            [_, ..] => b"1    number 1 of the values and operations that show it\n",
-        },
-    }
+    claim_words(
+        claimed,
+        initial,
+        b"1    number 1 in the order, where it takes effect\n",
+        b"1    number 1 of the operations that show it\n",
+        b"1    number 1 of the values and operations that show it\n",
+    )
 }
 
 fn initial_meaning(initial: &[u64]) -> &'static [u8]
@@ -300,11 +312,7 @@ fn form_meanings(claimed: &Claimed) -> &'static [u8]
 
 /// Adds how to read a picture of characters.
 #[tactic(auto, unfolding(crate::specs::Captions::legend))]
-pub(crate) fn push_legend(
-    text: &mut Vec<u8>,
-    initial: &[u64],
-    claimed: &Claimed,
-) -> Result<(), AllocError>
+pub(crate) fn push_legend(text: &mut Vec<u8>, initial: &[u64], claimed: &Claimed) -> Added
     ensures { OnOk result (text.new.items ≡ text.old.items ++ legend initial.now claimed.now) }
 {
     text.extend_from_slice(lane_meanings())?;

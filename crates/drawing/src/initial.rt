@@ -8,7 +8,7 @@ ghost use Rattle.drawing.specs.Terminal.{first_words, initial_way, initial_numbe
 
 use crate::claim::{count_of_lines, shown_by};
 use crate::columns::{MOST_DRAWN, digits};
-use crate::line::{Piece, place, push_all, push_line};
+use crate::line::{Added, Piece, place, push_all, push_line};
 use crate::lookup::initial_place_in;
 use crate::sheet::Sheet;
 use crate::terminal::place_bands;
@@ -17,7 +17,7 @@ use std::alloc::{AllocError, Global};
 use verdicts::{Claimed, ViolationKind};
 
 /// Adds an initial value, as a line of a verdict says it.
-pub fn push_initial_label(text: &mut Vec<u8>, value: u64) -> Result<(), AllocError>
+pub fn push_initial_label(text: &mut Vec<u8>, value: u64) -> Added
     ensures { OnOk result (text.new.items ≡ text.old.items ++ initial_label value) }
 {
     push_all(text, &[Piece::Words(b"init "), Piece::Number(value)])
@@ -34,21 +34,17 @@ pub fn initial_label(alloc: Global, value: u64) -> Result<Vec<u8>, AllocError>
 
 /// Adds the line above the rows of the initial values.
 #[tactic(auto, unfolding(crate::specs::Terminal::first_words))]
-fn push_first_line(alloc: Global, text: &mut Vec<u8>, sheet: &Sheet<'_>) -> Result<(), AllocError>
+fn push_first_line(text: &mut Vec<u8>, sheet: &Sheet<'_>) -> Added
     ensures { OnOk result (text.new.items ≡ text.old.items ++ line (line_of (first_words sheet.now.columns sheet.now.bands.now))) }
 {
-    let mut first = Vec::new(alloc);
+    let mut first = Vec::new(sheet.alloc);
     place(&mut first, 0, b"in the queue first")?;
     place_bands(&mut first, sheet, None)?;
     push_line(text, first.as_slice())
 }
 
 /// The number of a place, at the right of a column at the left.
-fn place_number_at(
-    line: &mut Vec<u8>,
-    width: usize,
-    place_in_claim: Option<usize>,
-) -> Result<(), AllocError>
+fn place_number_at(line: &mut Vec<u8>, width: usize, place_in_claim: Option<usize>) -> Added
     requires { IfSome place_in_claim (λ place. place ≤ MOST_DRAWN) }
     ensures { OnOk result (line.new.items ≡ placed line.old.items (initial_number width (number_at place_in_claim))) }
 {
@@ -78,19 +74,14 @@ fn initial_way(claimed: &Claimed, value: u64) -> &'static [u8]
 
 /// Adds the row of an initial value.
 #[tactic(auto, unfolding(crate::specs::Terminal::initial_words))]
-fn push_initial_row(
-    alloc: Global,
-    text: &mut Vec<u8>,
-    sheet: &Sheet<'_>,
-    value: u64,
-) -> Result<(), AllocError>
+fn push_initial_row(text: &mut Vec<u8>, sheet: &Sheet<'_>, value: u64) -> Added
     ensures { OnOk result (text.new.items ≡ text.old.items ++ initial_row sheet.now.columns sheet.now.bands.now sheet.now.claimed.now value) }
 {
     let claimed = sheet.claimed;
     let width = digits(count_of_lines(claimed) as u64);
     let found = initial_place_in(shown_by(claimed), value);
-    let label = initial_label(alloc, value)?;
-    let mut bytes = Vec::new(alloc);
+    let label = initial_label(sheet.alloc, value)?;
+    let mut bytes = Vec::new(sheet.alloc);
     place_number_at(&mut bytes, width, found)?;
     place(&mut bytes, width + 1, label.as_slice())?;
     place(
@@ -102,36 +93,26 @@ fn push_initial_row(
     push_line(text, bytes.as_slice())
 }
 
-fn push_each_initial_row(
-    alloc: Global,
-    text: &mut Vec<u8>,
-    sheet: &Sheet<'_>,
-    initial: &[u64],
-) -> Result<(), AllocError>
+fn push_each_initial_row(text: &mut Vec<u8>, sheet: &Sheet<'_>, initial: &[u64]) -> Added
     ensures { OnOk result (text.new.items ≡ text.old.items ++ flat_map
         (initial_row sheet.now.columns sheet.now.bands.now sheet.now.claimed.now) initial.now) }
 {
     for value in initial {
-        push_initial_row(alloc, text, sheet, *value)?;
+        push_initial_row(text, sheet, *value)?;
     }
     Ok(())
 }
 
 /// Adds the rows of the initial values under their head, where there are some.
-pub(crate) fn push_initial_rows(
-    alloc: Global,
-    text: &mut Vec<u8>,
-    sheet: &Sheet<'_>,
-    initial: &[u64],
-) -> Result<(), AllocError>
+pub(crate) fn push_initial_rows(text: &mut Vec<u8>, sheet: &Sheet<'_>, initial: &[u64]) -> Added
     ensures { OnOk result (text.new.items ≡ text.old.items
         ++ initial_rows sheet.now.columns sheet.now.bands.now sheet.now.claimed.now initial.now) }
 {
     match initial {
         [] => Ok(()),
         [_, ..] => {
-            push_first_line(alloc, text, sheet)?;
-            push_each_initial_row(alloc, text, sheet, initial)
+            push_first_line(text, sheet)?;
+            push_each_initial_row(text, sheet, initial)
         }
     }
 }

@@ -8,6 +8,9 @@ ghost use Rattle.drawing.specs.Inner.Words.{piece_text};
 use itoa::Buffer;
 use std::alloc::AllocError;
 
+/// What comes of adding to a text: `AllocError`, where a growth was refused.
+pub type Added = Result<(), AllocError>;
+
 /// A piece of a text.
 #[derive(Clone, Copy, Debug)]
 pub enum Piece<'a> {
@@ -20,7 +23,7 @@ pub enum Piece<'a> {
 }
 
 /// Adds a word to a line at a column: blanks up to it, and the word. An empty word adds nothing.
-pub(crate) fn place(line: &mut Vec<u8>, column: usize, word: &[u8]) -> Result<(), AllocError>
+pub(crate) fn place(line: &mut Vec<u8>, column: usize, word: &[u8]) -> Added
     ensures { OnOk result (line.new.items ≡ placed line.old.items (record { column = column; bytes = word.now })) }
 {
     match word {
@@ -34,7 +37,7 @@ pub(crate) fn place(line: &mut Vec<u8>, column: usize, word: &[u8]) -> Result<()
 }
 
 /// Adds the digits of a number.
-fn push_number(text: &mut Vec<u8>, number: u64) -> Result<(), AllocError>
+fn push_number(text: &mut Vec<u8>, number: u64) -> Added
     ensures { OnOk result (text.new.items ≡ text.old.items ++ decimal number) }
 {
     let mut buffer = Buffer::new();
@@ -42,7 +45,7 @@ fn push_number(text: &mut Vec<u8>, number: u64) -> Result<(), AllocError>
 }
 
 /// Adds a piece.
-fn push_piece(text: &mut Vec<u8>, piece: Piece<'_>) -> Result<(), AllocError>
+fn push_piece(text: &mut Vec<u8>, piece: Piece<'_>) -> Added
     ensures { OnOk result (text.new.items ≡ text.old.items ++ piece_text piece.entry) }
 {
     match piece {
@@ -57,7 +60,7 @@ fn push_piece(text: &mut Vec<u8>, piece: Piece<'_>) -> Result<(), AllocError>
 }
 
 /// Adds the pieces, one after another.
-pub(crate) fn push_all(text: &mut Vec<u8>, pieces: &[Piece<'_>]) -> Result<(), AllocError>
+pub(crate) fn push_all(text: &mut Vec<u8>, pieces: &[Piece<'_>]) -> Added
     ensures { OnOk result (text.new.items ≡ text.old.items ++ flat_map piece_text pieces.now) }
 {
     for piece in pieces {
@@ -67,7 +70,7 @@ pub(crate) fn push_all(text: &mut Vec<u8>, pieces: &[Piece<'_>]) -> Result<(), A
 }
 
 /// Adds a line to a text: these bytes, and a line feed.
-pub fn push_line(text: &mut Vec<u8>, bytes: &[u8]) -> Result<(), AllocError>
+pub fn push_line(text: &mut Vec<u8>, bytes: &[u8]) -> Added
     ensures { OnOk result (text.new.items ≡ text.old.items ++ line bytes.now) }
 {
     text.extend_from_slice(bytes)?;

@@ -6,11 +6,14 @@ ghost use Rattle.drawing.specs.declared.columns.TheConstants.{MAX_BESIDE, MOST_D
 use crate::bands::Band;
 use crate::columns::{Columns, Lane};
 use history_merge::Operation;
+use std::alloc::Global;
 use verdicts::Claimed;
 
 /// What the rows of a picture are made of.
 #[derive(Clone, Copy)]
 pub(crate) struct Sheet<'a> {
+    /// Where the memory of its words comes from.
+    pub alloc: Global,
     pub columns: Columns,
     pub lanes: &'a [Lane],
     pub bands: &'a [Band],

@@ -2,7 +2,7 @@
 ghost use Rattle.std.specs.Prelude.{◌≡◌, ◌==◌, ◌+◌, ◌≤◌, ◌++◌, ◌∷◌, [], Some, IfOk, OnOk, length, map, codes, decimal};
 ghost use Rattle.std.specs.List.{flat_map, enumerate_from, range_with_len};
 ghost use Rattle.history_merge.specs.Operations.{operations_of};
-ghost use Rattle.drawing.specs.Claim.{count_of_lines};
+ghost use Rattle.drawing.specs.Claim.{count_of_lines, shown_by};
 ghost use Rattle.text_lines.specs.Lines.{line};
 ghost use Rattle.drawing.specs.Layout.{label, label_width, threads_of, columns_of, lanes_of, number_in};
 ghost use Rattle.drawing.specs.Bands.{bands_of};
@@ -19,7 +19,7 @@ use crate::columns::{
     Columns, Lane, MOST_DRAWN, columns_of, digits, label_width, lanes_of, threads_of,
 };
 use crate::initial::push_initial_rows;
-use crate::line::{Piece, place, push_all, push_line};
+use crate::line::{Added, Piece, place, push_all, push_line};
 use crate::lookup::{called_at, place_in, under_way};
 use crate::sheet::Sheet;
 use event_records::Event;
@@ -29,14 +29,14 @@ use std::alloc::{AllocError, Global};
 use verdicts::{ClaimLine, Claimed, ViolationKind};
 
 /// Adds a number to a line at a column.
-fn place_number(line: &mut Vec<u8>, column: usize, number: u64) -> Result<(), AllocError>
+fn place_number(line: &mut Vec<u8>, column: usize, number: u64) -> Added
     ensures { OnOk result (line.new.items ≡ placed line.old.items (record { column = column; bytes = decimal number })) }
 {
     let mut buffer = Buffer::new();
     place(line, column, buffer.format(number).as_bytes())
 }
 
-fn place_ticket(line: &mut Vec<u8>, columns: Columns, ticket: u64) -> Result<(), AllocError>
+fn place_ticket(line: &mut Vec<u8>, columns: Columns, ticket: u64) -> Added
     ensures { OnOk result (line.new.items ≡ placed line.old.items (ticket_word columns ticket)) }
 {
     let column = columns.ticket.saturating_sub(digits(ticket));
@@ -83,27 +83,21 @@ fn sign(
     }
 }
 
-fn place_lanes(
-    alloc: Global,
-    line: &mut Vec<u8>,
-    operations: &[Operation],
-    shown: &[ClaimLine],
-    lanes: &[Lane],
-    ticket: u64,
-) -> Result<(), AllocError>
-    requires { length shown.now ≤ MOST_DRAWN }
-    ensures { OnOk result (line.new.items ≡ with_words line.old.items (lane_words operations.now shown.now lanes.now ticket)) }
+fn place_lanes(line: &mut Vec<u8>, sheet: &Sheet<'_>, ticket: u64) -> Added
+    ensures { OnOk result (line.new.items ≡ with_words line.old.items
+        (lane_words sheet.now.operations.now (shown_by sheet.now.claimed.now) sheet.now.lanes.now ticket)) }
 {
-    for lane in lanes {
-        let operation = under_way(operations, lane.thread, ticket);
-        let word = sign(alloc, shown, ticket, operation)?;
+    let shown = shown_by(sheet.claimed);
+    for lane in sheet.lanes {
+        let operation = under_way(sheet.operations, lane.thread, ticket);
+        let word = sign(sheet.alloc, shown, ticket, operation)?;
         place(line, lane.column, word.as_slice())?;
     }
     Ok(())
 }
 
 /// Adds what an operation did, and its value in full.
-pub fn push_label(text: &mut Vec<u8>, kind: OpKind) -> Result<(), AllocError>
+pub fn push_label(text: &mut Vec<u8>, kind: OpKind) -> Added
     ensures { OnOk result (text.new.items ≡ text.old.items ++ label kind) }
 {
     match kind {
@@ -125,12 +119,7 @@ fn label_if(alloc: Global, operation: Option<Operation>) -> Result<Vec<u8>, Allo
 }
 
 /// A band at a column, where it holds a gap.
-fn place_band(
-    line: &mut Vec<u8>,
-    column: usize,
-    band: Band,
-    gap: Option<u64>,
-) -> Result<(), AllocError>
+fn place_band(line: &mut Vec<u8>, column: usize, band: Band, gap: Option<u64>) -> Added
     ensures { OnOk result (line.new.items ≡ placed line.old.items (band_at column band gap)) }
 {
     if holds_gap(band, gap) {
@@ -142,11 +131,7 @@ fn place_band(
 
 /// The bands that hold a gap: that just after a ticket, or for none that before all tickets.
 #[tactic(auto, using(crate::proofs::Loops::words_enumerated_more))]
-pub(crate) fn place_bands(
-    line: &mut Vec<u8>,
-    sheet: &Sheet<'_>,
-    gap: Option<u64>,
-) -> Result<(), AllocError>
+pub(crate) fn place_bands(line: &mut Vec<u8>, sheet: &Sheet<'_>, gap: Option<u64>) -> Added
     ensures { OnOk result (line.new.items ≡ with_words line.old.items (band_words sheet.now.columns sheet.now.bands.now gap)) }
 {
     for (i, band) in sheet.bands.iter().enumerate() {
@@ -188,23 +173,15 @@ fn way_word(claimed: &Claimed, operation: Option<Operation>) -> &'static [u8]
 
 /// The line of an event.
 #[tactic(auto, unfolding(crate::specs::Terminal::event_words))]
-fn event_line(alloc: Global, sheet: &Sheet<'_>, ticket: u64) -> Result<Vec<u8>, AllocError>
+fn event_line(sheet: &Sheet<'_>, ticket: u64) -> Result<Vec<u8>, AllocError>
     ensures { IfOk result (λ bytes. bytes.items ≡ line_of
         (event_words sheet.now.columns sheet.now.lanes.now sheet.now.bands.now sheet.now.operations.now sheet.now.claimed.now ticket)) }
 {
-    let mut bytes = Vec::new(alloc);
+    let mut bytes = Vec::new(sheet.alloc);
     place_ticket(&mut bytes, sheet.columns, ticket)?;
-    let shown = shown_by(sheet.claimed);
-    place_lanes(
-        alloc,
-        &mut bytes,
-        sheet.operations,
-        shown,
-        sheet.lanes,
-        ticket,
-    )?;
+    place_lanes(&mut bytes, sheet, ticket)?;
     let called = called_at(sheet.operations, ticket);
-    let label = label_if(alloc, called)?;
+    let label = label_if(sheet.alloc, called)?;
     place(&mut bytes, sheet.columns.label, label.as_slice())?;
     place(
         &mut bytes,
@@ -215,21 +192,21 @@ fn event_line(alloc: Global, sheet: &Sheet<'_>, ticket: u64) -> Result<Vec<u8>, 
     Ok(bytes)
 }
 
-/// An operation of an order, with its number and the ticket just after which it takes effect.
+/// An operation of an order, with its number of so many, and the ticket just after which it takes effect.
 #[derive(Clone, Copy)]
 struct Effect {
     operation: Operation,
     number: u64,
+    count: usize,
     point: u64,
 }
 
 fn effect_sign(
     alloc: Global,
     effect: Effect,
-    ticket: u64,
     operation: Option<Operation>,
 ) -> Result<Vec<u8>, AllocError>
-    ensures { IfOk result (λ word. word.items ≡ effect_sign effect.operation effect.number ticket operation) }
+    ensures { IfOk result (λ word. word.items ≡ effect_sign effect.operation effect.number effect.point operation) }
 {
     match operation {
         None => Ok(Vec::new(alloc)),
@@ -237,7 +214,7 @@ fn effect_sign(
             if operation.call == effect.operation.call {
                 let mut buffer = Buffer::new();
                 Vec::from_slice(alloc, buffer.format(effect.number).as_bytes())
-            } else if operation.ret == ticket {
+            } else if operation.ret == effect.point {
                 Ok(Vec::new(alloc))
             } else {
                 Vec::from_slice(alloc, b"|")
@@ -246,19 +223,13 @@ fn effect_sign(
     }
 }
 
-fn place_effect_lanes(
-    alloc: Global,
-    line: &mut Vec<u8>,
-    operations: &[Operation],
-    lanes: &[Lane],
-    effect: Effect,
-    ticket: u64,
-) -> Result<(), AllocError>
-    ensures { OnOk result (line.new.items ≡ with_words line.old.items (effect_lane_words operations.now lanes.now effect.operation effect.number ticket)) }
+fn place_effect_lanes(line: &mut Vec<u8>, sheet: &Sheet<'_>, effect: Effect) -> Added
+    ensures { OnOk result (line.new.items ≡ with_words line.old.items
+        (effect_lane_words sheet.now.operations.now sheet.now.lanes.now effect.operation effect.number effect.point)) }
 {
-    for lane in lanes {
-        let operation = under_way(operations, lane.thread, ticket);
-        let word = effect_sign(alloc, effect, ticket, operation)?;
+    for lane in sheet.lanes {
+        let operation = under_way(sheet.operations, lane.thread, effect.point);
+        let word = effect_sign(sheet.alloc, effect, operation)?;
         place(line, lane.column, word.as_slice())?;
     }
     Ok(())
@@ -276,47 +247,27 @@ fn effect_label(alloc: Global, effect: Effect) -> Result<Vec<u8>, AllocError>
     Ok(word)
 }
 
-/// The line of an effect just after a ticket.
+/// The line of an effect.
 #[tactic(auto, unfolding(crate::specs::Terminal::effect_words))]
-fn effect_line(
-    alloc: Global,
-    sheet: &Sheet<'_>,
-    claimed: usize,
-    effect: Effect,
-    ticket: u64,
-) -> Result<Vec<u8>, AllocError>
+fn effect_line(sheet: &Sheet<'_>, effect: Effect) -> Result<Vec<u8>, AllocError>
     ensures { IfOk result (λ bytes. bytes.items ≡ line_of
-        (effect_words sheet.now.columns sheet.now.lanes.now sheet.now.operations.now claimed ticket effect.number effect.operation)) }
+        (effect_words sheet.now.columns sheet.now.lanes.now sheet.now.operations.now effect.count effect.point effect.number effect.operation)) }
 {
-    let mut bytes = Vec::new(alloc);
-    place_effect_lanes(
-        alloc,
-        &mut bytes,
-        sheet.operations,
-        sheet.lanes,
-        effect,
-        ticket,
-    )?;
-    let word = effect_label(alloc, effect)?;
-    let blanks = digits(claimed as u64).saturating_sub(digits(effect.number));
+    let mut bytes = Vec::new(sheet.alloc);
+    place_effect_lanes(&mut bytes, sheet, effect)?;
+    let word = effect_label(sheet.alloc, effect)?;
+    let blanks = digits(effect.count as u64).saturating_sub(digits(effect.number));
     place(&mut bytes, sheet.columns.beside + blanks, word.as_slice())?;
     Ok(bytes)
 }
 
 /// Adds the line of an effect, if it is just after this ticket.
-fn push_effect_if(
-    alloc: Global,
-    text: &mut Vec<u8>,
-    sheet: &Sheet<'_>,
-    claimed: usize,
-    effect: Effect,
-    ticket: u64,
-) -> Result<(), AllocError>
+fn push_effect_if(text: &mut Vec<u8>, sheet: &Sheet<'_>, effect: Effect, ticket: u64) -> Added
     ensures { OnOk result (text.new.items ≡ text.old.items ++ effect_row_if
-        (effect.point == ticket) sheet.now.columns sheet.now.lanes.now sheet.now.operations.now claimed ticket effect.number effect.operation) }
+        (effect.point == ticket) sheet.now.columns sheet.now.lanes.now sheet.now.operations.now effect.count ticket effect.number effect.operation) }
 {
     if effect.point == ticket {
-        let bytes = effect_line(alloc, sheet, claimed, effect, ticket)?;
+        let bytes = effect_line(sheet, effect)?;
         push_line(text, bytes.as_slice())
     } else {
         Ok(())
@@ -325,13 +276,7 @@ fn push_effect_if(
 
 /// Adds the lines of the effects just after a ticket.
 #[tactic(auto, unfolding(crate::specs::Terminal::effect_rows))]
-fn push_effects(
-    alloc: Global,
-    text: &mut Vec<u8>,
-    sheet: &Sheet<'_>,
-    order: &[Operation],
-    ticket: u64,
-) -> Result<(), AllocError>
+fn push_effects(text: &mut Vec<u8>, sheet: &Sheet<'_>, order: &[Operation], ticket: u64) -> Added
     requires { length order.now ≤ MOST_DRAWN }
     ensures { OnOk result (text.new.items ≡ text.old.items ++ effect_rows sheet.now.columns sheet.now.lanes.now sheet.now.operations.now order.now ticket) }
 {
@@ -341,45 +286,36 @@ fn push_effects(
         let effect = Effect {
             operation: *operation,
             number: i as u64 + 1,
+            count: order.len(),
             point: greatest,
         };
-        push_effect_if(alloc, text, sheet, order.len(), effect, ticket)?;
+        push_effect_if(text, sheet, effect, ticket)?;
     }
     Ok(())
 }
 
 /// Adds the lines of an event and of the effects after it.
-fn push_event(
-    alloc: Global,
-    text: &mut Vec<u8>,
-    sheet: &Sheet<'_>,
-    ticket: u64,
-) -> Result<(), AllocError>
+fn push_event(text: &mut Vec<u8>, sheet: &Sheet<'_>, ticket: u64) -> Added
     ensures { OnOk result (text.new.items ≡ text.old.items
         ++ event_rows sheet.now.columns sheet.now.lanes.now sheet.now.bands.now sheet.now.operations.now sheet.now.claimed.now ticket) }
 {
-    let bytes = event_line(alloc, sheet, ticket)?;
+    let bytes = event_line(sheet, ticket)?;
     push_line(text, bytes.as_slice())?;
-    push_effects(alloc, text, sheet, order_of(sheet.claimed), ticket)
+    push_effects(text, sheet, order_of(sheet.claimed), ticket)
 }
 
-fn push_events(
-    alloc: Global,
-    text: &mut Vec<u8>,
-    sheet: &Sheet<'_>,
-    events: &[Event],
-) -> Result<(), AllocError>
+fn push_events(text: &mut Vec<u8>, sheet: &Sheet<'_>, events: &[Event]) -> Added
     ensures { OnOk result (text.new.items ≡ text.old.items ++ flat_map
         (λ e. event_rows sheet.now.columns sheet.now.lanes.now sheet.now.bands.now sheet.now.operations.now sheet.now.claimed.now e.ticket) events.now) }
 {
     for event in events {
-        push_event(alloc, text, sheet, event.ticket)?;
+        push_event(text, sheet, event.ticket)?;
     }
     Ok(())
 }
 
 /// A stroke under the head of each of so many bands.
-fn place_strokes(line: &mut Vec<u8>, sheet: &Sheet<'_>, bands: usize) -> Result<(), AllocError>
+fn place_strokes(line: &mut Vec<u8>, sheet: &Sheet<'_>, bands: usize) -> Added
     requires { bands ≤ length sheet.now.bands.now }
     ensures { OnOk result (line.new.items ≡ with_words line.old.items (strokes sheet.now.columns bands)) }
 {
@@ -390,34 +326,28 @@ fn place_strokes(line: &mut Vec<u8>, sheet: &Sheet<'_>, bands: usize) -> Result<
 }
 
 /// Adds the line of the head of band i.
-fn push_head_line(
-    alloc: Global,
-    text: &mut Vec<u8>,
-    sheet: &Sheet<'_>,
-    i: usize,
-    head: Head,
-) -> Result<(), AllocError>
+fn push_head_line(text: &mut Vec<u8>, sheet: &Sheet<'_>, i: usize, head: Head) -> Added
     requires { i ≤ length sheet.now.bands.now }
     ensures { OnOk result (text.new.items ≡ text.old.items ++ line (line_of (head_words sheet.now.columns i head))) }
 {
-    let mut bytes = Vec::new(alloc);
+    let mut bytes = Vec::new(sheet.alloc);
     place_strokes(&mut bytes, sheet, i)?;
-    let word = head_words(alloc, head)?;
+    let word = head_words(sheet.alloc, head)?;
     place(&mut bytes, sheet.columns.beside + 5 * i, word.as_slice())?;
     push_line(text, bytes.as_slice())
 }
 
 #[tactic(auto, unfolding(crate::specs::Terminal::head_lines))]
-fn push_heads(alloc: Global, text: &mut Vec<u8>, sheet: &Sheet<'_>) -> Result<(), AllocError>
+fn push_heads(text: &mut Vec<u8>, sheet: &Sheet<'_>) -> Added
     ensures { OnOk result (text.new.items ≡ text.old.items ++ head_lines sheet.now.columns sheet.now.bands.now) }
 {
     for (i, band) in sheet.bands.iter().enumerate() {
-        push_head_line(alloc, text, sheet, i, band.head)?;
+        push_head_line(text, sheet, i, band.head)?;
     }
     Ok(())
 }
 
-fn place_lane_names(line: &mut Vec<u8>, lanes: &[Lane]) -> Result<(), AllocError>
+fn place_lane_names(line: &mut Vec<u8>, lanes: &[Lane]) -> Added
     ensures { OnOk result (line.new.items ≡ with_words line.old.items (lane_names lanes.now)) }
 {
     for lane in lanes {
@@ -427,20 +357,20 @@ fn place_lane_names(line: &mut Vec<u8>, lanes: &[Lane]) -> Result<(), AllocError
 }
 
 #[tactic(auto, unfolding(crate::specs::Terminal::thread_words))]
-fn thread_bytes(alloc: Global, sheet: &Sheet<'_>) -> Result<Vec<u8>, AllocError>
+fn thread_bytes(sheet: &Sheet<'_>) -> Result<Vec<u8>, AllocError>
     ensures { IfOk result (λ bytes. bytes.items ≡ line_of (thread_words sheet.now.columns (length sheet.now.bands.now))) }
 {
-    let mut bytes = Vec::new(alloc);
+    let mut bytes = Vec::new(sheet.alloc);
     place(&mut bytes, sheet.columns.ticket + 2, b"thread")?;
     place_strokes(&mut bytes, sheet, sheet.bands.len())?;
     Ok(bytes)
 }
 
 #[tactic(auto, unfolding(crate::specs::Terminal::name_words))]
-fn name_bytes(alloc: Global, sheet: &Sheet<'_>) -> Result<Vec<u8>, AllocError>
+fn name_bytes(sheet: &Sheet<'_>) -> Result<Vec<u8>, AllocError>
     ensures { IfOk result (λ bytes. bytes.items ≡ line_of (name_words sheet.now.columns sheet.now.lanes.now (length sheet.now.bands.now))) }
 {
-    let mut bytes = Vec::new(alloc);
+    let mut bytes = Vec::new(sheet.alloc);
     let column = sheet.columns.ticket.saturating_sub(6);
     place(&mut bytes, column, b"ticket")?;
     place_lane_names(&mut bytes, sheet.lanes)?;
@@ -449,27 +379,22 @@ fn name_bytes(alloc: Global, sheet: &Sheet<'_>) -> Result<Vec<u8>, AllocError>
 }
 
 #[tactic(auto, unfolding(crate::specs::Terminal::rows))]
-fn push_rows(
-    alloc: Global,
-    text: &mut Vec<u8>,
-    sheet: &Sheet<'_>,
-    history: &History,
-) -> Result<(), AllocError>
+fn push_rows(text: &mut Vec<u8>, sheet: &Sheet<'_>, history: &History) -> Added
     ensures { OnOk result (text.new.items ≡ text.old.items
         ++ rows sheet.now.columns sheet.now.lanes.now sheet.now.bands.now history.now sheet.now.operations.now sheet.now.claimed.now) }
 {
-    push_heads(alloc, text, sheet)?;
-    let threads = thread_bytes(alloc, sheet)?;
+    push_heads(text, sheet)?;
+    let threads = thread_bytes(sheet)?;
     push_line(text, threads.as_slice())?;
-    let names = name_bytes(alloc, sheet)?;
+    let names = name_bytes(sheet)?;
     push_line(text, names.as_slice())?;
-    push_initial_rows(alloc, text, sheet, history.initial())?;
-    push_events(alloc, text, sheet, history.events())
+    push_initial_rows(text, sheet, history.initial())?;
+    push_events(text, sheet, history.events())
 }
 
 /// Adds what stands above the rows: what the picture shows, and how to read it.
 #[tactic(auto, unfolding(crate::specs::Terminal::words))]
-fn push_words(text: &mut Vec<u8>, initial: &[u64], claimed: &Claimed) -> Result<(), AllocError>
+fn push_words(text: &mut Vec<u8>, initial: &[u64], claimed: &Claimed) -> Added
     requires { count_of_lines claimed.now ≤ MOST_DRAWN }
     ensures { OnOk result (text.new.items ≡ text.old.items ++ words initial.now claimed.now) }
 {
@@ -508,6 +433,7 @@ pub fn terminal_picture(
     let lanes = lanes_of(alloc, columns, threads.as_slice())?;
     let bands = bands_of(alloc, claimed)?;
     let sheet = Sheet {
+        alloc,
         columns,
         lanes: lanes.as_slice(),
         bands: bands.as_slice(),
@@ -516,6 +442,6 @@ pub fn terminal_picture(
     };
     let mut text = Vec::new(alloc);
     push_words(&mut text, history.initial(), claimed)?;
-    push_rows(alloc, &mut text, &sheet, history)?;
+    push_rows(&mut text, &sheet, history)?;
     Ok(text)
 }

@@ -1,9 +1,8 @@
 //! Writing a picture.
-ghost use Rattle.std.specs.Prelude.{◌≡◌, ◌≤◌, ◌||◌, OnOk, OnErr, IfOk, length, is_err};
-ghost use Rattle.std.specs.Io.KnownBytes.{Appends};
+ghost use Rattle.std.specs.Prelude.{◌≡◌, ◌≤◌, OnErr, IfOk};
 ghost use Rattle.drawing.specs.Claim.{count_of_lines};
-ghost use Rattle.text_lines.specs.Writing.{AppendsFront, IsWritten, IsRefused};
 ghost use Rattle.drawing.specs.Terminal.{terminal_picture};
+ghost use Rattle.drawing.specs.Writing.{WritesWhole};
 
 use crate::columns::MOST_DRAWN;
 use crate::terminal::terminal_picture;
@@ -24,12 +23,7 @@ pub fn write_terminal_picture<W: TextSink>(
 ) -> Result<Result<(), WriteFault>, AllocError>
     // The claim has few enough lines to be drawn.
     requires { count_of_lines claimed.now ≤ MOST_DRAWN }
-    ensures ok { IfOk result (λ written. OnOk written (Appends (W.contents writer.old) (W.contents writer.new) (terminal_picture history.now claimed.now))) }
-    ensures err { IfOk result (λ written. OnErr written
-        (AppendsFront (W.contents writer.old) (W.contents writer.new) (terminal_picture history.now claimed.now))) }
-    ensures refused { IfOk result (λ written. W.has_refused writer.new ≡ (W.has_refused writer.old || is_err written)) }
-    ensures written { IfOk result (λ written. OnOk written (IsWritten W.goes writer.old writer.new)) }
-    ensures stopped { IfOk result (λ written. OnErr written (IsRefused W.goes writer.old writer.new)) }
+    ensures writes { IfOk result (WritesWhole W.contents W.has_refused W.goes writer.old writer.new (terminal_picture history.now claimed.now)) }
     ensures memory { OnErr result (writer.new ≡ writer.old) }
 {
     let text = terminal_picture(alloc, history, claimed)?;

@@ -20,7 +20,7 @@ use Rattle.drawing.specs.declared.bands.Head.TheVariants.{SurelyIn, NotIn, Deque
 use Rattle.drawing.specs.Claim.{line_kind, line_call, line_return}
 use Rattle.drawing.specs.Layout.{label, initial_label}
 use Rattle.drawing.specs.Bands.{head_text, line_value}
-use Rattle.drawing.specs.Captions.{headline, caption, yes_caption, overtaking_caption, one_of_cover, last_of_cover, witness_words, fresh_caption}
+use Rattle.drawing.specs.Captions.{headline, caption, yes_caption, overtaking_caption, cover_from, one_of_cover, last_of_cover, witness_words, fresh_caption}
 use Rattle.drawing.specs.Captions.{repeat_caption}
 use Rattle.drawing.specs.Captions.{order_caption, cover_caption, witness_caption, fresh_reason, value_text, repeat_words, before_words, moment_text}
 use Rattle.drawing.specs.Terminal.{way}
@@ -261,40 +261,22 @@ moment_plain : (ticket : Option ℕ) → are_plain (moment_text ticket) ≡ true
 moment_plain None = refl
 moment_plain (Some ticket) = decimal_plain ticket
 
+from_plain : (number : ℕ) (enq : ClaimLine) → are_plain (cover_from number enq) ≡ true
+unfolding cover_from
+from_plain number enq =
+    plain_concat (value_text enq ∷ codes " from " ∷ moment_text (line_return enq) ∷ codes " (" ∷ decimal number ∷ [])
+    (value_plain enq, (refl, (moment_plain (line_return enq), (refl, (decimal_plain number, tt)))))
+
 cover_plain : (number : ℕ) (lines : List ClaimLine) → are_plain (cover_caption number lines) ≡ true
 unfolding one_of_cover last_of_cover
 cover_plain number [] = refl
-cover_plain number (enq ∷ []) =
-    plain_concat (value_text enq ∷ codes " from " ∷ moment_text (line_return enq) ∷ codes " (" ∷ decimal number ∷ line (codes ") on") ∷ [])
-    (value_plain enq, (refl, (moment_plain (line_return enq), (refl, (decimal_plain number, (refl, tt))))))
+cover_plain number (enq ∷ []) = plain_append (cover_from number enq) (line (codes ") on")) (from_plain number enq) refl
 cover_plain number (enq ∷ deq ∷ rest) =
+    let until = codes ") to " ∷ moment_text (line_call deq) ∷ codes " (" ∷ decimal (number + 1) ∷ line (codes ")") ∷ [] in
     plain_append (one_of_cover number enq deq) (cover_caption (number + 2) rest)
-    (plain_concat (value_text enq ∷ codes " from " ∷ moment_text (line_return enq) ∷ codes " (" ∷ decimal number ∷ codes ") to "
-    ∷ moment_text (line_call deq) ∷ codes " (" ∷ decimal (number + 1) ∷ line (codes ")") ∷ []) (
-      value_plain enq,
-      (
-        refl,
-        (
-          moment_plain (line_return enq),
-          (
-            refl,
-            (
-              decimal_plain number,
-              (
-                refl,
-                (
-                  moment_plain (line_call deq),
-                  (
-                    refl,
-                    (decimal_plain (number + 1), (refl, tt)),
-                  ),
-                ),
-              ),
-            ),
-          ),
-        ),
-      ),
-    )) (cover_plain (number + 2) rest)
+    (plain_append (cover_from number enq) (concat until) (from_plain number enq)
+    (plain_concat until (refl, (moment_plain (line_call deq), (refl, (decimal_plain (number + 1), (refl, tt)))))))
+    (cover_plain (number + 2) rest)
 
 witness_plain : (lines : List ClaimLine) → are_plain (witness_caption lines) ≡ true
 unfolding witness_words

@@ -9,7 +9,8 @@ use Rattle.verdicts.specs.declared.verifying.ViolationKind.{ViolationKind}
 use Rattle.verdicts.specs.declared.verifying.ViolationKind.TheVariants.{VFresh, VRepeat, VOrd, VWit}
 use Rattle.text_lines.specs.Lines.{line}
 use Rattle.drawing.specs.declared.bands.Head.{Head}
-use Rattle.drawing.specs.declared.bands.Head.TheVariants.{SurelyIn, NotIn, Dequeued, InAndOut, SaidEmpty, InOrOut}
+use Rattle.drawing.specs.Bands.{form_words}
+use Rattle.drawing.specs.Captions.{claim_words}
 
 -- the word of a kind of operation, which is its class too
 abbrev pub kind_word : OpKind → List ℕ
@@ -27,12 +28,7 @@ corner kind.Empty = 9
 
 -- the class of a band, by its form; nothing where there is no band
 abbrev pub form_class : Head → List ℕ
-form_class (SurelyIn v) = codes "sure"
-form_class (NotIn v) = codes "none"
-form_class (Dequeued v) = codes "time"
-form_class (InAndOut v) = codes "time"
-form_class SaidEmpty = codes "time"
-form_class (InOrOut v) = []
+form_class head = form_words head (codes "sure") (codes "none") (codes "time")
 
 -- how to read bars and rows
 unfoldable pub reading : List ℕ
@@ -47,9 +43,10 @@ initial_reading (v ∷ initial) = line (codes "init: a value that was in the que
 
 -- what the numbers mean
 abbrev pub numbers : Claimed → List ℕ → List ℕ
-numbers (Yes order) initial = line (codes "A row without a ticket: there the numbered operation takes effect.")
-numbers (No kind lines) [] = line (codes "Numbered: the operations that show it. Grey: the others.")
-numbers (No kind lines) (v ∷ initial) = line (codes "Numbered: the values and operations that show it. Grey: the others.")
+numbers claimed initial =
+    claim_words claimed initial (line (codes "A row without a ticket: there the numbered operation takes effect."))
+    (line (codes "Numbered: the operations that show it. Grey: the others."))
+    (line (codes "Numbered: the values and operations that show it. Grey: the others."))
 
 -- what the bands of a kind of violation mean
 abbrev pub forms : ViolationKind → List ℕ

@@ -10,7 +10,7 @@ use crate::markup::Attribute::Words;
 use crate::markup::{push_element, push_end, push_number, push_start};
 use crate::sheet::Sheet;
 use crate::words::{corner, kind_word};
-use drawing::{MOST_DRAWN, digits, place_of, push_label};
+use drawing::{Added, MOST_DRAWN, digits, place_of, push_label};
 use history_merge::Operation;
 use itoa::Buffer;
 use std::alloc::{AllocError, Global};
@@ -42,7 +42,7 @@ pub(crate) fn row_of_effect(sheet: &Sheet<'_>, i: usize) -> u128
 }
 
 /// Adds the number of a place, in words.
-pub(crate) fn push_number_words(text: &mut Vec<u8>, place: Option<usize>) -> Result<(), AllocError>
+pub(crate) fn push_number_words(text: &mut Vec<u8>, place: Option<usize>) -> Added
     ensures { OnOk result (text.new.items ≡ text.old.items ++ number_words place) }
 {
     match place {
@@ -87,7 +87,7 @@ fn number_y(sheet: &Sheet<'_>, operation: Operation, place: usize) -> u128
 
 /// Adds a number in a pill.
 #[tactic(auto, unfolding(crate::specs::Picture::pill))]
-pub(crate) fn push_pill(text: &mut Vec<u8>, x: u128, y: u128, number: u64) -> Result<(), AllocError>
+pub(crate) fn push_pill(text: &mut Vec<u8>, x: u128, y: u128, number: u64) -> Added
     requires x { x ≤ 2 ^ 92 }
     requires y { y ≤ 2 ^ 92 }
     ensures { OnOk result (text.new.items ≡ text.old.items ++ text_of (pill x y number)) }
@@ -110,7 +110,7 @@ fn push_bar_number(
     sheet: &Sheet<'_>,
     operation: Operation,
     place: Option<usize>,
-) -> Result<(), AllocError>
+) -> Added
     requires { IfSome place (λ place. place ≤ MOST_DRAWN) }
     ensures { OnOk result (text.new.items ≡ text.old.items ++ text_of (bar_number (page_on sheet.now) operation place)) }
 {
@@ -126,11 +126,7 @@ fn push_bar_number(
 }
 
 #[tactic(auto, unfolding(crate::specs::Picture::bar_rect))]
-fn push_bar_rect(
-    text: &mut Vec<u8>,
-    sheet: &Sheet<'_>,
-    operation: Operation,
-) -> Result<(), AllocError>
+fn push_bar_rect(text: &mut Vec<u8>, sheet: &Sheet<'_>, operation: Operation) -> Added
     ensures { OnOk result (text.new.items ≡ text.old.items ++ text_of (bar_rect (page_on sheet.now) operation)) }
 {
     let y = call_y(sheet, operation.call);
@@ -149,15 +145,10 @@ fn push_bar_rect(
 }
 
 #[tactic(auto, unfolding(crate::specs::Picture::bar_label))]
-fn push_bar_label(
-    alloc: Global,
-    text: &mut Vec<u8>,
-    sheet: &Sheet<'_>,
-    operation: Operation,
-) -> Result<(), AllocError>
+fn push_bar_label(text: &mut Vec<u8>, sheet: &Sheet<'_>, operation: Operation) -> Added
     ensures { OnOk result (text.new.items ≡ text.old.items ++ text_of (bar_label (page_on sheet.now) operation)) }
 {
-    let mut label = Vec::new(alloc);
+    let mut label = Vec::new(sheet.alloc);
     push_label(&mut label, operation.kind)?;
     let x = thread_x(sheet, operation.thread) + 9;
     let y = row_y(sheet, row(sheet, operation.call)) + 24;
@@ -166,36 +157,27 @@ fn push_bar_label(
 
 /// Adds the bar of an operation, with its title, its label and its number.
 #[tactic(auto, unfolding(crate::specs::Picture::placed_bar, crate::specs::Picture::bar_parts))]
-fn push_bar(
-    alloc: Global,
-    text: &mut Vec<u8>,
-    sheet: &Sheet<'_>,
-    operation: Operation,
-) -> Result<(), AllocError>
+fn push_bar(text: &mut Vec<u8>, sheet: &Sheet<'_>, operation: Operation) -> Added
     ensures { OnOk result (text.new.items ≡ text.old.items ++ text_of (bar (page_on sheet.now) operation)) }
 {
     let place = place_of(sheet.claimed, operation);
     let class = mark(sheet.claimed, place);
     push_start(text, b"g", &[Words(b"class", class)])?;
-    let words = bar_words(alloc, operation, place)?;
+    let words = bar_words(sheet.alloc, operation, place)?;
     push_element(text, b"title", &[], words.as_slice())?;
     push_bar_rect(text, sheet, operation)?;
-    push_bar_label(alloc, text, sheet, operation)?;
+    push_bar_label(text, sheet, operation)?;
     push_bar_number(text, sheet, operation, place)?;
     push_end(text, b"g")
 }
 
 /// Adds the bars of the operations.
 #[tactic(auto, unfolding(crate::specs::Picture::bars))]
-pub(crate) fn push_bars(
-    alloc: Global,
-    text: &mut Vec<u8>,
-    sheet: &Sheet<'_>,
-) -> Result<(), AllocError>
+pub(crate) fn push_bars(text: &mut Vec<u8>, sheet: &Sheet<'_>) -> Added
     ensures { OnOk result (text.new.items ≡ text.old.items ++ text_of (bars (page_on sheet.now))) }
 {
     for operation in sheet.operations {
-        push_bar(alloc, text, sheet, *operation)?;
+        push_bar(text, sheet, *operation)?;
     }
     Ok(())
 }

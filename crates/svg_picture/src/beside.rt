@@ -1,9 +1,10 @@
 //! What stands beside the lanes: the bands of a no, or the order of a yes.
-ghost use Rattle.std.specs.Prelude.{◌≡◌, ◌++◌, ◌∷◌, ◌≤◌, ◌^◌, [], OnOk, IfOk, length, codes, decimal, nat_eq};
+ghost use Rattle.std.specs.Prelude.{◌≡◌, ◌++◌, ◌∷◌, ◌≤◌, ◌^◌, [], OnOk, IfOk, IsTrue, false, length, codes, decimal, nat_eq};
 ghost use Rattle.std.specs.List.{concat, enumerate_from, position};
 ghost use Rattle.drawing.specs.Layout.{label};
 ghost use Rattle.svg_picture.specs.Markup.{each, text_of};
-ghost use Rattle.svg_picture.specs.Layout.{page_on};
+ghost use Rattle.svg_picture.specs.Layout.{page_on, call_y, ret_y};
+ghost use Rattle.svg_picture.specs.Words.{form_class};
 ghost use Rattle.svg_picture.specs.Picture.{is_time, first_y, last_y, event_at, from_edge, band_between, formed_band, head_y, band_at};
 ghost use Rattle.svg_picture.specs.Picture.{numbered_band, bands, way_from, row_behind, row_of_value, way_mark, ways, order_line, numbered_line};
 ghost use Rattle.svg_picture.specs.Picture.{order};
@@ -16,7 +17,7 @@ use crate::layout::{
 use crate::markup::push_number;
 use crate::sheet::{Measures, Sheet};
 use crate::words::form_class;
-use drawing::{Band, Head, MOST_DRAWN, digits, head_words, push_label, way};
+use drawing::{Added, Band, Head, MOST_DRAWN, digits, head_words, push_label, way};
 use event_records::Event;
 use history_merge::Operation;
 use std::alloc::{AllocError, Global};
@@ -31,19 +32,25 @@ fn is_time(head: Head) -> bool
     }
 }
 
+/// An edge of a band: in the row of a call, or of a return.
+fn edge_y(sheet: &Sheet<'_>, is_call: bool, ticket: u64) -> u128
+    ensures call { IsTrue is_call → result ≡ call_y (page_on sheet.now) ticket }
+    ensures ret { is_call ≡ false → result ≡ ret_y (page_on sheet.now) ticket }
+{
+    if is_call {
+        call_y(sheet, ticket)
+    } else {
+        ret_y(sheet, ticket)
+    }
+}
+
 /// The upper edge of a band.
 fn first_y(sheet: &Sheet<'_>, head: Head, first: Option<u64>) -> u128
     ensures { result ≡ first_y (page_on sheet.now) head first }
 {
     match first {
         None => top(sheet.measures),
-        Some(ticket) => {
-            if is_time(head) {
-                call_y(sheet, ticket)
-            } else {
-                ret_y(sheet, ticket)
-            }
-        }
+        Some(ticket) => edge_y(sheet, is_time(head), ticket),
     }
 }
 
@@ -53,13 +60,7 @@ fn last_y(sheet: &Sheet<'_>, head: Head, last: Option<u64>) -> u128
 {
     match last {
         None => bottom(sheet.measures),
-        Some(ticket) => {
-            if is_time(head) {
-                ret_y(sheet, ticket)
-            } else {
-                call_y(sheet, ticket)
-            }
-        }
+        Some(ticket) => edge_y(sheet, !is_time(head), ticket),
     }
 }
 
@@ -83,7 +84,7 @@ fn push_from_edge(
     x: u128,
     y: u128,
     edge: Option<u64>,
-) -> Result<(), AllocError>
+) -> Added
     ensures { OnOk result (text.new.items ≡ text.old.items ++ text_of (from_edge (page_on sheet.now) class.now x y edge)) }
 {
     match edge {
@@ -103,7 +104,7 @@ fn push_band_between(
     y: u128,
     first: u128,
     last: u128,
-) -> Result<(), AllocError>
+) -> Added
     ensures { OnOk result (text.new.items ≡ text.old.items ++ text_of (band_between class.now x y first last)) }
 {
     push_stroke(text, b"lead", (x, y), (x, first))?;
@@ -118,16 +119,11 @@ fn push_band_between(
 
 /// Adds a band with its dotted lines, where its head has a form.
 #[tactic(auto, unfolding(crate::specs::Picture::drawn_band))]
-fn push_formed_band(
-    text: &mut Vec<u8>,
-    sheet: &Sheet<'_>,
-    class: &[u8],
-    x: u128,
-    y: u128,
-    band: Band,
-) -> Result<(), AllocError>
-    ensures { OnOk result (text.new.items ≡ text.old.items ++ text_of (formed_band (page_on sheet.now) class.now x y band)) }
+fn push_formed_band(text: &mut Vec<u8>, sheet: &Sheet<'_>, x: u128, y: u128, band: Band) -> Added
+    ensures { OnOk result (text.new.items ≡ text.old.items
+        ++ text_of (formed_band (page_on sheet.now) (form_class band.head) x y band)) }
 {
+    let class = form_class(band.head);
     match class {
         [] => Ok(()),
         [_, ..] => {
@@ -149,46 +145,30 @@ fn head_y(m: Measures, i: usize) -> u128
 }
 
 #[tactic(auto, unfolding(crate::specs::Picture::band_at))]
-fn push_band_at(
-    alloc: Global,
-    text: &mut Vec<u8>,
-    sheet: &Sheet<'_>,
-    i: usize,
-    band: Band,
-) -> Result<(), AllocError>
+fn push_band_at(text: &mut Vec<u8>, sheet: &Sheet<'_>, i: usize, band: Band) -> Added
     ensures { OnOk result (text.new.items ≡ text.old.items ++ text_of (band_at (page_on sheet.now) i band)) }
 {
     let x = band_x(sheet.measures, i);
     let y = head_y(sheet.measures, i);
-    let words = head_words(alloc, band.head)?;
+    let words = head_words(sheet.alloc, band.head)?;
     push_text_at(text, 7, b"name", x, y, words.as_slice())?;
-    push_formed_band(text, sheet, form_class(band.head), x + 3, y + 4, band)
+    push_formed_band(text, sheet, x + 3, y + 4, band)
 }
 
 /// Adds the bands of a no, with their heads.
 #[tactic(auto, unfolding(crate::specs::Picture::bands))]
-pub(crate) fn push_bands(
-    alloc: Global,
-    text: &mut Vec<u8>,
-    sheet: &Sheet<'_>,
-) -> Result<(), AllocError>
+pub(crate) fn push_bands(text: &mut Vec<u8>, sheet: &Sheet<'_>) -> Added
     ensures { OnOk result (text.new.items ≡ text.old.items ++ text_of (bands (page_on sheet.now))) }
 {
     for (i, band) in sheet.bands.iter().enumerate() {
-        push_band_at(alloc, text, sheet, i, *band)?;
+        push_band_at(text, sheet, i, *band)?;
     }
     Ok(())
 }
 
 /// Adds a word at the right of the lanes, with a dotted line to it.
 #[tactic(auto, unfolding(crate::specs::Picture::way_from))]
-fn push_way_from(
-    text: &mut Vec<u8>,
-    sheet: &Sheet<'_>,
-    x: u128,
-    y: u128,
-    words: &[u8],
-) -> Result<(), AllocError>
+fn push_way_from(text: &mut Vec<u8>, sheet: &Sheet<'_>, x: u128, y: u128, words: &[u8]) -> Added
     requires { y ≤ 2 ^ 92 }
     ensures { OnOk result (text.new.items ≡ text.old.items ++ text_of (way_from (page_on sheet.now) x y words.now)) }
 {
@@ -221,7 +201,7 @@ fn row_of_value(initial: &[u64], value: u64) -> u128
     row_behind(value_place(initial, value))
 }
 
-fn push_way_mark(text: &mut Vec<u8>, sheet: &Sheet<'_>, line: ClaimLine) -> Result<(), AllocError>
+fn push_way_mark(text: &mut Vec<u8>, sheet: &Sheet<'_>, line: ClaimLine) -> Added
     ensures { OnOk result (text.new.items ≡ text.old.items ++ text_of (way_mark (page_on sheet.now) line)) }
 {
     match line {
@@ -237,11 +217,7 @@ fn push_way_mark(text: &mut Vec<u8>, sheet: &Sheet<'_>, line: ClaimLine) -> Resu
     }
 }
 
-fn push_way_marks(
-    text: &mut Vec<u8>,
-    sheet: &Sheet<'_>,
-    lines: &[ClaimLine],
-) -> Result<(), AllocError>
+fn push_way_marks(text: &mut Vec<u8>, sheet: &Sheet<'_>, lines: &[ClaimLine]) -> Added
     ensures { OnOk result (text.new.items ≡ text.old.items ++ text_of (each (way_mark (page_on sheet.now)) lines.now)) }
 {
     for line in lines {
@@ -252,7 +228,7 @@ fn push_way_marks(
 
 /// Adds the words `in` and `out`, where a value was dequeued twice.
 #[tactic(auto, unfolding(crate::specs::Picture::ways))]
-pub(crate) fn push_ways(text: &mut Vec<u8>, sheet: &Sheet<'_>) -> Result<(), AllocError>
+pub(crate) fn push_ways(text: &mut Vec<u8>, sheet: &Sheet<'_>) -> Added
     ensures { OnOk result (text.new.items ≡ text.old.items ++ text_of (ways (page_on sheet.now) sheet.now.claimed.now)) }
 {
     match sheet.claimed {
@@ -275,13 +251,7 @@ fn order_words(alloc: Global, number: u64, operation: Operation) -> Result<Vec<u
 }
 
 #[tactic(auto, unfolding(crate::specs::Picture::order_line))]
-fn push_order_line(
-    alloc: Global,
-    text: &mut Vec<u8>,
-    sheet: &Sheet<'_>,
-    i: usize,
-    operation: Operation,
-) -> Result<(), AllocError>
+fn push_order_line(text: &mut Vec<u8>, sheet: &Sheet<'_>, i: usize, operation: Operation) -> Added
     requires { i ≤ MOST_DRAWN }
     ensures { OnOk result (text.new.items ≡ text.old.items ++ text_of (order_line (page_on sheet.now) i operation)) }
 {
@@ -289,32 +259,23 @@ fn push_order_line(
     let blanks = u128::from(sheet.measures.number).saturating_sub(digits(number) as u128);
     let x = shown(sheet.measures) + 7 * blanks;
     let y = row_y(sheet, row_of_effect(sheet, i)) + 14;
-    let words = order_words(alloc, number, operation)?;
+    let words = order_words(sheet.alloc, number, operation)?;
     push_text_at(text, 7, b"label", x, y, words.as_slice())
 }
 
-fn push_order_lines(
-    alloc: Global,
-    text: &mut Vec<u8>,
-    sheet: &Sheet<'_>,
-    operations: &[Operation],
-) -> Result<(), AllocError>
+fn push_order_lines(text: &mut Vec<u8>, sheet: &Sheet<'_>, operations: &[Operation]) -> Added
     requires { length operations.now ≤ MOST_DRAWN }
     ensures { OnOk result (text.new.items ≡ text.old.items ++ text_of (each (numbered_line (page_on sheet.now)) (enumerate_from 0 operations.now))) }
 {
     for (i, operation) in operations.iter().enumerate() {
-        push_order_line(alloc, text, sheet, i, *operation)?;
+        push_order_line(text, sheet, i, *operation)?;
     }
     Ok(())
 }
 
 /// Adds the order of a yes under its name.
 #[tactic(auto, unfolding(crate::specs::Picture::order))]
-pub(crate) fn push_order(
-    alloc: Global,
-    text: &mut Vec<u8>,
-    sheet: &Sheet<'_>,
-) -> Result<(), AllocError>
+pub(crate) fn push_order(text: &mut Vec<u8>, sheet: &Sheet<'_>) -> Added
     ensures { OnOk result (text.new.items ≡ text.old.items ++ text_of (order (page_on sheet.now) sheet.now.claimed.now)) }
 {
     match sheet.claimed {
@@ -323,7 +284,7 @@ pub(crate) fn push_order(
             let x = shown(sheet.measures);
             let y = top(sheet.measures) - 8;
             push_text_at(text, 7, b"dim", x, y, b"order")?;
-            push_order_lines(alloc, text, sheet, operations.as_slice())
+            push_order_lines(text, sheet, operations.as_slice())
         }
     }
 }

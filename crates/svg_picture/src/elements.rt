@@ -6,7 +6,7 @@ ghost use Rattle.svg_picture.specs.Elements.{text_at, rect, stroke, line_at, lin
 use crate::lines::split_line;
 use crate::markup::Attribute::{Number, Words};
 use crate::markup::{push_element, push_end, push_start};
-use std::alloc::AllocError;
+use drawing::Added;
 
 /// Adds words of a class from a point on, so many pixels for each character.
 #[tactic(auto, unfolding(crate::specs::Elements::text_at))]
@@ -17,7 +17,7 @@ pub(crate) fn push_text_at(
     x: u128,
     y: u128,
     words: &[u8],
-) -> Result<(), AllocError>
+) -> Added
     ensures { OnOk result (text.new.items ≡ text.old.items ++ text_of (text_at char class.now x y words.now)) }
 {
     let wide = u128::from(char) * words.len() as u128;
@@ -45,12 +45,7 @@ pub(crate) struct Rect {
 
 /// Adds a rectangle of a class, with round corners.
 #[tactic(auto, unfolding(crate::specs::Elements::rect))]
-pub(crate) fn push_rect(
-    text: &mut Vec<u8>,
-    class: &[u8],
-    round: u128,
-    area: Rect,
-) -> Result<(), AllocError>
+pub(crate) fn push_rect(text: &mut Vec<u8>, class: &[u8], round: u128, area: Rect) -> Added
     ensures { OnOk result (text.new.items ≡ text.old.items ++ text_of (rect class.now round area.x area.y area.width area.height)) }
 {
     push_element(
@@ -75,7 +70,7 @@ pub(crate) fn push_stroke(
     class: &[u8],
     from: (u128, u128),
     to: (u128, u128),
-) -> Result<(), AllocError>
+) -> Added
     ensures { OnOk result (text.new.items ≡ text.old.items ++ text_of (stroke class.now from.0 from.1 to.0 to.1)) }
 {
     push_element(
@@ -92,13 +87,7 @@ pub(crate) fn push_stroke(
     )
 }
 
-fn push_line_at(
-    text: &mut Vec<u8>,
-    char: u8,
-    class: &[u8],
-    y: u128,
-    words: &[u8],
-) -> Result<(), AllocError>
+fn push_line_at(text: &mut Vec<u8>, char: u8, class: &[u8], y: u128, words: &[u8]) -> Added
     ensures { OnOk result (text.new.items ≡ text.old.items ++ text_of (line_at char class.now y words.now)) }
 {
     match words {
@@ -115,7 +104,7 @@ pub(crate) fn push_lines_at(
     class: &[u8],
     y: u128,
     words: &[u8],
-) -> Result<(), AllocError>
+) -> Added
     requires { y + 20 * length words.now ≤ 2 ^ 100 }
     ensures { OnOk result (text.new.items ≡ text.old.items ++ text_of (lines_at char class.now y words.now)) }
 {
@@ -137,7 +126,7 @@ fn push_sample(
     class: &[u8],
     round: u128,
     meaning: &[u8],
-) -> Result<(), AllocError>
+) -> Added
     requires x { x ≤ 2 ^ 90 }
     requires y { y ≤ 2 ^ 90 }
     ensures { OnOk result (text.new.items ≡ text.old.items ++ text_of (sample x y class.now round meaning.now)) }
@@ -155,7 +144,7 @@ fn push_sample(
 
 /// Adds the four samples of bars.
 #[tactic(auto, unfolding(crate::specs::Elements::samples))]
-pub(crate) fn push_samples(text: &mut Vec<u8>, y: u128) -> Result<(), AllocError>
+pub(crate) fn push_samples(text: &mut Vec<u8>, y: u128) -> Added
     requires { y ≤ 2 ^ 90 }
     ensures { OnOk result (text.new.items ≡ text.old.items ++ text_of (samples y)) }
 {
@@ -167,7 +156,7 @@ pub(crate) fn push_samples(text: &mut Vec<u8>, y: u128) -> Result<(), AllocError
 
 /// Adds the pattern of a hatched band.
 #[tactic(auto, unfolding(crate::specs::Elements::hatch))]
-pub(crate) fn push_hatch(text: &mut Vec<u8>) -> Result<(), AllocError>
+pub(crate) fn push_hatch(text: &mut Vec<u8>) -> Added
     ensures { OnOk result (text.new.items ≡ text.old.items ++ text_of hatch) }
 {
     push_start(

@@ -11,7 +11,7 @@ use crate::layout::{bar_width, initial_row, row_y, top};
 use crate::markup::Attribute::Words;
 use crate::markup::{push_element, push_end, push_start};
 use crate::sheet::Sheet;
-use drawing::{MOST_DRAWN, initial_label, initial_place_of};
+use drawing::{Added, MOST_DRAWN, initial_label, initial_place_of};
 use std::alloc::{AllocError, Global};
 
 /// What is told of an initial value.
@@ -31,7 +31,7 @@ fn push_initial_number(
     sheet: &Sheet<'_>,
     row: u128,
     place: Option<usize>,
-) -> Result<(), AllocError>
+) -> Added
     requires row { row ≤ 2 ^ 65 }
     requires place { IfSome place (λ place. place ≤ MOST_DRAWN) }
     ensures { OnOk result (text.new.items ≡ text.old.items ++ text_of (initial_number (page_on sheet.now) row place)) }
@@ -48,13 +48,7 @@ fn push_initial_number(
 
 /// Adds the bar of an initial value, with its label.
 #[tactic(auto, unfolding(crate::specs::Picture::initial_rect))]
-fn push_initial_rect(
-    alloc: Global,
-    text: &mut Vec<u8>,
-    sheet: &Sheet<'_>,
-    row: u128,
-    value: u64,
-) -> Result<(), AllocError>
+fn push_initial_rect(text: &mut Vec<u8>, sheet: &Sheet<'_>, row: u128, value: u64) -> Added
     requires { row ≤ 2 ^ 65 }
     ensures { OnOk result (text.new.items ≡ text.old.items ++ text_of (initial_rect (page_on sheet.now) row value)) }
 {
@@ -66,52 +60,38 @@ fn push_initial_rect(
         height: 16,
     };
     push_rect(text, b"enq", 0, area)?;
-    let label = initial_label(alloc, value)?;
+    let label = initial_label(sheet.alloc, value)?;
     push_text_at(text, 7, b"label", 12, y + 14, label.as_slice())
 }
 
 /// Adds the initial value at place j, with its title, its bar and its number.
 #[tactic(auto, unfolding(crate::specs::Picture::placed_initial, crate::specs::Picture::initial_parts))]
-fn push_initial_value(
-    alloc: Global,
-    text: &mut Vec<u8>,
-    sheet: &Sheet<'_>,
-    j: usize,
-    value: u64,
-) -> Result<(), AllocError>
+fn push_initial_value(text: &mut Vec<u8>, sheet: &Sheet<'_>, j: usize, value: u64) -> Added
     ensures { OnOk result (text.new.items ≡ text.old.items ++ text_of (numbered_initial (page_on sheet.now) (j, value))) }
 {
     let place = initial_place_of(sheet.claimed, value);
     let row = initial_row(j);
     let class = mark(sheet.claimed, place);
     push_start(text, b"g", &[Words(b"class", class)])?;
-    let words = initial_words(alloc, value, place)?;
+    let words = initial_words(sheet.alloc, value, place)?;
     push_element(text, b"title", &[], words.as_slice())?;
-    push_initial_rect(alloc, text, sheet, row, value)?;
+    push_initial_rect(text, sheet, row, value)?;
     push_initial_number(text, sheet, row, place)?;
     push_end(text, b"g")
 }
 
-fn push_each_initial_value(
-    alloc: Global,
-    text: &mut Vec<u8>,
-    sheet: &Sheet<'_>,
-) -> Result<(), AllocError>
+fn push_each_initial_value(text: &mut Vec<u8>, sheet: &Sheet<'_>) -> Added
     ensures { OnOk result (text.new.items ≡ text.old.items ++ text_of (each (numbered_initial (page_on sheet.now)) (enumerate_from 0 sheet.now.initial.now))) }
 {
     for (j, value) in sheet.initial.iter().enumerate() {
-        push_initial_value(alloc, text, sheet, j, *value)?;
+        push_initial_value(text, sheet, j, *value)?;
     }
     Ok(())
 }
 
 /// Adds the initial values under their head, where there are some.
 #[tactic(auto, unfolding(crate::specs::Picture::initial_values))]
-pub(crate) fn push_initial_values(
-    alloc: Global,
-    text: &mut Vec<u8>,
-    sheet: &Sheet<'_>,
-) -> Result<(), AllocError>
+pub(crate) fn push_initial_values(text: &mut Vec<u8>, sheet: &Sheet<'_>) -> Added
     ensures { OnOk result (text.new.items ≡ text.old.items ++ text_of (initial_values (page_on sheet.now) sheet.now.initial.now)) }
 {
     match sheet.initial {
@@ -119,7 +99,7 @@ pub(crate) fn push_initial_values(
         [_, ..] => {
             let y = top(sheet.measures) + 14;
             push_text_at(text, 7, b"dim", 6, y, b"in the queue first")?;
-            push_each_initial_value(alloc, text, sheet)
+            push_each_initial_value(text, sheet)
         }
     }
 }

@@ -4,8 +4,8 @@ ghost use Rattle.std.specs.List.{flat_map};
 ghost use Rattle.svg_picture.specs.Markup.{Element, attribute_text, named, start_tag, end_tag, text_of};
 ghost use Rattle.svg_picture.specs.Markup.{Words as InWords};
 
+use drawing::Added;
 use itoa::Buffer;
-use std::alloc::AllocError;
 
 /// An attribute of an element: its name and its value.
 #[derive(Clone, Copy, Debug)]
@@ -17,14 +17,14 @@ pub enum Attribute<'a> {
 }
 
 /// Adds a number in its digits.
-pub(crate) fn push_number(text: &mut Vec<u8>, number: u128) -> Result<(), AllocError>
+pub(crate) fn push_number(text: &mut Vec<u8>, number: u128) -> Added
     ensures { OnOk result (text.new.items ≡ text.old.items ++ decimal number) }
 {
     let mut buffer = Buffer::new();
     text.extend_from_slice(buffer.format(number).as_bytes())
 }
 
-fn push_value(text: &mut Vec<u8>, attribute: Attribute<'_>) -> Result<(), AllocError>
+fn push_value(text: &mut Vec<u8>, attribute: Attribute<'_>) -> Added
     ensures { OnOk result (text.new.items ≡ text.old.items ++ (named attribute.entry).value) }
 {
     match attribute {
@@ -41,7 +41,7 @@ fn name_of<'a>(attribute: Attribute<'a>) -> &'a [u8]
     }
 }
 
-fn push_attribute(text: &mut Vec<u8>, attribute: Attribute<'_>) -> Result<(), AllocError>
+fn push_attribute(text: &mut Vec<u8>, attribute: Attribute<'_>) -> Added
     ensures { OnOk result (text.new.items ≡ text.old.items ++ attribute_text (named attribute.entry)) }
 {
     text.extend_from_slice(b" ")?;
@@ -51,7 +51,7 @@ fn push_attribute(text: &mut Vec<u8>, attribute: Attribute<'_>) -> Result<(), Al
     text.extend_from_slice(b"\"")
 }
 
-fn push_attributes(text: &mut Vec<u8>, attributes: &[Attribute<'_>]) -> Result<(), AllocError>
+fn push_attributes(text: &mut Vec<u8>, attributes: &[Attribute<'_>]) -> Added
     ensures { OnOk result (text.new.items ≡ text.old.items ++ flat_map attribute_text (map named attributes.now)) }
 {
     for attribute in attributes {
@@ -61,11 +61,7 @@ fn push_attributes(text: &mut Vec<u8>, attributes: &[Attribute<'_>]) -> Result<(
 }
 
 /// Adds the tag that begins an element.
-pub(crate) fn push_start(
-    text: &mut Vec<u8>,
-    name: &[u8],
-    attributes: &[Attribute<'_>],
-) -> Result<(), AllocError>
+pub(crate) fn push_start(text: &mut Vec<u8>, name: &[u8], attributes: &[Attribute<'_>]) -> Added
     ensures { OnOk result (text.new.items ≡ text.old.items ++ start_tag name.now (map named attributes.now)) }
 {
     text.extend_from_slice(b"<")?;
@@ -75,7 +71,7 @@ pub(crate) fn push_start(
 }
 
 /// Adds the tag that closes an element.
-pub(crate) fn push_end(text: &mut Vec<u8>, name: &[u8]) -> Result<(), AllocError>
+pub(crate) fn push_end(text: &mut Vec<u8>, name: &[u8]) -> Added
     ensures { OnOk result (text.new.items ≡ text.old.items ++ end_tag name.now) }
 {
     text.extend_from_slice(b"</")?;
@@ -89,7 +85,7 @@ pub(crate) fn push_element(
     name: &[u8],
     attributes: &[Attribute<'_>],
     words: &[u8],
-) -> Result<(), AllocError>
+) -> Added
     ensures { OnOk result (text.new.items ≡ text.old.items ++ text_of (Element name.now (map named attributes.now) (InWords words.now))) }
 {
     push_start(text, name, attributes)?;

@@ -20,7 +20,7 @@ use crate::rows::{push_background, push_threads, push_tickets};
 use crate::sheet::{Measures, Sheet};
 use crate::words::{legend, push_style};
 use drawing::{
-    Band, MOST_DRAWN, bands_of, count_of_lines, digits, headline, label_width, last_ticket,
+    Added, Band, MOST_DRAWN, bands_of, count_of_lines, digits, headline, label_width, last_ticket,
     order_of, push_caption, threads_of,
 };
 use history_merge::{History, Operation};
@@ -38,21 +38,21 @@ fn caption_of(alloc: Global, claimed: &Claimed) -> Result<Vec<u8>, AllocError>
 
 /// Adds the words above: the headline, the caption, and how to read the picture.
 #[tactic(auto, unfolding(crate::specs::Picture::heading))]
-fn push_heading(alloc: Global, text: &mut Vec<u8>, sheet: &Sheet<'_>) -> Result<(), AllocError>
+fn push_heading(text: &mut Vec<u8>, sheet: &Sheet<'_>) -> Added
     ensures { OnOk result (text.new.items ≡ text.old.items ++ text_of (heading (page_on sheet.now))) }
 {
     let y = legend_y(sheet.measures);
     push_text_at(text, 9, b"head", 6, 26, headline(sheet.claimed))?;
-    let caption = caption_of(alloc, sheet.claimed)?;
+    let caption = caption_of(sheet.alloc, sheet.claimed)?;
     push_lines_at(text, 8, b"say", 46, caption.as_slice())?;
     push_samples(text, y)?;
-    let legend = legend(alloc, sheet.initial, sheet.claimed)?;
+    let legend = legend(sheet.alloc, sheet.initial, sheet.claimed)?;
     push_lines_at(text, 7, b"dim", y + 35, legend.as_slice())
 }
 
 /// Adds what the picture tells those who don't see it, and its style.
 #[tactic(auto, unfolding(crate::specs::Picture::about))]
-fn push_about(alloc: Global, text: &mut Vec<u8>, claimed: &Claimed) -> Result<(), AllocError>
+fn push_about(alloc: Global, text: &mut Vec<u8>, claimed: &Claimed) -> Added
     requires { count_of_lines claimed.now ≤ MOST_DRAWN }
     ensures { OnOk result (text.new.items ≡ text.old.items ++ text_of (about claimed.now)) }
 {
@@ -64,26 +64,26 @@ fn push_about(alloc: Global, text: &mut Vec<u8>, claimed: &Claimed) -> Result<()
 
 /// Adds what stands above and under the lanes.
 #[tactic(auto, unfolding(crate::specs::Picture::frame))]
-fn push_frame(alloc: Global, text: &mut Vec<u8>, sheet: &Sheet<'_>) -> Result<(), AllocError>
+fn push_frame(text: &mut Vec<u8>, sheet: &Sheet<'_>) -> Added
     ensures { OnOk result (text.new.items ≡ text.old.items ++ text_of (frame (page_on sheet.now))) }
 {
-    push_about(alloc, text, sheet.claimed)?;
+    push_about(sheet.alloc, text, sheet.claimed)?;
     push_background(text, sheet.measures)?;
-    push_heading(alloc, text, sheet)?;
+    push_heading(text, sheet)?;
     push_tickets(text, sheet)?;
-    push_threads(alloc, text, sheet)
+    push_threads(text, sheet)
 }
 
 #[tactic(auto, unfolding(crate::specs::Picture::inside))]
-fn push_inside(alloc: Global, text: &mut Vec<u8>, sheet: &Sheet<'_>) -> Result<(), AllocError>
+fn push_inside(text: &mut Vec<u8>, sheet: &Sheet<'_>) -> Added
     ensures { OnOk result (text.new.items ≡ text.old.items ++ text_of (inside (page_on sheet.now))) }
 {
-    push_frame(alloc, text, sheet)?;
-    push_bands(alloc, text, sheet)?;
+    push_frame(text, sheet)?;
+    push_bands(text, sheet)?;
     push_ways(text, sheet)?;
-    push_order(alloc, text, sheet)?;
-    push_initial_values(alloc, text, sheet)?;
-    push_bars(alloc, text, sheet)
+    push_order(text, sheet)?;
+    push_initial_values(text, sheet)?;
+    push_bars(text, sheet)
 }
 
 #[tactic(auto, unfolding(crate::specs::Picture::view_box))]
@@ -98,11 +98,11 @@ fn view_box(alloc: Global, m: Measures) -> Result<Vec<u8>, AllocError>
 }
 
 #[tactic(auto, unfolding(crate::specs::Picture::page_content))]
-fn push_page(alloc: Global, text: &mut Vec<u8>, sheet: &Sheet<'_>) -> Result<(), AllocError>
+fn push_page(text: &mut Vec<u8>, sheet: &Sheet<'_>) -> Added
     ensures { OnOk result (text.new.items ≡ text.old.items ++ text_of (page_content (page_on sheet.now))) }
 {
     let m = sheet.measures;
-    let view_box = view_box(alloc, m)?;
+    let view_box = view_box(sheet.alloc, m)?;
     push_start(
         text,
         b"svg",
@@ -115,7 +115,7 @@ fn push_page(alloc: Global, text: &mut Vec<u8>, sheet: &Sheet<'_>) -> Result<(),
             Words(b"role", b"img"),
         ],
     )?;
-    push_inside(alloc, text, sheet)?;
+    push_inside(text, sheet)?;
     push_end(text, b"svg")
 }
 
@@ -196,6 +196,7 @@ pub fn svg_picture(
         bands.as_slice(),
     )?;
     let sheet = Sheet {
+        alloc,
         measures,
         initial: history.initial(),
         events: history.events(),
@@ -206,6 +207,6 @@ pub fn svg_picture(
         points: points.as_slice(),
     };
     let mut text = Vec::from_slice(alloc, b"<?xml version=\"1.0\" encoding=\"UTF-8\"?>\n")?;
-    push_page(alloc, &mut text, &sheet)?;
+    push_page(&mut text, &sheet)?;
     Ok(text)
 }

@@ -9,7 +9,7 @@ use crate::layout::{bottom, height, row, row_y, thread_x, top, width};
 use crate::markup::Attribute::{Number, Words};
 use crate::markup::{push_end, push_number, push_start};
 use crate::sheet::{Measures, Sheet};
-use drawing::digits;
+use drawing::{Added, digits};
 use event_records::Event;
 use itoa::Buffer;
 use std::alloc::{AllocError, Global};
@@ -22,7 +22,7 @@ fn ticket_x(m: Measures, characters: usize) -> u128
 }
 
 #[tactic(auto, unfolding(crate::specs::Picture::ticket_at))]
-fn push_ticket_at(text: &mut Vec<u8>, sheet: &Sheet<'_>, event: Event) -> Result<(), AllocError>
+fn push_ticket_at(text: &mut Vec<u8>, sheet: &Sheet<'_>, event: Event) -> Added
     ensures { OnOk result (text.new.items ≡ text.old.items ++ text_of (ticket_at (page_on sheet.now) event)) }
 {
     let x = ticket_x(sheet.measures, digits(event.ticket));
@@ -32,7 +32,7 @@ fn push_ticket_at(text: &mut Vec<u8>, sheet: &Sheet<'_>, event: Event) -> Result
     push_text_at(text, 7, b"dim", x, y, words)
 }
 
-fn push_event_tickets(text: &mut Vec<u8>, sheet: &Sheet<'_>) -> Result<(), AllocError>
+fn push_event_tickets(text: &mut Vec<u8>, sheet: &Sheet<'_>) -> Added
     ensures { OnOk result (text.new.items ≡ text.old.items ++ text_of (each (ticket_at (page_on sheet.now)) sheet.now.events.now)) }
 {
     for event in sheet.events {
@@ -43,7 +43,7 @@ fn push_event_tickets(text: &mut Vec<u8>, sheet: &Sheet<'_>) -> Result<(), Alloc
 
 /// Adds the tickets, between their name and the end.
 #[tactic(auto, unfolding(crate::specs::Picture::tickets))]
-pub(crate) fn push_tickets(text: &mut Vec<u8>, sheet: &Sheet<'_>) -> Result<(), AllocError>
+pub(crate) fn push_tickets(text: &mut Vec<u8>, sheet: &Sheet<'_>) -> Added
     ensures { OnOk result (text.new.items ≡ text.old.items ++ text_of (tickets (page_on sheet.now))) }
 {
     let m = sheet.measures;
@@ -62,16 +62,11 @@ fn thread_name(alloc: Global, thread: u8) -> Result<Vec<u8>, AllocError>
 }
 
 #[tactic(auto, unfolding(crate::specs::Picture::lane_names))]
-fn push_lane_names(
-    alloc: Global,
-    text: &mut Vec<u8>,
-    sheet: &Sheet<'_>,
-    thread: u8,
-) -> Result<(), AllocError>
+fn push_lane_names(text: &mut Vec<u8>, sheet: &Sheet<'_>, thread: u8) -> Added
     ensures { OnOk result (text.new.items ≡ text.old.items ++ text_of (lane_names (page_on sheet.now) thread)) }
 {
     let m = sheet.measures;
-    let name = thread_name(alloc, thread)?;
+    let name = thread_name(sheet.alloc, thread)?;
     let x = thread_x(sheet, thread) + 3;
     push_text_at(text, 7, b"name", x, top(m) - 8, name.as_slice())?;
     push_text_at(text, 7, b"name", x, bottom(m) + 14, name.as_slice())
@@ -79,21 +74,17 @@ fn push_lane_names(
 
 /// Adds the names of the threads, above their lanes and below them.
 #[tactic(auto, unfolding(crate::specs::Picture::threads))]
-pub(crate) fn push_threads(
-    alloc: Global,
-    text: &mut Vec<u8>,
-    sheet: &Sheet<'_>,
-) -> Result<(), AllocError>
+pub(crate) fn push_threads(text: &mut Vec<u8>, sheet: &Sheet<'_>) -> Added
     ensures { OnOk result (text.new.items ≡ text.old.items ++ text_of (threads (page_on sheet.now))) }
 {
     for thread in sheet.threads {
-        push_lane_names(alloc, text, sheet, *thread)?;
+        push_lane_names(text, sheet, *thread)?;
     }
     Ok(())
 }
 
 #[tactic(auto, unfolding(crate::specs::Picture::row_pattern))]
-fn push_row_pattern(text: &mut Vec<u8>, m: Measures) -> Result<(), AllocError>
+fn push_row_pattern(text: &mut Vec<u8>, m: Measures) -> Added
     ensures { OnOk result (text.new.items ≡ text.old.items ++ text_of (row_pattern m)) }
 {
     let wide = width(m);
@@ -120,7 +111,7 @@ fn push_row_pattern(text: &mut Vec<u8>, m: Measures) -> Result<(), AllocError>
 }
 
 #[tactic(auto, unfolding(crate::specs::Picture::patterns))]
-fn push_patterns(text: &mut Vec<u8>, m: Measures) -> Result<(), AllocError>
+fn push_patterns(text: &mut Vec<u8>, m: Measures) -> Added
     ensures { OnOk result (text.new.items ≡ text.old.items ++ text_of (patterns m)) }
 {
     push_start(text, b"defs", &[])?;
@@ -131,7 +122,7 @@ fn push_patterns(text: &mut Vec<u8>, m: Measures) -> Result<(), AllocError>
 
 /// Adds the background, and the rows.
 #[tactic(auto, unfolding(crate::specs::Picture::background))]
-pub(crate) fn push_background(text: &mut Vec<u8>, m: Measures) -> Result<(), AllocError>
+pub(crate) fn push_background(text: &mut Vec<u8>, m: Measures) -> Added
     ensures { OnOk result (text.new.items ≡ text.old.items ++ text_of (background m)) }
 {
     let page = Rect {

@@ -6,6 +6,7 @@ ghost use Rattle.drawing.specs.declared.columns.TheConstants.{MOST_DRAWN};
 use drawing::Band;
 use event_records::Event;
 use history_merge::Operation;
+use std::alloc::Global;
 use verdicts::Claimed;
 
 /// How wide the parts of a picture are, in characters, and how many there are.
@@ -42,6 +43,8 @@ pub struct Measures {
 /// What a picture is made of.
 #[derive(Clone, Copy)]
 pub struct Sheet<'a> {
+    /// Where the memory of its words comes from.
+    pub alloc: Global,
     pub measures: Measures,
     /// What the queue holds first, front first.
     pub initial: &'a [u64],

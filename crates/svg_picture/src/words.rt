@@ -5,7 +5,7 @@ ghost use Rattle.svg_picture.specs.Markup.{text_of};
 ghost use Rattle.svg_picture.specs.Words.{kind_word, corner, form_class, reading, initial_reading, numbers, forms, claim_forms, legend, light, dark};
 
 use crate::markup::{push_end, push_start};
-use drawing::Head;
+use drawing::{Added, Head, claim_words, form_words};
 use history_merge::OpKind;
 use std::alloc::{AllocError, Global};
 use verdicts::{Claimed, ViolationKind};
@@ -36,12 +36,7 @@ pub(crate) fn corner(kind: OpKind) -> u128
 pub(crate) fn form_class(head: Head) -> &'static [u8]
     ensures { result.now ≡ form_class head }
 {
-    match head {
-        Head::SurelyIn(_) => b"sure",
-        Head::NotIn(_) => b"none",
-        Head::Dequeued(_) | Head::InAndOut(_) | Head::SaidEmpty => b"time",
-        Head::InOrOut(_) => b"",
-    }
+    form_words(head, b"sure", b"none", b"time")
 }
 
 #[tactic(auto, unfolding(crate::specs::Words::reading))]
@@ -64,13 +59,13 @@ fn initial_reading(initial: &[u64]) -> &'static [u8]
 fn numbers(claimed: &Claimed, initial: &[u64]) -> &'static [u8]
     ensures { result.now ≡ numbers claimed.now initial.now }
 {
-    match claimed {
-        Claimed::Yes(_) => b"A row without a ticket: there the numbered operation takes effect.\n",
-        Claimed::No(_, _) => match initial {
-            [] => b"Numbered: the operations that show it. Grey: the others.\n",
-            [_, ..] => { b"Numbered: the values and operations that show it. Grey: the others.\n" }
-        },
-    }
+    claim_words(
+        claimed,
+        initial,
+        b"A row without a ticket: there the numbered operation takes effect.\n",
+        b"Numbered: the operations that show it. Grey: the others.\n",
+        b"Numbered: the values and operations that show it. Grey: the others.\n",
+    )
 }
 
 fn forms(kind: ViolationKind) -> &'static [u8]
@@ -154,7 +149,7 @@ svg{background:#14171c}text{fill:#e6e8eb}.page{fill:#14171c}.row{fill:#1d222a}\n
 
 /// Adds the fonts and the colours.
 #[tactic(auto, unfolding(crate::specs::Elements::style_element))]
-pub(crate) fn push_style(text: &mut Vec<u8>) -> Result<(), AllocError>
+pub(crate) fn push_style(text: &mut Vec<u8>) -> Added
     ensures { OnOk result (text.new.items ≡ text.old.items ++ text_of style_element) }
 {
     push_start(text, b"style", &[])?;

@@ -5,4 +5,5 @@ use Rattle.drawing.proofs.terminal.place_effect_lanes.Given as goal
 
 abbrev pub invariant-loop-lane : goal.invariant-loop-lane
 invariant-loop-lane l =
-    l.line.items ≡ with_words l.fn.line.items (effect_lane_words l.operations (take l.lane-index l.lanes) l.effect.operation l.effect.number l.ticket)
+    l.line.items ≡ with_words l.fn.line.items
+    (effect_lane_words l.sheet.operations.now (take l.lane-index l.sheet.lanes.now) l.effect.operation l.effect.number l.effect.point)

@@ -5,4 +5,4 @@ use Rattle.drawing.proofs.terminal.place_lanes.Given as goal
 
 abbrev pub invariant-loop-lane : goal.invariant-loop-lane
 invariant-loop-lane l =
-    l.line.items ≡ with_words l.fn.line.items (lane_words l.operations l.shown (take l.lane-index l.lanes) l.ticket)
+    l.line.items ≡ with_words l.fn.line.items (lane_words l.sheet.operations.now l.shown (take l.lane-index l.sheet.lanes.now) l.ticket)
