@@ -5,7 +5,7 @@ use Rattle.std.specs.declared.result.Result.{Result}
 use Rattle.text_lines.specs.declared.fault.TextFault.{TextFault}
 use Rattle.text_lines.specs.declared.fault.TextFault.TheVariants.{Read, Cut}
 use Rattle.text_lines.specs.Lines.{line, end_line, front_of, Front, Whole, TooLong, Unfinished, Nothing, is_line_feed, longest_line}
-use Rattle.history_text.specs.Items.{Kind, item_at_front, item_in, item_at_nothing}
+use Rattle.history_text.specs.Items.{Format, item_at_front, item_in, item_at_nothing}
 use Rattle.text_lines.specs.Input.{Ahead, Ending, EndOfInput, Failure, Takes, IsOver}
 use Rattle.text_lines.specs.Inner.Lines.{IsPartOfLine}
 use Rattle.history_text.specs.Inner.Taking.{HasItemFault, TakesItem, TakesEnd, IsItemLine}
@@ -72,20 +72,20 @@ end_is_taken : (is_counted : Bool) (old new : Option Ahead) (k : ℕ) → is_cou
 end_is_taken true old new k is taken = taken
 end_is_taken false old new k is taken = absurd (cc)
 
-item_is_taken : {A : Type 0} (kind : Kind A) (k : ℕ) (old new : Option Ahead) (bytes : List ℕ) (item : Option A) → Takes old new (line bytes)
-    → IsItemLine kind k bytes item → TakesItem kind old new k item
-item_is_taken kind k old new bytes (Some x) taken spelled = (subst (Takes old new) spelled.0 taken, spelled.1, spelled.2)
-item_is_taken kind k old new bytes None taken spelled = end_is_taken kind.is_counted old new k spelled.1 (subst (Takes old new) spelled.0 taken)
+item_is_taken : {A : Type 0} (format : Format A) (k : ℕ) (old new : Option Ahead) (bytes : List ℕ) (item : Option A) → Takes old new (line bytes)
+    → IsItemLine format k bytes item → TakesItem format old new k item
+item_is_taken format k old new bytes (Some x) taken spelled = (subst (Takes old new) spelled.0 taken, spelled.1, spelled.2)
+item_is_taken format k old new bytes None taken spelled = end_is_taken format.is_counted old new k spelled.1 (subst (Takes old new) spelled.0 taken)
 
 -- what an item's line was judged to be is what was taken
-pub items_taken : {A : Type 0} (kind : Kind A) (k : ℕ) (old new : Option Ahead) (bytes : List ℕ) (r : Result (Option A) TextFault)
-    → Takes old new (line bytes) → IfOk r (IsItemLine kind k bytes) → IfOk r (TakesItem kind old new k)
-items_taken kind k old new bytes (Ok item) taken spelled = item_is_taken kind k old new bytes item taken spelled
-items_taken kind k old new bytes (Err fault) taken spelled = tt
+pub items_taken : {A : Type 0} (format : Format A) (k : ℕ) (old new : Option Ahead) (bytes : List ℕ) (r : Result (Option A) TextFault)
+    → Takes old new (line bytes) → IfOk r (IsItemLine format k bytes) → IfOk r (TakesItem format old new k)
+items_taken format k old new bytes (Ok item) taken spelled = item_is_taken format k old new bytes item taken spelled
+items_taken format k old new bytes (Err fault) taken spelled = tt
 
 -- a line with a fault is that of the next item
-pub items_faulty : {A : Type 0} (kind : Kind A) (n k : ℕ) (old new : Option Ahead) (bytes : List ℕ) (r : Result (Option A) TextFault)
-    → Takes old new (line bytes) → IsPartOfLine bytes → r ≡ item_in kind n k bytes → IfErr r (HasItemFault kind n k old)
-items_faulty kind n k old new bytes (Ok item) taken part e = tt
-items_faulty kind n k old new bytes (Err fault) taken part e =
-    at_line (λ end front. item_at_front kind n k end front ≡ Err fault) old new bytes taken part (λ end rest. rw (← e) refl)
+pub items_faulty : {A : Type 0} (format : Format A) (n k : ℕ) (old new : Option Ahead) (bytes : List ℕ) (r : Result (Option A) TextFault)
+    → Takes old new (line bytes) → IsPartOfLine bytes → r ≡ item_in format n k bytes → IfErr r (HasItemFault format n k old)
+items_faulty format n k old new bytes (Ok item) taken part e = tt
+items_faulty format n k old new bytes (Err fault) taken part e =
+    at_line (λ end front. item_at_front format n k end front ≡ Err fault) old new bytes taken part (λ end rest. rw (← e) refl)

@@ -1,5 +1,5 @@
 -- The next line of the input, by what its fields say.
-use Rattle.std.proofs.Common.{◌≡◌, ℕ, List, ◌∷◌, ap, sym, subst, ◌∙◌, refl, Option, Some, None, Ok, Err}
+use Rattle.std.proofs.Common.{◌≡◌, ℕ, List, ap, sym, subst, ◌∙◌, refl, Option, Some, None, Ok, Err}
 use Rattle.std.specs.Prelude.{IfOk, IfErr}
 use Rattle.std.specs.declared.result.Result.{Result}
 use Rattle.std.proofs.lemmas.List.Splits.{join_with_byte-slice_split}
@@ -8,9 +8,8 @@ use Rattle.text_lines.specs.declared.fault.TextFault.TheVariants.{Header, Line}
 use Rattle.text_lines.specs.Lines.{line, spaced, front_of, Front, Whole, TooLong, Unfinished, Nothing, fields_of, header_fault}
 use Rattle.text_lines.specs.Input.{Ahead, Ending, Takes}
 use Rattle.text_lines.specs.Inner.Lines.{IsPartOfLine}
-use Rattle.history_text.specs.Items.{Kind, line_of, line_at_front}
+use Rattle.history_text.specs.Items.{Format, line_of, line_at_front}
 use Rattle.history_text.specs.Inner.Taking.{NoLineFault, HasNoLine, HasHeaderFault, HasLineFault, IsSpelled}
-use Rattle.text_lines.proofs.Fields.{has_field}
 use Rattle.history_text.proofs.Faults.{at_line}
 
 -- ---- lines that aren't whole
@@ -66,21 +65,7 @@ said_taken read fields Fits n old new bytes (Ok said) taken spelled e =
 said_taken read fields Fits n old new bytes (Err fault) taken spelled e = tt
 
 -- the line of an item is taken
-pub told_taken : {A : Type 0} (kind : Kind A) (old new : Option Ahead) (bytes : List ℕ) (r : Result A TextFault) → Takes old new (line bytes)
-    → IfOk r (IsSpelled kind (fields_of bytes)) → IfOk r (λ item. Takes old new (line_of kind item) × kind.HasLine item)
-told_taken kind old new bytes (Ok item) taken spelled = (fields_taken old new bytes (kind.fields item) taken spelled.text, spelled.line)
-told_taken kind old new bytes (Err fault) taken spelled = tt
-
--- ---- lines of more fields
-
--- what is judged of two fields and more is judged of a line that has them
-pub two_fields : {X : Type 0} (judge : List (List ℕ) → X) (x : X) (all a rest : List ℕ) → fields_of all ≡ a ∷ fields_of rest
-    → ((field : List ℕ) (others : List (List ℕ)) → judge (a ∷ field ∷ others) ≡ x) → x ≡ judge (fields_of all)
-two_fields judge x all a rest is two =
-    let last = has_field rest in
-    sym (ap judge (is ∙ ap (λ (r : List (List ℕ)). a ∷ r) last.2) ∙ two last.0 last.1)
-
--- the same of three
-pub three_fields : {X : Type 0} (judge : List (List ℕ) → X) (x : X) (all a b r1 r2 : List ℕ) → fields_of all ≡ a ∷ fields_of r1
-    → fields_of r1 ≡ b ∷ fields_of r2 → ((field : List ℕ) (others : List (List ℕ)) → judge (a ∷ b ∷ field ∷ others) ≡ x) → x ≡ judge (fields_of all)
-three_fields judge x all a b r1 r2 e1 e2 three = two_fields (λ fields. judge (a ∷ fields)) x r1 b r2 e2 three ∙ sym (ap judge e1)
+pub told_taken : {A : Type 0} (format : Format A) (old new : Option Ahead) (bytes : List ℕ) (r : Result A TextFault) → Takes old new (line bytes)
+    → IfOk r (IsSpelled format (fields_of bytes)) → IfOk r (λ item. Takes old new (line_of format item) × format.HasLine item)
+told_taken format old new bytes (Ok item) taken spelled = (fields_taken old new bytes (format.fields item) taken spelled.text, spelled.line)
+told_taken format old new bytes (Err fault) taken spelled = tt

@@ -9,7 +9,7 @@ use Rattle.text_lines.specs.declared.fault.TextFault.{TextFault}
 use Rattle.text_lines.specs.declared.fault.TextFault.TheVariants.{Read, Header, Line, Number, Limit, Count, Cut, Trailing, Memory}
 use Rattle.text_lines.specs.Faults.{MemoryOr}
 use Rattle.text_lines.specs.Lines.{front_of}
-use Rattle.history_text.specs.Items.{Kind, line_of, lines_of, HaveLines, ItemFault, NoRoom, item_at_front}
+use Rattle.history_text.specs.Items.{Format, line_of, lines_of, HaveLines, ItemFault, NoRoom, item_at_front}
 use Rattle.text_lines.specs.Input.{Ahead, Ending, Takes}
 use Rattle.history_text.specs.Reading.{HasFirstFault}
 use Rattle.history_text.specs.Inner.Taking.{HasItemFault, HasItemsFault, IsOfInput}
@@ -57,12 +57,12 @@ later_fault P Q L M old mid front fault taken step room h =
     (λ e r. follows (L r) (M (front ++ r)) (P e r) (Q e (front ++ r)) fault (room r) (step e r)) h
 
 -- the line after some items has the first fault
-pub item_is_first : {A : Type 0} (kind : Kind A) (n m : ℕ) (items : List A) (k : ℕ) (old mid : Option Ahead) (fault : TextFault) → IsOfInput fault
-    → HaveLines kind items → Takes old mid (lines_of kind items) → k ≡ length items → m ≡ n + length items → HasItemFault kind m k mid fault
-    → HasItemsFault kind n old fault
-item_is_first kind n m items k old mid fault of_input right taken k_is m_is h =
-    line_fault (λ e r f. item_at_front kind m k e (front_of r) ≡ Err f) (λ e b f. ItemFault kind n e f b) (NoRoom kind) old mid
-    (lines_of kind items) fault of_input taken
+pub item_is_first : {A : Type 0} (format : Format A) (n m : ℕ) (items : List A) (k : ℕ) (old mid : Option Ahead) (fault : TextFault) → IsOfInput fault
+    → HaveLines format items → Takes old mid (lines_of format items) → k ≡ length items → m ≡ n + length items → HasItemFault format m k mid fault
+    → HasItemsFault format n old fault
+item_is_first format n m items k old mid fault of_input right taken k_is m_is h =
+    line_fault (λ e r f. item_at_front format m k e (front_of r) ≡ Err f) (λ e b f. ItemFault format n e f b) (NoRoom format) old mid
+    (lines_of format items) fault of_input taken
     (λ e r next. record { items = items; rest = r; right = right; front = refl; next = rw (← m_is, ← k_is) next }) h
 
 -- ---- one more item
@@ -72,34 +72,35 @@ all_and_last P [] x all last = (last, tt)
 all_and_last P (y ∷ ys) x all last = (all.0, all_and_last P ys x all.1 last)
 
 -- one item more, where there is room for it
-pub HaveLines-push : {A : Type 0} (kind : Kind A) (items : List A) (x : A) → HaveLines kind items → kind.HasLine x → length items < kind.most
-    → HaveLines kind (items ++ x ∷ [])
-HaveLines-push kind items x right last few = record {
-  each = all_and_last kind.HasLine items x right.each last;
+pub HaveLines-push : {A : Type 0} (format : Format A) (items : List A) (x : A) → HaveLines format items → format.HasLine x → length items < format.most
+    → HaveLines format (items ++ x ∷ [])
+HaveLines-push format items x right last few = record {
+  each = all_and_last format.HasLine items x right.each last;
   few = omega (arith, length-append items (x ∷ []));
 }
 
-lines-push : {A : Type 0} (kind : Kind A) (items : List A) (x : A) → lines_of kind items ++ line_of kind x ≡ lines_of kind (items ++ x ∷ [])
-lines-push kind items x = sym (flat_map-append (line_of kind) items (x ∷ [])
-    ∙ ap (λ (r : List ℕ). flat_map (line_of kind) items ++ r) (append-nil (line_of kind x)))
+lines-push : {A : Type 0} (format : Format A) (items : List A) (x : A) → lines_of format items ++ line_of format x ≡ lines_of format (items ++ x ∷ [])
+lines-push format items x = sym (flat_map-append (line_of format) items (x ∷ [])
+    ∙ ap (λ (r : List ℕ). flat_map (line_of format) items ++ r) (append-nil (line_of format x)))
 
 -- the lines of the items so far and of one more are taken
-pub takes_item : {A : Type 0} (kind : Kind A) (items : List A) (x : A) (old mid new : Option Ahead) → Takes old mid (lines_of kind items)
-    → Takes mid new (line_of kind x) → Takes old new (lines_of kind (items ++ x ∷ []))
-takes_item kind items x old mid new h k = subst (Takes old new) (lines-push kind items x) (Takes-append old mid new _ _ h k)
+pub takes_item : {A : Type 0} (format : Format A) (items : List A) (x : A) (old mid new : Option Ahead) → Takes old mid (lines_of format items)
+    → Takes mid new (line_of format x) → Takes old new (lines_of format (items ++ x ∷ []))
+takes_item format items x old mid new h k = subst (Takes old new) (lines-push format items x) (Takes-append old mid new _ _ h k)
 
 -- one item more than there may be
-pub no_room : {A : Type 0} (kind : Kind A) (items : List A) (x : A) (old mid new : Option Ahead) → HaveLines kind items
-    → Takes old mid (lines_of kind items) → length items < kind.most → kind.HasLine x → Takes mid new (line_of kind x) → IfSome old (λ a. NoRoom kind a.bytes)
-no_room kind items x None mid new right taken few range now = tt
-no_room kind items x (Some a) None new right taken few range now = absurd taken
-no_room kind items x (Some a) (Some b) None right taken few range now = absurd now
-no_room kind items x (Some a) (Some b) (Some c) right taken few range now = record {
+pub no_room : {A : Type 0} (format : Format A) (items : List A) (x : A) (old mid new : Option Ahead) → HaveLines format items
+    → Takes old mid (lines_of format items) → length items < format.most → format.HasLine x → Takes mid new (line_of format x)
+    → IfSome old (λ a. NoRoom format a.bytes)
+no_room format items x None mid new right taken few range now = tt
+no_room format items x (Some a) None new right taken few range now = absurd taken
+no_room format items x (Some a) (Some b) None right taken few range now = absurd now
+no_room format items x (Some a) (Some b) (Some c) right taken few range now = record {
   items = items;
   last = x;
   rest = c.bytes;
-  right = HaveLines-push kind items x right range few;
-  front = (takes_item kind items x (Some a) (Some b) (Some c) taken now).0;
+  right = HaveLines-push format items x right range few;
+  front = (takes_item format items x (Some a) (Some b) (Some c) taken now).0;
 }
 
 -- ---- answers

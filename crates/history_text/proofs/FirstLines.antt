@@ -5,7 +5,7 @@ use Rattle.text_lines.specs.declared.fault.TextFault.{TextFault}
 use Rattle.text_lines.specs.declared.fault.TextFault.TheVariants.{Line}
 use Rattle.text_lines.specs.Lines.{line, front_of, Front, Whole, TooLong, Unfinished, Nothing}
 use Rattle.history_text.specs.Items.{ItemFault, NoRoom}
-use Rattle.history_text.specs.Claims.{first_line, IsNoFirstLine, FirstLineFault, operation_kind, claim_line_kind, IsVerdictTextFault, NoRoomForVerdict}
+use Rattle.history_text.specs.Claims.{first_line, IsNoFirstLine, FirstLineFault, operation_format, claim_line_format, IsVerdictTextFault, NoRoomForVerdict}
 use Rattle.text_lines.specs.Input.{Ahead, Ending, Takes}
 use Rattle.history_text.specs.Reading.{HasVerdictTextFault}
 use Rattle.text_lines.specs.Inner.Lines.{IsPartOfLine}
@@ -44,16 +44,16 @@ first_line_is_first lines n (Some a) fault n_is of_input h =
 
 -- an operation of a yes has it
 pub operation_is_first : (lines n : ℕ) (old mid : Option Ahead) (fault : TextFault) → n ≡ lines + 2
-    → Takes old mid (line (first_line None)) → HasItemsFault operation_kind n mid fault → HasVerdictTextFault lines old fault
+    → Takes old mid (line (first_line None)) → HasItemsFault operation_format n mid fault → HasVerdictTextFault lines old fault
 operation_is_first lines n old mid fault n_is taken h =
-    later_fault (λ e r f. ItemFault operation_kind n e f r) (IsVerdictTextFault lines) (NoRoom operation_kind) NoRoomForVerdict old mid
+    later_fault (λ e r f. ItemFault operation_format n e f r) (IsVerdictTextFault lines) (NoRoom operation_format) NoRoomForVerdict old mid
     (line (first_line None)) fault taken
-    (λ e r f k. inr (None, (r, refl, subst (λ (m : ℕ). ItemFault operation_kind m e f r) n_is k))) (λ r k. (None, (r, refl, k))) h
+    (λ e r f k. inr (None, (r, refl, subst (λ (m : ℕ). ItemFault operation_format m e f r) n_is k))) (λ r k. (None, (r, refl, k))) h
 
 -- a line of a no has it
 pub claim_line_is_first : (lines n : ℕ) (kind : ViolationKind) (old mid : Option Ahead) (fault : TextFault) → n ≡ lines + 2
-    → Takes old mid (line (first_line (Some kind))) → HasItemsFault claim_line_kind n mid fault → HasVerdictTextFault lines old fault
+    → Takes old mid (line (first_line (Some kind))) → HasItemsFault claim_line_format n mid fault → HasVerdictTextFault lines old fault
 claim_line_is_first lines n kind old mid fault n_is taken h =
-    later_fault (λ e r f. ItemFault claim_line_kind n e f r) (IsVerdictTextFault lines) (NoRoom claim_line_kind) NoRoomForVerdict old mid
+    later_fault (λ e r f. ItemFault claim_line_format n e f r) (IsVerdictTextFault lines) (NoRoom claim_line_format) NoRoomForVerdict old mid
     (line (first_line (Some kind))) fault taken
-    (λ e r f k. inr (Some kind, (r, refl, subst (λ (m : ℕ). ItemFault claim_line_kind m e f r) n_is k))) (λ r k. (Some kind, (r, refl, k))) h
+    (λ e r f k. inr (Some kind, (r, refl, subst (λ (m : ℕ). ItemFault claim_line_format m e f r) n_is k))) (λ r k. (Some kind, (r, refl, k))) h

@@ -3,7 +3,7 @@ use Rattle.std.proofs.Common.{◌≡◌, ℕ, ◌+◌, refl, Option, Some, None,
 use Rattle.text_lines.specs.declared.fault.TextFault.{TextFault}
 use Rattle.text_lines.specs.Lines.{line}
 use Rattle.history_text.specs.Items.{ItemFault, NoRoom}
-use Rattle.history_text.specs.Histories.{header, event_kind, IsHistoryTextFault, NoRoomFor}
+use Rattle.history_text.specs.Histories.{header, event_format, IsHistoryTextFault, NoRoomFor}
 use Rattle.text_lines.specs.Input.{Ahead, Takes}
 use Rattle.history_text.specs.Reading.{HasHistoryTextFault}
 use Rattle.history_text.specs.Inner.Taking.{HasHeaderFault, HasItemsFault, IsOfInput}
@@ -17,7 +17,7 @@ header_is_first lines (Some a) fault of_input h = first_is (IsHistoryTextFault l
 
 -- a later line has it
 pub event_is_first : (lines n : ℕ) (old mid : Option Ahead) (fault : TextFault) → n ≡ lines + 2 → Takes old mid (line header)
-    → HasItemsFault event_kind n mid fault → HasHistoryTextFault lines old fault
+    → HasItemsFault event_format n mid fault → HasHistoryTextFault lines old fault
 event_is_first lines n old mid fault n_is taken h =
-    later_fault (λ e r f. ItemFault event_kind n e f r) (IsHistoryTextFault lines) (NoRoom event_kind) NoRoomFor old mid (line header) fault taken
-    (λ e r f k. inr (r, refl, subst (λ (m : ℕ). ItemFault event_kind m e f r) n_is k)) (λ r k. (r, refl, k)) h
+    later_fault (λ e r f. ItemFault event_format n e f r) (IsHistoryTextFault lines) (NoRoom event_format) NoRoomFor old mid (line header) fault taken
+    (λ e r f k. inr (r, refl, subst (λ (m : ℕ). ItemFault event_format m e f r) n_is k)) (λ r k. (r, refl, k)) h

@@ -9,19 +9,20 @@ use Rattle.text_lines.specs.Input.{Ending}
 use Rattle.text_lines.specs.Inner.Lines.{IsPartOfLine}
 use Rattle.text_lines.proofs.Fronts.{whole}
 use Rattle.text_lines.proofs.WrittenLines.{IsLineOf, number_is_field, field_is_clean, end_read}
-use Rattle.history_text.specs.Items.{Kind, line_of, item_at_front}
+use Rattle.history_text.specs.Items.{Format, line_of, item_at_front}
 
 and_false : (a b : Bool) → b ≡ false → (a && b) ≡ false
 and_false true b e = e
 and_false false b e = refl
 
 -- an item whose fields are read back is read from its line
-pub item_front : {A : Type 0} (kind : Kind A) (n k : ℕ) (ending : Ending) (item : A) (rest : List ℕ) → IsLineOf (kind.fields item)
-    → kind.read n (kind.fields item) ≡ Ok item → k < kind.most → item_at_front kind n k ending (front_of (line_of kind item ++ rest)) ≡ Ok (Some item, rest)
-item_front kind n k ending item rest is read few =
-    let more : nat_lt k kind.most ≡ true = grind (arith, nat_tests, few) in
-    let other : (kind.is_counted && begins_as_end (spaced (kind.fields item))) ≡ false = and_false kind.is_counted _ is.other in
-    ap (item_at_front kind n k ending) (whole (spaced (kind.fields item)) rest is.part)
+pub item_front : {A : Type 0} (format : Format A) (n k : ℕ) (ending : Ending) (item : A) (rest : List ℕ) → IsLineOf (format.fields item)
+    → format.read n (format.fields item) ≡ Ok item → k < format.most
+    → item_at_front format n k ending (front_of (line_of format item ++ rest)) ≡ Ok (Some item, rest)
+item_front format n k ending item rest is read few =
+    let more : nat_lt k format.most ≡ true = grind (arith, nat_tests, few) in
+    let other : (format.is_counted && begins_as_end (spaced (format.fields item))) ≡ false = and_false format.is_counted _ is.other in
+    ap (item_at_front format n k ending) (whole (spaced (format.fields item)) rest is.part)
     ∙ rw (other, more, is.back, read) refl
 
 end_is_part : (k : ℕ) → k < 2 ^ 64 → IsPartOfLine (codes "end " ++ decimal k)
@@ -31,10 +32,10 @@ end_is_part k small = record {
 }
 
 -- the last line is read
-pub end_front : {A : Type 0} (kind : Kind A) (n k : ℕ) (ending : Ending) (rest : List ℕ) → kind.is_counted ≡ true → k < 2 ^ 64
-    → item_at_front kind n k ending (front_of (end_line k ++ rest)) ≡ Ok (None, rest)
-end_front kind n k ending rest counted small =
-    ap (item_at_front kind n k ending) (whole (codes "end " ++ decimal k) rest (end_is_part k small)) ∙ rw (counted, end_read n k small) refl
+pub end_front : {A : Type 0} (format : Format A) (n k : ℕ) (ending : Ending) (rest : List ℕ) → format.is_counted ≡ true → k < 2 ^ 64
+    → item_at_front format n k ending (front_of (end_line k ++ rest)) ≡ Ok (None, rest)
+end_front format n k ending rest counted small =
+    ap (item_at_front format n k ending) (whole (codes "end " ++ decimal k) rest (end_is_part k small)) ∙ rw (counted, end_read n k small) refl
 
 -- a first line is as expected
 pub header_front : (expected : List ℕ) (ending : Ending) (rest : List ℕ) → IsPartOfLine expected → bytes_eq expected expected ≡ true

@@ -7,32 +7,32 @@ use Rattle.std.proofs.lemmas.List.Splits.{join_with_byte-slice_split}
 use Rattle.text_lines.specs.declared.fault.TextFault.{TextFault}
 use Rattle.text_lines.specs.Lines.{line, spaced, fields_of, begins_as_end, end_in, end_word}
 use Rattle.text_lines.proofs.Numbers.{both, text_is, end_ok}
-use Rattle.history_text.specs.Items.{Kind, item_in}
+use Rattle.history_text.specs.Items.{Format, item_in}
 use Rattle.history_text.specs.Inner.Taking.{IsSpelled, IsItemLine}
 
 -- the last line counts the items before it
-pub last_line_ok : {A : Type 0} (kind : Kind A) (n k : ℕ) (bytes field : List ℕ) → k < 2 ^ 64 → (kind.is_counted && begins_as_end bytes) ≡ true
-    → field ≡ drop 4 bytes → Ok tt ≡ end_in n k field → IsItemLine kind k bytes None
-last_line_ok kind n k bytes field small last field_is e =
-    let p = both kind.is_counted (begins_as_end bytes) last in
+pub last_line_ok : {A : Type 0} (format : Format A) (n k : ℕ) (bytes field : List ℕ) → k < 2 ^ 64 → (format.is_counted && begins_as_end bytes) ≡ true
+    → field ≡ drop 4 bytes → Ok tt ≡ end_in n k field → IsItemLine format k bytes None
+last_line_ok format n k bytes field small last field_is e =
+    let p = both format.is_counted (begins_as_end bytes) last in
     let word : end_word ≡ take 4 bytes = text_is end_word (take 4 bytes) p.1 in
     let count : drop 4 bytes ≡ decimal k = sym field_is ∙ end_ok n k field tt small (sym e) in
     (ap line (sym (take-append-drop 4 bytes) ∙ ap₂ (λ (x y : List ℕ). x ++ y) (sym word) count), p.0)
 
 -- its fault is that of its number
-pub last_line_faulty : {A : Type 0} (kind : Kind A) (n k : ℕ) (bytes field : List ℕ) (fault : TextFault)
-    → (kind.is_counted && begins_as_end bytes) ≡ true → field ≡ drop 4 bytes → Err fault ≡ end_in n k field → Err fault ≡ item_in kind n k bytes
-last_line_faulty kind n k bytes field fault last field_is e =
+pub last_line_faulty : {A : Type 0} (format : Format A) (n k : ℕ) (bytes field : List ℕ) (fault : TextFault)
+    → (format.is_counted && begins_as_end bytes) ≡ true → field ≡ drop 4 bytes → Err fault ≡ end_in n k field → Err fault ≡ item_in format n k bytes
+last_line_faulty format n k bytes field fault last field_is e =
     let judged : end_in n k (drop 4 bytes) ≡ Err fault = ap (end_in n k) (sym field_is) ∙ sym e in
     rw (last, judged) refl
 
 -- an item's line is that of its fields
-pub item_line_ok : {A : Type 0} (kind : Kind A) (k : ℕ) (bytes : List ℕ) (item : A) → k < kind.most → IsSpelled kind (fields_of bytes) item
-    → IsItemLine kind k bytes (Some item)
-item_line_ok kind k bytes item few spelled = (ap line (sym (join_with_byte-slice_split 32 bytes) ∙ ap spaced spelled.text), spelled.line, few)
+pub item_line_ok : {A : Type 0} (format : Format A) (k : ℕ) (bytes : List ℕ) (item : A) → k < format.most → IsSpelled format (fields_of bytes) item
+    → IsItemLine format k bytes (Some item)
+item_line_ok format k bytes item few spelled = (ap line (sym (join_with_byte-slice_split 32 bytes) ∙ ap spaced spelled.text), spelled.line, few)
 
 -- what a line is read as, it spells
-pub read_ok : {A : Type 0} (kind : Kind A) (n : ℕ) (fields : List (List ℕ)) (r : Result A TextFault)
-    → ((item : A) → kind.read n fields ≡ Ok item → IsSpelled kind fields item) → r ≡ kind.read n fields → IfOk r (IsSpelled kind fields)
-read_ok kind n fields (Ok item) ok e = ok item (sym e)
-read_ok kind n fields (Err fault) ok e = tt
+pub read_ok : {A : Type 0} (format : Format A) (n : ℕ) (fields : List (List ℕ)) (r : Result A TextFault)
+    → ((item : A) → format.read n fields ≡ Ok item → IsSpelled format fields item) → r ≡ format.read n fields → IfOk r (IsSpelled format fields)
+read_ok format n fields (Ok item) ok e = ok item (sym e)
+read_ok format n fields (Err fault) ok e = tt

@@ -10,15 +10,15 @@ use Rattle.history_text.specs.declared.version.Version.{Version}
 use Rattle.history_text.specs.declared.version.Version.TheVariants.{One, Two}
 use Rattle.history_text.specs.declared.version.HistoryText.{HistoryText}
 use Rattle.history_text.specs.Items.{lines_of, HaveLines, ItemFault}
-use Rattle.history_text.specs.Histories.{header, lines_to_end, event_kind, HasHistoryText}
-use Rattle.history_text.specs.Versions.{value_kind, count_fields, count_in, lines_of_initial, header_of, lines_before_events, text_of, HaveValueLines}
+use Rattle.history_text.specs.Histories.{header, lines_to_end, event_format, HasHistoryText}
+use Rattle.history_text.specs.Versions.{value_format, count_fields, count_in, lines_of_initial, header_of, lines_before_events, text_of, HaveValueLines}
 use Rattle.history_text.specs.Versions.{HasText, NoVersionFault, InitialFault, FaultAfterHeader, IsTextFault}
 use Rattle.history_text.proofs.ItemFronts.{header_front}
 use Rattle.history_text.proofs.OneLine.{some_is, none_or_some, one_first_line, one_said}
 use Rattle.history_text.proofs.OneLine.{said_or_fault, one_line_fault, as_many_agree, more_or_fault, one_fault_after}
 use Rattle.history_text.proofs.OneText.{events_agree, events_have_no_fault}
-use Rattle.history_text.proofs.ReadBack.{event_front}
-use Rattle.history_text.proofs.ReadValues.{value_says, count_says}
+use Rattle.history_text.proofs.EventLines.{event_front}
+use Rattle.history_text.proofs.ValueLines.{value_says, count_says}
 use Rattle.history_text.proofs.Runs.{one_item_fault}
 
 -- ---- the first line
@@ -58,20 +58,20 @@ version_or_fault version ending fault bytes rest is h =
 abbrev count_line : ℕ → List ℕ
 count_line k = line (spaced (count_fields k))
 
-initial_parts : (initial rest : List ℕ) → lines_of_initial initial ++ rest ≡ count_line (length initial) ++ (lines_of value_kind initial ++ rest)
-initial_parts initial rest = append_assoc (count_line (length initial)) (lines_of value_kind initial) rest
+initial_parts : (initial rest : List ℕ) → lines_of_initial initial ++ rest ≡ count_line (length initial) ++ (lines_of value_format initial ++ rest)
+initial_parts initial rest = append_assoc (count_line (length initial)) (lines_of value_format initial) rest
 
 -- one input has one list of them
-initial_agree : (is js r s : List ℕ) → HaveLines value_kind is → HaveLines value_kind js → lines_of_initial is ++ r ≡ lines_of_initial js ++ s
+initial_agree : (is js r s : List ℕ) → HaveLines value_format is → HaveLines value_format js → lines_of_initial is ++ r ≡ lines_of_initial js ++ s
     → (is ≡ js) × (r ≡ s)
 initial_agree is js r s right_i right_j same =
     let counts = one_said count_in (length is) (length js) (count_line (length is)) (count_line (length js)) _ _
     (count_says (length is) right_i.few) (count_says (length js) right_j.few)
     (sym (initial_parts is r) ∙ same ∙ initial_parts js s) in
-    as_many_agree value_kind value_says is js r s right_i.each right_j.each counts.0 counts.1
+    as_many_agree value_format value_says is js r s right_i.each right_j.each counts.0 counts.1
 
 -- they are right, or one of their lines has a fault
-initial_or_fault : (n : ℕ) (ending : Ending) (fault : TextFault) (initial bytes rest : List ℕ) → HaveLines value_kind initial
+initial_or_fault : (n : ℕ) (ending : Ending) (fault : TextFault) (initial bytes rest : List ℕ) → HaveLines value_format initial
     → bytes ≡ lines_of_initial initial ++ rest → InitialFault n ending fault bytes → ⊥
 initial_or_fault n ending fault initial bytes rest right is (inl at_count) =
     said_or_fault count_in n ending fault (length initial) (count_line (length initial)) bytes _ (count_says (length initial) right.few)
@@ -80,7 +80,7 @@ initial_or_fault n ending fault initial bytes rest right is (inr (k, few, (among
     let counts = one_said count_in k (length initial) (count_line k) (count_line (length initial)) among_rest _ (count_says k few)
     (count_says (length initial) right.few) (sym among_is ∙ is ∙ initial_parts initial rest) in
     let fewer = among.fewer in
-    more_or_fault value_kind value_says (n + 1 + length among.items) ending fault initial among.items rest among.rest right.each among.each
+    more_or_fault value_format value_says (n + 1 + length among.items) ending fault initial among.items rest among.rest right.each among.each
     (omega (arith, fewer, counts.0)) (sym counts.1 ∙ among.front) among.next
 
 -- these lines have one first fault
@@ -92,7 +92,7 @@ one_initial_fault n ending f g bytes (inr (k, few, (rest, is, among))) (inl b) =
     absurd (said_or_fault count_in n ending g k (count_line k) bytes rest (count_says k few) is b)
 one_initial_fault n ending f g bytes (inr (j, few_j, (r, is_r, a))) (inr (k, few_k, (s, is_s, b))) =
     let counts = one_said count_in j k (count_line j) (count_line k) r s (count_says j few_j) (count_says k few_k) (sym is_r ∙ is_s) in
-    one_fault_after value_kind value_says (n + 1) (n + 1 + length a.items) (n + 1 + length b.items) ending f g a.items b.items a.rest b.rest refl refl
+    one_fault_after value_format value_says (n + 1) (n + 1 + length a.items) (n + 1 + length b.items) ending f g a.items b.items a.rest b.rest refl refl
     a.each b.each a.next b.next (sym a.front ∙ counts.1 ∙ b.front)
 
 -- ---- whole texts
@@ -143,11 +143,11 @@ no_fault_after : (version : Version) (n : ℕ) (ending : Ending) (fault : TextFa
     → HaveValueLines version initial → HasHistoryText events → bytes ≡ after_header version initial ++ (lines_to_end events ++ rest)
     → FaultAfterHeader version n ending fault bytes → ⊥
 no_fault_after One n ending fault initial events rest bytes right text is h =
-    events_have_no_fault n ending fault events rest text (subst (ItemFault event_kind n ending fault) is h)
+    events_have_no_fault n ending fault events rest text (subst (ItemFault event_format n ending fault) is h)
 no_fault_after Two n ending fault initial events rest bytes right text is (inl early) = initial_or_fault n ending fault initial bytes _ right is early
 no_fault_after Two n ending fault initial events rest bytes right text is (inr (js, right_j, (s, is_s, h))) =
     let agree = initial_agree js initial s (lines_to_end events ++ rest) right_j right (sym is_s ∙ is) in
-    events_have_no_fault (n + 1 + length js) ending fault events rest text (subst (ItemFault event_kind (n + 1 + length js) ending fault) agree.1 h)
+    events_have_no_fault (n + 1 + length js) ending fault events rest text (subst (ItemFault event_format (n + 1 + length js) ending fault) agree.1 h)
 
 -- a text that stands at the front has no fault
 pub text_has_no_fault : (lines : ℕ) (ending : Ending) (t : HistoryText) (r : List ℕ) (fault : TextFault) → HasText t
@@ -162,15 +162,15 @@ text_has_no_fault lines ending t r fault text (inr (version, (rest, is, h))) =
 -- what comes after the first line has one first fault
 one_later_fault : (version : Version) (n : ℕ) (ending : Ending) (f g : TextFault) (bytes : List ℕ) → FaultAfterHeader version n ending f bytes
     → FaultAfterHeader version n ending g bytes → f ≡ g
-one_later_fault One n ending f g bytes a b = one_item_fault event_kind event_front n ending f g bytes a b
+one_later_fault One n ending f g bytes a b = one_item_fault event_format event_front n ending f g bytes a b
 one_later_fault Two n ending f g bytes (inl a) (inl b) = one_initial_fault n ending f g bytes a b
 one_later_fault Two n ending f g bytes (inl a) (inr (js, right, (s, is, b))) = absurd (initial_or_fault n ending f js bytes s right is a)
 one_later_fault Two n ending f g bytes (inr (is, right, (r, same, a))) (inl b) = absurd (initial_or_fault n ending g is bytes r right same b)
 one_later_fault Two n ending f g bytes (inr (is, right_i, (r, is_r, a))) (inr (js, right_j, (s, is_s, b))) =
     let agree = initial_agree is js r s right_i right_j (sym is_r ∙ is_s) in
-    let moved = subst (ItemFault event_kind (n + 1 + length is) ending f) agree.1 a in
-    one_item_fault event_kind event_front (n + 1 + length js) ending f g s
-    (subst (λ (xs : List ℕ). ItemFault event_kind (n + 1 + length xs) ending f s) agree.0 moved) b
+    let moved = subst (ItemFault event_format (n + 1 + length is) ending f) agree.1 a in
+    one_item_fault event_format event_front (n + 1 + length js) ending f g s
+    (subst (λ (xs : List ℕ). ItemFault event_format (n + 1 + length xs) ending f s) agree.0 moved) b
 
 -- an input has one first fault
 pub one_first_fault : (lines : ℕ) (ending : Ending) (bytes : List ℕ) (f g : TextFault) → IsTextFault lines ending bytes f

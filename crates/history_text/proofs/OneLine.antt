@@ -8,7 +8,7 @@ use Rattle.text_lines.specs.Input.{Ending, EndOfInput}
 use Rattle.text_lines.specs.Inner.Lines.{IsPartOfLine}
 use Rattle.text_lines.proofs.Fronts.{whole}
 use Rattle.text_lines.proofs.WrittenLines.{IsLineOf}
-use Rattle.history_text.specs.Items.{Kind, line_of, lines_of, line_at_front, LineFault}
+use Rattle.history_text.specs.Items.{Format, line_of, lines_of, line_at_front, LineFault}
 
 -- what stands in two equal options is equal
 pub some_is : {A : Type 0} (x y : A) → (let left : Option A = Some x in left ≡ Some y) → x ≡ y
@@ -84,18 +84,18 @@ module _ {A : Type 0} (read : ℕ → List (List ℕ) → Result A TextFault) wh
 
 -- ---- as many items as were told
 
-module _ {A : Type 0} (kind : Kind A) (says : (item : A) → kind.HasLine item → Says kind.read (line_of kind item) item) where
-  first_line : (item : A) (items : List A) (rest : List ℕ) → lines_of kind (item ∷ items) ++ rest ≡ line_of kind item ++ (lines_of kind items ++ rest)
-  first_line item items rest = append_assoc (line_of kind item) (lines_of kind items) rest
+module _ {A : Type 0} (format : Format A) (says : (item : A) → format.HasLine item → Says format.read (line_of format item) item) where
+  first_line : (item : A) (items : List A) (rest : List ℕ) → lines_of format (item ∷ items) ++ rest ≡ line_of format item ++ (lines_of format items ++ rest)
+  first_line item items rest = append_assoc (line_of format item) (lines_of format items) rest
 
-  one_first_item : (x y : A) (xs ys : List A) (r s : List ℕ) → kind.HasLine x → kind.HasLine y
-      → lines_of kind (x ∷ xs) ++ r ≡ lines_of kind (y ∷ ys) ++ s → (x ≡ y) × (lines_of kind xs ++ r ≡ lines_of kind ys ++ s)
+  one_first_item : (x y : A) (xs ys : List A) (r s : List ℕ) → format.HasLine x → format.HasLine y
+      → lines_of format (x ∷ xs) ++ r ≡ lines_of format (y ∷ ys) ++ s → (x ≡ y) × (lines_of format xs ++ r ≡ lines_of format ys ++ s)
   one_first_item x y xs ys r s has_x has_y same =
-      one_said kind.read x y _ _ _ _ (says x has_x) (says y has_y) (sym (first_line x xs r) ∙ same ∙ first_line y ys s)
+      one_said format.read x y _ _ _ _ (says x has_x) (says y has_y) (sym (first_line x xs r) ∙ same ∙ first_line y ys s)
 
   -- as many items at the front of one input are the same, and so is the rest
-  pub as_many_agree : (xs ys : List A) (r s : List ℕ) → AllByRecursion kind.HasLine xs → AllByRecursion kind.HasLine ys → length xs ≡ length ys
-      → lines_of kind xs ++ r ≡ lines_of kind ys ++ s → (xs ≡ ys) × (r ≡ s)
+  pub as_many_agree : (xs ys : List A) (r s : List ℕ) → AllByRecursion format.HasLine xs → AllByRecursion format.HasLine ys → length xs ≡ length ys
+      → lines_of format xs ++ r ≡ lines_of format ys ++ s → (xs ≡ ys) × (r ≡ s)
   as_many_agree [] [] r s all_x all_y many same = (refl, same)
   as_many_agree [] (y ∷ ys) r s all_x all_y many same = absurd (omega (arith, many))
   as_many_agree (x ∷ xs) [] r s all_x all_y many same = absurd (omega (arith, many))
@@ -105,21 +105,22 @@ module _ {A : Type 0} (kind : Kind A) (says : (item : A) → kind.HasLine item �
       (ap₂ (λ (z : A) (zs : List A). z ∷ zs) parts.0 more.0, more.1)
 
   -- where some items stand, the line after fewer has no fault
-  pub more_or_fault : (n : ℕ) (ending : Ending) (fault : TextFault) (xs ys : List A) (r s : List ℕ) → AllByRecursion kind.HasLine xs
-      → AllByRecursion kind.HasLine ys → length ys < length xs → lines_of kind xs ++ r ≡ lines_of kind ys ++ s → LineFault kind.read n ending fault s → ⊥
+  pub more_or_fault : (n : ℕ) (ending : Ending) (fault : TextFault) (xs ys : List A) (r s : List ℕ) → AllByRecursion format.HasLine xs
+      → AllByRecursion format.HasLine ys → length ys < length xs → lines_of format xs ++ r ≡ lines_of format ys ++ s
+      → LineFault format.read n ending fault s → ⊥
   more_or_fault n ending fault [] ys r s all_x all_y fewer same h = absurd (omega (arith, fewer))
   more_or_fault n ending fault (x ∷ xs) [] r s all_x all_y fewer same h =
-      said_or_fault kind.read n ending fault x (line_of kind x) s (lines_of kind xs ++ r) (says x all_x.0) (sym same ∙ first_line x xs r) h
+      said_or_fault format.read n ending fault x (line_of format x) s (lines_of format xs ++ r) (says x all_x.0) (sym same ∙ first_line x xs r) h
   more_or_fault n ending fault (x ∷ xs) (y ∷ ys) r s all_x all_y fewer same h =
       let parts = one_first_item x y xs ys r s all_x.0 all_y.0 same in
       more_or_fault n ending fault xs ys r s all_x.1 all_y.1 (omega (arith, fewer)) parts.1 h
 
   -- the line after some items has one fault
   pub one_fault_after : (n i j : ℕ) (ending : Ending) (f g : TextFault) (xs ys : List A) (r s : List ℕ) → i ≡ n + length xs → j ≡ n + length ys
-      → AllByRecursion kind.HasLine xs → AllByRecursion kind.HasLine ys → LineFault kind.read i ending f r → LineFault kind.read j ending g s
-      → lines_of kind xs ++ r ≡ lines_of kind ys ++ s → f ≡ g
+      → AllByRecursion format.HasLine xs → AllByRecursion format.HasLine ys → LineFault format.read i ending f r → LineFault format.read j ending g s
+      → lines_of format xs ++ r ≡ lines_of format ys ++ s → f ≡ g
   one_fault_after n i j ending f g [] [] r s i_is j_is all_x all_y h k same =
-      one_line_fault kind.read i j ending f g r s (omega (arith, i_is, j_is)) same h k
+      one_line_fault format.read i j ending f g r s (omega (arith, i_is, j_is)) same h k
   one_fault_after n i j ending f g [] (y ∷ ys) r s i_is j_is all_x all_y h k same =
       absurd (more_or_fault i ending f (y ∷ ys) [] s r all_y tt (omega arith) (sym same) h)
   one_fault_after n i j ending f g (x ∷ xs) [] r s i_is j_is all_x all_y h k same =

@@ -6,12 +6,13 @@ use Rattle.text_lines.specs.declared.fault.TextFault.{TextFault}
 use Rattle.history_text.specs.declared.schedule.Schedule.{Schedule}
 use Rattle.text_lines.specs.Lines.{line, spaced, end_line, front_of, header_fault, After}
 use Rattle.history_text.specs.Items.{lines_of, HaveLines, item_at_front, LineFault, ItemFault}
-use Rattle.history_text.specs.Schedules.{setting_fields, setting_in, schedule_header, lines_before_steps, schedule_text, step_kind, IsSetting, HasScheduleText}
+use Rattle.history_text.specs.Schedules.{setting_fields, setting_in, schedule_header, lines_before_steps}
+use Rattle.history_text.specs.Schedules.{schedule_text, step_format, IsSetting, HasScheduleText}
 use Rattle.history_text.specs.Schedules.{IsScheduleTextFault}
 use Rattle.text_lines.specs.Input.{Ending, EndOfInput}
 use Rattle.history_text.proofs.ItemFronts.{end_front, header_front}
 use Rattle.history_text.proofs.OneLine.{some_is, none_or_some, one_said, said_or_fault, one_line_fault}
-use Rattle.history_text.proofs.ReadSteps.{step_front, setting_says}
+use Rattle.history_text.proofs.StepLines.{step_front, setting_says}
 use Rattle.history_text.proofs.Runs.{stops_at_last, same_items, no_item_fault, one_item_fault}
 
 -- the line of a setting
@@ -22,15 +23,15 @@ first_lines : (threads ring : ℕ) (rest : List ℕ) → lines_before_steps thre
 first_lines threads ring rest = append_assoc (line schedule_header) (setting_line threads ring) rest
 
 whole_text : (s : Schedule) (rest : List ℕ) → schedule_text s ++ rest ≡ lines_before_steps s.threads s.ring
-    ++ (lines_of step_kind s.steps ++ (end_line (length s.steps) ++ rest))
+    ++ (lines_of step_format s.steps ++ (end_line (length s.steps) ++ rest))
 whole_text s rest =
-    append_assoc (lines_before_steps s.threads s.ring) (lines_of step_kind s.steps ++ end_line (length s.steps)) rest
-    ∙ ap (λ (l : List ℕ). lines_before_steps s.threads s.ring ++ l) (append_assoc (lines_of step_kind s.steps) (end_line (length s.steps)) rest)
+    append_assoc (lines_before_steps s.threads s.ring) (lines_of step_format s.steps ++ end_line (length s.steps)) rest
+    ∙ ap (λ (l : List ℕ). lines_before_steps s.threads s.ring ++ l) (append_assoc (lines_of step_format s.steps) (end_line (length s.steps)) rest)
 
 -- the last line is read after the steps
-last_is_read : (n : ℕ) (ending : Ending) (steps : List Step) (rest : List ℕ) → HaveLines step_kind steps
-    → item_at_front step_kind n (length steps) ending (front_of (end_line (length steps) ++ rest)) ≡ Ok (None, rest)
-last_is_read n ending steps rest text = let few = text.few in end_front step_kind n (length steps) ending rest refl (omega arith)
+last_is_read : (n : ℕ) (ending : Ending) (steps : List Step) (rest : List ℕ) → HaveLines step_format steps
+    → item_at_front step_format n (length steps) ending (front_of (end_line (length steps) ++ rest)) ≡ Ok (None, rest)
+last_is_read n ending steps rest text = let few = text.few in end_front step_format n (length steps) ending rest refl (omega arith)
 
 -- ---- the first two lines
 
@@ -80,11 +81,11 @@ schedule_is s t threads ring steps = ap (λ (n : ℕ). schedule_by n s.ring s.st
 pub texts_agree : (s t : Schedule) (q r : List ℕ) → HasScheduleText s → HasScheduleText t → schedule_text s ++ q ≡ schedule_text t ++ r → (s ≡ t) × (q ≡ r)
 texts_agree s t q r text_s text_t same =
     let set = one_setting s.threads s.ring t.threads t.ring _ _ text_s.setting text_t.setting (sym (whole_text s q) ∙ same ∙ whole_text t r) in
-    let stop_s = stops_at_last step_kind step_front 0 (length s.steps) EndOfInput (end_line (length s.steps) ++ q) q
+    let stop_s = stops_at_last step_format step_front 0 (length s.steps) EndOfInput (end_line (length s.steps) ++ q) q
     (last_is_read 0 EndOfInput s.steps q text_s.steps) in
-    let stop_t = stops_at_last step_kind step_front 0 (length t.steps) EndOfInput (end_line (length t.steps) ++ r) r
+    let stop_t = stops_at_last step_format step_front 0 (length t.steps) EndOfInput (end_line (length t.steps) ++ r) r
     (last_is_read 0 EndOfInput t.steps r text_t.steps) in
-    let parts = same_items step_kind step_front 0 0 EndOfInput s.steps t.steps _ _ text_s.steps text_t.steps stop_s stop_t set.rest in
+    let parts = same_items step_format step_front 0 0 EndOfInput s.steps t.steps _ _ text_s.steps text_t.steps stop_s stop_t set.rest in
     let counts : end_line (length t.steps) ≡ end_line (length s.steps) = ap (λ (xs : List Step). end_line (length xs)) (sym parts.0) in
     (schedule_is s t set.threads_are set.rings_are parts.0, append_cancel_left (end_line (length s.steps)) q r (parts.1 ∙ ap (λ (l : List ℕ). l ++ r) counts))
 
@@ -96,9 +97,9 @@ text_has_no_fault lines ending s r fault text (inr (inl after)) =
     setting_or_fault (lines + 2) s.threads s.ring ending fault _ _ text.setting (whole_text s r ∙ first_lines s.threads s.ring _) after
 text_has_no_fault lines ending s r fault text (inr (inr after)) =
     let set = one_setting s.threads s.ring after.0 after.1 _ after.3.0 text.setting after.2 (sym (whole_text s r) ∙ after.3.1) in
-    no_item_fault step_kind step_front (lines + 3) ending fault s.steps (end_line (length s.steps) ++ r) r text.steps
+    no_item_fault step_format step_front (lines + 3) ending fault s.steps (end_line (length s.steps) ++ r) r text.steps
     (λ m. last_is_read m ending s.steps r text.steps)
-    (subst (ItemFault step_kind (lines + 3) ending fault) (sym set.rest) after.3.2)
+    (subst (ItemFault step_format (lines + 3) ending fault) (sym set.rest) after.3.2)
 
 -- an input has one first fault
 pub one_first_fault : (lines : ℕ) (ending : Ending) (bytes : List ℕ) (f g : TextFault) → IsScheduleTextFault lines ending bytes f
@@ -116,4 +117,4 @@ one_first_fault lines ending bytes f g (inr (inr a)) (inr (inl b)) =
     absurd (setting_or_fault (lines + 2) a.0 a.1 ending g bytes a.3.0 a.2 (a.3.1 ∙ first_lines a.0 a.1 a.3.0) b)
 one_first_fault lines ending bytes f g (inr (inr a)) (inr (inr b)) =
     let set = one_setting a.0 a.1 b.0 b.1 a.3.0 b.3.0 a.2 b.2 (sym a.3.1 ∙ b.3.1) in
-    one_item_fault step_kind step_front (lines + 3) ending f g b.3.0 (subst (ItemFault step_kind (lines + 3) ending f) set.rest a.3.2) b.3.2
+    one_item_fault step_format step_front (lines + 3) ending f g b.3.0 (subst (ItemFault step_format (lines + 3) ending f) set.rest a.3.2) b.3.2

@@ -9,33 +9,33 @@ use Rattle.text_lines.specs.declared.fault.TextFault.{TextFault}
 use Rattle.text_lines.specs.declared.fault.TextFault.TheVariants.{Memory}
 use Rattle.text_lines.specs.Lines.{line, end_line, front_of, header_fault}
 use Rattle.history_text.specs.Items.{lines_of, item_at_front, ItemFault}
-use Rattle.history_text.specs.Histories.{header, lines_to_end, history_text, event_kind, HasHistoryText, IsHistoryTextFault, NoRoomFor}
+use Rattle.history_text.specs.Histories.{header, lines_to_end, history_text, event_format, HasHistoryText, IsHistoryTextFault, NoRoomFor}
 use Rattle.text_lines.specs.Input.{Ahead, Ending, EndOfInput, Takes}
 use Rattle.history_text.specs.Reading.{HasHistoryTextFault, BeginsWith}
 use Rattle.history_text.proofs.ReadTexts as texts
 use Rattle.history_text.proofs.ItemFronts.{end_front, header_front}
-use Rattle.history_text.proofs.ReadBack.{event_front}
+use Rattle.history_text.proofs.EventLines.{event_front}
 use Rattle.history_text.proofs.OneLine.{some_is, none_or_some}
 use Rattle.history_text.proofs.Runs.{stops_at_last, same_items, no_item_fault, one_item_fault}
 
 whole_text : (events : List Event) (rest : List ℕ) → history_text events ++ rest ≡ line header ++ (lines_to_end events ++ rest)
 whole_text events rest = append_assoc (line header) (lines_to_end events) rest
 
-lines_of_events : (events : List Event) (rest : List ℕ) → lines_to_end events ++ rest ≡ lines_of event_kind events ++ (end_line (length events) ++ rest)
-lines_of_events events rest = append_assoc (lines_of event_kind events) (end_line (length events)) rest
+lines_of_events : (events : List Event) (rest : List ℕ) → lines_to_end events ++ rest ≡ lines_of event_format events ++ (end_line (length events) ++ rest)
+lines_of_events events rest = append_assoc (lines_of event_format events) (end_line (length events)) rest
 
 -- the last line is read after the events
 last_is_read : (n : ℕ) (ending : Ending) (events : List Event) (rest : List ℕ) → HasHistoryText events
-    → item_at_front event_kind n (length events) ending (front_of (end_line (length events) ++ rest)) ≡ Ok (None, rest)
-last_is_read n ending events rest text = let few = text.few in end_front event_kind n (length events) ending rest refl (omega arith)
+    → item_at_front event_format n (length events) ending (front_of (end_line (length events) ++ rest)) ≡ Ok (None, rest)
+last_is_read n ending events rest text = let few = text.few in end_front event_format n (length events) ending rest refl (omega arith)
 
 -- the events at the front of one input, and the last line, are one list
 pub events_agree : (es fs : List Event) (r s : List ℕ) → HasHistoryText es → HasHistoryText fs → lines_to_end es ++ r ≡ lines_to_end fs ++ s
     → (es ≡ fs) × (r ≡ s)
 events_agree es fs r s text_e text_f same =
-    let stop_e = stops_at_last event_kind event_front 0 (length es) EndOfInput (end_line (length es) ++ r) r (last_is_read 0 EndOfInput es r text_e) in
-    let stop_f = stops_at_last event_kind event_front 0 (length fs) EndOfInput (end_line (length fs) ++ s) s (last_is_read 0 EndOfInput fs s text_f) in
-    let parts = same_items event_kind event_front 0 0 EndOfInput es fs _ _ text_e text_f stop_e stop_f
+    let stop_e = stops_at_last event_format event_front 0 (length es) EndOfInput (end_line (length es) ++ r) r (last_is_read 0 EndOfInput es r text_e) in
+    let stop_f = stops_at_last event_format event_front 0 (length fs) EndOfInput (end_line (length fs) ++ s) s (last_is_read 0 EndOfInput fs s text_f) in
+    let parts = same_items event_format event_front 0 0 EndOfInput es fs _ _ text_e text_f stop_e stop_f
     (sym (lines_of_events es r) ∙ same ∙ lines_of_events fs s) in
     let counts : end_line (length fs) ≡ end_line (length es) = ap (λ (xs : List Event). end_line (length xs)) (sym parts.0) in
     (parts.0, append_cancel_left (end_line (length es)) r s (parts.1 ∙ ap (λ (l : List ℕ). l ++ s) counts))
@@ -60,10 +60,10 @@ rest_is front bytes r s P is_r is_s h = subst P (append_cancel_left front r s (s
 
 -- where the events and the last line stand, none of these lines has a fault
 pub events_have_no_fault : (n : ℕ) (ending : Ending) (fault : TextFault) (es : List Event) (r : List ℕ) → HasHistoryText es
-    → ItemFault event_kind n ending fault (lines_to_end es ++ r) → ⊥
+    → ItemFault event_format n ending fault (lines_to_end es ++ r) → ⊥
 events_have_no_fault n ending fault es r text h =
-    no_item_fault event_kind event_front n ending fault es (end_line (length es) ++ r) r text (λ m. last_is_read m ending es r text)
-    (subst (ItemFault event_kind n ending fault) (lines_of_events es r) h)
+    no_item_fault event_format event_front n ending fault es (end_line (length es) ++ r) r text (λ m. last_is_read m ending es r text)
+    (subst (ItemFault event_format n ending fault) (lines_of_events es r) h)
 
 -- a text that stands at the front has no fault
 pub text_has_no_fault : (lines : ℕ) (ending : Ending) (es : List Event) (r : List ℕ) (fault : TextFault) → HasHistoryText es
@@ -71,7 +71,7 @@ pub text_has_no_fault : (lines : ℕ) (ending : Ending) (es : List Event) (r : L
 text_has_no_fault lines ending es r fault text (inl at_header) = header_is_right ending _ _ fault (whole_text es r) at_header
 text_has_no_fault lines ending es r fault text (inr after) =
     events_have_no_fault (lines + 2) ending fault es r text
-    (rest_is (line header) _ after.0 _ (ItemFault event_kind (lines + 2) ending fault) after.1 (whole_text es r) after.2)
+    (rest_is (line header) _ after.0 _ (ItemFault event_format (lines + 2) ending fault) after.1 (whole_text es r) after.2)
 
 -- what is told of the events that were read is told of those of the text at the front
 pub tells_what_is_there : {V : Type 0} (Told : List Event → Type 0) (lines : ℕ) (old new : Option Ahead) (count : ℕ) (r : Result V TextFault)
@@ -90,5 +90,5 @@ one_first_fault lines ending bytes f g (inl a) (inl b) = some_is f g (sym a ∙ 
 one_first_fault lines ending bytes f g (inl a) (inr b) = absurd (header_is_right ending bytes b.0 f b.1 a)
 one_first_fault lines ending bytes f g (inr a) (inl b) = absurd (header_is_right ending bytes a.0 g a.1 b)
 one_first_fault lines ending bytes f g (inr a) (inr b) =
-    one_item_fault event_kind event_front (lines + 2) ending f g b.0
-    (rest_is (line header) bytes a.0 b.0 (ItemFault event_kind (lines + 2) ending f) a.1 b.1 a.2) b.2
+    one_item_fault event_format event_front (lines + 2) ending f g b.0
+    (rest_is (line header) bytes a.0 b.0 (ItemFault event_format (lines + 2) ending f) a.1 b.1 a.2) b.2

@@ -10,10 +10,10 @@ use Rattle.verdicts.specs.declared.verifying.Claimed.TheVariants.{Yes, No}
 use Rattle.text_lines.specs.declared.fault.TextFault.{TextFault}
 use Rattle.text_lines.specs.declared.fault.TextFault.TheVariants.{Memory}
 use Rattle.text_lines.specs.Lines.{line, front_of, Front, Whole, TooLong, Unfinished, Nothing}
-use Rattle.history_text.specs.Items.{Kind, lines_of, HaveLines, item_at_front, ItemFault}
+use Rattle.history_text.specs.Items.{Format, lines_of, HaveLines, item_at_front, ItemFault}
 use Rattle.history_text.specs.Verdicts.{verdict_text}
-use Rattle.history_text.specs.Claims.{first_line, FirstLineFault, ClaimFault, operation_kind}
-use Rattle.history_text.specs.Claims.{claim_line_kind, HasVerdictText, IsVerdictTextFault, NoRoomForVerdict}
+use Rattle.history_text.specs.Claims.{first_line, FirstLineFault, ClaimFault, operation_format}
+use Rattle.history_text.specs.Claims.{claim_line_format, HasVerdictText, IsVerdictTextFault, NoRoomForVerdict}
 use Rattle.text_lines.specs.Input.{Ahead, Ending, EndOfInput, Takes, IsOver}
 use Rattle.history_text.specs.Reading.{HasVerdictTextFault, IsAll}
 use Rattle.text_lines.specs.Inner.Lines.{IsPartOfLine}
@@ -21,7 +21,7 @@ use Rattle.text_lines.proofs.Fronts.{whole}
 use Rattle.history_text.proofs.FirstFaults.{is_read}
 use Rattle.history_text.proofs.OneLine as lines
 use Rattle.history_text.proofs.OneLine.{some_is}
-use Rattle.history_text.proofs.ReadOperations.{operation_front, claim_line_front}
+use Rattle.history_text.proofs.ClaimLines.{operation_front, claim_line_front}
 use Rattle.history_text.proofs.Runs.{IsReadBack, stops_at_last, same_items, no_item_fault, one_item_fault}
 
 -- ---- first lines
@@ -73,28 +73,28 @@ answer_in (No kind lines) = Some kind
 
 -- the lines after the first
 abbrev lines_in : Claimed → List ℕ
-lines_in (Yes operations) = lines_of operation_kind operations
-lines_in (No kind lines) = lines_of claim_line_kind lines
+lines_in (Yes operations) = lines_of operation_format operations
+lines_in (No kind lines) = lines_of claim_line_format lines
 
 text_is : (c : Claimed) → verdict_text c ≡ line (first_line (answer_in c)) ++ lines_in c
 text_is (Yes operations) = refl
 text_is (No kind lines) = refl
 
 -- the lines of one input up to its end are one list
-one_list : {A : Type 0} (kind : Kind A) → IsReadBack kind → kind.is_counted ≡ false → (xs ys : List A) → HaveLines kind xs → HaveLines kind ys
-    → lines_of kind xs ≡ lines_of kind ys → xs ≡ ys
-one_list kind back uncounted xs ys right_x right_y same =
-    let over : (k : ℕ) → item_at_front kind 0 k EndOfInput (front_of []) ≡ Ok (None, []) = λ k. rw uncounted refl in
-    (same_items kind back 0 0 EndOfInput xs ys [] [] right_x right_y (stops_at_last kind back 0 (length xs) EndOfInput [] [] (over (length xs)))
-    (stops_at_last kind back 0 (length ys) EndOfInput [] [] (over (length ys))) (ap (λ (l : List ℕ). l ++ []) same)).0
+one_list : {A : Type 0} (format : Format A) → IsReadBack format → format.is_counted ≡ false → (xs ys : List A) → HaveLines format xs → HaveLines format ys
+    → lines_of format xs ≡ lines_of format ys → xs ≡ ys
+one_list format back uncounted xs ys right_x right_y same =
+    let over : (k : ℕ) → item_at_front format 0 k EndOfInput (front_of []) ≡ Ok (None, []) = λ k. rw uncounted refl in
+    (same_items format back 0 0 EndOfInput xs ys [] [] right_x right_y (stops_at_last format back 0 (length xs) EndOfInput [] [] (over (length xs)))
+    (stops_at_last format back 0 (length ys) EndOfInput [] [] (over (length ys))) (ap (λ (l : List ℕ). l ++ []) same)).0
 
 claims_agree : (c d : Claimed) → HasVerdictText c → HasVerdictText d → answer_in c ≡ answer_in d → lines_in c ≡ lines_in d → c ≡ d
-claims_agree (Yes xs) (Yes ys) text_c text_d answers same = ap Yes (one_list operation_kind operation_front refl xs ys text_c text_d same)
+claims_agree (Yes xs) (Yes ys) text_c text_d answers same = ap Yes (one_list operation_format operation_front refl xs ys text_c text_d same)
 claims_agree (Yes xs) (No kind ys) text_c text_d answers same = absurd (cc)
 claims_agree (No kind xs) (Yes ys) text_c text_d answers same = absurd (cc)
 claims_agree (No j xs) (No k ys) text_c text_d answers same =
     let kinds : j ≡ k = some_is j k answers in
-    ap (λ (i : ViolationKind). No i xs) kinds ∙ ap (No k) (one_list claim_line_kind claim_line_front refl xs ys text_c text_d same)
+    ap (λ (i : ViolationKind). No i xs) kinds ∙ ap (No k) (one_list claim_line_format claim_line_front refl xs ys text_c text_d same)
 
 -- two claims of one text are one
 pub texts_agree : (c d : Claimed) → HasVerdictText c → HasVerdictText d → verdict_text c ≡ verdict_text d → c ≡ d
@@ -105,11 +105,11 @@ texts_agree c d text_c text_d same =
 -- the lines after the first have no fault
 lines_have_no_fault : (c : Claimed) (n : ℕ) (fault : TextFault) → HasVerdictText c → ClaimFault n EndOfInput fault (answer_in c) (lines_in c) → ⊥
 lines_have_no_fault (Yes xs) n fault text h =
-    no_item_fault operation_kind operation_front n EndOfInput fault xs [] [] text (λ m. refl)
-    (subst (ItemFault operation_kind n EndOfInput fault) (sym (append-nil (lines_of operation_kind xs))) h)
+    no_item_fault operation_format operation_front n EndOfInput fault xs [] [] text (λ m. refl)
+    (subst (ItemFault operation_format n EndOfInput fault) (sym (append-nil (lines_of operation_format xs))) h)
 lines_have_no_fault (No kind xs) n fault text h =
-    no_item_fault claim_line_kind claim_line_front n EndOfInput fault xs [] [] text (λ m. refl)
-    (subst (ItemFault claim_line_kind n EndOfInput fault) (sym (append-nil (lines_of claim_line_kind xs))) h)
+    no_item_fault claim_line_format claim_line_front n EndOfInput fault xs [] [] text (λ m. refl)
+    (subst (ItemFault claim_line_format n EndOfInput fault) (sym (append-nil (lines_of claim_line_format xs))) h)
 
 -- a text has no fault
 pub text_has_no_fault : (lines : ℕ) (c : Claimed) (fault : TextFault) → HasVerdictText c → IsVerdictTextFault lines EndOfInput (verdict_text c) fault → ⊥
@@ -146,8 +146,8 @@ reads_what_is_there lines (Some a) new r ok err claimed wanted all =
 -- the lines after the first have one first fault
 one_later_fault : (answer : Option ViolationKind) (n : ℕ) (ending : Ending) (f g : TextFault) (bytes : List ℕ) → ClaimFault n ending f answer bytes
     → ClaimFault n ending g answer bytes → f ≡ g
-one_later_fault None n ending f g bytes a b = one_item_fault operation_kind operation_front n ending f g bytes a b
-one_later_fault (Some kind) n ending f g bytes a b = one_item_fault claim_line_kind claim_line_front n ending f g bytes a b
+one_later_fault None n ending f g bytes a b = one_item_fault operation_format operation_front n ending f g bytes a b
+one_later_fault (Some kind) n ending f g bytes a b = one_item_fault claim_line_format claim_line_front n ending f g bytes a b
 
 -- an input has one first fault
 pub one_first_fault : (lines : ℕ) (ending : Ending) (bytes : List ℕ) (f g : TextFault) → IsVerdictTextFault lines ending bytes f

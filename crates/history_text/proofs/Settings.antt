@@ -3,14 +3,14 @@ use Rattle.std.proofs.Common.{◌≡◌, ℕ, ◌+◌, List, subst, refl, Option
 use Rattle.text_lines.specs.declared.fault.TextFault.{TextFault}
 use Rattle.text_lines.specs.Lines.{line, spaced, fields_of}
 use Rattle.history_text.specs.Items.{LineFault, ItemFault, NoRoom}
-use Rattle.history_text.specs.Schedules.{setting_fields, setting_in, step_kind, schedule_header, lines_before_steps, IsSetting}
+use Rattle.history_text.specs.Schedules.{setting_fields, setting_in, step_format, schedule_header, lines_before_steps, IsSetting}
 use Rattle.history_text.specs.Schedules.{IsScheduleTextFault, NoRoomForSchedule}
 use Rattle.text_lines.specs.Input.{Ahead, Takes}
 use Rattle.history_text.specs.Reading.{HasScheduleTextFault}
 use Rattle.history_text.specs.Inner.Taking.{HasHeaderFault, HasLineFault, HasItemsFault, IsOfInput}
 use Rattle.text_lines.proofs.Consuming.{Takes-append}
 use Rattle.history_text.proofs.FirstFaults.{first_is, line_fault, later_fault}
-use Rattle.history_text.proofs.SpelledSteps.{setting_ok}
+use Rattle.history_text.proofs.StepLines.{setting_ok}
 
 -- a line that says a setting is that of its fields
 pub setting_said : (n : ℕ) (bytes : List ℕ) (setting : ℕ × ℕ) → setting_in n (fields_of bytes) ≡ Ok setting
@@ -34,10 +34,10 @@ setting_is_first lines n old mid fault n_is of_input taken h =
 
 -- a later line has it
 pub step_is_first : (lines n threads ring : ℕ) (old first mid : Option Ahead) (fault : TextFault) → n ≡ lines + 3 → IsSetting threads ring
-    → Takes old first (line schedule_header) → Takes first mid (line (spaced (setting_fields threads ring))) → HasItemsFault step_kind n mid fault
+    → Takes old first (line schedule_header) → Takes first mid (line (spaced (setting_fields threads ring))) → HasItemsFault step_format n mid fault
     → HasScheduleTextFault lines old fault
 step_is_first lines n threads ring old first mid fault n_is within taken setting h =
-    later_fault (λ e r f. ItemFault step_kind n e f r) (IsScheduleTextFault lines) (NoRoom step_kind) NoRoomForSchedule old mid
+    later_fault (λ e r f. ItemFault step_format n e f r) (IsScheduleTextFault lines) (NoRoom step_format) NoRoomForSchedule old mid
     (lines_before_steps threads ring) fault (Takes-append old first mid _ _ taken setting)
-    (λ e r f k. inr (inr (threads, ring, within, (r, refl, subst (λ (m : ℕ). ItemFault step_kind m e f r) n_is k))))
+    (λ e r f k. inr (inr (threads, ring, within, (r, refl, subst (λ (m : ℕ). ItemFault step_format m e f r) n_is k))))
     (λ r k. (threads, ring, within, (r, refl, k))) h

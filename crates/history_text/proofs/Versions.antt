@@ -11,9 +11,9 @@ use Rattle.text_lines.specs.Input.{Ahead, Takes}
 use Rattle.text_lines.specs.Inner.Lines.{IsPartOfLine}
 use Rattle.history_text.specs.declared.version.Version.{Version}
 use Rattle.history_text.specs.declared.version.Version.TheVariants.{One, Two}
-use Rattle.history_text.specs.Items.{Kind, line_of, lines_of, HaveLines, LineFault, ItemFault, NoRoom, FaultAmong, NoRoomAmong}
-use Rattle.history_text.specs.Histories.{event_kind}
-use Rattle.history_text.specs.Versions.{value_kind, count_fields, count_in, lines_of_initial, header_of, lines_before_events, count_before_events}
+use Rattle.history_text.specs.Items.{Format, line_of, lines_of, HaveLines, LineFault, ItemFault, NoRoom, FaultAmong, NoRoomAmong}
+use Rattle.history_text.specs.Histories.{event_format}
+use Rattle.history_text.specs.Versions.{value_format, count_fields, count_in, lines_of_initial, header_of, lines_before_events, count_before_events}
 use Rattle.history_text.specs.Versions.{HaveValueLines, AfterCount, InitialFault, IsTextFault, NoRoomForText}
 use Rattle.history_text.specs.Reading.{HasTextFault}
 use Rattle.history_text.specs.Inner.Taking.{HasNoLine, HasNoVersion, HasHeaderFault, HasLineFault, HasItemsFault, HasFaultAmong, HasInitialFault, IsOfInput}
@@ -26,28 +26,28 @@ use Rattle.history_text.proofs.FirstFaults.{first_is, line_fault, later_fault, t
 -- ---- as many items as were told
 
 -- the line after some of them has the first fault
-pub told_is_first : {A : Type 0} (kind : Kind A) (k n m : ℕ) (items : List A) (old mid : Option Ahead) (fault : TextFault) → IsOfInput fault
-    → AllByRecursion kind.HasLine items → Takes old mid (lines_of kind items) → length items < k → m ≡ n + length items
-    → HasLineFault kind.read m mid fault → HasFaultAmong kind k n old fault
-told_is_first kind k n m items old mid fault of_input each taken fewer m_is h =
-    line_fault (λ e r f. LineFault kind.read m e f r) (λ e b f. FaultAmong kind k n e f b) (NoRoomAmong kind k) old mid
-    (lines_of kind items) fault of_input taken
+pub told_is_first : {A : Type 0} (format : Format A) (k n m : ℕ) (items : List A) (old mid : Option Ahead) (fault : TextFault) → IsOfInput fault
+    → AllByRecursion format.HasLine items → Takes old mid (lines_of format items) → length items < k → m ≡ n + length items
+    → HasLineFault format.read m mid fault → HasFaultAmong format k n old fault
+told_is_first format k n m items old mid fault of_input each taken fewer m_is h =
+    line_fault (λ e r f. LineFault format.read m e f r) (λ e b f. FaultAmong format k n e f b) (NoRoomAmong format k) old mid
+    (lines_of format items) fault of_input taken
     (λ e r next. record { items = items; rest = r; fewer = fewer; each = each; front = refl; next = rw (← m_is) next }) h
 
 -- one of them more than there is room for
-pub no_room_among : {A : Type 0} (kind : Kind A) (k : ℕ) (items : List A) (x : A) (old mid new : Option Ahead) → HaveLines kind items
-    → Takes old mid (lines_of kind items) → length items < k → k ≤ kind.most → kind.HasLine x → Takes mid new (line_of kind x)
-    → IfSome old (λ a. NoRoomAmong kind k a.bytes)
-no_room_among kind k items x None mid new right taken fewer most has now = tt
-no_room_among kind k items x (Some a) None new right taken fewer most has now = absurd taken
-no_room_among kind k items x (Some a) (Some b) None right taken fewer most has now = absurd now
-no_room_among kind k items x (Some a) (Some b) (Some c) right taken fewer most has now = record {
+pub no_room_among : {A : Type 0} (format : Format A) (k : ℕ) (items : List A) (x : A) (old mid new : Option Ahead) → HaveLines format items
+    → Takes old mid (lines_of format items) → length items < k → k ≤ format.most → format.HasLine x → Takes mid new (line_of format x)
+    → IfSome old (λ a. NoRoomAmong format k a.bytes)
+no_room_among format k items x None mid new right taken fewer most has now = tt
+no_room_among format k items x (Some a) None new right taken fewer most has now = absurd taken
+no_room_among format k items x (Some a) (Some b) None right taken fewer most has now = absurd now
+no_room_among format k items x (Some a) (Some b) (Some c) right taken fewer most has now = record {
   room = record {
     items = items;
     last = x;
     rest = c.bytes;
-    right = HaveLines-push kind items x right has (omega (arith, fewer, most));
-    front = (takes_item kind items x (Some a) (Some b) (Some c) taken now).0;
+    right = HaveLines-push format items x right has (omega (arith, fewer, most));
+    front = (takes_item format items x (Some a) (Some b) (Some c) taken now).0;
   };
   fewer = fewer;
 }
@@ -77,20 +77,21 @@ other_version old new bytes taken part other = no_version old Header (λ version
 
 -- the line that counts them has the fault
 pub count_is_first : (n : ℕ) (old : Option Ahead) (fault : TextFault) → IsOfInput fault → HasLineFault count_in n old fault → HasInitialFault n old fault
-count_is_first n None fault of_input h = first_is (λ e b f. InitialFault n e f b) (AfterCount (NoRoomAmong value_kind)) None fault of_input tt
-count_is_first n (Some a) fault of_input h = first_is (λ e b f. InitialFault n e f b) (AfterCount (NoRoomAmong value_kind)) (Some a) fault of_input (inl h)
+count_is_first n None fault of_input h = first_is (λ e b f. InitialFault n e f b) (AfterCount (NoRoomAmong value_format)) None fault of_input tt
+count_is_first n (Some a) fault of_input h = first_is (λ e b f. InitialFault n e f b) (AfterCount (NoRoomAmong value_format)) (Some a) fault of_input (inl h)
 
 -- a later line has it
 pub value_is_first : (n m k : ℕ) (old mid : Option Ahead) (fault : TextFault) → m ≡ n + 1 → k ≤ MAX_INITIAL
-    → Takes old mid (line (spaced (count_fields k))) → HasFaultAmong value_kind k m mid fault → HasInitialFault n old fault
+    → Takes old mid (line (spaced (count_fields k))) → HasFaultAmong value_format k m mid fault → HasInitialFault n old fault
 value_is_first n m k old mid fault m_is few taken h =
-    later_fault (λ e r f. FaultAmong value_kind k m e f r) (λ e b f. InitialFault n e f b) (NoRoomAmong value_kind k) (AfterCount (NoRoomAmong value_kind))
+    later_fault (λ e r f. FaultAmong value_format k m e f r) (λ e b f. InitialFault n e f b) (NoRoomAmong value_format k)
+    (AfterCount (NoRoomAmong value_format))
     old mid (line (spaced (count_fields k))) fault taken
-    (λ e r f among. inr (k, few, (r, refl, subst (λ (i : ℕ). FaultAmong value_kind k i e f r) m_is among))) (λ r room. (k, few, (r, refl, room))) h
+    (λ e r f among. inr (k, few, (r, refl, subst (λ (i : ℕ). FaultAmong value_format k i e f r) m_is among))) (λ r room. (k, few, (r, refl, room))) h
 
 -- the line that counts them is taken, and then theirs
 pub takes_initial : (k : ℕ) (initial : List ℕ) (old mid new : Option Ahead) → length initial ≡ k → Takes old mid (line (spaced (count_fields k)))
-    → Takes mid new (lines_of value_kind initial) → Takes old new (lines_of_initial initial)
+    → Takes mid new (lines_of value_format initial) → Takes old new (lines_of_initial initial)
 takes_initial k initial old mid new is count values =
     Takes-append old mid new _ _ (subst (λ (i : ℕ). Takes old mid (line (spaced (count_fields i)))) (sym is) count) values
 
@@ -105,28 +106,28 @@ version_is_first lines (Some a) fault of_input h = first_is (IsTextFault lines) 
 pub initial_is_first : (lines n : ℕ) (old mid : Option Ahead) (fault : TextFault) → n ≡ lines + 2 → Takes old mid (line (header_of Two))
     → HasInitialFault n mid fault → HasTextFault lines old fault
 initial_is_first lines n old mid fault n_is taken h =
-    later_fault (λ e r f. InitialFault n e f r) (IsTextFault lines) (AfterCount (NoRoomAmong value_kind)) NoRoomForText old mid
+    later_fault (λ e r f. InitialFault n e f r) (IsTextFault lines) (AfterCount (NoRoomAmong value_format)) NoRoomForText old mid
     (line (header_of Two)) fault taken
     (λ e r f k. inr (Two, (r, refl, inl (subst (λ (m : ℕ). InitialFault m e f r) n_is k)))) (λ r k. (Two, (r, refl, inl k))) h
 
 -- a later line has it
 pub event_is_first : (version : Version) (initial : List ℕ) (lines n : ℕ) (old mid : Option Ahead) (fault : TextFault)
     → n ≡ lines + count_before_events version initial + 1 → HaveValueLines version initial → Takes old mid (lines_before_events version initial)
-    → HasItemsFault event_kind n mid fault → HasTextFault lines old fault
+    → HasItemsFault event_format n mid fault → HasTextFault lines old fault
 event_is_first One initial lines n old mid fault n_is right taken h =
     let place : n ≡ lines + 2 = omega (arith, n_is) in
-    later_fault (λ e r f. ItemFault event_kind n e f r) (IsTextFault lines) (NoRoom event_kind) NoRoomForText old mid (line (header_of One)) fault taken
-    (λ e r f k. inr (One, (r, refl, subst (λ (m : ℕ). ItemFault event_kind m e f r) place k))) (λ r k. (One, (r, refl, k))) h
+    later_fault (λ e r f. ItemFault event_format n e f r) (IsTextFault lines) (NoRoom event_format) NoRoomForText old mid (line (header_of One)) fault taken
+    (λ e r f k. inr (One, (r, refl, subst (λ (m : ℕ). ItemFault event_format m e f r) place k))) (λ r k. (One, (r, refl, k))) h
 event_is_first Two initial lines n old mid fault n_is right taken h =
     let place : n ≡ lines + 2 + 1 + length initial = omega (arith, n_is) in
-    later_fault (λ e r f. ItemFault event_kind n e f r) (IsTextFault lines) (NoRoom event_kind) NoRoomForText old mid
+    later_fault (λ e r f. ItemFault event_format n e f r) (IsTextFault lines) (NoRoom event_format) NoRoomForText old mid
     (lines_before_events Two initial) fault taken
     (λ e r f k. inr (
       Two,
       (
         lines_of_initial initial ++ r,
         append_assoc (line (header_of Two)) (lines_of_initial initial) r,
-        inr (initial, right, (r, refl, subst (λ (m : ℕ). ItemFault event_kind m e f r) place k)),
+        inr (initial, right, (r, refl, subst (λ (m : ℕ). ItemFault event_format m e f r) place k)),
       ),
     ))
     (λ r k. (Two, (lines_of_initial initial ++ r, append_assoc (line (header_of Two)) (lines_of_initial initial) r, inr (initial, right, (r, refl, k))))) h

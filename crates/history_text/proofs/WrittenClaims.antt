@@ -11,7 +11,7 @@ use Rattle.history_merge.specs.declared.operation.OpKind.{OpKind}
 use Rattle.history_merge.specs.declared.operation.OpKind.TheVariants.{Enq, Deq, Empty, Not}
 use Rattle.history_merge.specs.Operations.{operations_of}
 use Rattle.history_merge.proofs.Distinct.{contains_at, contains_cons}
-use Rattle.recorder_core.specs.Laws.{operation_call, operation_return, call_what, return_what}
+use Rattle.recorder_core.specs.Laws.{operation_call, operation_return, call_of_kind, return_of_kind}
 use Rattle.recorder_core.proofs.Members.{none_in_nil}
 use Rattle.recorder_core.proofs.Ticketed.{operation_events}
 use Rattle.text_lines.specs.Lines.{greatest_value}
@@ -40,7 +40,7 @@ all_of P (y ∷ ys) x all among = elim (contains_cons y ys x among) [
   | inr more ↦ all_of P ys x all.1 more
 ]
 
-value_by : (kind : OpKind) → HasValueInRange (call_what kind) → HasValueInRange (return_what kind) → IsKindInRange kind
+value_by : (kind : OpKind) → HasValueInRange (call_of_kind kind) → HasValueInRange (return_of_kind kind) → IsKindInRange kind
 value_by (Enq v) call answer = call
 value_by (Deq v) call answer = answer
 value_by Empty call answer = tt

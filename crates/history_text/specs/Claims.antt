@@ -1,6 +1,6 @@
 -- The texts of verdicts as they are read: which claims have one, and the first fault of input that should be one.
-use Rattle.std.specs.Prelude.{◌≡◌, ℕ, ◌+◌, ◌≤◌, ◌||◌, Bool, false, if◌then◌else◌, ◌⊎◌}
-use Rattle.std.specs.Prelude.{List, [], ◌∷◌, ◌++◌, length, codes, Option, Some, None, Ok, Err}
+use Rattle.std.specs.Prelude.{◌≡◌, ℕ, ◌+◌, ◌≤◌, Bool, false, if◌then◌else◌, ◌⊎◌}
+use Rattle.std.specs.Prelude.{List, [], ◌∷◌, ◌++◌, length, codes, Option, Some, None, Ok, Err, slice_index}
 use Rattle.std.specs.declared.result.Result.{Result}
 use Rattle.std.specs.Str.{bytes_eq}
 use Rattle.event_records.specs.declared.limits.TheConstants.{MAX_TICKET, MAX_THREAD, MAX_CLAIM_LINES}
@@ -15,8 +15,9 @@ use Rattle.verdicts.specs.declared.verifying.Claimed.TheVariants.{Yes, No}
 use Rattle.text_lines.specs.declared.fault.TextFault.{TextFault}
 use Rattle.text_lines.specs.declared.fault.TextFault.TheVariants.{Line}
 use Rattle.text_lines.specs.Input.{Ending}
-use Rattle.text_lines.specs.Lines.{line, greatest_value, Front, Whole, TooLong, Unfinished, Nothing, front_of, fault_at, number_in, ◌>>=◌, After}
-use Rattle.history_text.specs.Items.{Kind, HaveLines, ItemFault, NoRoom}
+use Rattle.text_lines.specs.Lines.{line, greatest_value, Front, Whole, TooLong, Unfinished, Nothing, front_of, fault_at, ◌>>=◌, After}
+use Rattle.text_lines.specs.Forms.{Table, FieldForm, Word}
+use Rattle.history_text.specs.Items.{Format, HaveLines, ItemFault, NoRoom, a_ticket, a_thread, a_value, read_by}
 use Rattle.history_text.specs.Verdicts.{operation_fields, claim_line_fields, kind_name}
 
 -- ---- operations
@@ -35,38 +36,31 @@ pub record HasOperationLine (o : Operation) : Type 0 where
   pub thread : o.thread ≤ MAX_THREAD
   pub value : IsKindInRange o.kind
 
--- the words of operations with a value
-abbrev pub has_value : List ℕ → Bool
-has_value word = bytes_eq word (codes "enq") || (bytes_eq word (codes "deq") || bytes_eq word (codes "not"))
+-- the form of an operation that found nothing
+abbrev pub empty_operation : List FieldForm
+empty_operation = a_ticket ∷ a_ticket ∷ a_thread ∷ Word (codes "empty") ∷ []
 
--- what one of these words says of its value
-abbrev pub kind_of_value : List ℕ → ℕ → OpKind
-kind_of_value word v = if bytes_eq word (codes "enq") then Enq v else (if bytes_eq word (codes "deq") then Deq v else Not v)
+-- the form of an operation with a value, by its word
+abbrev pub valued_operation : List ℕ → List FieldForm
+valued_operation word = a_ticket ∷ a_ticket ∷ a_thread ∷ Word word ∷ a_value ∷ []
 
--- an operation of line n that found nothing: its number fields from left to right
-unfoldable pub empty_operation : ℕ → List ℕ → List ℕ → List ℕ → Result Operation TextFault
-empty_operation n call ret thread = do
-  from ← number_in n MAX_TICKET call
-  to ← number_in n MAX_TICKET ret
-  by ← number_in n MAX_THREAD thread
-  Ok (record { call = from; ret = to; thread = by; kind = Empty })
+-- the forms of the lines of operations, and what these did by them, where 0 stands for a value
+abbrev pub operation_forms : Table OpKind
+operation_forms =
+    (Enq 0, valued_operation (codes "enq")) ∷ (Deq 0, valued_operation (codes "deq")) ∷ (Empty, empty_operation)
+    ∷ (Not 0, valued_operation (codes "not")) ∷ []
 
--- an operation of line n with a value: its number fields from left to right
-unfoldable pub numbered_operation : ℕ → List ℕ → List ℕ → List ℕ → List ℕ → List ℕ → Result Operation TextFault
-numbered_operation n call ret thread word value = do
-  from ← number_in n MAX_TICKET call
-  to ← number_in n MAX_TICKET ret
-  by ← number_in n MAX_THREAD thread
-  v ← number_in n greatest_value value
-  Ok (record { call = from; ret = to; thread = by; kind = kind_of_value word v })
+-- the same with this value, where it has one
+abbrev pub kind_with : OpKind → ℕ → OpKind
+kind_with (Enq _) v = Enq v
+kind_with (Deq _) v = Deq v
+kind_with Empty v = Empty
+kind_with (Not _) v = Not v
 
--- the operation of line n, by its fields
-abbrev pub operation_of : ℕ → List (List ℕ) → Result Operation TextFault
-operation_of n (call ∷ ret ∷ thread ∷ word ∷ []) =
-    if bytes_eq word (codes "empty") then empty_operation n call ret thread else Err (Line n)
-operation_of n (call ∷ ret ∷ thread ∷ word ∷ value ∷ []) =
-    if has_value word then numbered_operation n call ret thread word value else Err (Line n)
-operation_of n _ = Err (Line n)
+-- the operation that a line says by its form and its numbers
+abbrev pub operation_of : OpKind → List ℕ → Operation
+operation_of kind numbers =
+    record { call = slice_index numbers 0; ret = slice_index numbers 1; thread = slice_index numbers 2; kind = kind_with kind (slice_index numbers 3) }
 
 -- the fields are those of an initial value, and not of an operation
 abbrev pub is_initial : List (List ℕ) → Bool
@@ -75,11 +69,11 @@ is_initial [] = false
 
 -- what line n of a yes says, by its fields
 abbrev pub operation_in : ℕ → List (List ℕ) → Result Operation TextFault
-operation_in n fields = if is_initial fields then Err (Line n) else operation_of n fields
+operation_in n fields = if is_initial fields then Err (Line n) else read_by operation_forms operation_of n fields
 
 -- what a yes lists
-abbrev pub operation_kind : Kind Operation
-operation_kind = record { fields = operation_fields; HasLine = HasOperationLine; most = MAX_CLAIM_LINES; is_counted = false; read = operation_in }
+abbrev pub operation_format : Format Operation
+operation_format = record { fields = operation_fields; HasLine = HasOperationLine; most = MAX_CLAIM_LINES; is_counted = false; read = operation_in }
 
 -- ---- the lines of a no
 
@@ -88,19 +82,26 @@ abbrev pub HasClaimLine : ClaimLine → Type 0
 HasClaimLine (Op o) = HasOperationLine o
 HasClaimLine (Initial v) = v ≤ greatest_value
 
--- the initial value of line n, by its fields
-abbrev pub initial_of : ℕ → List (List ℕ) → Result ℕ TextFault
-initial_of n (word ∷ value ∷ []) = number_in n greatest_value value
-initial_of n _ = Err (Line n)
+-- the form of an initial value
+abbrev pub initial_form : List FieldForm
+initial_form = Word (codes "init") ∷ a_value ∷ []
+
+-- the table of this form alone
+abbrev pub initial_forms : Table (Unit {0})
+initial_forms = (tt, initial_form) ∷ []
+
+-- the initial value that a line says by its numbers
+abbrev pub initial_of : Unit {0} → List ℕ → ClaimLine
+initial_of _ numbers = Initial (slice_index numbers 0)
 
 -- what line n of a no says, by its fields
 abbrev pub claim_line_in : ℕ → List (List ℕ) → Result ClaimLine TextFault
 claim_line_in n fields =
-    if is_initial fields then (initial_of n fields >>= λ v. Ok (Initial v)) else (operation_of n fields >>= λ o. Ok (Op o))
+    if is_initial fields then read_by initial_forms initial_of n fields else (read_by operation_forms operation_of n fields >>= λ o. Ok (Op o))
 
 -- what a no lists
-abbrev pub claim_line_kind : Kind ClaimLine
-claim_line_kind = record { fields = claim_line_fields; HasLine = HasClaimLine; most = MAX_CLAIM_LINES; is_counted = false; read = claim_line_in }
+abbrev pub claim_line_format : Format ClaimLine
+claim_line_format = record { fields = claim_line_fields; HasLine = HasClaimLine; most = MAX_CLAIM_LINES; is_counted = false; read = claim_line_in }
 
 -- ---- verdicts
 
@@ -111,8 +112,8 @@ claim_length (No kind lines) = length lines
 
 -- which verdicts have a text
 abbrev pub HasVerdictText : Claimed → Type 0
-HasVerdictText (Yes operations) = HaveLines operation_kind operations
-HasVerdictText (No kind lines) = HaveLines claim_line_kind lines
+HasVerdictText (Yes operations) = HaveLines operation_format operations
+HasVerdictText (No kind lines) = HaveLines claim_line_format lines
 
 -- the first line of a yes, or of a no of this kind
 abbrev pub first_line : Option ViolationKind → List ℕ
@@ -136,8 +137,8 @@ AfterFirstLine P bytes = (answer : Option ViolationKind) × After (line (first_l
 
 -- the lines after the first, from line n on, have this first fault
 abbrev pub ClaimFault : ℕ → Ending → TextFault → Option ViolationKind → List ℕ → Type 0
-ClaimFault n ending fault None bytes = ItemFault operation_kind n ending fault bytes
-ClaimFault n ending fault (Some kind) bytes = ItemFault claim_line_kind n ending fault bytes
+ClaimFault n ending fault None bytes = ItemFault operation_format n ending fault bytes
+ClaimFault n ending fault (Some kind) bytes = ItemFault claim_line_format n ending fault bytes
 
 -- the first line isn't right, or what comes after it has this first fault
 abbrev pub IsVerdictTextFault : ℕ → Ending → List ℕ → TextFault → Type 0
@@ -146,8 +147,8 @@ IsVerdictTextFault lines ending bytes fault =
 
 -- some lines after the first are right; there was no room to keep the last
 abbrev pub NoRoomForClaim : Option ViolationKind → List ℕ → Type 0
-NoRoomForClaim None bytes = NoRoom operation_kind bytes
-NoRoomForClaim (Some kind) bytes = NoRoom claim_line_kind bytes
+NoRoomForClaim None bytes = NoRoom operation_format bytes
+NoRoomForClaim (Some kind) bytes = NoRoom claim_line_format bytes
 
 -- the first line is right, and so is what comes after it up to there
 abbrev pub NoRoomForVerdict : List ℕ → Type 0

@@ -1,18 +1,17 @@
 -- The texts of histories: how they are written, and the first fault of bytes that should begin with one.
-use Rattle.std.specs.Prelude.{◌≡◌, ℕ, ◌+◌, ◌≤◌, ◌||◌, Bool, true, if◌then◌else◌, ◌⊎◌}
-use Rattle.std.specs.Prelude.{List, [], ◌∷◌, ◌++◌, length, codes, decimal, Option, Some, None, Ok, Err}
+use Rattle.std.specs.Prelude.{◌≡◌, ℕ, ◌+◌, ◌≤◌, true, ◌⊎◌}
+use Rattle.std.specs.Prelude.{List, [], ◌∷◌, ◌++◌, length, codes, decimal, Some, slice_index}
 use Rattle.std.specs.declared.result.Result.{Result}
 use Rattle.std.specs.List.{flat_map}
-use Rattle.std.specs.Str.{bytes_eq}
 use Rattle.event_records.specs.declared.event.Event.{Event}
 use Rattle.event_records.specs.declared.event.What.{What}
 use Rattle.event_records.specs.declared.event.What.TheVariants.{CallEnq, RetEnq, RetNot, CallDeq, RetDeq, RetEmpty}
 use Rattle.event_records.specs.declared.limits.TheConstants.{MAX_TICKET, MAX_THREAD, MAX_EVENTS}
 use Rattle.text_lines.specs.declared.fault.TextFault.{TextFault}
-use Rattle.text_lines.specs.declared.fault.TextFault.TheVariants.{Line}
 use Rattle.text_lines.specs.Input.{Ending}
-use Rattle.text_lines.specs.Lines.{line, spaced, end_line, greatest_value, front_of, header_fault, number_in, ◌>>=◌, After}
-use Rattle.history_text.specs.Items.{Kind, HaveLines, ItemFault, NoRoom}
+use Rattle.text_lines.specs.Lines.{line, spaced, end_line, greatest_value, front_of, header_fault, After}
+use Rattle.text_lines.specs.Forms.{Table, FieldForm, Word}
+use Rattle.history_text.specs.Items.{Format, HaveLines, ItemFault, NoRoom, a_ticket, a_thread, a_value, read_by}
 
 -- ---- what is written
 
@@ -59,65 +58,47 @@ pub record HasEventLine (e : Event) : Type 0 where
 
 -- ---- what is read
 
--- the words of events with no value
-abbrev pub plain_what : List ℕ → Option What
-plain_what word =
-    if bytes_eq word (codes "ret-enq") then Some RetEnq
-    else (if bytes_eq word (codes "ret-not") then Some RetNot
-    else (if bytes_eq word (codes "call-deq") then Some CallDeq
-    else (if bytes_eq word (codes "ret-empty") then Some RetEmpty else None)))
+-- the form of an event with no value, by its word
+abbrev pub plain_event : List ℕ → List FieldForm
+plain_event word = a_ticket ∷ a_thread ∷ Word word ∷ []
 
--- the words of events with a value
-abbrev pub has_value : List ℕ → Bool
-has_value word = bytes_eq word (codes "call-enq") || bytes_eq word (codes "ret-deq")
+-- the form of an event with a value
+abbrev pub valued_event : List ℕ → List FieldForm
+valued_event word = a_ticket ∷ a_thread ∷ Word word ∷ a_value ∷ []
 
--- what one of these words says of its value
-abbrev pub what_of : List ℕ → ℕ → What
-what_of word v = if bytes_eq word (codes "call-enq") then CallEnq v else RetDeq v
+-- the forms of the lines of events, and what happened by them, where 0 stands for a value
+abbrev pub event_forms : Table What
+event_forms =
+    (CallEnq 0, valued_event (codes "call-enq")) ∷ (RetEnq, plain_event (codes "ret-enq")) ∷ (RetNot, plain_event (codes "ret-not"))
+    ∷ (CallDeq, plain_event (codes "call-deq")) ∷ (RetDeq 0, valued_event (codes "ret-deq")) ∷ (RetEmpty, plain_event (codes "ret-empty")) ∷ []
 
--- an event of line n with no value: its number fields from left to right
-unfoldable pub stamped_event : ℕ → List ℕ → List ℕ → What → Result Event TextFault
-stamped_event n ticket thread what = do
-  at ← number_in n MAX_TICKET ticket
-  by ← number_in n MAX_THREAD thread
-  Ok (record { ticket = at; thread = by; what = what })
+-- the same with this value, where it has one
+abbrev pub what_with : What → ℕ → What
+what_with (CallEnq _) v = CallEnq v
+what_with (RetDeq _) v = RetDeq v
+what_with what v = what
 
--- an event of three fields, where the third is such a word
-abbrev pub plain_event : ℕ → List ℕ → List ℕ → Option What → Result Event TextFault
-plain_event n ticket thread None = Err (Line n)
-plain_event n ticket thread (Some what) = stamped_event n ticket thread what
-
--- an event of line n with a value: its number fields from left to right
-unfoldable pub numbered_event : ℕ → List ℕ → List ℕ → List ℕ → List ℕ → Result Event TextFault
-numbered_event n ticket thread word value = do
-  at ← number_in n MAX_TICKET ticket
-  by ← number_in n MAX_THREAD thread
-  v ← number_in n greatest_value value
-  Ok (record { ticket = at; thread = by; what = what_of word v })
-
--- an event of four fields, where the third is a word with a value
-abbrev pub event_with_value : ℕ → List ℕ → List ℕ → List ℕ → List ℕ → Result Event TextFault
-event_with_value n ticket thread word value = if has_value word then numbered_event n ticket thread word value else Err (Line n)
+-- the event that a line says by its form and its numbers
+abbrev pub event_of : What → List ℕ → Event
+event_of what numbers = record { ticket = slice_index numbers 0; thread = slice_index numbers 1; what = what_with what (slice_index numbers 2) }
 
 -- the event of line n, by its fields
 abbrev pub event_in : ℕ → List (List ℕ) → Result Event TextFault
-event_in n (ticket ∷ thread ∷ word ∷ []) = plain_event n ticket thread (plain_what word)
-event_in n (ticket ∷ thread ∷ word ∷ value ∷ []) = event_with_value n ticket thread word value
-event_in n _ = Err (Line n)
+event_in n fields = read_by event_forms event_of n fields
 
 -- what a history lists
-abbrev pub event_kind : Kind Event
-event_kind = record { fields = event_fields; HasLine = HasEventLine; most = MAX_EVENTS; is_counted = true; read = event_in }
+abbrev pub event_format : Format Event
+event_format = record { fields = event_fields; HasLine = HasEventLine; most = MAX_EVENTS; is_counted = true; read = event_in }
 
 -- which lists of events have a text
 abbrev pub HasHistoryText : List Event → Type 0
-HasHistoryText events = HaveLines event_kind events
+HasHistoryText events = HaveLines event_format events
 
 -- the first line isn't right, or some events are each in their line, and the line after them has this fault
 abbrev pub IsHistoryTextFault : ℕ → Ending → List ℕ → TextFault → Type 0
 IsHistoryTextFault lines ending bytes fault =
-    (header_fault header ending (front_of bytes) ≡ Some fault) ⊎ After (line header) (ItemFault event_kind (lines + 2) ending fault) bytes
+    (header_fault header ending (front_of bytes) ≡ Some fault) ⊎ After (line header) (ItemFault event_format (lines + 2) ending fault) bytes
 
 -- the first line is right, and some events are each in their line; there was no room to keep the last
 abbrev pub NoRoomFor : List ℕ → Type 0
-NoRoomFor bytes = After (line header) (NoRoom event_kind) bytes
+NoRoomFor bytes = After (line header) (NoRoom event_format) bytes

@@ -3,13 +3,16 @@ use Rattle.std.specs.Prelude.{◌≡◌, ℕ, ◌+◌, ◌<◌, ◌≤◌, ◌&&
 use Rattle.std.specs.Prelude.{List, [], ◌∷◌, ◌++◌, length, drop, Option, Some, None, Ok, Err}
 use Rattle.std.specs.declared.result.Result.{Result}
 use Rattle.std.specs.List.{flat_map, AllByRecursion}
+use Rattle.event_records.specs.declared.limits.TheConstants.{MAX_TICKET, MAX_THREAD}
 use Rattle.text_lines.specs.declared.fault.TextFault.{TextFault}
 use Rattle.text_lines.specs.declared.fault.TextFault.TheVariants.{Line, Limit}
 use Rattle.text_lines.specs.Input.{Ending, EndOfInput, Failure}
+use Rattle.text_lines.specs.Forms.{Table, FieldForm, Number, judged}
 use Rattle.text_lines.specs.Lines.{line, spaced, Front, Whole, TooLong, Unfinished, Nothing, front_of, fault_at, fields_of, ◌>>=◌, begins_as_end, end_in}
+use Rattle.text_lines.specs.Lines.{greatest_value}
 
 -- what a text lists
-pub record Kind (A : Type 0) : Type 1 where
+pub record Format (A : Type 0) : Type 1 where
   pub fields : A → List (List ℕ)  -- the fields of an item's line
   pub HasLine : A → Type 0  -- which items have a line
   pub most : ℕ  -- how many items a text may have
@@ -19,19 +22,37 @@ pub record Kind (A : Type 0) : Type 1 where
 -- ---- what is written
 
 -- the line of an item
-abbrev pub line_of : {A : Type 0} → Kind A → A → List ℕ
-line_of kind item = line (spaced (kind.fields item))
+abbrev pub line_of : {A : Type 0} → Format A → A → List ℕ
+line_of format item = line (spaced (format.fields item))
 
 -- the lines of items
-abbrev pub lines_of : {A : Type 0} → Kind A → List A → List ℕ
-lines_of kind items = flat_map (line_of kind) items
+abbrev pub lines_of : {A : Type 0} → Format A → List A → List ℕ
+lines_of format items = flat_map (line_of format) items
 
 -- which lists of items have a text
-pub record HaveLines {A : Type 0} (kind : Kind A) (items : List A) : Type 0 where
-  pub each : AllByRecursion kind.HasLine items
-  pub few : length items ≤ kind.most
+pub record HaveLines {A : Type 0} (format : Format A) (items : List A) : Type 0 where
+  pub each : AllByRecursion format.HasLine items
+  pub few : length items ≤ format.most
+
+-- ---- fields of several texts
+
+-- a ticket
+abbrev pub a_ticket : FieldForm
+a_ticket = Number 0 MAX_TICKET
+
+-- a thread
+abbrev pub a_thread : FieldForm
+a_thread = Number 0 MAX_THREAD
+
+-- a value
+abbrev pub a_value : FieldForm
+a_value = Number 0 greatest_value
 
 -- ---- what is read
+
+-- what the fields of line n say, by a table and by what is made of its rows and of their numbers
+abbrev pub read_by : {T A : Type 0} → Table T → (T → List ℕ → A) → ℕ → List (List ℕ) → Result A TextFault
+read_by table make n fields = judged n table fields >>= λ said. Ok (make said.0 said.1)
 
 -- the line that the input begins with, line n, by what its fields say, and the bytes after it
 abbrev pub line_at_front : {A : Type 0} → (ℕ → List (List ℕ) → Result A TextFault) → ℕ → Ending → Front → Result (A × List ℕ) TextFault
@@ -45,10 +66,10 @@ abbrev pub LineFault : {A : Type 0} → (ℕ → List (List ℕ) → Result A Te
 LineFault read n ending fault bytes = line_at_front read n ending (front_of bytes) ≡ Err fault
 
 -- a whole line, line n after k items: an item, or none where it is the last line
-abbrev pub item_in : {A : Type 0} → Kind A → ℕ → ℕ → List ℕ → Result (Option A) TextFault
-item_in kind n k bytes =
-    if kind.is_counted && begins_as_end bytes then (end_in n k (drop 4 bytes) >>= λ _. Ok None)
-    else (if nat_lt k kind.most then (kind.read n (fields_of bytes) >>= λ item. Ok (Some item)) else Err (Limit n))
+abbrev pub item_in : {A : Type 0} → Format A → ℕ → ℕ → List ℕ → Result (Option A) TextFault
+item_in format n k bytes =
+    if format.is_counted && begins_as_end bytes then (end_in n k (drop 4 bytes) >>= λ _. Ok None)
+    else (if nat_lt k format.most then (format.read n (fields_of bytes) >>= λ item. Ok (Some item)) else Err (Limit n))
 
 -- no byte where a line could begin: that is right at the end of the input, where no last line counts the items
 abbrev pub item_at_nothing : {A : Type 0} → Bool → Ending → Result (Option A × List ℕ) TextFault
@@ -57,40 +78,40 @@ item_at_nothing false EndOfInput = Ok (None, [])
 item_at_nothing false Failure = Err (fault_at Failure)
 
 -- the line that the input begins with, line n after k items, and the bytes after it
-abbrev pub item_at_front : {A : Type 0} → Kind A → ℕ → ℕ → Ending → Front → Result (Option A × List ℕ) TextFault
-item_at_front kind n k ending (Whole bytes rest) = item_in kind n k bytes >>= λ item. Ok (item, rest)
-item_at_front kind n k ending TooLong = Err (Line n)
-item_at_front kind n k ending Unfinished = Err (fault_at ending)
-item_at_front kind n k ending Nothing = item_at_nothing kind.is_counted ending
+abbrev pub item_at_front : {A : Type 0} → Format A → ℕ → ℕ → Ending → Front → Result (Option A × List ℕ) TextFault
+item_at_front format n k ending (Whole bytes rest) = item_in format n k bytes >>= λ item. Ok (item, rest)
+item_at_front format n k ending TooLong = Err (Line n)
+item_at_front format n k ending Unfinished = Err (fault_at ending)
+item_at_front format n k ending Nothing = item_at_nothing format.is_counted ending
 
 -- some items are each in their line, from line n on, and the line after them has this fault
-pub record ItemFault {A : Type 0} (kind : Kind A) (n : ℕ) (ending : Ending) (fault : TextFault) (bytes : List ℕ) : Type 0 where
+pub record ItemFault {A : Type 0} (format : Format A) (n : ℕ) (ending : Ending) (fault : TextFault) (bytes : List ℕ) : Type 0 where
   pub items : List A
   pub rest : List ℕ
-  pub right : HaveLines kind items
-  pub front : bytes ≡ lines_of kind items ++ rest
-  pub next : item_at_front kind (n + length items) (length items) ending (front_of rest) ≡ Err fault
+  pub right : HaveLines format items
+  pub front : bytes ≡ lines_of format items ++ rest
+  pub next : item_at_front format (n + length items) (length items) ending (front_of rest) ≡ Err fault
 
 -- some items are each in their line; there was no room to keep the last
-pub record NoRoom {A : Type 0} (kind : Kind A) (bytes : List ℕ) : Type 0 where
+pub record NoRoom {A : Type 0} (format : Format A) (bytes : List ℕ) : Type 0 where
   pub items : List A
   pub last : A
   pub rest : List ℕ
-  pub right : HaveLines kind (items ++ last ∷ [])
-  pub front : bytes ≡ lines_of kind (items ++ last ∷ []) ++ rest
+  pub right : HaveLines format (items ++ last ∷ [])
+  pub front : bytes ≡ lines_of format (items ++ last ∷ []) ++ rest
 
 -- ---- items of which a line before them tells how many they are
 
 -- of k items, each in its line from line n on, some come, and the line after them has this fault
-pub record FaultAmong {A : Type 0} (kind : Kind A) (k n : ℕ) (ending : Ending) (fault : TextFault) (bytes : List ℕ) : Type 0 where
+pub record FaultAmong {A : Type 0} (format : Format A) (k n : ℕ) (ending : Ending) (fault : TextFault) (bytes : List ℕ) : Type 0 where
   pub items : List A
   pub rest : List ℕ
   pub fewer : length items < k
-  pub each : AllByRecursion kind.HasLine items
-  pub front : bytes ≡ lines_of kind items ++ rest
-  pub next : LineFault kind.read (n + length items) ending fault rest
+  pub each : AllByRecursion format.HasLine items
+  pub front : bytes ≡ lines_of format items ++ rest
+  pub next : LineFault format.read (n + length items) ending fault rest
 
 -- of k items some come, each in its line; there was no room to keep the last of these
-pub record NoRoomAmong {A : Type 0} (kind : Kind A) (k : ℕ) (bytes : List ℕ) : Type 0 where
-  pub room : NoRoom kind bytes
+pub record NoRoomAmong {A : Type 0} (format : Format A) (k : ℕ) (bytes : List ℕ) : Type 0 where
+  pub room : NoRoom format bytes
   pub fewer : length room.items < k

@@ -1,21 +1,20 @@
 -- The texts of schedules: how they are written, and the first fault of bytes that should begin with one.
-use Rattle.std.specs.Prelude.{◌≡◌, ℕ, ◌+◌, ◌≤◌, ◌||◌, ◌&&◌, Bool, true, if◌then◌else◌, ◌⊎◌}
-use Rattle.std.specs.Prelude.{List, [], ◌∷◌, ◌++◌, length, codes, decimal, Option, Some, None, Ok, Err}
+use Rattle.std.specs.Prelude.{◌≡◌, ℕ, ◌+◌, ◌≤◌, true, ◌⊎◌}
+use Rattle.std.specs.Prelude.{List, [], ◌∷◌, ◌++◌, length, codes, decimal, Some, slice_index}
 use Rattle.std.specs.declared.result.Result.{Result}
-use Rattle.std.specs.Str.{bytes_eq}
 use Rattle.event_records.specs.declared.limits.TheConstants.{MAX_THREAD}
 use Rattle.recorder_core.specs.declared.step.Step.{Step}
 use Rattle.recorder_core.specs.declared.step.Step.TheVariants.{AskEnq, AskDeq, Push, Effect, Say, Ret, Drain, Close}
-use Rattle.recorder_core.specs.declared.step.Answer.{Answer}
-use Rattle.recorder_core.specs.declared.step.Answer.TheVariants.{Taken, Not, Got, Empty}
+use Rattle.event_records.specs.declared.kind.Answer.{Answer}
+use Rattle.event_records.specs.declared.kind.Answer.TheVariants.{Taken, Not, Got, Empty}
 use Rattle.event_records.specs.declared.limits.TheConstants.{MAX_RING, MAX_STEPS, MAX_THREADS, MIN_RING}
 use Rattle.text_lines.specs.declared.fault.TextFault.{TextFault}
-use Rattle.text_lines.specs.declared.fault.TextFault.TheVariants.{Line}
 use Rattle.history_text.specs.declared.schedule.Schedule.{Schedule}
 use Rattle.history_text.specs.declared.schedule.TheConstants.{MOST_DRAINED}
 use Rattle.text_lines.specs.Input.{Ending}
-use Rattle.text_lines.specs.Lines.{line, spaced, end_line, greatest_value, front_of, header_fault, number_in, number_between, ◌>>=◌, After}
-use Rattle.history_text.specs.Items.{Kind, lines_of, HaveLines, LineFault, ItemFault, NoRoom}
+use Rattle.text_lines.specs.Lines.{line, spaced, end_line, greatest_value, front_of, header_fault, After}
+use Rattle.text_lines.specs.Forms.{Table, FieldForm, Word, Number}
+use Rattle.history_text.specs.Items.{Format, lines_of, HaveLines, LineFault, ItemFault, NoRoom, a_thread, a_value, read_by}
 
 -- ---- what is written
 
@@ -67,92 +66,79 @@ lines_before_steps threads ring = line schedule_header ++ line (spaced (setting_
 
 -- ---- what is read
 
--- the words of steps that say no more than their thread
-abbrev pub is_plain : List ℕ → Bool
-is_plain word =
-    bytes_eq word (codes "ask-enq") || (bytes_eq word (codes "ask-deq") || (bytes_eq word (codes "push")
-    || (bytes_eq word (codes "effect") || (bytes_eq word (codes "ret") || bytes_eq word (codes "close")))))
+-- the form of a step that says no more than its thread, by its word
+abbrev pub plain_step : List ℕ → List FieldForm
+plain_step word = Word word ∷ a_thread ∷ []
 
--- what one of these words says of its thread
-abbrev pub plain_step : List ℕ → ℕ → Step
-plain_step word t =
-    if bytes_eq word (codes "ask-enq") then AskEnq t
-    else (if bytes_eq word (codes "ask-deq") then AskDeq t
-    else (if bytes_eq word (codes "push") then Push t
-    else (if bytes_eq word (codes "effect") then Effect t
-    else (if bytes_eq word (codes "ret") then Ret t else Close t))))
+-- the form of a saying with no value, by the word of its answer
+abbrev pub plain_saying : List ℕ → List FieldForm
+plain_saying answer = Word (codes "say") ∷ a_thread ∷ Word answer ∷ []
 
--- the words of answers with no value
-abbrev pub plain_answer : List ℕ → Option Answer
-plain_answer word =
-    if bytes_eq word (codes "taken") then Some Taken
-    else (if bytes_eq word (codes "not") then Some Not
-    else (if bytes_eq word (codes "empty") then Some Empty else None))
+-- the form of a saying with a value
+abbrev pub valued_saying : List FieldForm
+valued_saying = Word (codes "say") ∷ a_thread ∷ Word (codes "got") ∷ a_value ∷ []
 
--- a step of line n that says no more than its thread
-abbrev pub step_of_two : ℕ → List ℕ → List ℕ → Result Step TextFault
-step_of_two n word thread =
-    if is_plain word then (number_in n MAX_THREAD thread >>= λ t. Ok (plain_step word t)) else Err (Line n)
+-- the form of a draining
+abbrev pub draining : List FieldForm
+draining = Word (codes "drain") ∷ a_thread ∷ Number 0 MOST_DRAINED ∷ []
 
--- a saying of line n, where its third field is such a word
-abbrev pub plain_saying : ℕ → List ℕ → Option Answer → Result Step TextFault
-plain_saying n thread None = Err (Line n)
-plain_saying n thread (Some answer) = number_in n MAX_THREAD thread >>= λ t. Ok (Say t answer)
+-- the forms of the lines of steps, and the steps by them, where 0 stands for a thread and for another number
+abbrev pub step_forms : Table Step
+step_forms =
+    (AskEnq 0, plain_step (codes "ask-enq")) ∷ (AskDeq 0, plain_step (codes "ask-deq")) ∷ (Push 0, plain_step (codes "push"))
+    ∷ (Effect 0, plain_step (codes "effect")) ∷ (Ret 0, plain_step (codes "ret")) ∷ (Close 0, plain_step (codes "close"))
+    ∷ (Drain 0 0, draining) ∷ (Say 0 Taken, plain_saying (codes "taken")) ∷ (Say 0 Not, plain_saying (codes "not"))
+    ∷ (Say 0 Empty, plain_saying (codes "empty")) ∷ (Say 0 (Got 0), valued_saying) ∷ []
 
--- a draining of line n: its number fields from left to right
-unfoldable pub draining : ℕ → List ℕ → List ℕ → Result Step TextFault
-draining n thread count = do
-  t ← number_in n MAX_THREAD thread
-  k ← number_in n MOST_DRAINED count
-  Ok (Drain t k)
+-- the same answer with this value, where it has one
+abbrev pub answer_with : Answer → ℕ → Answer
+answer_with (Got _) v = Got v
+answer_with answer v = answer
 
--- a step of line n with three fields
-abbrev pub step_of_three : ℕ → List ℕ → List ℕ → List ℕ → Result Step TextFault
-step_of_three n word thread third =
-    if bytes_eq word (codes "drain") then draining n thread third
-    else (if bytes_eq word (codes "say") then plain_saying n thread (plain_answer third) else Err (Line n))
+-- the same step of this thread, and with this number, where it has another one
+abbrev pub step_with : Step → ℕ → ℕ → Step
+step_with (AskEnq _) t v = AskEnq t
+step_with (AskDeq _) t v = AskDeq t
+step_with (Push _) t v = Push t
+step_with (Effect _) t v = Effect t
+step_with (Say _ answer) t v = Say t (answer_with answer v)
+step_with (Ret _) t v = Ret t
+step_with (Drain _ _) t v = Drain t v
+step_with (Close _) t v = Close t
 
--- a saying of line n with a value: its number fields from left to right
-unfoldable pub numbered_saying : ℕ → List ℕ → List ℕ → Result Step TextFault
-numbered_saying n thread value = do
-  t ← number_in n MAX_THREAD thread
-  v ← number_in n greatest_value value
-  Ok (Say t (Got v))
-
--- a step of line n with four fields
-abbrev pub step_of_four : ℕ → List ℕ → List ℕ → List ℕ → List ℕ → Result Step TextFault
-step_of_four n word thread third value =
-    if bytes_eq word (codes "say") && bytes_eq third (codes "got") then numbered_saying n thread value else Err (Line n)
+-- the step that a line says by its form and its numbers
+abbrev pub step_of : Step → List ℕ → Step
+step_of step numbers = step_with step (slice_index numbers 0) (slice_index numbers 1)
 
 -- the step of line n, by its fields
 abbrev pub step_in : ℕ → List (List ℕ) → Result Step TextFault
-step_in n (word ∷ thread ∷ []) = step_of_two n word thread
-step_in n (word ∷ thread ∷ third ∷ []) = step_of_three n word thread third
-step_in n (word ∷ thread ∷ third ∷ value ∷ []) = step_of_four n word thread third value
-step_in n _ = Err (Line n)
+step_in n fields = read_by step_forms step_of n fields
 
--- the numbers of the second line, line n, from left to right
-unfoldable pub numbered_setting : ℕ → List ℕ → List ℕ → Result (ℕ × ℕ) TextFault
-numbered_setting n threads ring = do
-  count ← number_between n 1 MAX_THREADS threads
-  room ← number_between n MIN_RING MAX_RING ring
-  Ok (count, room)
+-- the form of the second line
+abbrev pub setting_form : List FieldForm
+setting_form = Word (codes "threads") ∷ Number 1 MAX_THREADS ∷ Word (codes "ring") ∷ Number MIN_RING MAX_RING ∷ []
+
+-- the table of this form alone
+abbrev pub setting_forms : Table (Unit {0})
+setting_forms = (tt, setting_form) ∷ []
+
+-- the setting that a line says by its numbers
+abbrev pub setting_of : Unit {0} → List ℕ → ℕ × ℕ
+setting_of _ numbers = (slice_index numbers 0, slice_index numbers 1)
 
 -- the numbers of threads and of places in a ring that line n says, by its fields
 abbrev pub setting_in : ℕ → List (List ℕ) → Result (ℕ × ℕ) TextFault
-setting_in n (word ∷ threads ∷ other ∷ ring ∷ []) =
-    if bytes_eq word (codes "threads") && bytes_eq other (codes "ring") then numbered_setting n threads ring else Err (Line n)
-setting_in n _ = Err (Line n)
+setting_in n fields = read_by setting_forms setting_of n fields
 
 -- ---- schedules
 
 -- what a schedule lists
-abbrev pub step_kind : Kind Step
-step_kind = record { fields = step_fields; HasLine = HasStepLine; most = MAX_STEPS; is_counted = true; read = step_in }
+abbrev pub step_format : Format Step
+step_format = record { fields = step_fields; HasLine = HasStepLine; most = MAX_STEPS; is_counted = true; read = step_in }
 
 -- the text of a schedule
 abbrev pub schedule_text : Schedule → List ℕ
-schedule_text s = lines_before_steps s.threads s.ring ++ (lines_of step_kind s.steps ++ end_line (length s.steps))
+schedule_text s = lines_before_steps s.threads s.ring ++ (lines_of step_format s.steps ++ end_line (length s.steps))
 
 -- a setting that a schedule may have
 pub record IsSetting (threads ring : ℕ) : Type 0 where
@@ -164,7 +150,7 @@ pub record IsSetting (threads ring : ℕ) : Type 0 where
 -- which schedules have a text
 pub record HasScheduleText (s : Schedule) : Type 0 where
   pub setting : IsSetting s.threads s.ring
-  pub steps : HaveLines step_kind s.steps
+  pub steps : HaveLines step_format s.steps
 
 -- the first two lines are right, and what comes after them is so
 abbrev pub AfterSetting : (List ℕ → Type 0) → List ℕ → Type 0
@@ -174,8 +160,8 @@ AfterSetting P bytes = (threads : ℕ) × (ring : ℕ) × IsSetting threads ring
 abbrev pub IsScheduleTextFault : ℕ → Ending → List ℕ → TextFault → Type 0
 IsScheduleTextFault lines ending bytes fault =
     (header_fault schedule_header ending (front_of bytes) ≡ Some fault)
-    ⊎ (After (line schedule_header) (LineFault setting_in (lines + 2) ending fault) bytes ⊎ AfterSetting (ItemFault step_kind (lines + 3) ending fault) bytes)
+    ⊎ (After (line schedule_header) (LineFault setting_in (lines + 2) ending fault) bytes ⊎ AfterSetting (ItemFault step_format (lines + 3) ending fault) bytes)
 
 -- the first two lines are right, and some steps are each in their line; there was no room to keep the last
 abbrev pub NoRoomForSchedule : List ℕ → Type 0
-NoRoomForSchedule bytes = AfterSetting (NoRoom step_kind) bytes
+NoRoomForSchedule bytes = AfterSetting (NoRoom step_format) bytes

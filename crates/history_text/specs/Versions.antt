@@ -1,20 +1,20 @@
 -- The texts of histories of either version: how they are written, and the first fault of bytes that should begin with one.
-use Rattle.std.specs.Prelude.{◌≡◌, ℕ, ◌+◌, ◌≤◌, if◌then◌else◌, ◌⊎◌, false}
-use Rattle.std.specs.Prelude.{List, [], ◌∷◌, ◌++◌, length, codes, decimal, Some, Err}
+use Rattle.std.specs.Prelude.{◌≡◌, ℕ, ◌+◌, ◌≤◌, if◌then◌else◌, ◌⊎◌, Bool, true, false}
+use Rattle.std.specs.Prelude.{List, [], ◌∷◌, ◌++◌, length, codes, decimal, Some, Err, slice_index}
 use Rattle.std.specs.declared.result.Result.{Result}
-use Rattle.std.specs.Str.{bytes_eq}
 use Rattle.event_records.specs.declared.event.Event.{Event}
 use Rattle.event_records.specs.declared.limits.TheConstants.{MAX_INITIAL}
 use Rattle.history_merge.specs.Initial.{HistoryView}
 use Rattle.text_lines.specs.declared.fault.TextFault.{TextFault}
 use Rattle.text_lines.specs.declared.fault.TextFault.TheVariants.{Line}
 use Rattle.text_lines.specs.Input.{Ending}
-use Rattle.text_lines.specs.Lines.{line, spaced, greatest_value, Front, front_of, header_fault, number_in, After}
+use Rattle.text_lines.specs.Lines.{line, spaced, greatest_value, Front, front_of, header_fault, After}
 use Rattle.history_text.specs.declared.version.Version.{Version}
 use Rattle.history_text.specs.declared.version.Version.TheVariants.{One, Two}
 use Rattle.history_text.specs.declared.version.HistoryText.{HistoryText}
-use Rattle.history_text.specs.Items.{Kind, HaveLines, lines_of, LineFault, ItemFault, NoRoom, FaultAmong, NoRoomAmong}
-use Rattle.history_text.specs.Histories.{header, lines_to_end, event_kind, HasHistoryText}
+use Rattle.text_lines.specs.Forms.{Table, Word, Number}
+use Rattle.history_text.specs.Items.{Format, HaveLines, lines_of, LineFault, ItemFault, NoRoom, FaultAmong, NoRoomAmong, a_value, read_by}
+use Rattle.history_text.specs.Histories.{header, lines_to_end, event_format, HasHistoryText}
 
 -- ---- initial values
 
@@ -22,32 +22,42 @@ use Rattle.history_text.specs.Histories.{header, lines_to_end, event_kind, HasHi
 abbrev pub value_fields : ℕ → List (List ℕ)
 value_fields v = decimal v ∷ []
 
--- the value that a field of line n stands for
-abbrev pub value_of : ℕ → List ℕ → Result ℕ TextFault
-value_of n [] = Err (Line n)
-value_of n (b ∷ bytes) = number_in n greatest_value (b ∷ bytes)
+-- the form of its line
+abbrev pub value_forms : Table (Unit {0})
+value_forms = (tt, a_value ∷ []) ∷ []
+
+-- the number that a line with one says
+abbrev pub number_of : Unit {0} → List ℕ → ℕ
+number_of _ numbers = slice_index numbers 0
+
+-- the line has no byte
+abbrev pub is_blank : List (List ℕ) → Bool
+is_blank ([] ∷ []) = true
+is_blank _ = false
 
 -- the value of line n, by its fields
 abbrev pub value_in : ℕ → List (List ℕ) → Result ℕ TextFault
-value_in n (field ∷ []) = value_of n field
-value_in n _ = Err (Line n)
+value_in n fields = if is_blank fields then Err (Line n) else read_by value_forms number_of n fields
 
 -- what a history of version 2 lists before its events
-abbrev pub value_kind : Kind ℕ
-value_kind = record { fields = value_fields; HasLine = λ v. v ≤ greatest_value; most = MAX_INITIAL; is_counted = false; read = value_in }
+abbrev pub value_format : Format ℕ
+value_format = record { fields = value_fields; HasLine = λ v. v ≤ greatest_value; most = MAX_INITIAL; is_counted = false; read = value_in }
 
 -- the second line of version 2: how many initial values there are
 abbrev pub count_fields : ℕ → List (List ℕ)
 count_fields k = codes "initial" ∷ decimal k ∷ []
 
+-- the form of this line
+abbrev pub count_forms : Table (Unit {0})
+count_forms = (tt, Word (codes "initial") ∷ Number 0 MAX_INITIAL ∷ []) ∷ []
+
 -- the number of initial values that line n says, by its fields
 abbrev pub count_in : ℕ → List (List ℕ) → Result ℕ TextFault
-count_in n (word ∷ count ∷ []) = if bytes_eq word (codes "initial") then number_in n MAX_INITIAL count else Err (Line n)
-count_in n _ = Err (Line n)
+count_in n fields = read_by count_forms number_of n fields
 
 -- the line that tells how many initial values there are, and theirs
 abbrev pub lines_of_initial : List ℕ → List ℕ
-lines_of_initial initial = line (spaced (count_fields (length initial))) ++ lines_of value_kind initial
+lines_of_initial initial = line (spaced (count_fields (length initial))) ++ lines_of value_format initial
 
 -- ---- what is written
 
@@ -89,7 +99,7 @@ line_count t = count_before_events t.version t.initial + length t.events + 1
 -- initial values that a text of this version may have
 abbrev pub HaveValueLines : Version → List ℕ → Type 0
 HaveValueLines One initial = initial ≡ []
-HaveValueLines Two initial = HaveLines value_kind initial
+HaveValueLines Two initial = HaveLines value_format initial
 
 -- what has a text
 pub record HasText (t : HistoryText) : Type 0 where
@@ -108,17 +118,17 @@ AfterCount P bytes = (k : ℕ) × (k ≤ MAX_INITIAL) × After (line (spaced (co
 
 -- this line and those of the initial values are right, and what comes after them is so for their number
 abbrev pub AfterInitial : (ℕ → List ℕ → Type 0) → List ℕ → Type 0
-AfterInitial P bytes = (initial : List ℕ) × HaveLines value_kind initial × After (lines_of_initial initial) (P (length initial)) bytes
+AfterInitial P bytes = (initial : List ℕ) × HaveLines value_format initial × After (lines_of_initial initial) (P (length initial)) bytes
 
 -- line n doesn't count initial values, or of as many as it counts some come, and the line after them has this fault
 abbrev pub InitialFault : ℕ → Ending → TextFault → List ℕ → Type 0
-InitialFault n ending fault bytes = LineFault count_in n ending fault bytes ⊎ AfterCount (λ k. FaultAmong value_kind k (n + 1) ending fault) bytes
+InitialFault n ending fault bytes = LineFault count_in n ending fault bytes ⊎ AfterCount (λ k. FaultAmong value_format k (n + 1) ending fault) bytes
 
 -- what comes after the first line of a version, from line n on, has this first fault
 abbrev pub FaultAfterHeader : Version → ℕ → Ending → TextFault → List ℕ → Type 0
-FaultAfterHeader One n ending fault bytes = ItemFault event_kind n ending fault bytes
+FaultAfterHeader One n ending fault bytes = ItemFault event_format n ending fault bytes
 FaultAfterHeader Two n ending fault bytes =
-    InitialFault n ending fault bytes ⊎ AfterInitial (λ k. ItemFault event_kind (n + 1 + k) ending fault) bytes
+    InitialFault n ending fault bytes ⊎ AfterInitial (λ k. ItemFault event_format (n + 1 + k) ending fault) bytes
 
 -- the first line is that of no version, or what comes after it has this first fault
 abbrev pub IsTextFault : ℕ → Ending → List ℕ → TextFault → Type 0
@@ -128,8 +138,8 @@ IsTextFault lines ending bytes fault =
 
 -- of the initial values or the events after the first line some are each in their line; there was no room to keep the last
 abbrev pub NoRoomAfterHeader : Version → List ℕ → Type 0
-NoRoomAfterHeader One bytes = NoRoom event_kind bytes
-NoRoomAfterHeader Two bytes = AfterCount (NoRoomAmong value_kind) bytes ⊎ AfterInitial (λ k. NoRoom event_kind) bytes
+NoRoomAfterHeader One bytes = NoRoom event_format bytes
+NoRoomAfterHeader Two bytes = AfterCount (NoRoomAmong value_format) bytes ⊎ AfterInitial (λ k. NoRoom event_format) bytes
 
 -- the first line is right, and so is what comes after it up to there
 abbrev pub NoRoomForText : List ℕ → Type 0

@@ -1,79 +1,69 @@
-//! The line of an event, judged field by field, or found in one pass.
-ghost use Rattle.std.specs.Prelude.{◌≡◌, ◌++◌, ⊤, IfErr, IfSome};
+//! The line of an event, judged by its form, or found in one pass.
+ghost use Rattle.std.specs.Prelude.{◌≡◌, ◌≤◌, ◌++◌, IfErr, IfSome, slice_index};
 ghost use Rattle.text_lines.specs.Lines.{IsLineFault, fields_of, spaced};
 ghost use Rattle.history_text.specs.Histories as judged;
-ghost use Rattle.history_text.specs.Histories.{event_line, what_fields, HasValueInRange, HasEventLine, event_kind};
+ghost use Rattle.history_text.specs.Histories.{event_line, what_fields, HasValueInRange, HasEventLine, event_format};
 ghost use Rattle.std.proofs.Common.{lit≤};
 
 use crate::item::Item;
 use event_records::{Event, MAX_EVENTS, MAX_THREAD, MAX_TICKET, What};
-use text_lines::{TextFault, after_word, number_front, number_in, split_field};
+use text_lines::{Field, NumberFields, TextFault, after_word, number_front};
 
-fn plain_what(word: &[u8]) -> Option<What>
-    ensures { result ≡ judged.plain_what word.now }
+/// A ticket in a line.
+pub(crate) const TICKET: Field = Field::Number {
+    least: 0,
+    greatest: MAX_TICKET,
+};
+
+/// A thread in a line.
+pub(crate) const THREAD: Field = Field::Number {
+    least: 0,
+    greatest: MAX_THREAD as u64,
+};
+
+/// A value in a line.
+pub(crate) const VALUE: Field = Field::Number {
+    least: 0,
+    greatest: u64::MAX,
+};
+
+/// The forms of the lines of events, and what happened by them, where 0 stands for a value.
+const EVENT_FORMS: [(What, &[Field]); 6] = [
+    (
+        What::CallEnq(0),
+        &[TICKET, THREAD, Field::Word(b"call-enq"), VALUE],
+    ),
+    (What::RetEnq, &[TICKET, THREAD, Field::Word(b"ret-enq")]),
+    (What::RetNot, &[TICKET, THREAD, Field::Word(b"ret-not")]),
+    (What::CallDeq, &[TICKET, THREAD, Field::Word(b"call-deq")]),
+    (
+        What::RetDeq(0),
+        &[TICKET, THREAD, Field::Word(b"ret-deq"), VALUE],
+    ),
+    (What::RetEmpty, &[TICKET, THREAD, Field::Word(b"ret-empty")]),
+];
+
+/// The same with this value, where it has one.
+fn what_with(what: What, value: u64) -> What
+    ensures { result ≡ judged.what_with what value }
 {
-    if word == b"ret-enq".as_slice() {
-        Some(What::RetEnq)
-    } else if word == b"ret-not".as_slice() {
-        Some(What::RetNot)
-    } else if word == b"call-deq".as_slice() {
-        Some(What::CallDeq)
-    } else if word == b"ret-empty".as_slice() {
-        Some(What::RetEmpty)
-    } else {
-        None
+    match what {
+        What::CallEnq(_) => What::CallEnq(value),
+        What::RetDeq(_) => What::RetDeq(value),
+        What::RetEnq | What::RetNot | What::CallDeq | What::RetEmpty => what,
     }
 }
 
-fn has_value(word: &[u8]) -> bool
-    ensures { result ≡ judged.has_value word.now }
+/// The event that a line says by its form and its numbers.
+fn event_of(what: What, numbers: &NumberFields) -> Event
+    requires { slice_index numbers.now 1 ≤ MAX_THREAD }
+    ensures { result ≡ judged.event_of what numbers.now }
 {
-    word == b"call-enq".as_slice() || word == b"ret-deq".as_slice()
-}
-
-fn what_of(word: &[u8], value: u64) -> What
-    ensures { result ≡ judged.what_of word.now value }
-{
-    if word == b"call-enq".as_slice() {
-        What::CallEnq(value)
-    } else {
-        What::RetDeq(value)
+    Event {
+        ticket: numbers.at(0),
+        thread: numbers.at(1) as u8,
+        what: what_with(what, numbers.at(2)),
     }
-}
-
-#[tactic(auto, unfolding(crate::specs::Histories::stamped_event))]
-fn stamped_event(line: u64, ticket: &[u8], thread: &[u8], what: What) -> Result<Event, TextFault>
-    ensures value { result ≡ judged.stamped_event line ticket.now thread.now what }
-    ensures of_line { IfErr result IsLineFault }
-{
-    let ticket = number_in(line, MAX_TICKET, ticket)?;
-    let thread = number_in(line, u64::from(MAX_THREAD), thread)?;
-    Ok(Event {
-        ticket,
-        thread: thread as u8,
-        what,
-    })
-}
-
-#[tactic(auto, unfolding(crate::specs::Histories::numbered_event))]
-fn numbered_event(
-    line: u64,
-    ticket: &[u8],
-    thread: &[u8],
-    word: &[u8],
-    value: &[u8],
-) -> Result<Event, TextFault>
-    ensures value { result ≡ judged.numbered_event line ticket.now thread.now word.now value.now }
-    ensures of_line { IfErr result IsLineFault }
-{
-    let ticket = number_in(line, MAX_TICKET, ticket)?;
-    let thread = number_in(line, u64::from(MAX_THREAD), thread)?;
-    let value = number_in(line, u64::MAX, value)?;
-    Ok(Event {
-        ticket,
-        thread: thread as u8,
-        what: what_of(word, value),
-    })
 }
 
 /// The event of a line, or the first fault of its fields.
@@ -81,27 +71,8 @@ fn event_in(line: u64, bytes: &[u8]) -> Result<Event, TextFault>
     ensures value { result ≡ judged.event_in line (fields_of bytes.now) }
     ensures of_line { IfErr result IsLineFault }
 {
-    let Some((ticket, rest)) = split_field(bytes) else {
-        return Err(TextFault::Line(line));
-    };
-    let Some((thread, rest)) = split_field(rest) else {
-        return Err(TextFault::Line(line));
-    };
-    match split_field(rest) {
-        None => match plain_what(rest) {
-            Some(what) => stamped_event(line, ticket, thread, what),
-            None => Err(TextFault::Line(line)),
-        },
-        Some((word, value)) => {
-            if let Some((_, _more)) = split_field(value) {
-                return Err(TextFault::Line(line));
-            }
-            if !has_value(word) {
-                return Err(TextFault::Line(line));
-            }
-            numbered_event(line, ticket, thread, word, value)
-        }
-    }
+    let (what, numbers) = text_lines::judged(line, &EVENT_FORMS, bytes)?;
+    Ok(event_of(what, &numbers))
 }
 
 /// What a thread called or was answered, at the front, and the bytes after it.
@@ -160,7 +131,7 @@ fn event_front(bytes: &[u8]) -> Option<(Event, &[u8])>
 }
 
 impl Item for Event {
-    ghost kind = { event_kind };
+    ghost format = { event_format };
 
     ghost few = { lit≤ tt };
 

@@ -7,7 +7,7 @@ ghost use Rattle.text_lines.specs.Lines.{spaced, end_line, greatest_value};
 ghost use Rattle.history_text.specs.declared.version.Version.TheVariants.{One, Two};
 ghost use Rattle.history_text.specs.Items.{line_of, lines_of};
 ghost use Rattle.history_text.specs.Histories.{what_fields, event_line, history_text, HasHistoryText, HasValueInRange};
-ghost use Rattle.history_text.specs.Versions.{value_kind, lines_before_events, text_by, history_text_2, text_of, said_in, HasText};
+ghost use Rattle.history_text.specs.Versions.{value_format, lines_before_events, text_by, history_text_2, text_of, said_in, HasText};
 ghost use Rattle.text_lines.specs.Writing.{AppendsFront, Puts, IsWritten, IsRefused};
 
 use crate::version::Version;
@@ -81,7 +81,7 @@ fn put_events<W: TextSink>(
 
 fn push_value(kept: &mut Kept, value: u64)
     requires { length kept.old + 96 ≤ 4096 }
-    ensures line { kept.new ≡ kept.old ++ line_of value_kind value }
+    ensures line { kept.new ≡ kept.old ++ line_of value_format value }
     ensures fits { value ≤ greatest_value }
 {
     kept.push_number(value);
@@ -89,7 +89,7 @@ fn push_value(kept: &mut Kept, value: u64)
 }
 
 fn put_value<W: TextSink>(writer: &mut W, kept: &mut Kept, value: u64) -> Result<(), WriteFault>
-    ensures ok { OnOk result (Puts (W.contents writer.old) (W.contents writer.new) kept.old kept.new (line_of value_kind value)) }
+    ensures ok { OnOk result (Puts (W.contents writer.old) (W.contents writer.new) kept.old kept.new (line_of value_format value)) }
     ensures err { OnErr result (AppendsFront (W.contents writer.old) (W.contents writer.new) kept.old) }
     ensures refused { W.has_refused writer.new ≡ (W.has_refused writer.old || is_err result) }
     ensures written { OnOk result (IsWritten W.goes writer.old writer.new) }
@@ -106,8 +106,8 @@ fn put_values<W: TextSink>(
     kept: &mut Kept,
     values: &[u64],
 ) -> Result<(), WriteFault>
-    ensures ok { OnOk result (Puts (W.contents writer.old) (W.contents writer.new) kept.old kept.new (lines_of value_kind values.now)) }
-    ensures err { OnErr result (AppendsFront (W.contents writer.old) (W.contents writer.new) (kept.old ++ lines_of value_kind values.now)) }
+    ensures ok { OnOk result (Puts (W.contents writer.old) (W.contents writer.new) kept.old kept.new (lines_of value_format values.now)) }
+    ensures err { OnErr result (AppendsFront (W.contents writer.old) (W.contents writer.new) (kept.old ++ lines_of value_format values.now)) }
     ensures refused { W.has_refused writer.new ≡ (W.has_refused writer.old || is_err result) }
     ensures written { OnOk result (IsWritten W.goes writer.old writer.new) }
     ensures stopped { OnErr result (IsRefused W.goes writer.old writer.new) }

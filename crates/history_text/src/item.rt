@@ -3,7 +3,7 @@ ghost use Rattle.std.specs.Prelude.{◌≡◌, ◌≤◌, ◌&&◌, ◌++◌, If
 ghost use Rattle.event_records.specs.declared.limits.TheConstants.{MAX_EVENTS};
 ghost use Rattle.text_lines.specs.Lines.{IsLineFault, fields_of, begins_as_end};
 ghost use Rattle.history_text.specs.Items as judged;
-ghost use Rattle.history_text.specs.Items.{Kind, line_of};
+ghost use Rattle.history_text.specs.Items.{Format, line_of};
 ghost use Rattle.history_text.specs.Inner.Taking.{IsSpelled, IsItemLine};
 
 use text_lines::{TextFault, end_in};
@@ -11,39 +11,39 @@ use text_lines::{TextFault, end_in};
 /// What a line of a text stands for.
 pub(crate) trait Item: Drop {
     /// How a text lists such items.
-    ghost kind: { Kind Self };
+    ghost format: { Format Self };
 
     /// The most items of a text.
     fn most() -> usize
-        ensures { result ≡ kind.most };
+        ensures { result ≡ format.most };
 
     /// Whether a last line counts the items. Else they go on to the end of the input.
     fn is_counted() -> bool
-        ensures { result ≡ kind.is_counted };
+        ensures { result ≡ format.is_counted };
 
     /// The item of a whole line, or the first fault of its fields.
     fn from_line(line: u64, bytes: &[u8]) -> Result<Self, TextFault>
-        ensures value { result ≡ kind.read line (fields_of bytes.now) }
+        ensures value { result ≡ format.read line (fields_of bytes.now) }
         ensures of_line { IfErr result IsLineFault }
-        ensures spelled { IfOk result (IsSpelled kind (fields_of bytes.now)) };
+        ensures spelled { IfOk result (IsSpelled format (fields_of bytes.now)) };
 
     /// The item whose line stands whole at the front, and the bytes after it.
     ///
     /// It may find some lines that are right and none that is wrong. What it doesn't find, `from_line` judges.
     fn at_front(bytes: &[u8]) -> Option<(Self, &[u8])>
-        ensures { IfSome result (λ p. (bytes.now ≡ line_of kind p.0 ++ p.1.now) × kind.HasLine p.0) }
+        ensures { IfSome result (λ p. (bytes.now ≡ line_of format p.0 ++ p.1.now) × format.HasLine p.0) }
     {
         let _ = bytes;
         None
     }
 
     /// No text has more items than that, so that its lines can be counted.
-    ghost few: { kind.most ≤ MAX_EVENTS };
+    ghost few: { format.most ≤ MAX_EVENTS };
 }
 
 /// Whether the line is a last one, which counts the lines before it.
 fn is_last<T: Item>(bytes: &[u8]) -> bool
-    ensures { result ≡ (T.kind.is_counted && begins_as_end bytes.now) }
+    ensures { result ≡ (T.format.is_counted && begins_as_end bytes.now) }
 {
     T::is_counted() && bytes.starts_with(b"end ")
 }
@@ -54,9 +54,9 @@ pub(crate) fn item_in<T: Item>(
     count: usize,
     bytes: &[u8],
 ) -> Result<Option<T>, TextFault>
-    ensures value { result ≡ judged.item_in T.kind line count bytes.now }
+    ensures value { result ≡ judged.item_in T.format line count bytes.now }
     ensures of_line { IfErr result IsLineFault }
-    ensures spelled { IfOk result (IsItemLine T.kind count bytes.now) }
+    ensures spelled { IfOk result (IsItemLine T.format count bytes.now) }
 {
     if is_last::<T>(bytes) {
         return match end_in(line, count, &bytes[4..]) {

@@ -1,14 +1,16 @@
-//! The lines of a verdict: its first one, its operations and the initial values of a no, judged field by field.
-ghost use Rattle.std.specs.Prelude.{◌≡◌, IfOk, IfErr, MatchOption};
+//! The lines of a verdict: its first one, its operations and the initial values of a no, judged by their forms.
+ghost use Rattle.std.specs.Prelude.{◌≡◌, ◌≤◌, IfErr, MatchOption, slice_index};
 ghost use Rattle.std.proofs.Common.{lit≤};
 ghost use Rattle.text_lines.specs.Lines.{IsLineFault, fields_of};
+ghost use Rattle.history_text.specs.Items.{read_by};
 ghost use Rattle.history_text.specs.Claims as judged;
-ghost use Rattle.history_text.specs.Claims.{operation_kind, claim_line_kind, IsNoFirstLine, first_line};
+ghost use Rattle.history_text.specs.Claims.{operation_format, claim_line_format, IsNoFirstLine, first_line};
 
+use crate::event_line::{THREAD, TICKET, VALUE};
 use crate::item::Item;
-use event_records::{MAX_CLAIM_LINES, MAX_THREAD, MAX_TICKET};
+use event_records::{MAX_CLAIM_LINES, MAX_THREAD};
 use history_merge::{OpKind, Operation};
-use text_lines::{TextFault, number_in, split_field};
+use text_lines::{Field, NumberFields, TextFault, split_field};
 use verdicts::{ClaimLine, ViolationKind};
 
 /// What the first line of a verdict answers: a yes, for which no kind stands, or a no of some kind.
@@ -30,96 +32,61 @@ pub(crate) fn answer_in(bytes: &[u8]) -> Option<Option<ViolationKind>>
     }
 }
 
-fn has_value(word: &[u8]) -> bool
-    ensures { result ≡ judged.has_value word.now }
-{
-    word == b"enq".as_slice() || word == b"deq".as_slice() || word == b"not".as_slice()
-}
+/// The forms of the lines of operations, and what these did by them, where 0 stands for a value.
+const OPERATION_FORMS: [(OpKind, &[Field]); 4] = [
+    (
+        OpKind::Enq(0),
+        &[TICKET, TICKET, THREAD, Field::Word(b"enq"), VALUE],
+    ),
+    (
+        OpKind::Deq(0),
+        &[TICKET, TICKET, THREAD, Field::Word(b"deq"), VALUE],
+    ),
+    (
+        OpKind::Empty,
+        &[TICKET, TICKET, THREAD, Field::Word(b"empty")],
+    ),
+    (
+        OpKind::Not(0),
+        &[TICKET, TICKET, THREAD, Field::Word(b"not"), VALUE],
+    ),
+];
 
-fn kind_of_value(word: &[u8], value: u64) -> OpKind
-    ensures { result ≡ judged.kind_of_value word.now value }
+/// The form of an initial value.
+const INITIAL_FORMS: [((), &[Field]); 1] = [((), &[Field::Word(b"init"), VALUE])];
+
+/// The same with this value, where it has one.
+fn kind_with(kind: OpKind, value: u64) -> OpKind
+    ensures { result ≡ judged.kind_with kind value }
 {
-    if word == b"enq".as_slice() {
-        OpKind::Enq(value)
-    } else if word == b"deq".as_slice() {
-        OpKind::Deq(value)
-    } else {
-        OpKind::Not(value)
+    match kind {
+        OpKind::Enq(_) => OpKind::Enq(value),
+        OpKind::Deq(_) => OpKind::Deq(value),
+        OpKind::Empty => OpKind::Empty,
+        OpKind::Not(_) => OpKind::Not(value),
     }
 }
 
-#[tactic(auto, unfolding(crate::specs::Claims::empty_operation))]
-fn empty_operation(
-    line: u64,
-    call: &[u8],
-    ret: &[u8],
-    thread: &[u8],
-) -> Result<Operation, TextFault>
-    ensures value { result ≡ judged.empty_operation line call.now ret.now thread.now }
-    ensures of_line { IfErr result IsLineFault }
+/// The operation that a line says by its form and its numbers.
+fn operation_of(kind: OpKind, numbers: &NumberFields) -> Operation
+    requires { slice_index numbers.now 2 ≤ MAX_THREAD }
+    ensures { result ≡ judged.operation_of kind numbers.now }
 {
-    let call = number_in(line, MAX_TICKET, call)?;
-    let ret = number_in(line, MAX_TICKET, ret)?;
-    let thread = number_in(line, u64::from(MAX_THREAD), thread)?;
-    Ok(Operation {
-        call,
-        ret,
-        thread: thread as u8,
-        kind: OpKind::Empty,
-    })
-}
-
-#[tactic(auto, unfolding(crate::specs::Claims::numbered_operation))]
-fn numbered_operation(
-    line: u64,
-    call: &[u8],
-    ret: &[u8],
-    thread: &[u8],
-    word: &[u8],
-    value: &[u8],
-) -> Result<Operation, TextFault>
-    ensures value { result ≡ judged.numbered_operation line call.now ret.now thread.now word.now value.now }
-    ensures of_line { IfErr result IsLineFault }
-{
-    let call = number_in(line, MAX_TICKET, call)?;
-    let ret = number_in(line, MAX_TICKET, ret)?;
-    let thread = number_in(line, u64::from(MAX_THREAD), thread)?;
-    let value = number_in(line, u64::MAX, value)?;
-    Ok(Operation {
-        call,
-        ret,
-        thread: thread as u8,
-        kind: kind_of_value(word, value),
-    })
+    Operation {
+        call: numbers.at(0),
+        ret: numbers.at(1),
+        thread: numbers.at(2) as u8,
+        kind: kind_with(kind, numbers.at(3)),
+    }
 }
 
 /// The operation of a line, or the first fault of its fields.
-fn operation_of(line: u64, bytes: &[u8]) -> Result<Operation, TextFault>
-    ensures value { result ≡ judged.operation_of line (fields_of bytes.now) }
+fn read_operation(line: u64, bytes: &[u8]) -> Result<Operation, TextFault>
+    ensures value { result ≡ read_by judged.operation_forms judged.operation_of line (fields_of bytes.now) }
     ensures of_line { IfErr result IsLineFault }
 {
-    let Some((call, rest)) = split_field(bytes) else {
-        return Err(TextFault::Line(line));
-    };
-    let Some((ret, rest)) = split_field(rest) else {
-        return Err(TextFault::Line(line));
-    };
-    let Some((thread, rest)) = split_field(rest) else {
-        return Err(TextFault::Line(line));
-    };
-    let Some((word, value)) = split_field(rest) else {
-        if rest != b"empty".as_slice() {
-            return Err(TextFault::Line(line));
-        }
-        return empty_operation(line, call, ret, thread);
-    };
-    if let Some((_, _more)) = split_field(value) {
-        return Err(TextFault::Line(line));
-    }
-    if !has_value(word) {
-        return Err(TextFault::Line(line));
-    }
-    numbered_operation(line, call, ret, thread, word, value)
+    let (kind, numbers) = text_lines::judged(line, &OPERATION_FORMS, bytes)?;
+    Ok(operation_of(kind, &numbers))
 }
 
 /// Whether the first field is that of an initial value.
@@ -140,21 +107,7 @@ fn operation_in(line: u64, bytes: &[u8]) -> Result<Operation, TextFault>
     if is_initial(bytes) {
         return Err(TextFault::Line(line));
     }
-    operation_of(line, bytes)
-}
-
-/// The initial value of a line, or the first fault of its fields.
-fn initial_of(line: u64, bytes: &[u8]) -> Result<u64, TextFault>
-    ensures value { result ≡ judged.initial_of line (fields_of bytes.now) }
-    ensures of_line { IfErr result IsLineFault }
-{
-    let Some((_word, value)) = split_field(bytes) else {
-        return Err(TextFault::Line(line));
-    };
-    if let Some((_, _more)) = split_field(value) {
-        return Err(TextFault::Line(line));
-    }
-    number_in(line, u64::MAX, value)
+    read_operation(line, bytes)
 }
 
 /// What a line of a no says, or the first fault of its fields.
@@ -163,15 +116,15 @@ fn claim_line_in(line: u64, bytes: &[u8]) -> Result<ClaimLine, TextFault>
     ensures of_line { IfErr result IsLineFault }
 {
     if is_initial(bytes) {
-        let value = initial_of(line, bytes)?;
-        return Ok(ClaimLine::Initial(value));
+        let (_, numbers) = text_lines::judged(line, &INITIAL_FORMS, bytes)?;
+        return Ok(ClaimLine::Initial(numbers.at(0)));
     }
-    let operation = operation_of(line, bytes)?;
+    let operation = read_operation(line, bytes)?;
     Ok(ClaimLine::Op(operation))
 }
 
 impl Item for Operation {
-    ghost kind = { operation_kind };
+    ghost format = { operation_format };
 
     ghost few = { lit≤ tt };
 
@@ -189,7 +142,7 @@ impl Item for Operation {
 }
 
 impl Item for ClaimLine {
-    ghost kind = { claim_line_kind };
+    ghost format = { claim_line_format };
 
     ghost few = { lit≤ tt };
 

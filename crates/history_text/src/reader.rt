@@ -11,7 +11,7 @@ ghost use Rattle.text_lines.specs.Input.{EndOfInput, Failure, Takes, IsOver};
 ghost use Rattle.text_lines.specs.Lines.{line, spaced};
 ghost use Rattle.history_text.specs.Items.{line_of, lines_of, HaveLines};
 ghost use Rattle.history_text.specs.Histories.{history_text, HasHistoryText};
-ghost use Rattle.history_text.specs.Versions.{value_kind, count_fields, count_in as judged_count, lines_of_initial, header_of};
+ghost use Rattle.history_text.specs.Versions.{value_format, count_fields, count_in as judged_count, lines_of_initial, header_of};
 ghost use Rattle.history_text.specs.Versions.{lines_before_events, count_before_events, text_of, line_count, HaveValueLines, HasText};
 ghost use Rattle.history_text.specs.Schedules.{schedule_text, setting_fields, setting_in as judged_setting, HasScheduleText, IsSetting};
 ghost use Rattle.history_text.specs.Verdicts.{verdict_text};
@@ -156,7 +156,7 @@ impl<R: TextSource> TextReader<R> {
                     if line.len() == LONGEST_LINE {
                         return Ok(FrontLine::TooLong);
                     }
-                    line.push(byte);
+                    line.push_byte(byte);
                 }
             }
         }
@@ -218,7 +218,7 @@ impl<R: TextSource> TextReader<R> {
     #[inline(always)]
     fn item_in_buffer<T: Item>(&mut self) -> Option<T>
         requires { self.old.lines + 1 < 2 ^ 64 }
-        ensures item { IfSome result (λ item. Takes self.old.left self.new.left (line_of T.kind item) × T.kind.HasLine item) }
+        ensures item { IfSome result (λ item. Takes self.old.left self.new.left (line_of T.format item) × T.format.HasLine item) }
         ensures lines { IfSome result (λ _. self.new.lines ≡ self.old.lines + 1) }
         ensures none { IfNone result (self.new ≡ self.old) }
         ensures is_stopped { self.new.is_stopped ≡ self.old.is_stopped }
@@ -234,8 +234,8 @@ impl<R: TextSource> TextReader<R> {
     #[inline(never)]
     fn item_by_line<T: Item>(&mut self, count: usize) -> Result<Option<T>, TextFault>
         requires { self.old.lines + 1 < 2 ^ 64 }
-        ensures ok { IfOk result (TakesItem T.kind self.old.left self.new.left count) }
-        ensures fault { IfErr result (HasItemFault T.kind (self.old.lines + 1) count self.old.left) }
+        ensures ok { IfOk result (TakesItem T.format self.old.left self.new.left count) }
+        ensures fault { IfErr result (HasItemFault T.format (self.old.lines + 1) count self.old.left) }
         ensures of_input { IfErr result IsOfInput }
         ensures lines { self.new.lines ≡ self.old.lines + 1 }
         ensures is_stopped { self.new.is_stopped ≡ self.old.is_stopped }
@@ -259,8 +259,8 @@ impl<R: TextSource> TextReader<R> {
     #[inline(always)]
     fn next_item<T: Item>(&mut self, count: usize) -> Result<Option<T>, TextFault>
         requires { self.old.lines + 1 < 2 ^ 64 }
-        ensures ok { IfOk result (TakesItem T.kind self.old.left self.new.left count) }
-        ensures fault { IfErr result (HasItemFault T.kind (self.old.lines + 1) count self.old.left) }
+        ensures ok { IfOk result (TakesItem T.format self.old.left self.new.left count) }
+        ensures fault { IfErr result (HasItemFault T.format (self.old.lines + 1) count self.old.left) }
         ensures of_input { IfErr result IsOfInput }
         ensures lines { self.new.lines ≡ self.old.lines + 1 }
         ensures is_stopped { self.new.is_stopped ≡ self.old.is_stopped }
@@ -276,8 +276,8 @@ impl<R: TextSource> TextReader<R> {
     /// The item of the next line, which is to be one.
     fn told_by_line<T: Item>(&mut self) -> Result<T, TextFault>
         requires { self.old.lines + 1 < 2 ^ 64 }
-        ensures ok { IfOk result (λ item. Takes self.old.left self.new.left (line_of T.kind item) × T.kind.HasLine item) }
-        ensures fault { IfErr result (HasLineFault T.kind.read (self.old.lines + 1) self.old.left) }
+        ensures ok { IfOk result (λ item. Takes self.old.left self.new.left (line_of T.format item) × T.format.HasLine item) }
+        ensures fault { IfErr result (HasLineFault T.format.read (self.old.lines + 1) self.old.left) }
         ensures of_input { IfErr result IsOfInput }
         ensures lines { self.new.lines ≡ self.old.lines + 1 }
         ensures is_stopped { self.new.is_stopped ≡ self.old.is_stopped }
@@ -289,8 +289,8 @@ impl<R: TextSource> TextReader<R> {
     /// The same, in one pass where the line stands whole in the buffer and is right.
     fn told_item<T: Item>(&mut self) -> Result<T, TextFault>
         requires { self.old.lines + 1 < 2 ^ 64 }
-        ensures ok { IfOk result (λ item. Takes self.old.left self.new.left (line_of T.kind item) × T.kind.HasLine item) }
-        ensures fault { IfErr result (HasLineFault T.kind.read (self.old.lines + 1) self.old.left) }
+        ensures ok { IfOk result (λ item. Takes self.old.left self.new.left (line_of T.format item) × T.format.HasLine item) }
+        ensures fault { IfErr result (HasLineFault T.format.read (self.old.lines + 1) self.old.left) }
         ensures of_input { IfErr result IsOfInput }
         ensures lines { self.new.lines ≡ self.old.lines + 1 }
         ensures is_stopped { self.new.is_stopped ≡ self.old.is_stopped }
@@ -303,11 +303,11 @@ impl<R: TextSource> TextReader<R> {
 
     /// So many items, each in its line.
     fn told_items<T: Item>(&mut self, alloc: Global, count: usize) -> Result<Vec<T>, TextFault>
-        requires few { count ≤ T.kind.most }
+        requires few { count ≤ T.format.most }
         requires lines { self.old.lines < 2 ^ 63 + 2 ^ 32 }
-        ensures items { IfOk result (λ v. HaveLines T.kind v.items × Takes self.old.left self.new.left (lines_of T.kind v.items)) }
+        ensures items { IfOk result (λ v. HaveLines T.format v.items × Takes self.old.left self.new.left (lines_of T.format v.items)) }
         ensures count { IfOk result (λ v. length v.items ≡ count) }
-        ensures fault { IfErr result (HasFaultAmong T.kind count (self.old.lines + 1) self.old.left) }
+        ensures fault { IfErr result (HasFaultAmong T.format count (self.old.lines + 1) self.old.left) }
         ensures lines { IfOk result (λ v. self.new.lines ≡ self.old.lines + count) }
         ensures is_stopped { self.new.is_stopped ≡ self.old.is_stopped }
     {
@@ -324,9 +324,9 @@ impl<R: TextSource> TextReader<R> {
     /// The items from here on, up to the last line or the end of the input, go where they are collected.
     fn collect_items<T: Item, C: Collects<T>>(&mut self, into: &mut C) -> Result<(), TextFault>
         requires { self.old.lines < 2 ^ 63 + 2 ^ 33 }
-        ensures collected { IfOk result (λ _. (items : List T) × HaveLines T.kind items × TakesItems T.kind self.old.left self.new.left items
+        ensures collected { IfOk result (λ _. (items : List T) × HaveLines T.format items × TakesItems T.format self.old.left self.new.left items
             × (self.new.lines ≡ self.old.lines + 1 + length items) × C.Adds into.old into.new items) }
-        ensures fault { IfErr result (HasItemsFault T.kind (self.old.lines + 1) self.old.left) }
+        ensures fault { IfErr result (HasItemsFault T.format (self.old.lines + 1) self.old.left) }
         ensures is_stopped { self.new.is_stopped ≡ self.old.is_stopped }
     {
         let mut count = 0;
@@ -342,9 +342,9 @@ impl<R: TextSource> TextReader<R> {
     /// The items from here on, up to the last line or the end of the input.
     fn items<T: Item>(&mut self, alloc: Global) -> Result<Vec<T>, TextFault>
         requires { self.old.lines < 2 ^ 63 + 2 ^ 33 }
-        ensures each { IfOk result (λ v. HaveLines T.kind v.items) }
-        ensures taken { IfOk result (λ v. TakesItems T.kind self.old.left self.new.left v.items) }
-        ensures fault { IfErr result (HasItemsFault T.kind (self.old.lines + 1) self.old.left) }
+        ensures each { IfOk result (λ v. HaveLines T.format v.items) }
+        ensures taken { IfOk result (λ v. TakesItems T.format self.old.left self.new.left v.items) }
+        ensures fault { IfErr result (HasItemsFault T.format (self.old.lines + 1) self.old.left) }
         ensures lines { IfOk result (λ v. self.new.lines ≡ self.old.lines + 1 + length v.items) }
         ensures is_stopped { self.new.is_stopped ≡ self.old.is_stopped }
     {
@@ -393,7 +393,7 @@ impl<R: TextSource> TextReader<R> {
     /// The initial values, behind the line that counts them.
     fn initial_values(&mut self, alloc: Global) -> Result<Vec<u64>, TextFault>
         requires { self.old.lines < 2 ^ 63 + 2 }
-        ensures values { IfOk result (λ v. HaveLines value_kind v.items × Takes self.old.left self.new.left (lines_of_initial v.items)) }
+        ensures values { IfOk result (λ v. HaveLines value_format v.items × Takes self.old.left self.new.left (lines_of_initial v.items)) }
         ensures fault { IfErr result (HasInitialFault (self.old.lines + 1) self.old.left) }
         ensures lines { IfOk result (λ v. self.new.lines ≡ self.old.lines + 1 + length v.items) }
         ensures is_stopped { self.new.is_stopped ≡ self.old.is_stopped }

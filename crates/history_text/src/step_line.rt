@@ -1,139 +1,81 @@
-//! The lines of a schedule: its setting and its steps, judged field by field.
-ghost use Rattle.std.specs.Prelude.{◌≡◌, IfOk, IfErr};
+//! The lines of a schedule: its setting and its steps, judged by their forms.
+ghost use Rattle.std.specs.Prelude.{◌≡◌, ◌≤◌, IfErr, slice_index};
 ghost use Rattle.std.proofs.Common.{lit≤};
-ghost use Rattle.text_lines.specs.Lines.{IsLineFault, fields_of, number_in as judged_number};
+ghost use Rattle.text_lines.specs.Lines.{IsLineFault, fields_of};
 ghost use Rattle.history_text.specs.Schedules as judged;
-ghost use Rattle.history_text.specs.Schedules.{step_kind};
+ghost use Rattle.history_text.specs.Schedules.{step_format, HasStepLine};
 
+use crate::event_line::{THREAD, VALUE};
 use crate::item::Item;
 use crate::schedule::MOST_DRAINED;
 use event_records::{MAX_STEPS, MAX_THREAD};
 use recorder_core::{Answer, MAX_RING, MAX_THREADS, MIN_RING, Step};
-use text_lines::{TextFault, number_between, number_in, split_field};
+use text_lines::{Field, NumberFields, TextFault};
 
-fn is_plain(word: &[u8]) -> bool
-    ensures { result ≡ judged.is_plain word.now }
-{
-    word == b"ask-enq".as_slice()
-        || word == b"ask-deq".as_slice()
-        || word == b"push".as_slice()
-        || word == b"effect".as_slice()
-        || word == b"ret".as_slice()
-        || word == b"close".as_slice()
-}
+/// The forms of the lines of steps, and the steps by them, where 0 stands for a thread and for another number.
+const STEP_FORMS: [(Step, &[Field]); 11] = [
+    (Step::AskEnq(0), &[Field::Word(b"ask-enq"), THREAD]),
+    (Step::AskDeq(0), &[Field::Word(b"ask-deq"), THREAD]),
+    (Step::Push(0), &[Field::Word(b"push"), THREAD]),
+    (Step::Effect(0), &[Field::Word(b"effect"), THREAD]),
+    (Step::Ret(0), &[Field::Word(b"ret"), THREAD]),
+    (Step::Close(0), &[Field::Word(b"close"), THREAD]),
+    (
+        Step::Drain(0, 0),
+        &[
+            Field::Word(b"drain"),
+            THREAD,
+            Field::Number {
+                least: 0,
+                greatest: MOST_DRAINED as u64,
+            },
+        ],
+    ),
+    (
+        Step::Say(0, Answer::Taken),
+        &[Field::Word(b"say"), THREAD, Field::Word(b"taken")],
+    ),
+    (
+        Step::Say(0, Answer::Not),
+        &[Field::Word(b"say"), THREAD, Field::Word(b"not")],
+    ),
+    (
+        Step::Say(0, Answer::Empty),
+        &[Field::Word(b"say"), THREAD, Field::Word(b"empty")],
+    ),
+    (
+        Step::Say(0, Answer::Got(0)),
+        &[Field::Word(b"say"), THREAD, Field::Word(b"got"), VALUE],
+    ),
+];
 
-fn plain_step(word: &[u8], thread: u8) -> Step
-    ensures { result ≡ judged.plain_step word.now thread }
+/// The same answer with this value, where it has one.
+fn answer_with(answer: Answer, value: u64) -> Answer
+    ensures { result ≡ judged.answer_with answer value }
 {
-    if word == b"ask-enq".as_slice() {
-        Step::AskEnq(thread)
-    } else if word == b"ask-deq".as_slice() {
-        Step::AskDeq(thread)
-    } else if word == b"push".as_slice() {
-        Step::Push(thread)
-    } else if word == b"effect".as_slice() {
-        Step::Effect(thread)
-    } else if word == b"ret".as_slice() {
-        Step::Ret(thread)
-    } else {
-        Step::Close(thread)
+    match answer {
+        Answer::Got(_) => Answer::Got(value),
+        Answer::Taken | Answer::Not | Answer::Empty => answer,
     }
 }
 
-fn plain_answer(word: &[u8]) -> Option<Answer>
-    ensures { result ≡ judged.plain_answer word.now }
+/// The step that a line says by its form and its numbers.
+fn step_of(step: Step, numbers: &NumberFields) -> Step
+    requires thread { slice_index numbers.now 0 ≤ MAX_THREAD }
+    requires has_line { HasStepLine (judged.step_of step numbers.now) }
+    ensures { result ≡ judged.step_of step numbers.now }
 {
-    if word == b"taken".as_slice() {
-        Some(Answer::Taken)
-    } else if word == b"not".as_slice() {
-        Some(Answer::Not)
-    } else if word == b"empty".as_slice() {
-        Some(Answer::Empty)
-    } else {
-        None
+    let thread = numbers.at(0) as u8;
+    match step {
+        Step::AskEnq(_) => Step::AskEnq(thread),
+        Step::AskDeq(_) => Step::AskDeq(thread),
+        Step::Push(_) => Step::Push(thread),
+        Step::Effect(_) => Step::Effect(thread),
+        Step::Say(_, answer) => Step::Say(thread, answer_with(answer, numbers.at(1))),
+        Step::Ret(_) => Step::Ret(thread),
+        Step::Drain(_, _) => Step::Drain(thread, numbers.at(1) as u32),
+        Step::Close(_) => Step::Close(thread),
     }
-}
-
-fn thread_in(line: u64, field: &[u8]) -> Result<u8, TextFault>
-    ensures value { result ≡ judged_number line MAX_THREAD field.now }
-    ensures of_line { IfErr result IsLineFault }
-{
-    let thread = number_in(line, u64::from(MAX_THREAD), field)?;
-    Ok(thread as u8)
-}
-
-fn step_of_two(line: u64, word: &[u8], thread: &[u8]) -> Result<Step, TextFault>
-    ensures value { result ≡ judged.step_of_two line word.now thread.now }
-    ensures of_line { IfErr result IsLineFault }
-{
-    if !is_plain(word) {
-        return Err(TextFault::Line(line));
-    }
-    let thread = thread_in(line, thread)?;
-    Ok(plain_step(word, thread))
-}
-
-#[tactic(auto, unfolding(crate::specs::Schedules::draining))]
-fn draining(line: u64, thread: &[u8], count: &[u8]) -> Result<Step, TextFault>
-    ensures value { result ≡ judged.draining line thread.now count.now }
-    ensures of_line { IfErr result IsLineFault }
-{
-    let thread = number_in(line, u64::from(MAX_THREAD), thread)?;
-    let count = number_in(line, u64::from(MOST_DRAINED), count)?;
-    Ok(Step::Drain(thread as u8, count as u32))
-}
-
-fn plain_saying(line: u64, thread: &[u8], answer: Option<Answer>) -> Result<Step, TextFault>
-    ensures value { result ≡ judged.plain_saying line thread.now answer }
-    ensures of_line { IfErr result IsLineFault }
-{
-    let Some(answer) = answer else {
-        return Err(TextFault::Line(line));
-    };
-    let thread = thread_in(line, thread)?;
-    Ok(Step::Say(thread, answer))
-}
-
-fn step_of_three(line: u64, word: &[u8], thread: &[u8], third: &[u8]) -> Result<Step, TextFault>
-    ensures value { result ≡ judged.step_of_three line word.now thread.now third.now }
-    ensures of_line { IfErr result IsLineFault }
-{
-    if word == b"drain".as_slice() {
-        return draining(line, thread, third);
-    }
-    if word == b"say".as_slice() {
-        return plain_saying(line, thread, plain_answer(third));
-    }
-    Err(TextFault::Line(line))
-}
-
-#[tactic(auto, unfolding(crate::specs::Schedules::numbered_saying))]
-fn numbered_saying(line: u64, thread: &[u8], value: &[u8]) -> Result<Step, TextFault>
-    ensures value { result ≡ judged.numbered_saying line thread.now value.now }
-    ensures of_line { IfErr result IsLineFault }
-{
-    let thread = number_in(line, u64::from(MAX_THREAD), thread)?;
-    let value = number_in(line, u64::MAX, value)?;
-    Ok(Step::Say(thread as u8, Answer::Got(value)))
-}
-
-fn step_of_four(
-    line: u64,
-    word: &[u8],
-    thread: &[u8],
-    third: &[u8],
-    value: &[u8],
-) -> Result<Step, TextFault>
-    ensures value { result ≡ judged.step_of_four line word.now thread.now third.now value.now }
-    ensures of_line { IfErr result IsLineFault }
-{
-    if word != b"say".as_slice() {
-        return Err(TextFault::Line(line));
-    }
-    if third != b"got".as_slice() {
-        return Err(TextFault::Line(line));
-    }
-    numbered_saying(line, thread, value)
 }
 
 /// The step of a line, or the first fault of its fields.
@@ -141,23 +83,12 @@ fn step_in(line: u64, bytes: &[u8]) -> Result<Step, TextFault>
     ensures value { result ≡ judged.step_in line (fields_of bytes.now) }
     ensures of_line { IfErr result IsLineFault }
 {
-    let Some((word, rest)) = split_field(bytes) else {
-        return Err(TextFault::Line(line));
-    };
-    let Some((thread, rest)) = split_field(rest) else {
-        return step_of_two(line, word, rest);
-    };
-    let Some((third, rest)) = split_field(rest) else {
-        return step_of_three(line, word, thread, rest);
-    };
-    if let Some((_, _more)) = split_field(rest) {
-        return Err(TextFault::Line(line));
-    }
-    step_of_four(line, word, thread, third, rest)
+    let (step, numbers) = text_lines::judged(line, &STEP_FORMS, bytes)?;
+    Ok(step_of(step, &numbers))
 }
 
 impl Item for Step {
-    ghost kind = { step_kind };
+    ghost format = { step_format };
 
     ghost few = { lit≤ tt };
 
@@ -174,38 +105,28 @@ impl Item for Step {
     }
 }
 
-#[tactic(auto, unfolding(crate::specs::Schedules::numbered_setting))]
-fn numbered_setting(line: u64, threads: &[u8], ring: &[u8]) -> Result<(usize, usize), TextFault>
-    ensures value { result ≡ judged.numbered_setting line threads.now ring.now }
-    ensures of_line { IfErr result IsLineFault }
-{
-    let threads = number_between(line, 1, MAX_THREADS as u64, threads)?;
-    let ring = number_between(line, MIN_RING as u64, MAX_RING as u64, ring)?;
-    Ok((threads as usize, ring as usize))
-}
+/// The form of the second line.
+const SETTING_FORMS: [((), &[Field]); 1] = [(
+    (),
+    &[
+        Field::Word(b"threads"),
+        Field::Number {
+            least: 1,
+            greatest: MAX_THREADS as u64,
+        },
+        Field::Word(b"ring"),
+        Field::Number {
+            least: MIN_RING as u64,
+            greatest: MAX_RING as u64,
+        },
+    ],
+)];
 
 /// The numbers of threads and of places in a ring that a line says, or the first fault of its fields.
 pub(crate) fn setting_in(line: u64, bytes: &[u8]) -> Result<(usize, usize), TextFault>
     ensures value { result ≡ judged.setting_in line (fields_of bytes.now) }
     ensures of_line { IfErr result IsLineFault }
 {
-    let Some((word, rest)) = split_field(bytes) else {
-        return Err(TextFault::Line(line));
-    };
-    let Some((threads, rest)) = split_field(rest) else {
-        return Err(TextFault::Line(line));
-    };
-    let Some((other, ring)) = split_field(rest) else {
-        return Err(TextFault::Line(line));
-    };
-    if let Some((_, _more)) = split_field(ring) {
-        return Err(TextFault::Line(line));
-    }
-    if word != b"threads".as_slice() {
-        return Err(TextFault::Line(line));
-    }
-    if other != b"ring".as_slice() {
-        return Err(TextFault::Line(line));
-    }
-    numbered_setting(line, threads, ring)
+    let (_, numbers) = text_lines::judged(line, &SETTING_FORMS, bytes)?;
+    Ok((numbers.at(0) as usize, numbers.at(1) as usize))
 }

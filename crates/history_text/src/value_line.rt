@@ -1,15 +1,16 @@
 //! The lines before the events: the first one, the count of the initial values, and each of these.
-ghost use Rattle.std.specs.Prelude.{◌≡◌, ◌++◌, IfOk, IfErr, IfSome, MatchOption};
+ghost use Rattle.std.specs.Prelude.{◌≡◌, ◌++◌, IfErr, IfSome, MatchOption};
 ghost use Rattle.std.proofs.Common.{lit≤};
 ghost use Rattle.text_lines.specs.Lines.{IsLineFault, fields_of};
 ghost use Rattle.history_text.specs.Items.{line_of};
 ghost use Rattle.history_text.specs.Versions as judged;
-ghost use Rattle.history_text.specs.Versions.{value_kind, header_of};
+ghost use Rattle.history_text.specs.Versions.{value_format, header_of};
 
+use crate::event_line::VALUE;
 use crate::item::Item;
 use crate::version::Version;
 use event_records::MAX_INITIAL;
-use text_lines::{TextFault, after_word, number_front, number_in, split_field};
+use text_lines::{Field, TextFault, after_word, number_front};
 
 /// The version of which this is the first line.
 pub(crate) fn version_in(bytes: &[u8]) -> Option<Version>
@@ -24,22 +25,36 @@ pub(crate) fn version_in(bytes: &[u8]) -> Option<Version>
     }
 }
 
+/// The form of the line that counts the initial values.
+const COUNT_FORMS: [((), &[Field]); 1] = [(
+    (),
+    &[
+        Field::Word(b"initial"),
+        Field::Number {
+            least: 0,
+            greatest: MAX_INITIAL as u64,
+        },
+    ],
+)];
+
+/// The form of the line of an initial value.
+const VALUE_FORMS: [((), &[Field]); 1] = [((), &[VALUE])];
+
 /// The number of initial values that a line says, or the first fault of its fields.
 pub(crate) fn count_in(line: u64, bytes: &[u8]) -> Result<usize, TextFault>
     ensures value { result ≡ judged.count_in line (fields_of bytes.now) }
     ensures of_line { IfErr result IsLineFault }
 {
-    let Some((word, count)) = split_field(bytes) else {
-        return Err(TextFault::Line(line));
-    };
-    if let Some((_, _more)) = split_field(count) {
-        return Err(TextFault::Line(line));
-    }
-    if word != b"initial".as_slice() {
-        return Err(TextFault::Line(line));
-    }
-    let count = number_in(line, MAX_INITIAL as u64, count)?;
-    Ok(count as usize)
+    let (_, numbers) = text_lines::judged(line, &COUNT_FORMS, bytes)?;
+    Ok(numbers.at(0) as usize)
+}
+
+/// Whether the line has no byte.
+#[tactic(auto, using(crate::proofs::ValueLines::blank_line))]
+fn is_blank(bytes: &[u8]) -> bool
+    ensures { result ≡ judged.is_blank (fields_of bytes.now) }
+{
+    bytes.is_empty()
 }
 
 /// The value of a line, or the first fault of its fields.
@@ -47,13 +62,11 @@ fn value_in(line: u64, bytes: &[u8]) -> Result<u64, TextFault>
     ensures value { result ≡ judged.value_in line (fields_of bytes.now) }
     ensures of_line { IfErr result IsLineFault }
 {
-    if let Some((_, _more)) = split_field(bytes) {
+    if is_blank(bytes) {
         return Err(TextFault::Line(line));
     }
-    if bytes.is_empty() {
-        return Err(TextFault::Line(line));
-    }
-    number_in(line, u64::MAX, bytes)
+    let (_, numbers) = text_lines::judged(line, &VALUE_FORMS, bytes)?;
+    Ok(numbers.at(0))
 }
 
 /// The value whose line stands whole at the front, and the bytes after it.
@@ -61,7 +74,7 @@ fn value_in(line: u64, bytes: &[u8]) -> Result<u64, TextFault>
 /// It finds each line that is right and none that is wrong. What it doesn't find, `value_in` judges.
 #[inline(always)]
 fn value_front(bytes: &[u8]) -> Option<(u64, &[u8])>
-    ensures { IfSome result (λ p. bytes.now ≡ line_of value_kind p.0 ++ p.1.now) }
+    ensures { IfSome result (λ p. bytes.now ≡ line_of value_format p.0 ++ p.1.now) }
 {
     let (value, rest) = number_front(bytes)?;
     let rest = after_word(rest, b"\n")?;
@@ -69,7 +82,7 @@ fn value_front(bytes: &[u8]) -> Option<(u64, &[u8])>
 }
 
 impl Item for u64 {
-    ghost kind = { value_kind };
+    ghost format = { value_format };
 
     ghost few = { lit≤ tt };
 

@@ -43,14 +43,3 @@ has_field (b ∷ bytes) =
       | true ↦ ([], fields_of bytes, refl)
       | false ↦ let rest = has_field bytes in (b ∷ rest.0, rest.1, ap (onto_first b) rest.2)
     ]
-
--- what is judged of five fields and more is judged of a line that has them
-pub five_fields : {X : Type 0} (judge : List (List ℕ) → X) (x : X) (all a b c d r1 r2 r3 r4 : List ℕ) → fields_of all ≡ a ∷ fields_of r1
-    → fields_of r1 ≡ b ∷ fields_of r2 → fields_of r2 ≡ c ∷ fields_of r3 → fields_of r3 ≡ d ∷ fields_of r4
-    → ((field : List ℕ) (others : List (List ℕ)) → judge (a ∷ b ∷ c ∷ d ∷ field ∷ others) ≡ x) → x ≡ judge (fields_of all)
-five_fields judge x all a b c d r1 r2 r3 r4 e1 e2 e3 e4 five =
-    let last = has_field r4 in
-    let fields : fields_of all ≡ a ∷ b ∷ c ∷ d ∷ last.0 ∷ last.1 =
-    e1 ∙ ap (λ (r : List (List ℕ)). a ∷ r) (e2 ∙ ap (λ (r : List (List ℕ)). b ∷ r)
-    (e3 ∙ ap (λ (r : List (List ℕ)). c ∷ r) (e4 ∙ ap (λ (r : List (List ℕ)). d ∷ r) last.2))) in
-    sym (ap judge fields ∙ five last.0 last.1)

@@ -1,6 +1,7 @@
 -- The way of the argument, from bytes to lines and back:
 -- Consuming, Fronts: bytes that are taken in turn, and the front of bytes of which the beginning is known.
 -- Digits, Numbers, Fields: numbers and words, read as they are spelled; the fields of a line.
+-- Tables: lines that are judged by a table of their forms.
 -- Scanning: what stands at the front, found in one pass.
 -- MemoryOrNot: want of memory, and the other faults.
 -- Appending, Asking, Holding: bytes that are written in turn, what a sink was asked, and what it keeps back.
@@ -14,5 +15,6 @@ pub mod Appending
 pub mod Asking
 pub mod Holding
 pub mod WrittenLines
+pub mod Tables
 pub mod Scanning
 pub mod MemoryOrNot

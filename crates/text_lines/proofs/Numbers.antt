@@ -1,5 +1,5 @@
 -- Numbers and words, read as they are spelled.
-use Rattle.std.proofs.Common.{◌≡◌, ℕ, ◌^◌, ◌<◌, ◌≤◌, List, length, Bool, true, false, ◌&&◌, ◌||◌, cond, nat_lt, nat_le, arith, rules, ap, sym, subst}
+use Rattle.std.proofs.Common.{◌≡◌, ℕ, ◌^◌, ◌<◌, ◌≤◌, List, length, Bool, true, false, ◌&&◌, cond, nat_lt, nat_le, arith, rules, ap, sym, subst}
 use Rattle.std.proofs.Common.{◌∙◌, refl, inl, inr, ◌⊎◌, Ok, Err}
 use Rattle.std.specs.Prelude.{◌==◌, decimal}
 use Rattle.std.specs.declared.result.Result.{Result}
@@ -40,11 +40,6 @@ by_test P b x y held failed =
       | true ↦ λ h k. h refl
       | false ↦ λ h k. k refl
     ] held failed
-
--- where one of two holds and it isn't the first, it is the second
-pub other_true : (a b : Bool) → a ≡ false → (a || b) ≡ true → b ≡ true
-other_true true b is e = absurd (cc)
-other_true false b is e = e
 
 -- ---- numbers
 

@@ -1,6 +1,6 @@
 -- What is written of fields, numbers and lines is read back, whatever comes after it.
 use Rattle.std.proofs.Common.{◌≡◌, ℕ, zero, suc, ◌^◌, ◌<◌, ◌≤◌, List, [], ◌∷◌, ◌++◌, length, Bool, true, false, ◌||◌, not, nat_lt, nat_le, nat_eq}
-use Rattle.std.proofs.Common.{arith, ap, ◌∙◌, refl, Ok, length-append}
+use Rattle.std.proofs.Common.{arith, ap, ◌∙◌, refl, Ok}
 use Rattle.std.specs.Prelude.{◌==◌, decimal}
 use Rattle.std.specs.Char.{is_ascii_digit}
 use Rattle.std.specs.List.{All, AllByRecursion, list_all}
@@ -11,8 +11,8 @@ use Rattle.std.proofs.lemmas.List.Elements.{All-cons}
 use Rattle.std.proofs.lemmas.List.Folds.{list_all-append}
 use Rattle.std.proofs.lemmas.List.Splits.{slice_split_at, slice_split_none}
 use Rattle.std.proofs.lemmas.Str.Parse.{numerals_by_value}
-use Rattle.std.proofs.lemmas.Fmt.{decimal_digit, digits_decimal, digits_value-decimal, decimal_nonempty, first_decimal, length-decimal-le}
-use Rattle.text_lines.specs.Lines.{spaced, greatest_value, is_number, number_in, number_between, fields_of, begins_as_end, end_in, is_line_feed}
+use Rattle.std.proofs.lemmas.Fmt.{decimal_digit, digits_decimal, digits_value-decimal, decimal_nonempty, first_decimal}
+use Rattle.text_lines.specs.Lines.{spaced, is_number, number_in, number_between, fields_of, begins_as_end, end_in, is_line_feed}
 use Rattle.text_lines.specs.Inner.Lines.{has_no_line_feed, IsPartOfLine}
 use Rattle.text_lines.proofs.Numbers.{tells, both}
 
@@ -103,26 +103,6 @@ pub end_read : (n k : ℕ) → k < 2 ^ 64 → end_in n k (decimal k) ≡ Ok tt
 end_read n k small =
     let same : (k == k) ≡ true = grind (arith, nat_tests) in
     rw (is_number_decimal k small, value_decimal k small, same) refl
-
--- a word, and perhaps others after it
-pub record HasFields (fields : List (List ℕ)) : Type 0 where
-  pub word : List ℕ
-  pub others : List (List ℕ)
-  pub is : fields ≡ word ∷ others
-  pub one : IsField word
-  pub all : AllByRecursion IsField others
-  pub short : length (spaced (word ∷ others)) ≤ 29
-
--- a word and a value are the fields of their line
-pub with_value : (word : List ℕ) (v : ℕ) → IsField word → length word ≤ 8 → v ≤ greatest_value → HasFields (word ∷ decimal v ∷ [])
-with_value word v one few r = record {
-  word = word;
-  others = decimal v ∷ [];
-  is = refl;
-  one = one;
-  all = (number_is_field v (omega (arith, r)), tt);
-  short = omega (arith, length-append word (32 ∷ decimal v), few, length-decimal-le 20 v (omega arith) (omega (arith, r)) (omega (arith, r)));
-}
 
 -- ---- lines
 

@@ -5,4 +5,5 @@ pub mod Writing
 pub mod Watching
 pub mod Holding
 pub mod Faults
+pub mod Forms
 pub mod Inner

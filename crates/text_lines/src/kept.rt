@@ -1,9 +1,9 @@
-ghost use Rattle.std.specs.Prelude.{◌≡◌, ◌+◌, ◌≤◌, ◌||◌, ◌∷◌, ◌++◌, List, [], length, take, ℕ, decimal, is_err, OnOk, OnErr};
+ghost use Rattle.std.specs.Prelude.{◌≡◌, ◌+◌, ◌≤◌, ◌||◌, ◌∷◌, ◌++◌, [], length, decimal, is_err, OnOk, OnErr};
 ghost use Rattle.text_lines.specs.Writing.{AppendsFront, Puts, IsWritten, IsRefused};
 
+use crate::in_place::InPlace;
 use crate::sink::{TextSink, WriteFault, write_piece};
 use itoa::Buffer;
-use std::marker::Model;
 
 /// The most bytes that are kept back before they are written.
 pub(crate) const KEPT_LEN: usize = 4096;
@@ -12,67 +12,9 @@ pub(crate) const KEPT_LEN: usize = 4096;
 const LINE_ROOM: usize = 96;
 
 /// Bytes of a text that are kept back, so that many lines are written at once. Contracts see the list of them.
-///
-/// They lie in place, so it takes no memory.
-#[derive(Drop)]
-pub struct Kept {
-    bytes: [u8; KEPT_LEN],
-    len: usize,
-}
+pub type Kept = InPlace<KEPT_LEN>;
 
-impl Model for Kept {
-    ghost Value = { List ℕ };
-
-    ghost view = { λ k. take k.len k.bytes };
-
-    ghost invariant = { λ k. k.len ≤ 4096 };
-}
-
-impl Kept {
-    /// Nothing is kept back yet.
-    pub fn new() -> Self
-        ensures { result ≡ [] }
-    {
-        Kept {
-            bytes: [0; KEPT_LEN],
-            len: 0,
-        }
-    }
-
-    /// How many bytes are kept back.
-    pub fn len(&self) -> usize
-        ensures value { result ≡ length self.now }
-        ensures few { length self.now ≤ 4096 }
-    {
-        self.len
-    }
-
-    /// The bytes, in their order.
-    pub fn as_slice(&self) -> &[u8]
-        ensures { result.now ≡ self.now }
-    {
-        &self.bytes[..self.len]
-    }
-
-    /// Nothing is kept back any more.
-    pub fn clear(&mut self)
-        ensures { self.new ≡ [] }
-    {
-        self.len = 0;
-    }
-
-    /// More bytes, where there is room for them: there is for 4,096 in all.
-    #[inline(always)]
-    pub fn push(&mut self, bytes: &[u8])
-        requires { length self.old + length bytes.now ≤ 4096 }
-        ensures bytes { self.new ≡ self.old ++ bytes.now }
-        ensures len { length self.new ≡ length self.old + length bytes.now }
-    {
-        let end = self.len + bytes.len();
-        self.bytes[self.len..end].copy_from_slice(bytes);
-        self.len = end;
-    }
-
+impl InPlace<KEPT_LEN> {
     /// A number in decimal digits, of which there are at most 20.
     #[inline(always)]
     pub fn push_number(&mut self, number: u64)

@@ -8,6 +8,8 @@
 mod buffered;
 mod fault;
 mod field;
+mod forms;
+mod in_place;
 mod kept;
 mod line;
 mod memory;
@@ -17,7 +19,9 @@ mod source;
 
 pub use buffered::Buffered;
 pub use fault::TextFault;
-pub use field::{end_in, number_between, number_in, split_field};
+pub use field::{end_in, split_field};
+pub use forms::{Field, NumberFields, judged};
+pub use in_place::InPlace;
 pub use kept::{Kept, make_room};
 pub use line::{LONGEST_LINE, Line};
 pub use memory::MemorySource;

@@ -9,8 +9,8 @@ use Rattle.text_lines.specs.Input.{Ahead, Ending, EndOfInput, Failure, Takes, Is
 use Rattle.text_lines.specs.Lines.{line, end_line, longest_line, is_line_feed, front_of, header_fault, Front, Whole, TooLong}
 use Rattle.text_lines.specs.Inner.Lines.{IsPartOfLine}
 use Rattle.text_lines.specs.Lines.{Unfinished, Nothing, fault_at}
-use Rattle.history_text.specs.Items.{Kind, line_of, lines_of, item_at_front, LineFault, ItemFault, NoRoom, FaultAmong, NoRoomAmong}
-use Rattle.history_text.specs.Versions.{value_kind, NoVersionFault, AfterCount, InitialFault}
+use Rattle.history_text.specs.Items.{Format, line_of, lines_of, item_at_front, LineFault, ItemFault, NoRoom, FaultAmong, NoRoomAmong}
+use Rattle.history_text.specs.Versions.{value_format, NoVersionFault, AfterCount, InitialFault}
 use Rattle.history_text.specs.Claims.{FirstLineFault}
 use Rattle.history_text.specs.Reading.{HasFirstFault}
 
@@ -56,14 +56,14 @@ HasFirstLineFault n old fault = IfSome old (λ a. FirstLineFault n a.ending faul
 -- ---- items
 
 -- an item whose line may be in a text has these fields
-pub record IsSpelled {A : Type 0} (kind : Kind A) (fields : List (List ℕ)) (item : A) : Type 0 where
-  pub text : fields ≡ kind.fields item
-  pub line : kind.HasLine item
+pub record IsSpelled {A : Type 0} (format : Format A) (fields : List (List ℕ)) (item : A) : Type 0 where
+  pub text : fields ≡ format.fields item
+  pub line : format.HasLine item
 
 -- the bytes are those of an item's line, after k others, or of the last line
-abbrev pub IsItemLine : {A : Type 0} → Kind A → ℕ → List ℕ → Option A → Type 0
-IsItemLine kind k bytes (Some item) = (line bytes ≡ line_of kind item) × kind.HasLine item × (k < kind.most)
-IsItemLine kind k bytes None = (line bytes ≡ end_line k) × (kind.is_counted ≡ true)
+abbrev pub IsItemLine : {A : Type 0} → Format A → ℕ → List ℕ → Option A → Type 0
+IsItemLine format k bytes (Some item) = (line bytes ≡ line_of format item) × format.HasLine item × (k < format.most)
+IsItemLine format k bytes None = (line bytes ≡ end_line k) × (format.is_counted ≡ true)
 
 -- what comes after k items: the last line, or the end of the input
 abbrev pub TakesEnd : Bool → Option Ahead → Option Ahead → ℕ → Type 0
@@ -71,29 +71,29 @@ TakesEnd true old new k = Takes old new (end_line k)
 TakesEnd false old new k = Takes old new [] × IsOver EndOfInput new
 
 -- what the line of an item takes, after k others
-abbrev pub TakesItem : {A : Type 0} → Kind A → Option Ahead → Option Ahead → ℕ → Option A → Type 0
-TakesItem kind old new k (Some item) = Takes old new (line_of kind item) × kind.HasLine item × (k < kind.most)
-TakesItem kind old new k None = TakesEnd kind.is_counted old new k
+abbrev pub TakesItem : {A : Type 0} → Format A → Option Ahead → Option Ahead → ℕ → Option A → Type 0
+TakesItem format old new k (Some item) = Takes old new (line_of format item) × format.HasLine item × (k < format.most)
+TakesItem format old new k None = TakesEnd format.is_counted old new k
 
 -- what the lines of items take, and what comes after them
-abbrev pub TakesItems : {A : Type 0} → Kind A → Option Ahead → Option Ahead → List A → Type 0
-TakesItems kind old new items = (after : Option Ahead) × Takes old after (lines_of kind items) × TakesEnd kind.is_counted after new (length items)
+abbrev pub TakesItems : {A : Type 0} → Format A → Option Ahead → Option Ahead → List A → Type 0
+TakesItems format old new items = (after : Option Ahead) × Takes old after (lines_of format items) × TakesEnd format.is_counted after new (length items)
 
 -- line n, which comes after k items, has this fault
-abbrev pub HasItemFault : {A : Type 0} → Kind A → ℕ → ℕ → Option Ahead → TextFault → Type 0
-HasItemFault kind n k old fault = IfSome old (λ a. item_at_front kind n k a.ending (front_of a.bytes) ≡ Err fault)
+abbrev pub HasItemFault : {A : Type 0} → Format A → ℕ → ℕ → Option Ahead → TextFault → Type 0
+HasItemFault format n k old fault = IfSome old (λ a. item_at_front format n k a.ending (front_of a.bytes) ≡ Err fault)
 
 -- the first fault of the lines of items from line n on
-abbrev pub HasItemsFault : {A : Type 0} → Kind A → ℕ → Option Ahead → TextFault → Type 0
-HasItemsFault kind n old fault = HasFirstFault (λ ending bytes f. ItemFault kind n ending f bytes) (NoRoom kind) old fault
+abbrev pub HasItemsFault : {A : Type 0} → Format A → ℕ → Option Ahead → TextFault → Type 0
+HasItemsFault format n old fault = HasFirstFault (λ ending bytes f. ItemFault format n ending f bytes) (NoRoom format) old fault
 
 -- the first fault of the lines of so many items from line n on
-abbrev pub HasFaultAmong : {A : Type 0} → Kind A → ℕ → ℕ → Option Ahead → TextFault → Type 0
-HasFaultAmong kind k n old fault = HasFirstFault (λ ending bytes f. FaultAmong kind k n ending f bytes) (NoRoomAmong kind k) old fault
+abbrev pub HasFaultAmong : {A : Type 0} → Format A → ℕ → ℕ → Option Ahead → TextFault → Type 0
+HasFaultAmong format k n old fault = HasFirstFault (λ ending bytes f. FaultAmong format k n ending f bytes) (NoRoomAmong format k) old fault
 
 -- the first fault of the line that counts the initial values, line n, and of theirs
 abbrev pub HasInitialFault : ℕ → Option Ahead → TextFault → Type 0
-HasInitialFault n old fault = HasFirstFault (λ ending bytes f. InitialFault n ending f bytes) (AfterCount (NoRoomAmong value_kind)) old fault
+HasInitialFault n old fault = HasFirstFault (λ ending bytes f. InitialFault n ending f bytes) (AfterCount (NoRoomAmong value_format)) old fault
 
 -- a fault of the input, and not of the reader's memory
 abbrev pub IsOfInput : TextFault → Type 0

@@ -1,11 +1,8 @@
-use Rattle.std.proofs.Common.{refl, Err}
-use Rattle.text_lines.specs.declared.fault.TextFault.TheVariants.{Line}
-use Rattle.history_text.specs.Histories.{event_in}
-use Rattle.text_lines.proofs.Fields.{five_fields}
+use Rattle.std.proofs.Common.{sym}
+use Rattle.text_lines.specs.Lines.{fields_of}
+use Rattle.history_text.proofs.EventLines.{event_said}
 use Rattle.history_text.proofs.event_line.event_in.Goals as goal
 
-pub returns-in-Some-split_field-3-clause-value : goal.returns-in-Some-split_field-3-clause-value
-returns-in-Some-split_field-3-clause-value c =
-    five_fields (event_in c.args.line) (Err (Line c.args.line)) c.args.bytes.now _ _ _ _ c.in-Some.rest.now c.in-Some-split_field.rest.now
-    c.in-Some-split_field-2.value.now c.in-Some-split_field-3._more.now c.in-Some.ensures c.in-Some-split_field.ensures
-    c.in-Some-split_field-2.ensures c.in-Some-split_field-3.ensures (λ field others. refl)
+pub event_of-requires : goal.event_of-requires
+event_of-requires c =
+    (event_said c.args.line (fields_of c.args.bytes.now) (c.in_ok-what.what, c.in_ok-what.numbers) (sym c.in_ok-what.ensures.value)).line.thread

@@ -1,11 +1,9 @@
-use Rattle.std.proofs.Common.{refl, Err}
-use Rattle.text_lines.specs.declared.fault.TextFault.TheVariants.{Line}
-use Rattle.history_text.specs.Schedules.{step_in}
-use Rattle.text_lines.proofs.Fields.{five_fields}
+use Rattle.std.proofs.Common.{sym}
+use Rattle.text_lines.specs.Lines.{fields_of}
+use Rattle.history_text.proofs.StepLines.{step_said, thread_is_few}
 use Rattle.history_text.proofs.step_line.step_in.Goals as goal
 
-pub returns-in-Some-split_field-3-clause-value : goal.returns-in-Some-split_field-3-clause-value
-returns-in-Some-split_field-3-clause-value c =
-    five_fields (step_in c.args.line) (Err (Line c.args.line)) c.args.bytes.now _ _ _ _ c.in-Some.rest.now c.in-Some-split_field.rest.now
-    c.in-Some-split_field-2.rest.now c.in-Some-split_field-3._more.now c.in-Some.ensures c.in-Some-split_field.ensures
-    c.in-Some-split_field-2.ensures c.in-Some-split_field-3.ensures (λ field others. refl)
+pub step_of-requires : goal.step_of-requires
+step_of-requires c =
+    let is = step_said c.args.line (fields_of c.args.bytes.now) (c.in_ok-step.step, c.in_ok-step.numbers) (sym c.in_ok-step.ensures.value) in
+    record { thread = thread_is_few c.in_ok-step.step _ _ is.line; has_line = is.line }

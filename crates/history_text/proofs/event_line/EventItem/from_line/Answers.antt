@@ -1,7 +1,7 @@
-use Rattle.history_text.specs.Histories.{event_kind}
+use Rattle.history_text.specs.Histories.{event_format}
 use Rattle.history_text.proofs.ItemLines.{read_ok}
-use Rattle.history_text.proofs.Spelled.{event_ok}
+use Rattle.history_text.proofs.EventLines.{event_ok}
 use Rattle.history_text.proofs.event_line.EventItem.from_line.Goals as goal
 
 pub returns-clause-spelled : goal.returns-clause-spelled
-returns-clause-spelled c = read_ok event_kind c.args.line _ c.event_in.result (event_ok c.args.line _) c.event_in.ensures.value
+returns-clause-spelled c = read_ok event_format c.args.line _ c.event_in.result (event_ok c.args.line _) c.event_in.ensures.value

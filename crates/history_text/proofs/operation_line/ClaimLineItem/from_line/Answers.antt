@@ -1,7 +1,7 @@
-use Rattle.history_text.specs.Claims.{claim_line_kind}
+use Rattle.history_text.specs.Claims.{claim_line_format}
 use Rattle.history_text.proofs.ItemLines.{read_ok}
-use Rattle.history_text.proofs.SpelledOperations.{claim_line_ok}
+use Rattle.history_text.proofs.ClaimLines.{claim_line_ok}
 use Rattle.history_text.proofs.operation_line.ClaimLineItem.from_line.Goals as goal
 
 pub returns-clause-spelled : goal.returns-clause-spelled
-returns-clause-spelled c = read_ok claim_line_kind c.args.line _ c.claim_line_in.result (claim_line_ok c.args.line _) c.claim_line_in.ensures.value
+returns-clause-spelled c = read_ok claim_line_format c.args.line _ c.claim_line_in.result (claim_line_ok c.args.line _) c.claim_line_in.ensures.value

@@ -6,8 +6,8 @@ use Rattle.history_text.proofs.reader.TextReader.collect_items.Given as goal
 abbrev pub invariant-loop-item : goal.invariant-loop-item
 invariant-loop-item g l = record {
   items : List g.row.T.Denot;
-  right : HaveLines g.T.Item.kind items;
-  taken : Takes l.fn.self.left l.self.left (lines_of g.T.Item.kind items);
+  right : HaveLines g.T.Item.format items;
+  taken : Takes l.fn.self.left l.self.left (lines_of g.T.Item.format items);
   held : g.C.Collects.Adds l.fn.into l.into items;
   count : l.count ≡ length items;
   lines : l.self.lines ≡ l.fn.self.lines + l.count;
@@ -15,4 +15,4 @@ invariant-loop-item g l = record {
 }
 
 abbrev pub decreases-loop-item : goal.decreases-loop-item
-decreases-loop-item g l = g.T.Item.kind.most + 1 - l.count
+decreases-loop-item g l = g.T.Item.format.most + 1 - l.count

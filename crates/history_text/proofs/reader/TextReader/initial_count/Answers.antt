@@ -4,7 +4,7 @@ use Rattle.text_lines.specs.Lines.{fields_of}
 use Rattle.history_text.specs.Reading.{Input}
 use Rattle.history_text.specs.Versions.{count_in, count_fields}
 use Rattle.history_text.proofs.FieldLines.{said_taken, line_faulty}
-use Rattle.history_text.proofs.SpelledValues.{count_ok}
+use Rattle.history_text.proofs.ValueLines.{count_ok}
 use Rattle.history_text.proofs.reader.TextReader.initial_count.Goals as goal
 
 pub returns-clause-ok : goal.returns-clause-ok

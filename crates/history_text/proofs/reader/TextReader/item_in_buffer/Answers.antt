@@ -10,7 +10,7 @@ returns-clause-item g c =
     let reader = c.self.inside in
     let found = c.in_ok-item.ensures in
     let within : reader.filled ≤ length reader.buffer = search (rules, c.self.invariant.1, c.self.ranges) in
-    let text = line_of g.T.Item.kind c.in_ok-item.item in
+    let text = line_of g.T.Item.format c.in_ok-item.item in
     let taken = takes_from_buffer reader.buffer reader.at reader.filled text c.in_ok-item.rest.now
     (g.R.TextSource.ahead reader.source) c.self.invariant.0 within found.0 in
     let left : Option Ahead = with_front (part reader.buffer (reader.filled - length c.in_ok-item.rest.now) reader.filled)

@@ -5,11 +5,11 @@ use Rattle.history_text.proofs.reader.TextReader.told_by_line.Goals as goal
 
 pub returns-clause-ok : goal.returns-clause-ok
 returns-clause-ok g c =
-    told_taken g.T.Item.kind _ _ c.in_ok-line.line c.from_line.result c.in_ok-line.ensures.ok.0 (rw c.as_slice.ensures at c.from_line.ensures.spelled)
+    told_taken g.T.Item.format _ _ c.in_ok-line.line c.from_line.result c.in_ok-line.ensures.ok.0 (rw c.as_slice.ensures at c.from_line.ensures.spelled)
 
 pub returns-clause-fault : goal.returns-clause-fault
 returns-clause-fault g c =
     let taken = c.in_ok-line.ensures.ok in
     let n : c.self.inside.lines ≡ c.args.self.now.lines + 1 = ap (λ (i : Input). i.lines) c.self.view_is ∙ c.in_ok-line.ensures.lines in
-    rw (← n) (line_faulty g.T.Item.kind.read c.self.inside.lines _ _ c.in_ok-line.line c.from_line.result taken.0 taken.1
+    rw (← n) (line_faulty g.T.Item.format.read c.self.inside.lines _ _ c.in_ok-line.line c.from_line.result taken.0 taken.1
     (rw c.as_slice.ensures at c.from_line.ensures.value))

@@ -5,8 +5,8 @@ use Rattle.history_text.proofs.reader.TextReader.told_items.Given as goal
 
 abbrev pub invariant-loop-self : goal.invariant-loop-self
 invariant-loop-self g l = record {
-  right : HaveLines g.T.Item.kind l.items.items;
-  taken : Takes l.fn.self.left l.self.left (lines_of g.T.Item.kind l.items.items);
+  right : HaveLines g.T.Item.format l.items.items;
+  taken : Takes l.fn.self.left l.self.left (lines_of g.T.Item.format l.items.items);
   few : length l.items.items ≤ l.count;
   lines : l.self.lines ≡ l.fn.self.lines + length l.items.items;
   is_stopped : l.self.is_stopped ≡ l.fn.self.is_stopped;

@@ -1,7 +1,7 @@
-use Rattle.history_text.specs.Schedules.{step_kind}
+use Rattle.history_text.specs.Schedules.{step_format}
 use Rattle.history_text.proofs.ItemLines.{read_ok}
-use Rattle.history_text.proofs.SpelledSteps.{step_ok}
+use Rattle.history_text.proofs.StepLines.{step_ok}
 use Rattle.history_text.proofs.step_line.StepItem.from_line.Goals as goal
 
 pub returns-clause-spelled : goal.returns-clause-spelled
-returns-clause-spelled c = read_ok step_kind c.args.line _ c.step_in.result (step_ok c.args.line _) c.step_in.ensures.value
+returns-clause-spelled c = read_ok step_format c.args.line _ c.step_in.result (step_ok c.args.line _) c.step_in.ensures.value

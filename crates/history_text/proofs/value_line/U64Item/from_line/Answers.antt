@@ -1,7 +1,7 @@
-use Rattle.history_text.specs.Versions.{value_kind}
+use Rattle.history_text.specs.Versions.{value_format}
 use Rattle.history_text.proofs.ItemLines.{read_ok}
-use Rattle.history_text.proofs.SpelledValues.{value_ok}
+use Rattle.history_text.proofs.ValueLines.{value_ok}
 use Rattle.history_text.proofs.value_line.U64Item.from_line.Goals as goal
 
 pub returns-clause-spelled : goal.returns-clause-spelled
-returns-clause-spelled c = read_ok value_kind c.args.line _ c.value_in.result (value_ok c.args.line _) c.value_in.ensures.value
+returns-clause-spelled c = read_ok value_format c.args.line _ c.value_in.result (value_ok c.args.line _) c.value_in.ensures.value
