@@ -7,7 +7,7 @@ use Rattle.event_records.specs.declared.kind.Kind.TheVariants.{Enq, Deq}
 use Rattle.event_records.specs.declared.event.What.{What}
 use Rattle.event_records.specs.declared.event.What.TheVariants.{CallEnq, RetEnq, RetNot, CallDeq, RetDeq, RetEmpty}
 use Rattle.event_records.specs.declared.kind.Answer.{Answer}
-use Rattle.event_records.specs.declared.kind.Answer.TheVariants.{Taken, NotTaken, Got, Empty}
+use Rattle.event_records.specs.declared.kind.Answer.TheVariants.{Taken, Not, Got, Empty}
 use Rattle.event_records.specs.declared.event.Event.{Event}
 use Rattle.event_records.specs.declared.limits.TheConstants.{NAMES_OF_A_THREAD}
 
@@ -45,7 +45,7 @@ call_what Deq v = CallDeq
 -- the return of an operation that was answered so
 abbrev pub return_what : Answer → What
 return_what Taken = RetEnq
-return_what NotTaken = RetNot
+return_what Not = RetNot
 return_what (Got v) = RetDeq v
 return_what Empty = RetEmpty
 

@@ -4,7 +4,7 @@ ghost use Rattle.tickets.specs.Views.{DrawsOne};
 ghost use Rattle.event_records.specs.Question.{call_event, return_event};
 ghost use Rattle.event_records.specs.Turns.{answers};
 ghost use Rattle.event_records.specs.declared.kind.Kind.TheVariants.{Enq, Deq};
-ghost use Rattle.event_records.specs.declared.kind.Answer.TheVariants.{Taken, NotTaken, Got, Empty};
+ghost use Rattle.event_records.specs.declared.kind.Answer.TheVariants.{Taken, Not, Got, Empty};
 
 use crate::event::{Event, What};
 use crate::noted::Noted;
@@ -22,11 +22,11 @@ pub struct AnsweredEnq {
 impl Model for AnsweredEnq {
     ghost use Rattle.std.specs.Prelude.{if◌then◌else◌};
     ghost use Rattle.event_records.specs.Question.{Answered};
-    ghost use Rattle.event_records.specs.declared.kind.Answer.TheVariants.{Taken, NotTaken};
+    ghost use Rattle.event_records.specs.declared.kind.Answer.TheVariants.{Taken, Not};
 
     ghost Value = { Answered };
 
-    ghost view = { λ a. record { question = a.ask; answer = (if a.taken then Taken else NotTaken) } };
+    ghost view = { λ a. record { question = a.ask; answer = (if a.taken then Taken else Not) } };
 }
 
 /// A dequeue with its answer. It holds the question, and so is one-use too.
@@ -58,7 +58,7 @@ impl AskEnq {
 
     /// The queue did not take the value: it was full, or had no memory.
     pub fn not_taken(self) -> AnsweredEnq
-        ensures answered { result ≡ record { question = self; answer = NotTaken } }
+        ensures answered { result ≡ record { question = self; answer = Not } }
         ensures kind { self.kind ≡ Enq }
     {
         AnsweredEnq {

@@ -13,7 +13,7 @@ pub enum Answer {
     /// The value of an enqueue was taken.
     Taken,
     /// The value of an enqueue was not taken: the queue was full, or had no memory.
-    NotTaken,
+    Not,
     /// A dequeue got this value.
     Got(u64),
     /// A dequeue found the queue empty.

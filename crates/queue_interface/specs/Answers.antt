@@ -5,18 +5,18 @@ use Rattle.event_records.specs.Question.{Question}
 use Rattle.event_records.specs.declared.kind.Kind.{Kind}
 use Rattle.event_records.specs.declared.kind.Kind.TheVariants.{Enq, Deq}
 use Rattle.event_records.specs.declared.kind.Answer.{Answer}
-use Rattle.event_records.specs.declared.kind.Answer.TheVariants.{Taken, NotTaken, Got, Empty}
+use Rattle.event_records.specs.declared.kind.Answer.TheVariants.{Taken, Not, Got, Empty}
 use Rattle.queue_interface.specs.declared.script.Entry.{Entry}
 use Rattle.queue_interface.specs.declared.script.Entry.TheVariants.{Taken as SaysTaken, NotTaken as SaysNotTaken, Got as SaysGot, Empty as SaysEmpty}
 
 -- an answer of the question's kind
 abbrev pub IsOfKind : Kind → Answer → Type 0
 IsOfKind Enq Taken = Unit {0}
-IsOfKind Enq NotTaken = Unit {0}
+IsOfKind Enq Not = Unit {0}
 IsOfKind Enq (Got v) = ⊥
 IsOfKind Enq Empty = ⊥
 IsOfKind Deq Taken = ⊥
-IsOfKind Deq NotTaken = ⊥
+IsOfKind Deq Not = ⊥
 IsOfKind Deq (Got v) = Unit {0}
 IsOfKind Deq Empty = Unit {0}
 
@@ -30,15 +30,15 @@ TakesOrRefuses value taken = ⊤
 
 -- the answer that changes nothing: an enqueue is not taken, and a dequeue finds nothing
 abbrev pub refusal : Kind → Answer
-refusal Enq = NotTaken
+refusal Enq = Not
 refusal Deq = Empty
 
 -- what an entry says to a question of this kind; an entry of the other kind says that nothing happened
 abbrev pub said : Kind → Entry → Answer
 said Enq SaysTaken = Taken
-said Enq SaysNotTaken = NotTaken
-said Enq (SaysGot v) = NotTaken
-said Enq SaysEmpty = NotTaken
+said Enq SaysNotTaken = Not
+said Enq (SaysGot v) = Not
+said Enq SaysEmpty = Not
 said Deq SaysTaken = Empty
 said Deq SaysNotTaken = Empty
 said Deq (SaysGot v) = Got v

@@ -1,7 +1,7 @@
 // Answers by what became of a value.
 ghost use Rattle.std.specs.Prelude.{◌≡◌, if◌then◌else◌, OnOk, OnErr};
 ghost use Rattle.event_records.specs.Question.{dequeued as answer_of};
-ghost use Rattle.event_records.specs.declared.kind.Answer.TheVariants.{Taken, NotTaken};
+ghost use Rattle.event_records.specs.declared.kind.Answer.TheVariants.{Taken, Not};
 ghost use Rattle.queue_interface.specs.Answers.{AnswersInKind};
 
 use event_records::{AnsweredDeq, AnsweredEnq, AskDeq, AskEnq};
@@ -10,7 +10,7 @@ use event_records::{AnsweredDeq, AnsweredEnq, AskDeq, AskEnq};
 pub(crate) fn enqueued(ask: AskEnq, taken: bool) -> AnsweredEnq
     ensures question { result.question ≡ ask }
     ensures in_kind { AnswersInKind ask result.answer }
-    ensures told { result.answer ≡ (if taken then Taken else NotTaken) }
+    ensures told { result.answer ≡ (if taken then Taken else Not) }
 {
     if taken { ask.taken() } else { ask.not_taken() }
 }
@@ -20,7 +20,7 @@ pub(crate) fn pushed(ask: AskEnq, push: Result<(), u64>) -> AnsweredEnq
     ensures question { result.question ≡ ask }
     ensures in_kind { AnswersInKind ask result.answer }
     ensures taken { OnOk push (result.answer ≡ Taken) }
-    ensures refused { OnErr push (result.answer ≡ NotTaken) }
+    ensures refused { OnErr push (result.answer ≡ Not) }
 {
     match push {
         Ok(()) => ask.taken(),

@@ -5,11 +5,11 @@ use Rattle.history_merge.specs.declared.OpKind.{OpKind}
 use Rattle.history_merge.specs.Queue.{accept, accept_all}
 use Rattle.recorder_core.specs.declared.step.Step.{Step}
 use Rattle.recorder_core.specs.declared.step.Step.TheVariants.{AskEnq, AskDeq, Push, Effect, Say, Ret, Drain, Close}
-use Rattle.recorder_core.specs.declared.step.Answer.TheVariants.{Empty as NoValue}
-use Rattle.recorder_core.specs.declared.pending.Question.{Question}
-use Rattle.recorder_core.specs.declared.pending.Question.TheVariants.{Enqueue, Dequeue}
+use Rattle.event_records.specs.declared.kind.Answer.TheVariants.{Empty as NoValue}
+use Rattle.recorder_core.specs.declared.pending.Request.{Request}
+use Rattle.recorder_core.specs.declared.pending.Request.TheVariants.{Enqueue, Dequeue}
 use Rattle.recorder_core.specs.Setting.{Setting}
-use Rattle.recorder_core.specs.Schedule.{question, queue, queue_after, queue_answer, with_last}
+use Rattle.recorder_core.specs.Schedule.{request, queue, queue_after, queue_answer, with_last}
 use Rattle.recorder_core.specs.Replay.{kind_told, effect_kinds}
 use Rattle.recorder_core.proofs.Runs.{same_number}
 
@@ -27,16 +27,16 @@ accept_more start (first ∷ kinds) kind middle after h g = onwards (accept star
     onwards (Some next) ih i = ih next i g
 
 -- the queue accepts what it answers
-accept_answer : (asked : Question) (items : List ℕ) → accept items (kind_told asked (queue_answer asked items)) ≡ Some (queue_after asked items)
+accept_answer : (asked : Request) (items : List ℕ) → accept items (kind_told asked (queue_answer asked items)) ≡ Some (queue_after asked items)
 accept_answer (Enqueue value) items = refl
 accept_answer Dequeue [] = refl
 accept_answer Dequeue (first ∷ rest) = rw (same_number first) refl
 
-one_effect : (setting : Setting) (o : Option Question) (steps : List Step)
+one_effect : (setting : Setting) (o : Option Request) (steps : List Step)
     → accept_all setting.initial (effect_kinds setting steps) ≡ Some (queue setting steps)
     → accept_all setting.initial (with_last (effect_kinds setting steps) (option_map
-    (λ (asked : Question). kind_told asked (option_map_or (λ (a : Question). queue_answer a (queue setting steps)) o NoValue)) o)) ≡ Some
-    (option_map_or (λ (asked : Question). queue_after asked (queue setting steps)) o (queue setting steps))
+    (λ (asked : Request). kind_told asked (option_map_or (λ (a : Request). queue_answer a (queue setting steps)) o NoValue)) o)) ≡ Some
+    (option_map_or (λ (asked : Request). queue_after asked (queue setting steps)) o (queue setting steps))
 one_effect setting None steps h = h
 one_effect setting (Some asked) steps h = accept_more setting.initial (effect_kinds setting steps) _ (queue setting steps)
     (queue_after asked (queue setting steps)) h (accept_answer asked (queue setting steps))
@@ -44,7 +44,7 @@ one_effect setting (Some asked) steps h = accept_more setting.initial (effect_ki
 -- the effects are accepted from the initial values on, and leave the queue of the schedule
 pub effects_accepted : (setting : Setting) (steps : List Step) → accept_all setting.initial (effect_kinds setting steps) ≡ Some (queue setting steps)
 effects_accepted setting [] = refl
-effects_accepted setting (Effect t ∷ before) = one_effect setting (question t before) before (effects_accepted setting before)
+effects_accepted setting (Effect t ∷ before) = one_effect setting (request t before) before (effects_accepted setting before)
 effects_accepted setting (AskEnq t ∷ before) = effects_accepted setting before
 effects_accepted setting (AskDeq t ∷ before) = effects_accepted setting before
 effects_accepted setting (Push t ∷ before) = effects_accepted setting before

@@ -12,17 +12,17 @@ use Rattle.event_records.specs.declared.event.What.TheVariants.{CallEnq}
 use Rattle.event_records.specs.declared.kind.Kind.{Kind}
 use Rattle.event_records.specs.declared.kind.Kind.TheVariants.{Enq, Deq}
 use Rattle.event_records.specs.declared.limits.TheConstants.{MAX_THREAD_OPERATIONS}
-use Rattle.event_records.specs.Question.{value_name}
+use Rattle.event_records.specs.Question.{return_what, value_name}
 use Rattle.event_records.specs.Turns.{TakesTurns, TicketsRise, answers as answers_call}
 use Rattle.recorder_core.specs.declared.step.Step.{Step}
 use Rattle.recorder_core.specs.declared.step.Step.TheVariants.{AskEnq, AskDeq, Push, Effect, Say, Ret, Drain, Close}
-use Rattle.recorder_core.specs.declared.step.Answer.{Answer}
-use Rattle.recorder_core.specs.declared.step.Answer.TheVariants.{Taken, Not, Got, Empty}
-use Rattle.recorder_core.specs.declared.pending.Question.{Question}
-use Rattle.recorder_core.specs.declared.pending.Question.TheVariants.{Enqueue, Dequeue}
+use Rattle.event_records.specs.declared.kind.Answer.{Answer}
+use Rattle.event_records.specs.declared.kind.Answer.TheVariants.{Taken, Not, Got, Empty}
+use Rattle.recorder_core.specs.declared.pending.Request.{Request}
+use Rattle.recorder_core.specs.declared.pending.Request.TheVariants.{Enqueue, Dequeue}
 use Rattle.recorder_core.specs.Inner.Asked.{asked_for, call_of}
 use Rattle.recorder_core.specs.Setting.{Setting}
-use Rattle.recorder_core.specs.Schedule.{Attempt, refusal, accepted, asks, answers, returns, tickets, question, answered, events, return_of, is_wrong}
+use Rattle.recorder_core.specs.Schedule.{Attempt, refusal, accepted, asks, answers, returns, tickets, request, answered, events, is_wrong}
 use Rattle.recorder_core.specs.Schedule.{queue_answer, effect_answer, queue, thread_of}
 use Rattle.recorder_core.proofs.Runs.{same_number, after_each, may_ask, may_effect, may_say, may_return}
 use Rattle.recorder_core.proofs.Counts.{Counted, counts_none, counts_go_on}
@@ -30,23 +30,23 @@ use Rattle.recorder_core.proofs.Starting.{slice_get_front}
 use Rattle.recorder_core.proofs.Threads.{slice_get_at}
 use Rattle.recorder_core.proofs.Members.{Below}
 
--- the answer is of the question's kind
-abbrev pub Fits : Option Question → Option Answer → Type 0
+-- the answer is of the request's kind
+abbrev pub Fits : Option Request → Option Answer → Type 0
 Fits (Some asked) (Some answer) = is_wrong answer (Some asked) ≡ false
 Fits _ _ = ⊥
 
--- the last event is the call of the question, and before it calls and returns take turns
-pub record IsBusy (asked : Option Question) (events : List Event) : Type 0 where
+-- the last event is the call of the request, and before it calls and returns take turns
+pub record IsBusy (asked : Option Request) (events : List Event) : Type 0 where
   pub earlier : List Event
   pub call : Event
-  pub question : Question
+  pub request : Request
   pub events_are : events ≡ earlier ++ call ∷ []
   pub take_turns : TakesTurns earlier
-  pub asked_is : asked ≡ Some question
-  pub call_is : call.what ≡ call_of question
+  pub asked_is : asked ≡ Some request
+  pub call_is : call.what ≡ call_of request
 
 -- the events of t, after so many asks, answers and returns of t and so many tickets, with what it asked and was answered last
-pub record AreEventsOf (t a n r next : ℕ) (asked : Option Question) (told : Option Answer) (events : List Event) : Type 0 where
+pub record AreEventsOf (t a n r next : ℕ) (asked : Option Request) (told : Option Answer) (events : List Event) : Type 0 where
   pub own : All (λ e. e.thread ≡ t) events
   pub below : All (λ e. e.ticket < next) events
   pub rise : TicketsRise events
@@ -77,8 +77,8 @@ turns_push (e ∷ []) call answer turns fit = absurd turns
 turns_push (e ∷ f ∷ rest) call answer turns fit = (turns.0, turns_push rest call answer turns.1 fit)
 
 -- what holds of each answer of an operation's kind holds of each answer that isn't wrong
-pub of_right_answers : (P : Question → Answer → Type 0) → ((v : ℕ) → P (Enqueue v) Taken) → ((v : ℕ) → P (Enqueue v) Not)
-    → ((w : ℕ) → P Dequeue (Got w)) → P Dequeue Empty → (asked : Question) (answer : Answer) → is_wrong answer (Some asked) ≡ false → P asked answer
+pub of_right_answers : (P : Request → Answer → Type 0) → ((v : ℕ) → P (Enqueue v) Taken) → ((v : ℕ) → P (Enqueue v) Not)
+    → ((w : ℕ) → P Dequeue (Got w)) → P Dequeue Empty → (asked : Request) (answer : Answer) → is_wrong answer (Some asked) ≡ false → P asked answer
 of_right_answers P taken refused got empty (Enqueue v) Taken right = taken v
 of_right_answers P taken refused got empty (Enqueue v) Not right = refused v
 of_right_answers P taken refused got empty (Enqueue v) (Got w) right = cc
@@ -88,12 +88,12 @@ of_right_answers P taken refused got empty Dequeue Not right = cc
 of_right_answers P taken refused got empty Dequeue (Got w) right = got w
 of_right_answers P taken refused got empty Dequeue Empty right = empty
 
-answer_fits : (asked : Question) (answer : Answer) → is_wrong answer (Some asked) ≡ false → answers_call (call_of asked) (return_of answer) ≡ true
+answer_fits : (asked : Request) (answer : Answer) → is_wrong answer (Some asked) ≡ false → answers_call (call_of asked) (return_what answer) ≡ true
 answer_fits =
-    of_right_answers (λ asked answer. answers_call (call_of asked) (return_of answer) ≡ true) (λ v. refl) (λ v. refl) (λ w. refl) refl
+    of_right_answers (λ asked answer. answers_call (call_of asked) (return_what answer) ≡ true) (λ v. refl) (λ v. refl) (λ w. refl) refl
 
 -- the queue's own answer is never wrong
-pub queue_is_right : (asked : Question) (items : List ℕ) → is_wrong (queue_answer asked items) (Some asked) ≡ false
+pub queue_is_right : (asked : Request) (items : List ℕ) → is_wrong (queue_answer asked items) (Some asked) ≡ false
 queue_is_right (Enqueue v) items = refl
 queue_is_right Dequeue [] = refl
 queue_is_right Dequeue (x ∷ items) = refl
@@ -116,7 +116,7 @@ events_none t = record {
   few = omega arith;
 }
 
-module _ (t a n r next : ℕ) (asked : Option Question) (told : Option Answer) (list : List Event) (k : AreEventsOf t a n r next asked told list) where
+module _ (t a n r next : ℕ) (asked : Option Request) (told : Option Answer) (list : List Event) (k : AreEventsOf t a n r next asked told list) where
   -- the others' steps take tickets
   events_later : (next' : ℕ) → next ≤ next' → AreEventsOf t a n r next' asked told list
   events_later next' h = record {
@@ -157,7 +157,7 @@ module _ (t a n r next : ℕ) (asked : Option Question) (told : Option Answer) (
     busy = λ less. record {
       earlier = list;
       call = _;
-      question = asked_for kind t a;
+      request = asked_for kind t a;
       events_are = refl;
       take_turns = k.idle (omega arith);
       asked_is =
@@ -182,11 +182,11 @@ module _ (t a n r next : ℕ) (asked : Option Question) (told : Option Answer) (
   }
 
   events_returned : length list ≡ a + r → a ≡ suc r → n ≤ a → (answer : Answer) → told ≡ Some answer → r < n
-      → AreEventsOf t a n (suc r) (suc next) asked told (list ++ record { ticket = next; thread = t; what = return_of answer } ∷ [])
+      → AreEventsOf t a n (suc r) (suc next) asked told (list ++ record { ticket = next; thread = t; what = return_what answer } ∷ [])
   events_returned long one_pending answered_below answer told_is has_answer =
       let b = k.busy (omega arith) in
-      let right : is_wrong answer (Some b.question) ≡ false = rw (b.asked_is, told_is) at (k.fits has_answer) in
-      let fit : answers_call b.call.what (return_of answer) ≡ true = rw b.call_is (answer_fits b.question answer right) in
+      let right : is_wrong answer (Some b.request) ≡ false = rw (b.asked_is, told_is) at (k.fits has_answer) in
+      let fit : answers_call b.call.what (return_what answer) ≡ true = rw b.call_is (answer_fits b.request answer right) in
       record {
         own = own_more _;
         below = below_more _;
@@ -195,7 +195,7 @@ module _ (t a n r next : ℕ) (asked : Option Question) (told : Option Answer) (
           | inl earlier ↦ k.named m value call earlier is
           | inr (last, same) ↦ absurd (omega (arith, last, long, one_pending))
         ];
-        idle = λ e. rw (b.events_are, append_assoc b.earlier (b.call ∷ []) (record { ticket = next; thread = t; what = return_of answer } ∷ []))
+        idle = λ e. rw (b.events_are, append_assoc b.earlier (b.call ∷ []) (record { ticket = next; thread = t; what = return_what answer } ∷ []))
             (turns_push b.earlier b.call _ b.take_turns fit);
         busy = λ less. absurd (omega arith);
         fits = λ less. absurd (omega arith);
@@ -206,7 +206,7 @@ module _ (t a n r next : ℕ) (asked : Option Question) (told : Option Answer) (
 
 -- the events of a thread after these steps
 abbrev pub Recorded : Setting → ℕ → List Step → Type 0
-Recorded setting t steps = AreEventsOf t (asks t steps) (answers t steps) (returns t steps) (tickets steps) (question t steps)
+Recorded setting t steps = AreEventsOf t (asks t steps) (answers t steps) (returns t steps) (tickets steps) (request t steps)
     (answered setting t steps) (events setting t steps)
 
 -- a step of another thread
@@ -223,15 +223,15 @@ other_events setting t (Close u) before ne k = k
 
 -- what the pending operation of a thread asked
 pub asked_last : (setting : Setting) (t : ℕ) (before : List Step) → Recorded setting t before → returns t before < asks t before
-    → (q : Question) × (question t before ≡ Some q)
-asked_last setting t before k less = let b = k.busy less in (b.question, b.asked_is)
+    → (q : Request) × (request t before ≡ Some q)
+asked_last setting t before k less = let b = k.busy less in (b.request, b.asked_is)
 
 -- what a thread was answered that may return
 pub told_last : (setting : Setting) (t : ℕ) (before : List Step) → Recorded setting t before → returns t before < answers t before
     → (a : Answer) × (answered setting t before ≡ Some a)
-told_last setting t before k less = some_told (question t before) (answered setting t before) (k.fits less)
+told_last setting t before k less = some_told (request t before) (answered setting t before) (k.fits less)
   where
-    some_told : (q : Option Question) (o : Option Answer) → Fits q o → (a : Answer) × (o ≡ Some a)
+    some_told : (q : Option Request) (o : Option Answer) → Fits q o → (a : Answer) × (o ≡ Some a)
     some_told None o f = absurd f
     some_told (Some q) None f = absurd f
     some_told (Some q) (Some a) f = (a, refl)
@@ -249,17 +249,17 @@ own_events setting (Push u) starved before c k none = k
 own_events setting (Effect u) starved before c k none =
     let m = may_effect setting before u starved none in
     let q = asked_last setting u before k m.one_pending in
-    let right : Fits (question u before) (Some (effect_answer setting u before)) = rw q.1 (queue_is_right q.0 (queue setting before)) in
+    let right : Fits (request u before) (Some (effect_answer setting u before)) = rw q.1 (queue_is_right q.0 (queue setting before)) in
     rw (same_number u) (events_answered _ _ _ _ _ _ _ _ k (effect_answer setting u before) right)
 own_events setting (Say u answer) starved before c k none =
     let m = may_say setting before u answer starved none in
     let q = asked_last setting u before k m.0.one_pending in
-    let right : Fits (question u before) (Some answer) = rw q.1 (rw q.1 at m.1) in
+    let right : Fits (request u before) (Some answer) = rw q.1 (rw q.1 at m.1) in
     rw (same_number u) (events_answered _ _ _ _ _ _ _ _ k answer right)
 own_events setting (Ret u) starved before c k none =
     let m = may_return setting before u starved none in
     let a = told_last setting u before k m.has_answer in
-    rw (same_number u, a.1) (events_returned u (asks u before) (answers u before) (returns u before) (tickets before) (question u before) (Some a.0)
+    rw (same_number u, a.1) (events_returned u (asks u before) (answers u before) (returns u before) (tickets before) (request u before) (Some a.0)
     (events setting u before) (rw a.1 at k) c.events_are (omega arith) c.answered_below a.0 refl m.has_answer)
 own_events setting (Drain u n) starved before c k none = k
 own_events setting (Close u) starved before c k none = k

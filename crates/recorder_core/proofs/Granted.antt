@@ -8,10 +8,10 @@ use Rattle.event_records.specs.declared.kind.Kind.TheVariants.{Enq, Deq}
 use Rattle.event_records.specs.declared.limits.TheConstants.{MAX_THREAD_OPERATIONS, MAX_OPERATIONS}
 use Rattle.recorder_core.specs.declared.step.Step.{Step}
 use Rattle.recorder_core.specs.declared.step.Step.TheVariants.{Push, Say, Ret, Drain, Close}
-use Rattle.recorder_core.specs.declared.step.Answer.{Answer}
+use Rattle.event_records.specs.declared.kind.Answer.{Answer}
 use Rattle.recorder_core.specs.Inner.Asked.{ask_of}
 use Rattle.recorder_core.specs.Setting.{Setting}
-use Rattle.recorder_core.specs.Schedule.{Attempt, refusal, accepted, asks, all_asks, answers, returns, pushes, drained, events, question, is_closed, is_wrong}
+use Rattle.recorder_core.specs.Schedule.{Attempt, refusal, accepted, asks, all_asks, answers, returns, pushes, drained, events, request, is_closed, is_wrong}
 use Rattle.recorder_core.proofs.Runs.{same_number, MayAsk, MayPush, MayAnswer, MayReturn, MayClose}
 use Rattle.recorder_core.proofs.Closing.{accepted_is}
 use Rattle.recorder_core.proofs.Events.{CountedAndRecorded, recorded}
@@ -41,7 +41,7 @@ push_granted setting u before m = rw (lt-leb _ _ m.known, m.open_still, lt-leb _
 
 -- an answer that may come is accepted
 pub say_granted : (setting : Setting) (u : ℕ) (before : List Step) (answer : Answer) → MayAnswer setting u before
-    → is_wrong answer (question u before) ≡ false → refusal setting before (record { step = Say u answer; starved = false }) ≡ None
+    → is_wrong answer (request u before) ≡ false → refusal setting before (record { step = Say u answer; starved = false }) ≡ None
 say_granted setting u before answer m right =
     rw (lt-leb _ _ m.known, m.open_still, lt-leb _ _ m.one_pending, le-ltb _ _ m.no_answer, right) refl
 

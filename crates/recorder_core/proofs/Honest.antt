@@ -16,13 +16,14 @@ use Rattle.history_merge.specs.declared.operation.OpKind.TheVariants.{Empty as E
 use Rattle.history_merge.specs.Operations.{kind_of}
 use Rattle.recorder_core.specs.declared.step.Step.{Step}
 use Rattle.recorder_core.specs.declared.step.Step.TheVariants.{AskEnq, AskDeq, Push, Effect, Say, Ret, Drain, Close}
-use Rattle.recorder_core.specs.declared.step.Answer.{Answer}
-use Rattle.recorder_core.specs.declared.step.Answer.TheVariants.{Empty}
-use Rattle.recorder_core.specs.declared.pending.Question.{Question}
+use Rattle.event_records.specs.declared.kind.Answer.{Answer}
+use Rattle.event_records.specs.declared.kind.Answer.TheVariants.{Empty}
+use Rattle.recorder_core.specs.declared.pending.Request.{Request}
 use Rattle.recorder_core.specs.Inner.Asked.{call_of}
 use Rattle.recorder_core.specs.Setting.{Setting}
-use Rattle.recorder_core.specs.Schedule.{Attempt, refusal, accepted, answers, returns, tickets, question, answered, effect_answer, events, is_wrong}
-use Rattle.recorder_core.specs.Schedule.{queue, queue_answer, return_of, with_last}
+use Rattle.recorder_core.specs.Schedule.{Attempt, refusal, accepted, answers, returns, tickets, request, answered, effect_answer, events, is_wrong}
+use Rattle.event_records.specs.Question.{return_what}
+use Rattle.recorder_core.specs.Schedule.{queue, queue_answer, with_last}
 use Rattle.recorder_core.specs.Replay.{is_say, effected, effect_kinds, kind_told}
 use Rattle.recorder_core.proofs.Runs.{same_number, after_each, MayAsk, may_ask, MayAnswer, may_effect, MayReturn, may_return}
 use Rattle.recorder_core.proofs.Events.{CountedAndRecorded, recorded, recorded_goes_on, told_last, asked_last, with_one_more, of_right_answers, queue_is_right}
@@ -37,11 +38,11 @@ pub record TakenEffect : Type 0 where
   pub kind : OpKind
 
 abbrev kind_now : Setting → ℕ → List Step → OpKind
-kind_now setting t before = option_map_or (λ asked. kind_told asked (effect_answer setting t before)) (question t before) EmptyOp
+kind_now setting t before = option_map_or (λ asked. kind_told asked (effect_answer setting t before)) (request t before) EmptyOp
 
-now_kind : (setting : Setting) (t : ℕ) (before : List Step) (asked : Question) → question t before ≡ Some asked
+now_kind : (setting : Setting) (t : ℕ) (before : List Step) (asked : Request) → request t before ≡ Some asked
     → kind_now setting t before ≡ kind_told asked (effect_answer setting t before)
-now_kind setting t before asked is = ap (λ (o : Option Question). option_map_or (λ q. kind_told q (effect_answer setting t before)) o EmptyOp) is
+now_kind setting t before asked is = ap (λ (o : Option Request). option_map_or (λ q. kind_told q (effect_answer setting t before)) o EmptyOp) is
 
 -- the effects, in their order
 abbrev pub taken : Setting → List Step → List TakenEffect
@@ -67,7 +68,7 @@ pub record IsTaken (next n r : ℕ) (told : Option Answer) (list : List Event) (
   pub called : slice_get list (2 * number) ≡ Some call
   pub called_before : call.ticket < time
   pub returned : (ret : Event) → slice_get list (2 * number + 1) ≡ Some ret → (time ≤ ret.ticket) × (kind_of call.what ret.what ≡ Some kind)
-  pub waiting : r ≤ number → (a : Answer) × (told ≡ Some a) × (kind_of call.what (return_of a) ≡ Some kind)
+  pub waiting : r ≤ number → (a : Answer) × (told ≡ Some a) × (kind_of call.what (return_what a) ≡ Some kind)
 
 module _ (next n r : ℕ) (told : Option Answer) (list : List Event) (number time : ℕ) (kind : OpKind) (k : IsTaken next n r told list number time kind) where
   taken_later : (next' : ℕ) → next ≤ next' → IsTaken next' n r told list number time kind
@@ -101,7 +102,7 @@ module _ (next n r : ℕ) (told : Option Answer) (list : List Event) (number tim
   }
 
   -- a return of its thread
-  taken_returned : (e : Event) (a : Answer) → length list ≡ suc (r + r) → n ≤ suc r → told ≡ Some a → e.ticket ≡ next → e.what ≡ return_of a
+  taken_returned : (e : Event) (a : Answer) → length list ≡ suc (r + r) → n ≤ suc r → told ≡ Some a → e.ticket ≡ next → e.what ≡ return_what a
       → IsTaken (suc next) n (suc r) told (list ++ e ∷ []) number time kind
   taken_returned e a long few is ticket what = record {
     in_time = omega (arith, k.in_time);
@@ -114,7 +115,7 @@ module _ (next n r : ℕ) (told : Option Answer) (list : List Event) (number tim
       | inr (last, same) ↦
           let w = k.waiting (omega (arith, last, long)) in
           let one : w.0 ≡ a = same_Some w.0 a (sym w.1 ∙ is) in
-          let whats : ret.what ≡ return_of w.0 = ap (λ (x : Event). x.what) (sym same) ∙ what ∙ ap return_of (sym one) in
+          let whats : ret.what ≡ return_what w.0 = ap (λ (x : Event). x.what) (sym same) ∙ what ∙ ap return_what (sym one) in
           (omega (arith, k.in_time, ticket, ap (λ (x : Event). x.ticket) same), ap (kind_of k.call.what) whats ∙ w.2)
     ];
     waiting = λ none. absurd (omega (arith, k.was_answered));
@@ -134,10 +135,10 @@ module _ (next n r : ℕ) (told : Option Answer) (list : List Event) (number tim
 
 -- ---- an effect that is taken now
 
-told_kind : (asked : Question) (answer : Answer) → is_wrong answer (Some asked) ≡ false
-    → kind_of (call_of asked) (return_of answer) ≡ Some (kind_told asked answer)
+told_kind : (asked : Request) (answer : Answer) → is_wrong answer (Some asked) ≡ false
+    → kind_of (call_of asked) (return_what answer) ≡ Some (kind_told asked answer)
 told_kind =
-    of_right_answers (λ asked answer. kind_of (call_of asked) (return_of answer) ≡ Some (kind_told asked answer)) (λ v. refl) (λ v. refl) (λ w. refl) refl
+    of_right_answers (λ asked answer. kind_of (call_of asked) (return_what answer) ≡ Some (kind_told asked answer)) (λ v. refl) (λ v. refl) (λ w. refl) refl
 
 taken_now : (setting : Setting) (u : ℕ) (before : List Step) → CountedAndRecorded setting u before → MayAnswer setting u before →
     IsTaken (tickets before) (suc (answers u before)) (returns u before) (Some (effect_answer setting u before)) (events setting u before)
@@ -150,10 +151,10 @@ taken_now setting u before k m =
     let earlier : length b.earlier ≡ 2 * answers u before = omega (arith, long, ap length b.events_are, length-append b.earlier (b.call ∷ [])) in
     let at : slice_get (events setting u before) (2 * answers u before) ≡ Some b.call =
     rw b.events_are (slice_get_at b.earlier b.call (2 * answers u before) earlier) in
-    let right : is_wrong (effect_answer setting u before) (Some b.question) ≡ false =
-    ap (λ (o : Option Question). is_wrong (option_map_or (λ asked. queue_answer asked (queue setting before)) o Empty) (Some b.question)) b.asked_is
-    ∙ queue_is_right b.question (queue setting before) in
-    let kind : kind_now setting u before ≡ kind_told b.question (effect_answer setting u before) = now_kind setting u before b.question b.asked_is in
+    let right : is_wrong (effect_answer setting u before) (Some b.request) ≡ false =
+    ap (λ (o : Option Request). is_wrong (option_map_or (λ asked. queue_answer asked (queue setting before)) o Empty) (Some b.request)) b.asked_is
+    ∙ queue_is_right b.request (queue setting before) in
+    let kind : kind_now setting u before ≡ kind_told b.request (effect_answer setting u before) = now_kind setting u before b.request b.asked_is in
     record {
       in_time = omega arith;
       was_answered = omega arith;
@@ -164,8 +165,8 @@ taken_now setting u before k m =
       waiting = λ none. (
         effect_answer setting u before,
         refl,
-        ap (λ (w : What). kind_of w (return_of (effect_answer setting u before))) b.call_is
-            ∙ told_kind b.question (effect_answer setting u before) right ∙ ap (λ (x : OpKind). Some x) (sym kind),
+        ap (λ (w : What). kind_of w (return_what (effect_answer setting u before))) b.call_is
+            ∙ told_kind b.request (effect_answer setting u before) right ∙ ap (λ (x : OpKind). Some x) (sym kind),
       );
     }
   where
@@ -258,7 +259,7 @@ one_effect setting u starved before all honest none k =
           map_push (λ (x : TakenEffect). x.kind) (taken setting before) _
           ∙ ap (λ (l : List OpKind). l ++ kind_now setting u before ∷ []) k.kinds_are
           ∙ ap (λ (kind : OpKind). effect_kinds setting before ++ kind ∷ []) (now_kind setting u before q.0 q.1)
-          ∙ ap (λ (o : Option Question). with_last (effect_kinds setting before)
+          ∙ ap (λ (o : Option Request). with_last (effect_kinds setting before)
           (option_map (λ asked. kind_told asked (effect_answer setting u before)) o)) (sym q.1);
     }
 

@@ -16,10 +16,11 @@ use Rattle.event_records.specs.declared.kind.Kind.TheVariants.{Enq, Deq}
 use Rattle.event_records.specs.Turns.{TakesTurns, TicketsRise}
 use Rattle.recorder_core.specs.declared.step.Step.{Step}
 use Rattle.recorder_core.specs.declared.step.Step.TheVariants.{Say, Ret}
-use Rattle.recorder_core.specs.declared.step.Answer.{Answer}
+use Rattle.event_records.specs.declared.kind.Answer.{Answer}
 use Rattle.recorder_core.specs.Inner.Asked.{ask_of, asked_for, call_of}
 use Rattle.recorder_core.specs.Setting.{Setting}
-use Rattle.recorder_core.specs.Schedule.{asks, answers, returns, pushes, drained, tickets, question, events, is_closed, is_wrong, return_of}
+use Rattle.event_records.specs.Question.{return_what}
+use Rattle.recorder_core.specs.Schedule.{asks, answers, returns, pushes, drained, tickets, request, events, is_closed, is_wrong}
 use Rattle.recorder_core.specs.Replay.{is_effect, setting_for}
 use Rattle.recorder_core.proofs.Runs.{same_number, MayAsk}
 use Rattle.recorder_core.proofs.Totals.{total, total_doubled_less}
@@ -104,7 +105,7 @@ module _ (setting : Setting) (n u : ℕ) (list : List Event) (steps : List Step)
   ask_own Enq what = asked_own Enq _ what refl refl (rw (same_number u) refl) refl refl refl (rw (same_number u) refl)
   ask_own Deq what = asked_own Deq _ what refl refl (rw (same_number u) refl) refl refl refl (rw (same_number u) refl)
 
-  answer_own : (answer : Answer) → e.what ≡ return_of answer → IsOnTurn setting (suc n) u 1 list (Ret u ∷ Say u answer ∷ steps)
+  answer_own : (answer : Answer) → e.what ≡ return_what answer → IsOnTurn setting (suc n) u 1 list (Ret u ∷ Say u answer ∷ steps)
   answer_own answer what = record {
     still_open = k.still_open;
     pushed = rw (same_number u) (omega (arith, k.pushed));
@@ -292,7 +293,7 @@ module _ (lists : List (List Event)) (fit : AreFit lists) (ring : ℕ) (initial 
         (ask_own on n u list r.steps e on_turn next refl same r.counted kind what)
         (λ t l at' other. ask_other on (suc n) t u l r.steps kind other (others t l at' other))
 
-    by_answer : (answer : Answer) → returns u r.steps < asks u r.steps → is_wrong answer (question u r.steps) ≡ false → e.what ≡ return_of answer
+    by_answer : (answer : Answer) → returns u r.steps < asks u r.steps → is_wrong answer (request u r.steps) ≡ false → e.what ≡ return_what answer
         → IsReplayed (suc n)
     by_answer answer busy right what =
         let within : u < length lists = slice_get_within lists u list at in
@@ -320,7 +321,7 @@ module _ (lists : List (List Event)) (fit : AreFit lists) (ring : ℕ) (initial 
               let b = c.1.busy busy in
               let after = turns_from_call b.earlier b.call (e ∷ next.rest) b.take_turns (rw b.events_are at turns) in
               let fit_in = rw b.call_is at (pending_is_answered b.call e next.rest after) in
-              let a = answer_in b.question e.what fit_in in
+              let a = answer_in b.request e.what fit_in in
               by_answer a.0 busy (rw b.asked_is a.2) a.1
           | inr idle ↦
               let even : asks u r.steps ≡ returns u r.steps = omega (arith, c.0.returned_below, c.0.answered_below) in

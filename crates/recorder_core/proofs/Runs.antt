@@ -5,10 +5,10 @@ use Rattle.std.specs.Option.{is_none}
 use Rattle.event_records.specs.declared.limits.TheConstants.{MAX_THREAD_OPERATIONS, MAX_OPERATIONS}
 use Rattle.recorder_core.specs.declared.step.Step.{Step}
 use Rattle.recorder_core.specs.declared.step.Step.TheVariants.{AskEnq, Push, Effect, Say, Ret, Drain, Close}
-use Rattle.recorder_core.specs.declared.step.Answer.{Answer}
+use Rattle.event_records.specs.declared.kind.Answer.{Answer}
 use Rattle.recorder_core.specs.declared.step.StepRefused.{StepRefused}
 use Rattle.recorder_core.specs.Setting.{Setting}
-use Rattle.recorder_core.specs.Schedule.{Attempt, refusal, accepted, asks, all_asks, answers, returns, pushes, in_ring, question, is_closed, is_wrong}
+use Rattle.recorder_core.specs.Schedule.{Attempt, refusal, accepted, asks, all_asks, answers, returns, pushes, in_ring, request, is_closed, is_wrong}
 
 -- a number is found equal to itself
 pub same_number : (n : ℕ) → eqb n n ≡ true
@@ -87,7 +87,7 @@ may_effect setting before u starved none =
 -- an answer that isn't refused may come
 pub may_say : (setting : Setting) (before : List Step) (u : ℕ) (answer : Answer) (starved : Bool)
     → refusal setting before (record { step = Say u answer; starved = starved }) ≡ None
-    → MayAnswer setting u before × (is_wrong answer (question u before) ≡ false)
+    → MayAnswer setting u before × (is_wrong answer (request u before) ≡ false)
 may_say setting before u answer starved none =
     let a = passed _ _ _ none in let b = passed _ _ _ a.1 in let c = passed _ _ _ b.1 in let d = passed _ _ _ c.1 in let e = passed _ _ _ d.1 in
     (record { known = leb-false _ _ a.0; open_still = b.0; one_pending = leb-false _ _ c.0; no_answer = ltb-false _ _ d.0 }, e.0)

@@ -11,9 +11,9 @@ use Rattle.event_records.specs.declared.kind.Kind.TheVariants.{Enq, Deq}
 use Rattle.event_records.specs.declared.event.Event.{Event}
 use Rattle.recorder_core.specs.declared.step.Step.{Step}
 use Rattle.recorder_core.specs.declared.step.Step.TheVariants.{AskEnq, AskDeq, Push, Effect, Say, Ret, Drain, Close}
-use Rattle.recorder_core.specs.declared.step.Answer.{Answer}
+use Rattle.event_records.specs.declared.kind.Answer.{Answer}
 use Rattle.recorder_core.specs.declared.pending.Pending.{Pending}
-use Rattle.recorder_core.specs.declared.pending.Question.{Question}
+use Rattle.recorder_core.specs.declared.pending.Request.{Request}
 use Rattle.recorder_core.specs.declared.step.Done.{Done}
 use Rattle.recorder_core.specs.declared.step.Done.TheVariants.{Ticket, Pushed, Answered, Drained, Closed as CloseDone}
 use Rattle.recorder_core.specs.declared.step.StepRefused.{StepRefused}
@@ -23,8 +23,9 @@ use Rattle.recorder_core.specs.Setting.{Setting}
 use Rattle.recorder_core.specs.View.{ThreadView, MachineView}
 use Rattle.recorder_core.specs.Inner.Seen.{seen, none_other, when_pushing, given_answer}
 use Rattle.recorder_core.specs.Inner.Asked.{ask_of, asked_for, call_of, is_limited}
-use Rattle.recorder_core.specs.Schedule.{refusal, accepted, done_of, asks, all_asks, answers, returns, pushes, in_ring, tickets, with_last, question}
-use Rattle.recorder_core.specs.Schedule.{answered, effect_answer, queue, queue_answer, queue_after, is_closed, is_wrong, return_of, thread_of}
+use Rattle.recorder_core.specs.Schedule.{refusal, accepted, done_of, asks, all_asks, answers, returns, pushes, in_ring, tickets, with_last, request}
+use Rattle.event_records.specs.Question.{return_what}
+use Rattle.recorder_core.specs.Schedule.{answered, effect_answer, queue, queue_answer, queue_after, is_closed, is_wrong, thread_of}
 use Rattle.recorder_core.specs.After.{thread_after, IsLeftBy, IsReachable, attempt_at, is_memory}
 use Rattle.recorder_core.specs.Inner.After.{TakesStep}
 use Rattle.recorder_core.proofs.Runs.{MayAsk, may_ask, may_push, may_effect, may_say, may_return}
@@ -135,14 +136,14 @@ put_back old i thread new at kept =
     ap (λ (l : List ThreadView). let m : MachineView = record old { threads = l } in m)
     (ap (set old.threads i) (kept ∙ sym (get_or_from_slice_get old.threads i thread thread at)) ∙ set-get_or old.threads i thread)
 
-abbrev question_of : Option Pending → Option Question
-question_of None = None
-question_of (Some pending) = Some pending.question
+abbrev request_of : Option Pending → Option Request
+request_of None = None
+request_of (Some pending) = Some pending.request
 
-from_map : (a : Option Answer) (o : Option Question) (asked : Question) (b : Bool)
-    → cond b (option_map (with_answer a) o) None ≡ Some (record { question = asked; answer = None }) → o ≡ Some asked
+from_map : (a : Option Answer) (o : Option Request) (asked : Request) (b : Bool)
+    → cond b (option_map (with_answer a) o) None ≡ Some (record { request = asked; answer = None }) → o ≡ Some asked
 from_map a None asked true h = cc
-from_map a (Some q) asked true h = ap question_of h
+from_map a (Some q) asked true h = ap request_of h
 from_map a o asked false h = cc
 
 -- ---- the refusals of each step, by what the thread holds
@@ -186,10 +187,10 @@ module _ (setting : Setting) (u : ℕ) (before : List Step) (k : Counted setting
 
   refusal_say : (answer : Answer) → refusal setting before (record { step = Say u answer; starved = starved })
       ≡ or_else (find (seen (thread_after setting u before) none_other) (Closed ∷ NotPending ∷ AnswerTaken ∷ []))
-      (cond (is_wrong answer (question u before)) (Some WrongAnswer) None)
+      (cond (is_wrong answer (request u before)) (Some WrongAnswer) None)
   refusal_say answer = rw (known, (seen_pending setting u before k).1, (seen_given setting u before k).0)
       (three (is_closed u before) (leb (asks u before) (returns u before)) (ltb (returns u before) (answers u before)) Closed NotPending AnswerTaken
-      (cond (is_wrong answer (question u before)) (Some WrongAnswer) None))
+      (cond (is_wrong answer (request u before)) (Some WrongAnswer) None))
 
   refusal_return : refusal setting before (record { step = Ret u; starved = starved }) ≡ find (seen (thread_after setting u before) none_other)
       (Closed ∷ Held ∷ NotPending ∷ NoAnswer ∷ [])
@@ -237,10 +238,10 @@ module _ (old : MachineView) (u : ℕ) (thread : ThreadView) (at : slice_get old
       (by_view (λ x. find (seen x none_other) (Closed ∷ NotPending ∷ AnswerTaken ∷ [])) o is)
 
   says_say : (told : Answer) (starved : Bool) (o : Option StepRefused) → o ≡ find (seen thread none_other) (Closed ∷ NotPending ∷ AnswerTaken ∷ []) →
-      refusal setting before (record { step = Say u told; starved = starved }) ≡ or_else o (cond (is_wrong told (question u before)) (Some WrongAnswer) None)
+      refusal setting before (record { step = Say u told; starved = starved }) ≡ or_else o (cond (is_wrong told (request u before)) (Some WrongAnswer) None)
   says_say told starved o is =
       refusal_say setting u before (all u) shown.0 starved told
-      ∙ ap (λ (x : Option StepRefused). or_else x (cond (is_wrong told (question u before)) (Some WrongAnswer) None))
+      ∙ ap (λ (x : Option StepRefused). or_else x (cond (is_wrong told (request u before)) (Some WrongAnswer) None))
       (by_view (λ x. find (seen x none_other) (Closed ∷ NotPending ∷ AnswerTaken ∷ [])) o is)
 
   says_return : (starved : Bool) (o : Option StepRefused) → o ≡ find (seen thread none_other) (Closed ∷ Held ∷ NotPending ∷ NoAnswer ∷ []) →
@@ -258,10 +259,10 @@ module _ (old : MachineView) (u : ℕ) (thread : ThreadView) (at : slice_get old
       refusal_close setting u before (all u) shown.0 starved
       ∙ by_view (λ x. find (seen x none_other) (Closed ∷ Held ∷ PendingRefused ∷ [])) o is
 
-  -- the question that the thread shows is the one it asked last
-  asked_is : (asked : Question) → thread.pending ≡ Some (record { question = asked; answer = None }) → question u before ≡ Some asked
+  -- the request that the thread shows is the one it asked last
+  asked_is : (asked : Request) → thread.pending ≡ Some (record { request = asked; answer = None }) → request u before ≡ Some asked
   asked_is asked is =
-      from_map (cond (ltb (returns u before) (answers u before)) (answered setting u before) None) (question u before) asked
+      from_map (cond (ltb (returns u before) (answers u before)) (answered setting u before) None) (request u before) asked
       (ltb (returns u before) (asks u before))
       (sym (ap (λ (x : ThreadView). x.pending) shown.1) ∙ is)
 
@@ -286,11 +287,11 @@ put_ask setting old before u Deq new left within is = put_thread setting old bef
 
 -- ---- what each step makes of the thread
 
-abbrev after_ask : ThreadView → Question → Event → ThreadView
-after_ask thread asked call = record thread { asked = thread.asked + 1; pending = Some (record { question = asked; answer = None }); held = Some call }
+abbrev after_ask : ThreadView → Request → Event → ThreadView
+after_ask thread asked call = record thread { asked = thread.asked + 1; pending = Some (record { request = asked; answer = None }); held = Some call }
 
-abbrev after_answer : ThreadView → Question → Answer → ThreadView
-after_answer thread asked answer = record thread { pending = Some (record { question = asked; answer = Some answer }) }
+abbrev after_answer : ThreadView → Request → Answer → ThreadView
+after_answer thread asked answer = record thread { pending = Some (record { request = asked; answer = Some answer }) }
 
 abbrev after_return : ThreadView → Event → ThreadView
 after_return thread ret = record thread { pending = None; held = Some ret }
@@ -329,8 +330,8 @@ module _ (old : MachineView) (u i : ℕ) (thread new : ThreadView) (same : i ≡
             (changed ∙ ap P f.1 ∙ sym own) left.asked left.next_ticket left.queue_is,
       )))
 
-  pub effect_taken : (asked : Question) (answer : Answer) (items : List ℕ) → None ≡ find (seen thread none_other) (Closed ∷ NotPending ∷ AnswerTaken ∷ []) →
-      thread.pending ≡ Some (record { question = asked; answer = None }) → answer ≡ queue_answer asked old.queue → items ≡ queue_after asked old.queue
+  pub effect_taken : (asked : Request) (answer : Answer) (items : List ℕ) → None ≡ find (seen thread none_other) (Closed ∷ NotPending ∷ AnswerTaken ∷ []) →
+      thread.pending ≡ Some (record { request = asked; answer = None }) → answer ≡ queue_answer asked old.queue → items ≡ queue_after asked old.queue
       → new ≡ after_answer thread asked answer →
       TakesStep old (Effect u) (Ok (Answered answer)) (record old { threads = set old.threads i new; queue = items })
   effect_taken asked answer items is shows gives leaves changed =
@@ -347,8 +348,8 @@ module _ (old : MachineView) (u i : ℕ) (thread new : ThreadView) (same : i ≡
             (rw (q, ← left.queue_is) leaves),
       )))
 
-  pub say_taken : (asked : Question) (told : Answer) → None ≡ find (seen thread none_other) (Closed ∷ NotPending ∷ AnswerTaken ∷ []) →
-      thread.pending ≡ Some (record { question = asked; answer = None }) → is_wrong told (Some asked) ≡ false → new ≡ after_answer thread asked told →
+  pub say_taken : (asked : Request) (told : Answer) → None ≡ find (seen thread none_other) (Closed ∷ NotPending ∷ AnswerTaken ∷ []) →
+      thread.pending ≡ Some (record { request = asked; answer = None }) → is_wrong told (Some asked) ≡ false → new ≡ after_answer thread asked told →
       TakesStep old (Say u told) (Ok (Answered told)) (record old { threads = set old.threads i new })
   say_taken asked told is shows right changed = rw same (step_accepted old _ (Say u told) (Answered told) (length-set old.threads u new)
       (λ setting before all left.
@@ -362,7 +363,7 @@ module _ (old : MachineView) (u i : ℕ) (thread new : ThreadView) (same : i ≡
 
   pub return_taken : (answer : Answer) → None ≡ find (seen thread none_other) (Closed ∷ Held ∷ NotPending ∷ NoAnswer ∷ [])
       → given_answer thread.pending ≡ Some answer →
-      new ≡ after_return thread (record { ticket = old.next_ticket; thread = u; what = return_of answer }) →
+      new ≡ after_return thread (record { ticket = old.next_ticket; thread = u; what = return_what answer }) →
       TakesStep old (Ret u) (Ok (Ticket old.next_ticket)) (record old { threads = set old.threads i new; next_ticket = old.next_ticket + 1 })
   return_taken answer is shows changed = rw same (step_accepted old _ (Ret u) (Ticket old.next_ticket) (length-set old.threads u new)
       (λ setting before all left.
@@ -370,7 +371,7 @@ module _ (old : MachineView) (u i : ℕ) (thread new : ThreadView) (same : i ≡
       let f = thread_is setting old before u thread left at in
       let m = may_return setting before u false none in
       let a = answer_of_pending setting u before (all u) m answer (ap (λ (x : ThreadView). given_answer x.pending) (sym f.1) ∙ shows) in
-      let P : ThreadView → ℕ → ThreadView = λ x n. after_return x (record { ticket = n; thread = u; what = return_of answer }) in
+      let P : ThreadView → ℕ → ThreadView = λ x n. after_return x (record { ticket = n; thread = u; what = return_what answer }) in
       let is' = changed ∙ ap (λ (x : ThreadView). P x old.next_ticket) f.1 ∙ ap (P (thread_after setting u before)) left.next_ticket
       ∙ sym (own_return setting u before (all u) m answer a) in (
         none,
@@ -443,8 +444,8 @@ module _ (old : MachineView) (u i : ℕ) (thread new : ThreadView) (same : i ≡
   say_refused told r is = refused_at (Say u told) r (λ setting before all left. says_say old u thread at_place setting before all left told
       (is_memory r) (Some r) is)
 
-  pub say_wrong : (asked : Question) (told : Answer) → None ≡ find (seen thread none_other) (Closed ∷ NotPending ∷ AnswerTaken ∷ [])
-      → thread.pending ≡ Some (record { question = asked; answer = None }) → is_wrong told (Some asked) ≡ true →
+  pub say_wrong : (asked : Request) (told : Answer) → None ≡ find (seen thread none_other) (Closed ∷ NotPending ∷ AnswerTaken ∷ [])
+      → thread.pending ≡ Some (record { request = asked; answer = None }) → is_wrong told (Some asked) ≡ true →
       TakesStep old (Say u told) (Err WrongAnswer) (record old { threads = set old.threads i new })
   say_wrong asked told is shows wrong = refused_at (Say u told) WrongAnswer (λ setting before all left.
       says_say old u thread at_place setting before all left told false None is

@@ -11,26 +11,26 @@ use Rattle.std.specs.Option.{is_none, option_map}
 use Rattle.event_records.specs.declared.event.Event.{Event}
 use Rattle.recorder_core.specs.declared.step.Step.{Step}
 use Rattle.recorder_core.specs.declared.step.Step.TheVariants.{AskEnq, AskDeq, Push, Effect, Say, Ret, Drain, Close}
-use Rattle.recorder_core.specs.declared.step.Answer.{Answer}
-use Rattle.recorder_core.specs.declared.pending.Question.{Question}
-use Rattle.recorder_core.specs.declared.pending.Question.TheVariants.{Enqueue, Dequeue}
+use Rattle.event_records.specs.declared.kind.Answer.{Answer}
+use Rattle.recorder_core.specs.declared.pending.Request.{Request}
+use Rattle.recorder_core.specs.declared.pending.Request.TheVariants.{Enqueue, Dequeue}
 use Rattle.recorder_core.specs.declared.pending.Pending.{Pending}
 use Rattle.recorder_core.specs.Setting.{Setting}
 use Rattle.recorder_core.specs.View.{ThreadView}
 use Rattle.recorder_core.specs.Inner.Seen.{given_answer}
-use Rattle.event_records.specs.Question.{value_name}
+use Rattle.event_records.specs.Question.{return_what, value_name}
 use Rattle.event_records.specs.declared.kind.Kind.{Kind}
 use Rattle.event_records.specs.declared.kind.Kind.TheVariants.{Enq, Deq}
 use Rattle.recorder_core.specs.Inner.Asked.{ask_of, asked_for, call_of}
-use Rattle.recorder_core.specs.Schedule.{asks, answers, returns, pushes, drained, in_ring, tickets, events, with_last, question, answered}
-use Rattle.recorder_core.specs.Schedule.{effect_answer, return_of, thread_of}
+use Rattle.recorder_core.specs.Schedule.{asks, answers, returns, pushes, drained, in_ring, tickets, events, with_last, request, answered}
+use Rattle.recorder_core.specs.Schedule.{effect_answer, thread_of}
 use Rattle.recorder_core.specs.After.{pending, thread_after}
 use Rattle.recorder_core.proofs.Runs.{same_number, MayAsk, MayPush, MayAnswer, MayReturn}
 use Rattle.recorder_core.proofs.Counts.{Counted, has_answer}
 
--- the pending operation of this question
-abbrev pub with_answer : Option Answer → Question → Pending
-with_answer a q = record { question = q; answer = a }
+-- the pending operation of this request
+abbrev pub with_answer : Option Answer → Request → Pending
+with_answer a q = record { request = q; answer = a }
 
 -- two threads that agree in all are one
 pub same_view : (a b : ThreadView) → a.closed ≡ b.closed → a.asked ≡ b.asked → a.pending ≡ b.pending → a.held ≡ b.held → a.ring ≡ b.ring
@@ -77,23 +77,23 @@ is_none-slice_get [] n = sym (le-leb 0 n (omega arith))
 is_none-slice_get (x ∷ xs) zero = sym (lt-leb (suc (length xs)) 0 (omega arith))
 is_none-slice_get (x ∷ xs) (suc n) = rw compare.suc-suc (is_none-slice_get xs n)
 
--- who has asked has a last question
-pub has_question : (t : ℕ) (steps : List Step) → 0 < asks t steps → is_some (question t steps) ≡ true
-has_question t [] h = absurd (omega arith)
-has_question t (AskEnq u ∷ before) h = elim (cases_eq u t) [
+-- who has asked has a last request
+pub has_request : (t : ℕ) (steps : List Step) → 0 < asks t steps → is_some (request t steps) ≡ true
+has_request t [] h = absurd (omega arith)
+has_request t (AskEnq u ∷ before) h = elim (cases_eq u t) [
   | inl same ↦ let e : eqb u t ≡ true = rw same (same_number t) in rw e refl
-  | inr other ↦ rw (ne_eqb u t other) (has_question t before (rw (ne_eqb u t other) at h))
+  | inr other ↦ rw (ne_eqb u t other) (has_request t before (rw (ne_eqb u t other) at h))
 ]
-has_question t (AskDeq u ∷ before) h = elim (cases_eq u t) [
+has_request t (AskDeq u ∷ before) h = elim (cases_eq u t) [
   | inl same ↦ let e : eqb u t ≡ true = rw same (same_number t) in rw e refl
-  | inr other ↦ rw (ne_eqb u t other) (has_question t before (rw (ne_eqb u t other) at h))
+  | inr other ↦ rw (ne_eqb u t other) (has_request t before (rw (ne_eqb u t other) at h))
 ]
-has_question t (Push u ∷ before) h = has_question t before h
-has_question t (Effect u ∷ before) h = has_question t before h
-has_question t (Say u answer ∷ before) h = has_question t before h
-has_question t (Ret u ∷ before) h = has_question t before h
-has_question t (Drain u k ∷ before) h = has_question t before h
-has_question t (Close u ∷ before) h = has_question t before h
+has_request t (Push u ∷ before) h = has_request t before h
+has_request t (Effect u ∷ before) h = has_request t before h
+has_request t (Say u answer ∷ before) h = has_request t before h
+has_request t (Ret u ∷ before) h = has_request t before h
+has_request t (Drain u k ∷ before) h = has_request t before h
+has_request t (Close u ∷ before) h = has_request t before h
 
 -- a step of another thread changes nothing
 pub other_thread : (setting : Setting) (t : ℕ) (step : Step) (before : List Step) → (thread_of step ≡ t → ⊥)
@@ -116,10 +116,10 @@ module _ (setting : Setting) (u : ℕ) (before : List Step) (k : Counted setting
   collected_kept : (event : Event) → take (drained u before) (events setting u before ++ event ∷ []) ≡ take (drained u before) (events setting u before)
   collected_kept event = take-append-le (drained u before) (events setting u before) (event ∷ []) (omega arith)
 
-  new_pending : (asked : Question) → MayAsk setting u before →
+  new_pending : (asked : Request) → MayAsk setting u before →
       cond (ltb (returns u before) (suc (asks u before))) (option_map
       (with_answer (cond (ltb (returns u before) (answers u before)) (answered setting u before) None)) (Some asked)) None
-      ≡ Some (record { question = asked; answer = None })
+      ≡ Some (record { request = asked; answer = None })
   new_pending asked m =
       let e1 : ltb (returns u before) (suc (asks u before)) ≡ true = lt-ltb (returns u before) (suc (asks u before)) (omega arith) in
       let e2 : ltb (returns u before) (answers u before) ≡ false = le-ltb (returns u before) (answers u before) (omega arith) in
@@ -127,7 +127,7 @@ module _ (setting : Setting) (u : ℕ) (before : List Step) (k : Counted setting
 
   pub own_ask : MayAsk setting u before → (kind : Kind) → thread_after setting u (ask_of kind u ∷ before) ≡ record (thread_after setting u before) {
     asked = asks u before + 1;
-    pending = Some (record { question = asked_for kind u (asks u before); answer = None });
+    pending = Some (record { request = asked_for kind u (asks u before); answer = None });
     held = Some (record { ticket = tickets before; thread = u; what = call_of (asked_for kind u (asks u before)) });
   }
   own_ask m Enq = rw (same_number u) (same_view _ _ refl (omega arith) (new_pending (Enqueue (value_name u (asks u before))) m)
@@ -146,23 +146,23 @@ module _ (setting : Setting) (u : ℕ) (before : List Step) (k : Counted setting
       (omega (arith, length-take (pushes u before) (events setting u before))))
       refl)
 
-  own_answer : MayAnswer setting u before → (asked : Question) (answer : Answer) → question u before ≡ Some asked →
+  own_answer : MayAnswer setting u before → (asked : Request) (answer : Answer) → request u before ≡ Some asked →
       cond (ltb (returns u before) (asks u before)) (option_map (with_answer
-      (cond (ltb (returns u before) (suc (answers u before))) (Some answer) None)) (question u before)) None
-      ≡ Some (record { question = asked; answer = Some answer })
+      (cond (ltb (returns u before) (suc (answers u before))) (Some answer) None)) (request u before)) None
+      ≡ Some (record { request = asked; answer = Some answer })
   own_answer m asked answer is =
       let e1 : ltb (returns u before) (asks u before) ≡ true = lt-ltb (returns u before) (asks u before) m.one_pending in
       let e2 : ltb (returns u before) (suc (answers u before)) ≡ true = lt-ltb (returns u before) (suc (answers u before)) (omega arith) in
       rw (e1, e2, is) refl
 
-  pub own_effect : MayAnswer setting u before → (asked : Question) → question u before ≡ Some asked →
+  pub own_effect : MayAnswer setting u before → (asked : Request) → request u before ≡ Some asked →
       thread_after setting u (Effect u ∷ before) ≡ record (thread_after setting u before)
-      { pending = Some (record { question = asked; answer = Some (effect_answer setting u before) }) }
+      { pending = Some (record { request = asked; answer = Some (effect_answer setting u before) }) }
   own_effect m asked is = rw (same_number u) (same_view _ _ refl refl (own_answer m asked (effect_answer setting u before) is) refl refl refl)
 
-  pub own_say : MayAnswer setting u before → (asked : Question) (answer : Answer) → question u before ≡ Some asked →
+  pub own_say : MayAnswer setting u before → (asked : Request) (answer : Answer) → request u before ≡ Some asked →
       thread_after setting u (Say u answer ∷ before) ≡ record (thread_after setting u before)
-      { pending = Some (record { question = asked; answer = Some answer }) }
+      { pending = Some (record { request = asked; answer = Some answer }) }
   own_say m asked answer is = rw (same_number u) (same_view _ _ refl refl (own_answer m asked answer is) refl refl refl)
 
   -- the answer of the pending operation
@@ -171,9 +171,9 @@ module _ (setting : Setting) (u : ℕ) (before : List Step) (k : Counted setting
   answer_of_pending m answer is =
       let e1 : ltb (returns u before) (asks u before) ≡ true = lt-ltb (returns u before) (asks u before) m.one_pending in
       let e2 : ltb (returns u before) (answers u before) ≡ true = lt-ltb (returns u before) (answers u before) m.has_answer in
-      of_map (question u before) (rw (e1, e2) at is)
+      of_map (request u before) (rw (e1, e2) at is)
     where
-      of_map : (o : Option Question) → given_answer (option_map (with_answer (answered setting u before)) o) ≡ Some answer
+      of_map : (o : Option Request) → given_answer (option_map (with_answer (answered setting u before)) o) ≡ Some answer
           → answered setting u before ≡ Some answer
       of_map None h = cc
       of_map (Some q) h = h
@@ -181,7 +181,7 @@ module _ (setting : Setting) (u : ℕ) (before : List Step) (k : Counted setting
   pub own_return : MayReturn setting u before → (answer : Answer) → answered setting u before ≡ Some answer
       → thread_after setting u (Ret u ∷ before) ≡ record (thread_after setting u before) {
         pending = None;
-        held = Some (record { ticket = tickets before; thread = u; what = return_of answer });
+        held = Some (record { ticket = tickets before; thread = u; what = return_what answer });
       }
   own_return m answer is =
       let e : ltb (suc (returns u before)) (asks u before) ≡ false = le-ltb (suc (returns u before)) (asks u before) k.one_pending in
@@ -228,15 +228,15 @@ module _ (setting : Setting) (u : ℕ) (before : List Step) (k : Counted setting
     | inl less ↦
         let e1 : ltb (returns u before) (asks u before) ≡ true = lt-ltb (returns u before) (asks u before) less in
         let e2 : leb (asks u before) (returns u before) ≡ false = lt-leb (asks u before) (returns u before) less in
-        let some : is_some (question u before) ≡ true = has_question u before (omega arith) in
-        rw (e1, e2) (is_some-mapped _ (question u before) some)
+        let some : is_some (request u before) ≡ true = has_request u before (omega arith) in
+        rw (e1, e2) (is_some-mapped _ (request u before) some)
     | inr more ↦
         let e1 : ltb (returns u before) (asks u before) ≡ false = le-ltb (returns u before) (asks u before) more in
         let e2 : leb (asks u before) (returns u before) ≡ true = le-leb (asks u before) (returns u before) more in
         rw (e1, e2) (refl, refl)
   ]
 
-  given-mapped : (f : Question → Pending) (a : Option Answer) → ((q : Question) → (f q).answer ≡ a) → (o : Option Question) → is_some o ≡ true
+  given-mapped : (f : Request → Pending) (a : Option Answer) → ((q : Request) → (f q).answer ≡ a) → (o : Option Request) → is_some o ≡ true
       → given_answer (option_map f o) ≡ a
   given-mapped f a h None s = cc
   given-mapped f a h (Some q) s = h q
@@ -246,8 +246,8 @@ module _ (setting : Setting) (u : ℕ) (before : List Step) (k : Counted setting
       (ltb (returns u before) (answers u before)) (answered setting u before) None
   given less =
       let e1 : ltb (returns u before) (asks u before) ≡ true = lt-ltb (returns u before) (asks u before) less in
-      let some : is_some (question u before) ≡ true = has_question u before (omega arith) in
-      rw e1 (given-mapped _ (cond (ltb (returns u before) (answers u before)) (answered setting u before) None) (λ q. refl) (question u before) some)
+      let some : is_some (request u before) ≡ true = has_request u before (omega arith) in
+      rw e1 (given-mapped _ (cond (ltb (returns u before) (answers u before)) (answered setting u before) None) (λ q. refl) (request u before) some)
 
   some_or_none : (b : Bool) (o : Option Answer) → (b ≡ true → is_some o ≡ true) → (is_some (cond b o None) ≡ b) × (is_none (cond b o None) ≡ not b)
   some_or_none true o h = let e = h refl in (e, ap not e)

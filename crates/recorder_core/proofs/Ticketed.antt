@@ -15,7 +15,7 @@ use Rattle.history_merge.specs.Merge.{IsMerged}
 use Rattle.history_merge.specs.Operations.{Precedes, operations_of, operation_of, kind_of}
 use Rattle.recorder_core.specs.Setting.{Setting}
 use Rattle.recorder_core.specs.Schedule.{Attempt, accepted, events}
-use Rattle.recorder_core.specs.Laws.{collected_in, collected_lists, operation_call, operation_return, call_what, return_what, ReturnsBeforeAsk}
+use Rattle.recorder_core.specs.Laws.{collected_in, collected_lists, operation_call, operation_return, call_of_kind, return_of_kind, ReturnsBeforeAsk}
 use Rattle.recorder_core.proofs.Collecting.{list_at}
 use Rattle.recorder_core.proofs.Members.{contains_head, contains_tail, none_in_nil, joined_contains}
 use Rattle.recorder_core.proofs.Precedence.{place_of, lower_stands_before, stands_before_is_lower, collected_is_event}
@@ -30,11 +30,11 @@ found_among {X} p (y ∷ xs) x is = by_head (p y) refl (found_among p xs x) is
     by_head true passes more e = let same : y ≡ x = cc in (subst (λ (z : X). Contains (y ∷ xs) z) same (contains_head y xs), ap p (sym same) ∙ passes)
     by_head false passes more e = let m = more e in (contains_tail y xs x m.0, m.1)
 
-whats_of : (call answer : What) (kind : OpKind) → kind_of call answer ≡ Some kind → (call ≡ call_what kind) × (answer ≡ return_what kind)
-whats_of (CallEnq v) RetEnq kind is = let same : Enq v ≡ kind = same_Some (Enq v) kind is in (ap call_what same, ap return_what same)
-whats_of (CallEnq v) RetNot kind is = let same : Not v ≡ kind = same_Some (Not v) kind is in (ap call_what same, ap return_what same)
-whats_of CallDeq (RetDeq v) kind is = let same : Deq v ≡ kind = same_Some (Deq v) kind is in (ap call_what same, ap return_what same)
-whats_of CallDeq RetEmpty kind is = let same : Empty ≡ kind = same_Some Empty kind is in (ap call_what same, ap return_what same)
+whats_of : (call answer : What) (kind : OpKind) → kind_of call answer ≡ Some kind → (call ≡ call_of_kind kind) × (answer ≡ return_of_kind kind)
+whats_of (CallEnq v) RetEnq kind is = let same : Enq v ≡ kind = same_Some (Enq v) kind is in (ap call_of_kind same, ap return_of_kind same)
+whats_of (CallEnq v) RetNot kind is = let same : Not v ≡ kind = same_Some (Not v) kind is in (ap call_of_kind same, ap return_of_kind same)
+whats_of CallDeq (RetDeq v) kind is = let same : Deq v ≡ kind = same_Some (Deq v) kind is in (ap call_of_kind same, ap return_of_kind same)
+whats_of CallDeq RetEmpty kind is = let same : Empty ≡ kind = same_Some Empty kind is in (ap call_of_kind same, ap return_of_kind same)
 whats_of _ _ kind is = cc
 
 -- the call and the return of an operation
@@ -53,7 +53,7 @@ made_by call answer o is threads = by_kind (kind_of call.what answer.what) refl 
         let whats = whats_of call.what answer.what kind is' in (
           ap (λ (w : What). let x : Event = record { ticket = call.ticket; thread = call.thread; what = w } in x) whats.0 ∙ ap operation_call same,
           ap (λ (w : What). let x : Event = record { ticket = answer.ticket; thread = answer.thread; what = w } in x) whats.1
-              ∙ ap (λ (t : ℕ). let x : Event = record { ticket = answer.ticket; thread = t; what = return_what kind } in x) threads
+              ∙ ap (λ (t : ℕ). let x : Event = record { ticket = answer.ticket; thread = t; what = return_of_kind kind } in x) threads
               ∙ ap operation_return same,
         )
 

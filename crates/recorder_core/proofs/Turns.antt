@@ -4,12 +4,13 @@ use Rattle.event_records.specs.declared.event.Event.{Event}
 use Rattle.event_records.specs.declared.event.What.{What}
 use Rattle.event_records.specs.declared.event.What.TheVariants.{CallEnq, RetEnq, RetNot, CallDeq, RetDeq, RetEmpty}
 use Rattle.event_records.specs.Turns.{TakesTurns, answers}
-use Rattle.recorder_core.specs.declared.step.Answer.{Answer}
-use Rattle.recorder_core.specs.declared.step.Answer.TheVariants.{Taken, Not, Got, Empty}
-use Rattle.recorder_core.specs.declared.pending.Question.{Question}
-use Rattle.recorder_core.specs.declared.pending.Question.TheVariants.{Enqueue, Dequeue}
+use Rattle.event_records.specs.declared.kind.Answer.{Answer}
+use Rattle.event_records.specs.declared.kind.Answer.TheVariants.{Taken, Not, Got, Empty}
+use Rattle.recorder_core.specs.declared.pending.Request.{Request}
+use Rattle.recorder_core.specs.declared.pending.Request.TheVariants.{Enqueue, Dequeue}
 use Rattle.recorder_core.specs.Inner.Asked.{call_of}
-use Rattle.recorder_core.specs.Schedule.{is_wrong, return_of}
+use Rattle.event_records.specs.Question.{return_what}
+use Rattle.recorder_core.specs.Schedule.{is_wrong}
 
 -- what follows whole operations takes turns too
 pub turns_split : (events later : List Event) → TakesTurns events → TakesTurns (events ++ later) → TakesTurns later
@@ -46,7 +47,7 @@ first_is_call e [] turns = absurd turns
 first_is_call e (f ∷ later) turns = call_cases e.what f.what turns.0
 
 -- which answer a return gives
-pub answer_in : (asked : Question) (what : What) → answers (call_of asked) what ≡ true → (a : Answer) × (what ≡ return_of a) × (is_wrong a (Some asked) ≡ false)
+pub answer_in : (asked : Request) (what : What) → answers (call_of asked) what ≡ true → (a : Answer) × (what ≡ return_what a) × (is_wrong a (Some asked) ≡ false)
 answer_in (Enqueue v) RetEnq fit = (Taken, refl, refl)
 answer_in (Enqueue v) RetNot fit = (Not, refl, refl)
 answer_in (Enqueue v) (CallEnq w) fit = cc

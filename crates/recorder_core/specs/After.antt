@@ -7,7 +7,7 @@ use Rattle.recorder_core.specs.declared.pending.Pending.{Pending}
 use Rattle.recorder_core.specs.declared.step.StepRefused.{StepRefused}
 use Rattle.recorder_core.specs.declared.step.StepRefused.TheVariants.{Memory}
 use Rattle.recorder_core.specs.Setting.{Setting}
-use Rattle.recorder_core.specs.Schedule.{Attempt, accepted, asks, all_asks, answers, returns, pushes, drained, tickets, events, question}
+use Rattle.recorder_core.specs.Schedule.{Attempt, accepted, asks, all_asks, answers, returns, pushes, drained, tickets, events, request}
 use Rattle.recorder_core.specs.Schedule.{answered, is_closed, queue}
 use Rattle.recorder_core.specs.View.{ThreadView, MachineView}
 
@@ -16,10 +16,10 @@ abbrev pub pending : Setting → ℕ → List Step → Option Pending
 pending setting t steps =
     if nat_lt (returns t steps) (asks t steps)
     then option_map (λ asked. record {
-      question = asked;
+      request = asked;
       answer =
           if nat_lt (returns t steps) (answers t steps) then answered setting t steps else None;
-    }) (question t steps)
+    }) (request t steps)
     else None
 
 -- what a machine holds for t after these accepted steps: of its events the first are collected,

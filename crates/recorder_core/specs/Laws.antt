@@ -54,26 +54,26 @@ pub record StandsBefore (setting : Setting) (schedule : List Attempt) (first sec
   pub gives_second : Gives setting (between ++ one ∷ before) other second
 
 -- what the call of an operation asks that did this
-abbrev pub call_what : OpKind → What
-call_what (Enq v) = CallEnq v
-call_what (Not v) = CallEnq v
-call_what (Deq v) = CallDeq
-call_what Empty = CallDeq
+abbrev pub call_of_kind : OpKind → What
+call_of_kind (Enq v) = CallEnq v
+call_of_kind (Not v) = CallEnq v
+call_of_kind (Deq v) = CallDeq
+call_of_kind Empty = CallDeq
 
 -- what its return answers
-abbrev pub return_what : OpKind → What
-return_what (Enq v) = RetEnq
-return_what (Not v) = RetNot
-return_what (Deq v) = RetDeq v
-return_what Empty = RetEmpty
+abbrev pub return_of_kind : OpKind → What
+return_of_kind (Enq v) = RetEnq
+return_of_kind (Not v) = RetNot
+return_of_kind (Deq v) = RetDeq v
+return_of_kind Empty = RetEmpty
 
 -- the event with which an operation was called
 abbrev pub operation_call : Operation → Event
-operation_call o = record { ticket = o.call; thread = o.thread; what = call_what o.kind }
+operation_call o = record { ticket = o.call; thread = o.thread; what = call_of_kind o.kind }
 
 -- the event with which it returned
 abbrev pub operation_return : Operation → Event
-operation_return o = record { ticket = o.ret; thread = o.thread; what = return_what o.kind }
+operation_return o = record { ticket = o.ret; thread = o.thread; what = return_of_kind o.kind }
 
 -- the return step of the first operation stands before the ask of the second
 abbrev pub ReturnsBeforeAsk : Setting → List Attempt → Operation → Operation → Type 0

@@ -15,12 +15,12 @@ use Rattle.history_merge.specs.declared.operation.OpKind.TheVariants.{Enq, Deq, 
 use Rattle.event_records.specs.declared.limits.TheConstants.{MAX_THREADS}
 use Rattle.recorder_core.specs.declared.step.Step.{Step}
 use Rattle.recorder_core.specs.declared.step.Step.TheVariants.{Effect, Say}
-use Rattle.recorder_core.specs.declared.step.Answer.{Answer}
-use Rattle.recorder_core.specs.declared.step.Answer.TheVariants.{Taken, Got}
-use Rattle.recorder_core.specs.declared.pending.Question.{Question}
-use Rattle.recorder_core.specs.declared.pending.Question.TheVariants.{Enqueue, Dequeue}
+use Rattle.event_records.specs.declared.kind.Answer.{Answer}
+use Rattle.event_records.specs.declared.kind.Answer.TheVariants.{Taken, Got}
+use Rattle.recorder_core.specs.declared.pending.Request.{Request}
+use Rattle.recorder_core.specs.declared.pending.Request.TheVariants.{Enqueue, Dequeue}
 use Rattle.recorder_core.specs.Setting.{Setting}
-use Rattle.recorder_core.specs.Schedule.{Attempt, accepted, question, effect_answer, with_last, answers, events}
+use Rattle.recorder_core.specs.Schedule.{Attempt, accepted, request, effect_answer, with_last, answers, events}
 use Rattle.recorder_core.specs.Laws.{collected_lists, IsDone}
 
 -- ---- honest schedules
@@ -94,7 +94,7 @@ abbrev pub effects_order : Setting → List Step → List Operation
 effects_order setting steps = filter_map (operation_at setting steps) (effected steps)
 
 -- what an operation did that asked this and was told that
-abbrev pub kind_told : Question → Answer → OpKind
+abbrev pub kind_told : Request → Answer → OpKind
 kind_told (Enqueue value) Taken = Enq value
 kind_told (Enqueue value) _ = Not value
 kind_told Dequeue (Got value) = Deq value
@@ -104,5 +104,5 @@ kind_told Dequeue _ = Empty
 abbrev pub effect_kinds : Setting → List Step → List OpKind
 effect_kinds setting [] = []
 effect_kinds setting (Effect t ∷ before) =
-    with_last (effect_kinds setting before) (option_map (λ asked. kind_told asked (effect_answer setting t before)) (question t before))
+    with_last (effect_kinds setting before) (option_map (λ asked. kind_told asked (effect_answer setting t before)) (request t before))
 effect_kinds setting (_ ∷ before) = effect_kinds setting before

@@ -8,15 +8,15 @@ use Rattle.std.specs.List.{list_any}
 use Rattle.std.specs.Option.{option_map, option_map_or, is_none}
 use Rattle.event_records.specs.declared.event.Event.{Event}
 use Rattle.event_records.specs.declared.event.What.{What}
-use Rattle.event_records.specs.declared.event.What.TheVariants.{CallEnq, RetEnq, RetNot, CallDeq, RetDeq, RetEmpty}
+use Rattle.event_records.specs.declared.event.What.TheVariants.{CallEnq, CallDeq}
 use Rattle.event_records.specs.declared.limits.TheConstants.{MAX_THREAD_OPERATIONS, MAX_OPERATIONS}
-use Rattle.event_records.specs.Question.{value_name}
+use Rattle.event_records.specs.Question.{return_what, value_name}
 use Rattle.recorder_core.specs.declared.step.Step.{Step}
 use Rattle.recorder_core.specs.declared.step.Step.TheVariants.{AskEnq, AskDeq, Push, Effect, Say, Ret, Drain, Close}
-use Rattle.recorder_core.specs.declared.step.Answer.{Answer}
-use Rattle.recorder_core.specs.declared.step.Answer.TheVariants.{Taken, Not, Got, Empty}
-use Rattle.recorder_core.specs.declared.pending.Question.{Question}
-use Rattle.recorder_core.specs.declared.pending.Question.TheVariants.{Enqueue, Dequeue}
+use Rattle.event_records.specs.declared.kind.Answer.{Answer}
+use Rattle.event_records.specs.declared.kind.Answer.TheVariants.{Taken, Not, Got, Empty}
+use Rattle.recorder_core.specs.declared.pending.Request.{Request}
+use Rattle.recorder_core.specs.declared.pending.Request.TheVariants.{Enqueue, Dequeue}
 use Rattle.recorder_core.specs.declared.step.Done.{Done}
 use Rattle.recorder_core.specs.declared.step.Done.TheVariants.{Ticket, Pushed, Answered, Drained, Closed as CloseDone}
 use Rattle.recorder_core.specs.Setting.{Setting}
@@ -114,23 +114,23 @@ in_ring t steps = pushes t steps - drained t steps
 abbrev pub is_closed : ℕ → List Step → Bool
 is_closed t steps = list_any (is_close t) steps
 
--- ---- questions, answers and the sequential queue
+-- ---- requests, answers and the sequential queue
 
 -- what t asked last
-abbrev pub question : ℕ → List Step → Option Question
-question t [] = None
-question t (AskEnq u ∷ before) = if u == t then Some (Enqueue (value_name t (asks t before))) else question t before
-question t (AskDeq u ∷ before) = if u == t then Some Dequeue else question t before
-question t (_ ∷ before) = question t before
+abbrev pub request : ℕ → List Step → Option Request
+request t [] = None
+request t (AskEnq u ∷ before) = if u == t then Some (Enqueue (value_name t (asks t before))) else request t before
+request t (AskDeq u ∷ before) = if u == t then Some Dequeue else request t before
+request t (_ ∷ before) = request t before
 
 -- what the sequential queue answers
-abbrev pub queue_answer : Question → List ℕ → Answer
+abbrev pub queue_answer : Request → List ℕ → Answer
 queue_answer (Enqueue value) queue = Taken
 queue_answer Dequeue [] = Empty
 queue_answer Dequeue (first ∷ rest) = Got first
 
--- what the sequential queue contains after a question
-abbrev pub queue_after : Question → List ℕ → List ℕ
+-- what the sequential queue contains after a request
+abbrev pub queue_after : Request → List ℕ → List ℕ
 queue_after (Enqueue value) queue = queue ++ value ∷ []
 queue_after Dequeue queue = drop 1 queue
 
@@ -138,12 +138,12 @@ queue_after Dequeue queue = drop 1 queue
 abbrev pub queue : Setting → List Step → List ℕ
 queue setting [] = setting.initial
 queue setting (Effect u ∷ before) =
-    option_map_or (λ asked. queue_after asked (queue setting before)) (question u before) (queue setting before)
+    option_map_or (λ asked. queue_after asked (queue setting before)) (request u before) (queue setting before)
 queue setting (_ ∷ before) = queue setting before
 
 -- the answer of an effect of t: that of the sequential queue after the effects before
 abbrev pub effect_answer : Setting → ℕ → List Step → Answer
-effect_answer setting t before = option_map_or (λ asked. queue_answer asked (queue setting before)) (question t before) Empty
+effect_answer setting t before = option_map_or (λ asked. queue_answer asked (queue setting before)) (request t before) Empty
 
 -- what t was answered last
 abbrev pub answered : Setting → ℕ → List Step → Option Answer
@@ -154,13 +154,6 @@ answered setting t (_ ∷ before) = answered setting t before
 
 -- ---- events
 
--- the return of an operation with this answer
-abbrev pub return_of : Answer → What
-return_of Taken = RetEnq
-return_of Not = RetNot
-return_of (Got value) = RetDeq value
-return_of Empty = RetEmpty
-
 -- the event that a step gives thread t, if it does, with the next ticket
 abbrev pub event_of : Setting → ℕ → Step → List Step → Option Event
 event_of setting t (AskEnq u) before =
@@ -169,7 +162,7 @@ event_of setting t (AskDeq u) before =
     if u == t then Some (record { ticket = tickets before; thread = t; what = CallDeq }) else None
 event_of setting t (Ret u) before =
     if u == t
-    then option_map (λ answer. record { ticket = tickets before; thread = t; what = return_of answer }) (answered setting t before)
+    then option_map (λ answer. record { ticket = tickets before; thread = t; what = return_what answer }) (answered setting t before)
     else None
 event_of setting t _ before = None
 
@@ -203,13 +196,13 @@ is_enqueue_answer Not = true
 is_enqueue_answer _ = false
 
 -- whether this answer is of the other kind than the operation that was asked
-abbrev pub is_wrong : Answer → Option Question → Bool
+abbrev pub is_wrong : Answer → Option Request → Bool
 is_wrong answer None = false
 is_wrong answer (Some (Enqueue value)) = not (is_enqueue_answer answer)
 is_wrong answer (Some Dequeue) = is_enqueue_answer answer
 
 -- whether a step tells an operation an answer of the other kind
-abbrev pub is_told_wrong : Step → Option Question → Bool
+abbrev pub is_told_wrong : Step → Option Request → Bool
 is_told_wrong (Say t answer) asked = is_wrong answer asked
 is_told_wrong _ asked = false
 
@@ -224,7 +217,7 @@ meets setting before attempt Pending = let t = thread_of attempt.step in nat_lt 
 meets setting before attempt NotPending = let t = thread_of attempt.step in nat_le (asks t before) (returns t before)
 meets setting before attempt NoAnswer = let t = thread_of attempt.step in nat_le (answers t before) (returns t before)
 meets setting before attempt AnswerTaken = let t = thread_of attempt.step in nat_lt (returns t before) (answers t before)
-meets setting before attempt WrongAnswer = is_told_wrong attempt.step (question (thread_of attempt.step) before)
+meets setting before attempt WrongAnswer = is_told_wrong attempt.step (request (thread_of attempt.step) before)
 meets setting before attempt Limit = nat_le MAX_THREAD_OPERATIONS (asks (thread_of attempt.step) before) || nat_le MAX_OPERATIONS (all_asks before)
 meets setting before attempt Memory = attempt.starved
 

@@ -12,7 +12,7 @@ mod pending;
 mod step;
 mod thread;
 
-pub use event_records::{LEAST_INITIAL_NAME, MAX_INITIAL, MAX_RING, MAX_THREADS, MIN_RING};
+pub use event_records::{Answer, LEAST_INITIAL_NAME, MAX_INITIAL, MAX_RING, MAX_THREADS, MIN_RING};
 pub use initial::are_initial_names;
 pub use laws::{
     collected_is_a_prefix, done_collects_all, done_schedules_are_complete, effects_are_accepted,
@@ -20,5 +20,5 @@ pub use laws::{
     recorded_lists_are_complete, recorded_lists_replay,
 };
 pub use machine::Machine;
-pub use pending::{Pending, Question};
-pub use step::{Answer, Done, Step, StepRefused};
+pub use pending::{Pending, Request};
+pub use step::{Done, Step, StepRefused};

@@ -5,13 +5,14 @@ ghost use Rattle.recorder_core.specs.declared.step.Step.TheVariants.{Push, Effec
 ghost use Rattle.recorder_core.specs.Setting.{Setting};
 ghost use Rattle.recorder_core.specs.Inner.Asked.{ask_of, asked_for, call_of, is_limited};
 ghost use Rattle.recorder_core.specs.Inner.Seen.{is_thread_done};
-ghost use Rattle.recorder_core.specs.Schedule.{Attempt, answer_to, queue_answer, queue_after, is_wrong, return_of};
+ghost use Rattle.event_records.specs.Question.{return_what};
+ghost use Rattle.recorder_core.specs.Schedule.{Attempt, answer_to, queue_answer, queue_after, is_wrong};
 
-use crate::pending::Question;
-use crate::step::{Answer, Done, Step, StepRefused};
+use crate::pending::Request;
+use crate::step::{Done, Step, StepRefused};
 use crate::thread::Thread;
 use event_records::{
-    Event, Kind, MAX_OPERATIONS, MAX_RING, MAX_THREAD_OPERATIONS, MAX_THREADS, MIN_RING,
+    Answer, Event, Kind, MAX_OPERATIONS, MAX_RING, MAX_THREAD_OPERATIONS, MAX_THREADS, MIN_RING,
     NAMES_OF_A_THREAD, What,
 };
 use std::alloc::{AllocError, Global};
@@ -137,15 +138,15 @@ impl Machine {
         if is_limited(thread.asked(), self.asked) {
             return Err(StepRefused::Limit);
         }
-        let question = question_of(kind, number, thread.asked());
+        let request = request_of(kind, number, thread.asked());
         let call = take_ticket(&mut self.next_ticket);
         self.asked += 1;
         thread.begin(
-            question,
+            request,
             Event {
                 ticket: call,
                 thread: number,
-                what: call_with(question),
+                what: call_with(request),
             },
         );
         Ok(Done::Ticket(call))
@@ -167,11 +168,11 @@ impl Machine {
         let Some(thread) = self.threads.get_mut(usize::from(number)) else {
             return Err(StepRefused::NoThread);
         };
-        let question = thread.unanswered()?;
-        let Ok(answer) = take_effect(&mut self.queue, question) else {
+        let request = thread.unanswered()?;
+        let Ok(answer) = take_effect(&mut self.queue, request) else {
             return Err(StepRefused::Memory);
         };
-        thread.answer(question, answer);
+        thread.answer(request, answer);
         Ok(Done::Answered(answer))
     }
 
@@ -181,11 +182,11 @@ impl Machine {
         let Some(thread) = self.threads.get_mut(usize::from(number)) else {
             return Err(StepRefused::NoThread);
         };
-        let question = thread.unanswered()?;
-        if is_of_other_kind(told, question) {
+        let request = thread.unanswered()?;
+        if is_of_other_kind(told, request) {
             return Err(StepRefused::WrongAnswer);
         }
-        thread.answer(question, told);
+        thread.answer(request, told);
         Ok(Done::Answered(told))
     }
 
@@ -271,29 +272,29 @@ fn take_ticket(next: &mut u64) -> u64
 }
 
 /// What a thread asks with this kind of operation, after so many others.
-fn question_of(kind: Kind, thread: u8, number: u64) -> Question
+fn request_of(kind: Kind, thread: u8, number: u64) -> Request
     requires { number < MAX_THREAD_OPERATIONS }
     ensures { result ≡ asked_for kind thread number }
 {
     match kind {
-        Kind::Enq => Question::Enqueue(u64::from(thread) * NAMES_OF_A_THREAD + number),
-        Kind::Deq => Question::Dequeue,
+        Kind::Enq => Request::Enqueue(u64::from(thread) * NAMES_OF_A_THREAD + number),
+        Kind::Deq => Request::Dequeue,
     }
 }
 
-/// The call of an operation with this question.
-fn call_with(question: Question) -> What
-    ensures { result ≡ call_of question }
+/// The call of an operation with this request.
+fn call_with(request: Request) -> What
+    ensures { result ≡ call_of request }
 {
-    match question {
-        Question::Enqueue(value) => What::CallEnq(value),
-        Question::Dequeue => What::CallDeq,
+    match request {
+        Request::Enqueue(value) => What::CallEnq(value),
+        Request::Dequeue => What::CallDeq,
     }
 }
 
 /// The return of an operation with this answer.
 fn return_with(answer: Answer) -> What
-    ensures { result ≡ return_of answer }
+    ensures { result ≡ return_what answer }
 {
     match answer {
         Answer::Taken => What::RetEnq,
@@ -304,30 +305,30 @@ fn return_with(answer: Answer) -> What
 }
 
 /// The sequential queue's answer, after which it contains what the operation leaves.
-fn take_effect(queue: &mut VecDeque<u64>, question: Question) -> Result<Answer, AllocError>
-    ensures ok { IfOk result (λ answer. answer ≡ queue_answer question queue.old.items) }
-    ensures after { OnOk result (queue.new.items ≡ queue_after question queue.old.items) }
+fn take_effect(queue: &mut VecDeque<u64>, request: Request) -> Result<Answer, AllocError>
+    ensures ok { IfOk result (λ answer. answer ≡ queue_answer request queue.old.items) }
+    ensures after { OnOk result (queue.new.items ≡ queue_after request queue.old.items) }
     ensures err { OnErr result (queue.new.items ≡ queue.old.items) }
 {
-    match question {
-        Question::Enqueue(value) => {
+    match request {
+        Request::Enqueue(value) => {
             queue.push_back(value)?;
             Ok(Answer::Taken)
         }
-        Question::Dequeue => match queue.pop_front() {
+        Request::Dequeue => match queue.pop_front() {
             Some(value) => Ok(Answer::Got(value)),
             None => Ok(Answer::Empty),
         },
     }
 }
 
-/// Whether an answer is of the other kind than its question.
-fn is_of_other_kind(answer: Answer, question: Question) -> bool
-    ensures { result ≡ is_wrong answer (Some question) }
+/// Whether an answer is of the other kind than its request.
+fn is_of_other_kind(answer: Answer, request: Request) -> bool
+    ensures { result ≡ is_wrong answer (Some request) }
 {
-    match (question, answer) {
-        (Question::Enqueue(_), Answer::Taken | Answer::Not) => false,
-        (Question::Dequeue, Answer::Got(_) | Answer::Empty) => false,
+    match (request, answer) {
+        (Request::Enqueue(_), Answer::Taken | Answer::Not) => false,
+        (Request::Dequeue, Answer::Got(_) | Answer::Empty) => false,
         _ => true,
     }
 }

@@ -1,8 +1,8 @@
-use crate::step::Answer;
+use event_records::Answer;
 
 /// What an operation asks of the queue.
 #[derive(Clone, Copy, Debug, PartialEq, Eq)]
-pub enum Question {
+pub enum Request {
     /// To take this value.
     Enqueue(u64),
     /// To give its first value.
@@ -12,6 +12,6 @@ pub enum Question {
 /// An operation that has no return yet.
 #[derive(Clone, Copy, Debug, PartialEq, Eq)]
 pub struct Pending {
-    pub question: Question,
+    pub request: Request,
     pub answer: Option<Answer>,
 }

@@ -1,20 +1,8 @@
 ghost use Rattle.std.specs.Prelude.{◌≡◌, ◌≤◌, length};
 ghost use Rattle.recorder_core.specs.Names.{name_of};
 
+use event_records::Answer;
 use thiserror::Error;
-
-/// The answer of an operation.
-#[derive(Clone, Copy, Debug, PartialEq, Eq)]
-pub enum Answer {
-    /// The value of an enqueue was taken.
-    Taken,
-    /// The value of an enqueue was not taken.
-    Not,
-    /// A dequeue got this value.
-    Got(u64),
-    /// A dequeue found the queue empty.
-    Empty,
-}
 
 /// One atomic step of one thread, whose number comes first.
 #[derive(Clone, Copy, Debug, PartialEq, Eq)]

@@ -7,9 +7,9 @@ ghost use Rattle.recorder_core.specs.Inner.Seen.{seen, none_other, when_pushing,
 ghost use Rattle.recorder_core.specs.After.{is_out_of_memory};
 ghost use Rattle.recorder_core.specs.Schedule.{with_last};
 
-use crate::pending::{Pending, Question};
-use crate::step::{Answer, StepRefused};
-use event_records::{Event, MAX_THREAD_OPERATIONS};
+use crate::pending::{Pending, Request};
+use crate::step::StepRefused;
+use event_records::{Answer, Event, MAX_THREAD_OPERATIONS};
 use std::alloc::{AllocError, Global};
 use std::collections::VecDeque;
 use std::marker::Model;
@@ -106,17 +106,17 @@ impl Thread {
     }
 
     /// Begins an operation with this call.
-    pub(crate) fn begin(&mut self, question: Question, call: Event)
+    pub(crate) fn begin(&mut self, request: Request, call: Event)
         requires { self.old.asked < MAX_THREAD_OPERATIONS }
         ensures { self.new ≡ record self.old {
           asked = self.old.asked + 1;
-          pending = Some (record { question = question; answer = None });
+          pending = Some (record { request = request; answer = None });
           held = Some call;
         } }
     {
         self.asked += 1;
         self.pending = Some(Pending {
-            question,
+            request,
             answer: None,
         });
         self.held = Some(call);
@@ -143,10 +143,10 @@ impl Thread {
         Ok(())
     }
 
-    /// The question that waits for its answer.
-    pub(crate) fn unanswered(&self) -> Result<Question, StepRefused>
+    /// The request that waits for its answer.
+    pub(crate) fn unanswered(&self) -> Result<Request, StepRefused>
         ensures refused { result_err result ≡ find (seen self.now none_other) (Closed ∷ NotPending ∷ AnswerTaken ∷ []) }
-        ensures ok { IfOk result (λ question. self.now.pending ≡ Some (record { question = question; answer = None })) }
+        ensures ok { IfOk result (λ request. self.now.pending ≡ Some (record { request = request; answer = None })) }
     {
         self.open()?;
         let Some(pending) = self.pending else {
@@ -155,15 +155,15 @@ impl Thread {
         if pending.answer.is_some() {
             return Err(StepRefused::AnswerTaken);
         }
-        Ok(pending.question)
+        Ok(pending.request)
     }
 
     /// Gives the pending operation its answer.
-    pub(crate) fn answer(&mut self, question: Question, answer: Answer)
-        ensures { self.new ≡ record self.old { pending = Some (record { question = question; answer = Some answer }) } }
+    pub(crate) fn answer(&mut self, request: Request, answer: Answer)
+        ensures { self.new ≡ record self.old { pending = Some (record { request = request; answer = Some answer }) } }
     {
         self.pending = Some(Pending {
-            question,
+            request,
             answer: Some(answer),
         });
     }

@@ -8,7 +8,7 @@ use Rattle.std.specs.List.{range_with_len, All, flat_map}
 use Rattle.event_records.specs.Question.{Question}
 use Rattle.event_records.specs.declared.kind.Kind.{Kind}
 use Rattle.event_records.specs.declared.kind.Answer.{Answer}
-use Rattle.stress_run.specs.Operations.{Operation, IsAsked, events_of, ticket_of, asked_kind, asked_number}
+use Rattle.stress_run.specs.Operations.{Completed, IsAsked, events_of, ticket_of, asked_kind, asked_number}
 use Rattle.std.proofs.Math.Seq.{take-suc, take-length, drop-cons}
 use Rattle.std.proofs.lemmas.Bool.{false≢true}
 use Rattle.std.specs.List.Sorted.{IsStrictlyIncreasing}
@@ -66,7 +66,7 @@ module _ (may : Question → Answer → Type 0) where
     share = q.share ∙ p.share;
   }
 
-  numbered_then : (ks ls : List Kind) (first next : ℕ) (os ps : List Operation)
+  numbered_then : (ks ls : List Kind) (first next : ℕ) (os ps : List Completed)
       → map asked_number os ≡ range_with_len first (length ks) → map asked_number ps ≡ range_with_len next (length ls) → next ≡ first + length ks
       → map asked_number (os ++ ps) ≡ range_with_len first (length (ks ++ ls))
   numbered_then ks ls first next os ps p q e =
@@ -174,7 +174,7 @@ module _ (may : Question → Answer → Type 0) where
       let long = ap (λ (l : List Kind). length l) s.kinds_are ∙ length-append s.made (s.next ∷ s.rest) in
       omega (arith, made, last, filled, same, long)
     where
-      two_each : (os : List Operation) → length (flat_map events_of os) ≡ 2 * length os
+      two_each : (os : List Completed) → length (flat_map events_of os) ≡ 2 * length os
       two_each [] = refl
       two_each (o ∷ os) = let more = two_each os in omega (arith, more)
 

@@ -302,32 +302,26 @@ module _ (key : TableId) (sizes : SizesView) (rows : List (List Kind)) (workers 
         worker_at t h =
             let z = zip_at IsDone rows after t done_each h in (z.1, z.3)
 
-        operates_at : (t : ℕ) → t < length rows → Operates may t key 0 (get_or rows t []) (get_or lists t [])
-        operates_at t h =
+        recorded_at : (t : ℕ) → t < length rows
+            → Operates may t key 0 (get_or rows t []) (get_or lists t []) × IsStrictlyIncreasing (map ticket_of (get_or lists t []))
+        recorded_at t h =
             let z = worker_at t h in
             let p = past t z.0 h z.1 in
             let k = works t z.0 h z.1 p in
             let new = p.place_of.new in
-            let sent = k.sent ∙ ap (λ l. l ++ k.events) new.sent in
-            operates_as p.w.thread t p.w.pass.key p.w.asked 0 (row_of rows p.w) (get_or rows t []) k.events (get_or lists t [])
-            p.place_of.thread (ap (λ (v : PassView). v.key) new.pass) new.asked (p.place_of.row_is ∙ sym (p.place_of.at_row []))
-            (sym sent ∙ sym (list_at t z.0 h z.1)) k.operates
-
-        rising_at : (t : ℕ) → t < length rows → IsStrictlyIncreasing (map ticket_of (get_or lists t []))
-        rising_at t h =
-            let z = worker_at t h in
-            let p = past t z.0 h z.1 in
-            let k = works t z.0 h z.1 p in
-            let new = p.place_of.new in
-            let sent = k.sent ∙ ap (λ l. l ++ k.events) new.sent in
-            subst (λ (l : List Event). IsStrictlyIncreasing (map ticket_of l)) (sym (list_at t z.0 h z.1 ∙ sent)) k.rising
+            let sent = k.sent ∙ ap (λ l. l ++ k.events) new.sent in (
+              operates_as p.w.thread t p.w.pass.key p.w.asked 0 (row_of rows p.w) (get_or rows t []) k.events (get_or lists t [])
+                  p.place_of.thread (ap (λ (v : PassView). v.key) new.pass) new.asked (p.place_of.row_is ∙ sym (p.place_of.at_row []))
+                  (sym sent ∙ sym (list_at t z.0 h z.1)) k.operates,
+              subst (λ (l : List Event). IsStrictlyIncreasing (map ticket_of l)) (sym (list_at t z.0 h z.1 ∙ sent)) k.rising,
+            )
 
         pub is_run : IsRun may rows lists total
         is_run = record {
           word = key;
           one_each = ap length lists_are ∙ length-map after (λ (a : WorkerView). a.sent) ∙ after_long;
-          operates = operates_at;
-          rising = rising_at;
+          operates = λ t h. (recorded_at t h).0;
+          rising = λ t h. (recorded_at t h).1;
           tickets = subst (λ l. IsPermutation (map ticket_of (flat_map (λ list. list) l)) (numbers_below total)) (sym lists_are)
               (subst (λ l. IsPermutation l (numbers_below total)) (tickets_of rows after done_each)
               (subst (IsPermutation (flat_map (λ (a : WorkerView). a.pass.drawn) after)) drawn closed.drawn));

@@ -13,16 +13,16 @@ use Rattle.event_records.specs.declared.event.Event.{Event}
 use Rattle.event_records.specs.declared.kind.Kind.{Kind}
 use Rattle.event_records.specs.declared.kind.Kind.TheVariants.{Enq, Deq}
 use Rattle.event_records.specs.declared.kind.Answer.{Answer}
-use Rattle.event_records.specs.declared.kind.Answer.TheVariants.{Taken, NotTaken, Got, Empty}
+use Rattle.event_records.specs.declared.kind.Answer.TheVariants.{Taken, Not, Got, Empty}
 use Rattle.queue_interface.specs.Answers.{IsOfKind}
-use Rattle.stress_run.specs.Operations.{Operation, IsAsked, events_of}
+use Rattle.stress_run.specs.Operations.{Completed, IsAsked, events_of}
 use Rattle.stress_run.specs.Workers.{WorkerView, Works, Stalls}
 
 one_rises : (n : ℕ) → IsStrictlyIncreasing (n ∷ [])
 one_rises n k h = absurd (omega (arith, h))
 
 module _ (may : Question → Answer → Type 0) where
-  works_one : (k : Kind) (w u : WorkerView) (o : Operation) (p : PassView)
+  works_one : (k : Kind) (w u : WorkerView) (o : Completed) (p : PassView)
       → (o.question.thread ≡ w.thread) × (o.question.key ≡ w.pass.key) × (o.question.number ≡ w.asked) × (o.question.kind ≡ k)
       → IsOfKind o.question.kind o.answer
       → may o.question o.answer
@@ -63,11 +63,11 @@ module _ (may : Question → Answer → Type 0) where
 -- an answer is of a kind where its return answers a call of that kind
 of_kind_called : (k : Kind) (v : ℕ) (a : Answer) → IsTrue (answers (call_what k v) (return_what a)) → IsOfKind k a
 of_kind_called Enq v Taken h = tt
-of_kind_called Enq v NotTaken h = tt
+of_kind_called Enq v Not h = tt
 of_kind_called Enq v (Got x) h = absurd (false≢true h)
 of_kind_called Enq v Empty h = absurd (false≢true h)
 of_kind_called Deq v Taken h = absurd (false≢true h)
-of_kind_called Deq v NotTaken h = absurd (false≢true h)
+of_kind_called Deq v Not h = absurd (false≢true h)
 of_kind_called Deq v (Got x) h = tt
 of_kind_called Deq v Empty h = tt
 

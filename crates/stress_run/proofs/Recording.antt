@@ -16,23 +16,23 @@ use Rattle.event_records.specs.Turns.{TakesTurns, TicketsRise, answers}
 use Rattle.event_records.specs.declared.kind.Kind.{Kind}
 use Rattle.event_records.specs.declared.kind.Kind.TheVariants.{Enq, Deq}
 use Rattle.event_records.specs.declared.kind.Answer.{Answer}
-use Rattle.event_records.specs.declared.kind.Answer.TheVariants.{Taken, NotTaken, Got, Empty}
+use Rattle.event_records.specs.declared.kind.Answer.TheVariants.{Taken, Not, Got, Empty}
 use Rattle.event_records.specs.declared.event.Event.{Event}
 use Rattle.event_records.specs.declared.limits.TheConstants.{MAX_THREAD_OPERATIONS}
 use Rattle.event_records.specs.declared.event.What.TheVariants.{CallEnq}
 use Rattle.queue_interface.specs.Answers.{IsOfKind}
 use Rattle.workloads.specs.Plans.{IsPlan}
 use Rattle.recorder_core.specs.Replay.{IsListOf, AreRecorded}
-use Rattle.stress_run.specs.Operations.{Operation, IsAsked, Operates, IsRun, events_of, ticket_of, tickets_of, asked_number, asked_kind}
+use Rattle.stress_run.specs.Operations.{Completed, IsAsked, Operates, IsRun, events_of, ticket_of, tickets_of, asked_number, asked_kind}
 
 -- a call and an answer of its kind take turns
 answers_of_kind : (k : Kind) (v : ℕ) (a : Answer) → IsOfKind k a → IsTrue (answers (call_what k v) (return_what a))
 answers_of_kind Enq v Taken h = refl
-answers_of_kind Enq v NotTaken h = refl
+answers_of_kind Enq v Not h = refl
 answers_of_kind Enq v (Got x) h = absurd h
 answers_of_kind Enq v Empty h = absurd h
 answers_of_kind Deq v Taken h = absurd h
-answers_of_kind Deq v NotTaken h = absurd h
+answers_of_kind Deq v Not h = absurd h
 answers_of_kind Deq v (Got x) h = refl
 answers_of_kind Deq v Empty h = refl
 
@@ -57,7 +57,7 @@ two_more : (n : ℕ) → 2 * suc n ≡ suc (suc (2 * n))
 two_more n = omega arith
 
 -- each operation has two events
-pub two_each : (os : List Operation) → length (flat_map events_of os) ≡ 2 * length os
+pub two_each : (os : List Completed) → length (flat_map events_of os) ≡ 2 * length os
 two_each [] = refl
 two_each (o ∷ os) = let rest = two_each os in omega (arith, rest)
 
@@ -71,10 +71,10 @@ rise events rising i j d before inside =
 
 module _ (may : Question → Answer → Type 0) (t : ℕ) (key : TableId) where
   -- an operation of this thread, asked at a ticket of this word
-  abbrev Asked : Operation → Type 0
+  abbrev Asked : Completed → Type 0
   Asked = IsAsked may t key
 
-  own : (os : List Operation) → All Asked os → All (λ e. e.thread ≡ t) (flat_map events_of os)
+  own : (os : List Completed) → All Asked os → All (λ e. e.thread ≡ t) (flat_map events_of os)
   own [] h = All-nil (λ (e : Event). e.thread ≡ t)
   own (o ∷ os) h =
       let P : Event → Type 0 = λ e. e.thread ≡ t in
@@ -83,11 +83,11 @@ module _ (may : Question → Answer → Type 0) (t : ℕ) (key : TableId) where
       let returned = return_event (record { question = o.question; answer = o.answer }) o.ret in
       All-cons P (call_event o.question) (returned ∷ later) thread (All-cons P returned later thread (own os (All-tail Asked o os h)))
 
-  turns : (os : List Operation) → All Asked os → TakesTurns (flat_map events_of os)
+  turns : (os : List Completed) → All Asked os → TakesTurns (flat_map events_of os)
   turns [] h = tt
   turns (o ∷ os) h = (answers_of_kind o.question.kind _ o.answer (All-head Asked o os h).of_kind, turns os (All-tail Asked o os h))
 
-  named : (os : List Operation) (first n value : ℕ) (call : Event) → All Asked os → map asked_number os ≡ range_with_len first (length os)
+  named : (os : List Completed) (first n value : ℕ) (call : Event) → All Asked os → map asked_number os ≡ range_with_len first (length os)
       → slice_get (flat_map events_of os) (2 * n) ≡ Some call → call.what ≡ CallEnq value → value ≡ value_name t (first + n)
   named [] first n value call h e at what = absurd (none_at (2 * n) call at)
   named (o ∷ os) first zero value call h e at what =

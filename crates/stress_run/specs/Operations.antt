@@ -11,13 +11,13 @@ use Rattle.event_records.specs.declared.event.Event.{Event}
 use Rattle.queue_interface.specs.Answers.{IsOfKind}
 
 -- a question with its answer, and the ticket of its return
-pub record Operation : Type 0 where
+pub record Completed : Type 0 where
   pub question : Question
   pub answer : Answer
   pub ret : ℕ
 
 -- the call, and then the return
-abbrev pub events_of : Operation → List Event
+abbrev pub events_of : Completed → List Event
 events_of o = call_event o.question ∷ return_event (record { question = o.question; answer = o.answer }) o.ret ∷ []
 
 -- the ticket of an event
@@ -29,15 +29,15 @@ abbrev pub tickets_of : List Event → List ℕ
 tickets_of events = map ticket_of events
 
 -- the kind that an operation was asked as
-abbrev pub asked_kind : Operation → Kind
+abbrev pub asked_kind : Completed → Kind
 asked_kind o = o.question.kind
 
 -- the number of an operation within its thread
-abbrev pub asked_number : Operation → ℕ
+abbrev pub asked_number : Completed → ℕ
 asked_number o = o.question.number
 
 -- the queue may answer this, an answer of the question's kind, to the question that this thread asked at a ticket of this word
-pub record IsAsked (may : Question → Answer → Type 0) (thread : ℕ) (key : TableId) (o : Operation) : Type 0 where
+pub record IsAsked (may : Question → Answer → Type 0) (thread : ℕ) (key : TableId) (o : Completed) : Type 0 where
   pub of_thread : o.question.thread ≡ thread
   pub of_key : o.question.key ≡ key
   pub of_kind : IsOfKind o.question.kind o.answer
@@ -45,7 +45,7 @@ pub record IsAsked (may : Question → Answer → Type 0) (thread : ℕ) (key : 
 
 -- these are the events of operations of these kinds, numbered from `first` on
 pub record Operates (may : Question → Answer → Type 0) (thread : ℕ) (key : TableId) (first : ℕ) (kinds : List Kind) (events : List Event) : Type 0 where
-  pub operations : List Operation
+  pub operations : List Completed
   pub planned : map asked_kind operations ≡ kinds
   pub numbered : map asked_number operations ≡ range_with_len first (length kinds)
   pub all_asked : All (IsAsked may thread key) operations

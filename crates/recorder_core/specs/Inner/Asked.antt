@@ -8,8 +8,8 @@ use Rattle.event_records.specs.declared.limits.TheConstants.{MAX_THREAD_OPERATIO
 use Rattle.event_records.specs.Question.{value_name}
 use Rattle.recorder_core.specs.declared.step.Step.{Step}
 use Rattle.recorder_core.specs.declared.step.Step.TheVariants.{AskEnq, AskDeq}
-use Rattle.recorder_core.specs.declared.pending.Question.{Question}
-use Rattle.recorder_core.specs.declared.pending.Question.TheVariants.{Enqueue, Dequeue}
+use Rattle.recorder_core.specs.declared.pending.Request.{Request}
+use Rattle.recorder_core.specs.declared.pending.Request.TheVariants.{Enqueue, Dequeue}
 
 -- the ask of this kind
 abbrev pub ask_of : Kind → ℕ → Step
@@ -17,12 +17,12 @@ ask_of Enq t = AskEnq t
 ask_of Deq t = AskDeq t
 
 -- what t asks by its operation with number n
-abbrev pub asked_for : Kind → ℕ → ℕ → Question
+abbrev pub asked_for : Kind → ℕ → ℕ → Request
 asked_for Enq t n = Enqueue (value_name t n)
 asked_for Deq t n = Dequeue
 
--- the call with this question
-abbrev pub call_of : Question → What
+-- the call with this request
+abbrev pub call_of : Request → What
 call_of (Enqueue value) = CallEnq value
 call_of Dequeue = CallDeq
 

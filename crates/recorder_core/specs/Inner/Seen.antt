@@ -2,7 +2,7 @@
 use Rattle.std.specs.Prelude.{◌&&◌, ◌==◌, Bool, false, is_some, length, Option, None, Some}
 use Rattle.std.specs.Option.{is_none}
 use Rattle.recorder_core.specs.declared.pending.Pending.{Pending}
-use Rattle.recorder_core.specs.declared.step.Answer.{Answer}
+use Rattle.event_records.specs.declared.kind.Answer.{Answer}
 use Rattle.recorder_core.specs.declared.step.StepRefused.{StepRefused}
 use Rattle.recorder_core.specs.declared.step.StepRefused.TheVariants.{Closed, Held, NothingHeld, RingFull, Pending as PendingRefused, NotPending}
 use Rattle.recorder_core.specs.declared.step.StepRefused.TheVariants.{NoAnswer, AnswerTaken, Memory}

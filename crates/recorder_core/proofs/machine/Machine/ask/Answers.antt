@@ -10,7 +10,7 @@ returns c =
     let few = rw c.asked.ensures at (sym c.is_limited.ensures ∙ c.if-is_limited.false) in
     rw (c.take_ticket-call.ensures.ticket, c.take_ticket-call.ensures.taken, ← c.self.view_is)
     (ask_taken _ c.args.number c.from.result c.in-Some.thread.now c.begin.new.self c.from.ensures at c.args.kind c.in_ok-idle.ensures few
-    (rw (c.call_with.ensures, c.question_of-question.ensures, c.asked-2.ensures, c.take_ticket-call.ensures.ticket) at c.begin.ensures))
+    (rw (c.call_with.ensures, c.request_of-request.ensures, c.asked-2.ensures, c.take_ticket-call.ensures.ticket) at c.begin.ensures))
 
 pub invariant_of-self-2 : goal.invariant_of-self-2
 invariant_of-self-2 c =
@@ -19,7 +19,7 @@ invariant_of-self-2 c =
     rw (c.take_ticket-call.ensures.taken) (reachable_on _ _ _ _ (ask_taken _ c.args.number c.from.result c.in-Some.thread.now c.begin.new.self
     c.from.ensures at c.args.kind c.in_ok-idle.ensures few (rw (
       c.call_with.ensures,
-      c.question_of-question.ensures,
+      c.request_of-request.ensures,
       c.asked-2.ensures,
       c.take_ticket-call.ensures.ticket,
     ) at c.begin.ensures)) c.self.invariant)
