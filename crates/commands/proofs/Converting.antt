@@ -9,11 +9,11 @@ use Rattle.history_text.specs.declared.version.Version.{Version}
 use Rattle.history_text.specs.declared.version.Version.TheVariants.{One, Two}
 use Rattle.history_text.specs.declared.version.HistoryText.{HistoryText}
 use Rattle.history_text.specs.Items.{HaveLines}
-use Rattle.history_text.specs.Versions.{text_of, HasText, HaveValueLines, value_kind}
+use Rattle.history_text.specs.Versions.{text_of, HasText, HaveValueLines, value_format}
 use Rattle.history_text.specs.Claims.{HasVerdictText}
 use Rattle.history_text.specs.Verdicts.{verdict_text}
 use Rattle.command_words.specs.Commands.{convert}
-use Rattle.commands.specs.Answers.{Answer, converted, memory_fault, answer_of_text_fault, answer_of_history_fault, answer_status}
+use Rattle.commands.specs.Answers.{Reply, converted, memory_fault, answer_of_text_fault, answer_of_history_fault, answer_status}
 use Rattle.commands.specs.Conversions.{ConvertedIsSameHistory, ConvertedIsKept, ConvertedIsChecked, ConvertedIsVerified}
 use Rattle.commands.specs.Evidence.{input_of}
 use Rattle.commands.specs.Inputs.{ClaimOnText, IsHistoryOf, IsClaimOf}
@@ -49,7 +49,7 @@ history_fault_fails (history.Pending t) = omega arith
 history_fault_fails history.Memory = omega arith
 history_fault_fails (history.InitialTwice j) = omega arith
 
-converted_is_no_failure : (to : HistoryText) (answer : Answer) → converted to ≡ answer → 2 ≤ answer_status answer → ⊥
+converted_is_no_failure : (to : HistoryText) (answer : Reply) → converted to ≡ answer → 2 ≤ answer_status answer → ⊥
 converted_is_no_failure to answer same fails = omega (arith, ap answer_status same, fails)
 
 -- ---- what is converted
@@ -77,7 +77,7 @@ conversion bytes to (inl found) = conversion_of bytes to found.value found.input
 conversion bytes to (inr faulty) =
     absurd (converted_is_no_failure to (answer_of_text_fault faulty.fault) faulty.is (text_fault_fails faulty.fault))
 
-have_lines : (version : Version) (initial : List ℕ) → HaveValueLines version initial → HaveLines value_kind initial
+have_lines : (version : Version) (initial : List ℕ) → HaveValueLines version initial → HaveLines value_format initial
 have_lines One initial none = rw none (record { each = tt; few = omega arith })
 have_lines Two initial have = have
 
@@ -111,7 +111,7 @@ converted_is_kept bytes text to read two answers =
     let one = one_history (input_of bytes) is.text text is.read read in
     ap text_of (is.same ∙ ap in_version_2 one ∙ in_its_version text two) ∙ sym read.1.bytes
 
-same_judgement : (text : HistoryText) (a b : Answer) → HasText text → AnswersOrNoMemory Judges text a → AnswersOrNoMemory Judges (in_version_2 text) b
+same_judgement : (text : HistoryText) (a b : Reply) → HasText text → AnswersOrNoMemory Judges text a → AnswersOrNoMemory Judges (in_version_2 text) b
     → SameOrNoMemory a b
 same_judgement text a b has (inl is_a) (inl is_b) = inl (one_judgement text a b has is_a is_b)
 same_judgement text a b has (inr memory) is_b = inr (inl memory)
@@ -128,7 +128,7 @@ converted_is_checked bytes to a b answers first second =
 abbrev claim_on : HistoryText → Claimed → ClaimOnText
 claim_on text claimed = record { text = text; claimed = claimed }
 
-same_verification : (text : HistoryText) (claimed : Claimed) (a b : Answer) → AnswersOrNoMemory Verifies (claim_on text claimed) a
+same_verification : (text : HistoryText) (claimed : Claimed) (a b : Reply) → AnswersOrNoMemory Verifies (claim_on text claimed) a
     → AnswersOrNoMemory Verifies (claim_on (in_version_2 text) claimed) b → SameOrNoMemory a b
 same_verification text claimed a b (inl is_a) (inl is_b) = inl (one_verification (claim_on text claimed) a b is_a (of_text is_b))
   where

@@ -12,7 +12,7 @@ use Rattle.drawing.specs.Claim.{count_of_lines}
 use Rattle.drawing.specs.declared.columns.TheConstants.{MOST_DRAWN}
 use Rattle.history_text.specs.declared.version.HistoryText.{HistoryText}
 use Rattle.command_words.specs.declared.options.PictureForm.{PictureForm}
-use Rattle.commands.specs.Answers.{Answer, refused_size}
+use Rattle.commands.specs.Answers.{Reply, refused_size}
 use Rattle.commands.specs.Inputs.{drawable}
 use Rattle.commands.specs.Judging.{AnswersOrNoMemory, Draws, DrawsAlone, DrawsClaim, IsDrawn, IsFaulty, said_by}
 use Rattle.commands.specs.Judging.{IsSmallHistory, IsSound, IsTooLarge, IsVerdictClaim}
@@ -38,7 +38,7 @@ too_many_lines text claimed complete many =
     record { complete = complete; large = (λ small. absurd (omega (arith, small.few_lines, many))); is = refl }
 
 -- the picture with the claim of the verdict, or that the claim is too large
-pub drawn_decided : (form : PictureForm) (text : HistoryText) (claimed : Claimed) (answer : Answer) → IsVerdictClaim (said_by text) claimed
+pub drawn_decided : (form : PictureForm) (text : HistoryText) (claimed : Claimed) (answer : Reply) → IsVerdictClaim (said_by text) claimed
     → AnswersOrNoMemory (IsDrawn form) (record { text = text; claimed = claimed }) answer → AnswersOrNoMemory (DrawsAlone form) text answer
 drawn_decided form text claimed answer right (inl drawn) = inl (inr (inr (record { claimed = claimed; right = right; answered = inr drawn })))
 drawn_decided form text claimed answer right (inr memory) = inr memory
@@ -49,14 +49,14 @@ large_decided form text claimed right complete many =
     inr (inr (record { claimed = claimed; right = right; answered = inl (too_many_lines text claimed complete many) }))
 
 -- the picture with a claim that is evidence
-pub drawn_claim : (form : PictureForm) (text : HistoryText) (claimed : Claimed) (answer : Answer)
+pub drawn_claim : (form : PictureForm) (text : HistoryText) (claimed : Claimed) (answer : Reply)
     → AnswersOrNoMemory (IsDrawn form) (record { text = text; claimed = claimed }) answer
     → AnswersOrNoMemory (DrawsClaim form) (record { text = text; claimed = claimed }) answer
 drawn_claim form text claimed answer (inl drawn) = inl (inr (inr (inr drawn)))
 drawn_claim form text claimed answer (inr memory) = inr memory
 
 -- whatever is claimed of it, a history has its first fault
-pub faulty_history : (form : PictureForm) (text : HistoryText) (claimed : Option Claimed) (answer : Answer)
+pub faulty_history : (form : PictureForm) (text : HistoryText) (claimed : Option Claimed) (answer : Reply)
     → AnswersOrNoMemory IsFaulty (said_by text) answer → AnswersOrNoMemory (Draws form) (drawable text claimed) answer
 faulty_history form text claimed answer (inr memory) = inr memory
 faulty_history form text None answer (inl faulty) = inl (inl faulty)

@@ -7,7 +7,7 @@ use Rattle.text_lines.proofs.MemoryOrNot.{is_memory}
 use Rattle.history_text.specs.declared.version.HistoryText.{HistoryText}
 use Rattle.history_text.specs.Versions.{text_of}
 use Rattle.history_text.specs.Verdicts.{verdict_text}
-use Rattle.commands.specs.Answers.{Answer}
+use Rattle.commands.specs.Answers.{Reply}
 use Rattle.commands.specs.Evidence.{DrawnAsChecked, input_of}
 use Rattle.commands.specs.Inputs.{ClaimOnText, Drawable, alone, with_claim, IsDrawableOf, IsFaultOfDrawableInput}
 use Rattle.commands.specs.Judging.{AnswersFor, AnswersOrNoMemory, Draws, DrawsAlone, DrawsClaim}
@@ -17,7 +17,7 @@ use Rattle.commands.proofs.OneInput.{one_drawable, only_memory_of_drawable}
 use Rattle.commands.proofs.Validity.{IsWritten, claim_is_written, judged_is_written}
 
 -- what is answered of an input is answered of what it says
-drawn_of_value : (form : PictureForm) (input : Ahead) (read : Drawable) (answer : Answer) → IsDrawableOf input read
+drawn_of_value : (form : PictureForm) (input : Ahead) (read : Drawable) (answer : Reply) → IsDrawableOf input read
     → AnswersFor IsDrawableOf IsFaultOfDrawableInput (Draws form) input answer → AnswersOrNoMemory (Draws form) read answer
 drawn_of_value form input read answer is (inl of) =
     subst (λ r. AnswersOrNoMemory (Draws form) r answer) (one_drawable input of.value read of.input_of is) of.answered
@@ -26,7 +26,7 @@ drawn_of_value form input read answer is (inr faulty) = elim (is_memory faulty.f
   | inr known ↦ absurd (only_memory_of_drawable input read faulty.fault is known faulty.first)
 ]
 
-same_picture : (form : PictureForm) (t : HistoryText) (claimed : Claimed) (a b : Answer) → IsWritten t claimed → AnswersOrNoMemory (DrawsAlone form) t a
+same_picture : (form : PictureForm) (t : HistoryText) (claimed : Claimed) (a b : Reply) → IsWritten t claimed → AnswersOrNoMemory (DrawsAlone form) t a
     → AnswersOrNoMemory (DrawsClaim form) (record { text = t; claimed = claimed }) b → SameOrNoMemory a b
 same_picture form t claimed a b is (inr none) y = inr (inl none)
 same_picture form t claimed a b is (inl x) (inr none) = inr (inr none)

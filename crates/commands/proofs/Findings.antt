@@ -20,7 +20,7 @@ use Rattle.verdicts.specs.Verdicts.{HasOperationsFrom, IsEvidenceFrom, IsExactFr
 use Rattle.std.specs.Prelude.{filter}
 use Rattle.verdicts.specs.Selection.{ArePartOf}
 use Rattle.verdicts.proofs.DecidedFrom.{history_has}
-use Rattle.commands.specs.Answers.{Answer, memory_fault, answer_of_history_fault}
+use Rattle.commands.specs.Answers.{Reply, memory_fault, answer_of_history_fault}
 use Rattle.text_lines.specs.declared.fault.TextFault.{TextFault}
 use Rattle.text_lines.specs.Input.{Ahead}
 use Rattle.commands.specs.Judging.{IsFaulty, IsShrunk, IsVerdictClaim, AnswersFor, AnswersOrNoMemory, IsGathered, Shrinks, from_none, said_by}
@@ -38,14 +38,17 @@ fault_found history (DuplicateValue i) first = inl (record { fault = DuplicateVa
 fault_found history (Pending ticket) first = inl (record { fault = Pending ticket; first = first; known = (λ e. absurd (cc e)); is = refl })
 fault_found history (InitialTwice j) first = inl (record { fault = InitialTwice j; first = first; known = (λ e. absurd (cc e)); is = refl })
 
+-- a command that answers the faults of a history, and more, answers what is answered of them
+pub faulty_or : {P : Type 0} (history : HistoryView) (answer : Reply) → AnswersOrNoMemory IsFaulty history answer
+    → (IsFaulty history answer ⊎ P) ⊎ (answer ≡ memory_fault)
+faulty_or history answer (inl faulty) = inl (inl faulty)
+faulty_or history answer (inr memory) = inr memory
+
 -- and so, where something else may be answered too
 pub fault_or : {P : Type 0} (history : HistoryView) (fault : HistoryFault) → IsFirstFaultFrom history.initial history.events fault
     → (IsFaulty history (answer_of_history_fault fault) ⊎ P) ⊎ (answer_of_history_fault fault ≡ memory_fault)
 fault_or history fault first =
-    elim (fault_found history fault first) [
-      | inl faulty ↦ inl (inl faulty)
-      | inr memory ↦ inr memory
-    ]
+    faulty_or history (answer_of_history_fault fault) (fault_found history fault first)
 
 few_of_version : (version : Version) (initial : List ℕ) → HaveValueLines version initial → length initial ≤ MAX_INITIAL
 few_of_version One initial none = rw none (omega arith)
@@ -89,7 +92,7 @@ is_from_none history none = λ i. record { initial = none i; events = history.ev
 -- ---- what is shrunk
 
 -- what shows a no is what `shrink` answers
-pub shrunk_no : (text : HistoryText) (answer : Answer) → AnswersOrNoMemory IsShrunk text answer → AnswersOrNoMemory Shrinks text answer
+pub shrunk_no : (text : HistoryText) (answer : Reply) → AnswersOrNoMemory IsShrunk text answer → AnswersOrNoMemory Shrinks text answer
 shrunk_no text answer (inl shrunk) = inl (inr (inr shrunk))
 shrunk_no text answer (inr memory) = inr memory
 
@@ -101,13 +104,13 @@ part_of_none whole part is none = is.1 ∙ ap (filter is.0) none
 
 module _ {A : Type 0} (IsInputOf : Ahead → A → Type 0) (IsFaultOf : Ahead → TextFault → Type 0) where
   -- the input says this value, of which this is answered
-  pub of_value : (P : A → Answer → Type 0) (input : Option Ahead) (value : A) (answer : Answer) → IfSome input (λ a. IsInputOf a value)
+  pub of_value : (P : A → Reply → Type 0) (input : Option Ahead) (value : A) (answer : Reply) → IfSome input (λ a. IsInputOf a value)
       → P value answer ⊎ (answer ≡ memory_fault) → IfSome input (λ a. AnswersFor IsInputOf IsFaultOf P a answer)
   of_value P None value answer is answered = tt
   of_value P (Some a) value answer is answered = inl (record { value = value; input_of = is; answered = answered })
 
   -- more may be answered
-  pub answers_more : (P Q : A → Answer → Type 0) (input : Option Ahead) (answer : Answer) → ((value : A) → P value answer → Q value answer)
+  pub answers_more : (P Q : A → Reply → Type 0) (input : Option Ahead) (answer : Reply) → ((value : A) → P value answer → Q value answer)
       → IfSome input (λ a. AnswersFor IsInputOf IsFaultOf P a answer) → IfSome input (λ a. AnswersFor IsInputOf IsFaultOf Q a answer)
   answers_more P Q None answer step found = tt
   answers_more P Q (Some a) answer step (inr faulty) = inr faulty

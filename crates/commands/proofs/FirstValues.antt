@@ -6,7 +6,7 @@ use Rattle.std.specs.List.{range_with_len}
 use Rattle.std.proofs.lemmas.List.FromFn.{get_or-range_with_len, length-range_with_len}
 use Rattle.event_records.specs.declared.limits.TheConstants.{LEAST_INITIAL_NAME, MAX_STRESS_INITIAL}
 use Rattle.event_records.specs.declared.kind.Kind.{Kind}
-use Rattle.event_records.specs.declared.kind.Answer.{Answer as Told}
+use Rattle.event_records.specs.declared.kind.Answer.{Answer}
 use Rattle.event_records.specs.Question.{Question}
 use Rattle.history_merge.specs.Initial.{HistoryView, IsCompleteFrom}
 use Rattle.history_merge.specs.Merge.{IsMerged}
@@ -70,7 +70,7 @@ none_in_version_1 count is = by_test (count == 0) refl is
 
 -- ---- what a run gives
 
-module _ (may : Question → Told → Type 0) (settings : Settings) (history : HistoryView) (verdict : Verdict) where
+module _ (may : Question → Answer → Type 0) (settings : Settings) (history : HistoryView) (verdict : Verdict) where
   -- the claim of the verdict
   abbrev claim : Claimed
   claim = claim_of history.initial (operations_of history.events) verdict
@@ -103,7 +103,7 @@ module _ (may : Question → Told → Type 0) (settings : Settings) (history : H
       })
 
 -- a fault of a run on a queue that was given these values is what `stress` answers
-pub failed_run : (may : Question → Told → Type 0) (settings : Settings) (plan : List (List Kind)) (fault : RunFault) → IsWithinRanges settings
+pub failed_run : (may : Question → Answer → Type 0) (settings : Settings) (plan : List (List Kind)) (fault : RunFault) → IsWithinRanges settings
     → IsSeeded settings.seed settings.threads settings.operations settings.percent plan
     → (given : List ℕ) → given ≡ first_values settings.initial → IsFaultOfRun may given plan (record { ring = settings.ring; tries = TRIES }) fault
     → RunsOrFails may settings (run_fault fault)

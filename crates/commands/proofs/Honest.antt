@@ -17,7 +17,7 @@ use Rattle.verdicts.specs.declared.verdict.Verdict.{Verdict}
 use Rattle.verdicts.specs.declared.verdict.Verdict.TheVariants.{Yes, No}
 use Rattle.verdicts.specs.Verdicts.{IsExactFrom}
 use Rattle.verdicts.specs.Claiming.{claim_of, operations_at}
-use Rattle.commands.specs.Answers.{Answer, played}
+use Rattle.commands.specs.Answers.{Reply, played}
 use Rattle.commands.specs.Judging.{SimulatesIn}
 
 -- an exact verdict on operations that have a legal order claims a yes
@@ -27,7 +27,7 @@ claims_yes initial operations (Yes places) claimed legal exact is = (operations_
 claims_yes initial operations (No violation) claimed legal exact is = absurd (exact legal)
 
 -- what is answered of an honest schedule that is done
-pub honest_gets_a_yes : (setting : Setting) (schedule : List Attempt) (answer : Answer) → setting.threads ≤ MAX_THREADS → IsHonest setting schedule
+pub honest_gets_a_yes : (setting : Setting) (schedule : List Attempt) (answer : Reply) → setting.threads ≤ MAX_THREADS → IsHonest setting schedule
     → IsDone setting schedule → SimulatesIn setting schedule answer
     → (events : List Event) × (order : List Operation) × (answer ≡ played (rejections setting schedule) events (claim.Yes order))
 honest_gets_a_yes setting schedule answer few honest done (inl undone) = absurd (undone.undone done)

@@ -34,7 +34,7 @@ use Rattle.history_text.proofs.OneHistory as histories
 use Rattle.history_text.proofs.OneSchedule as schedules
 use Rattle.command_words.specs.declared.options.PictureForm.{PictureForm}
 use Rattle.command_words.specs.Commands.{check, shrink, verify, draw, convert, sim}
-use Rattle.commands.specs.Answers.{Answer, judged, shown, played, verified, memory_fault, answer_of_text_fault, answer_of_history_fault}
+use Rattle.commands.specs.Answers.{Reply, judged, shown, played, verified, memory_fault, answer_of_text_fault, answer_of_history_fault}
 use Rattle.commands.specs.Inputs.{ClaimOnText, IsHistoryOf, IsFaultOfHistoryInput, IsScheduleOf, IsFaultOfScheduleInput, IsClaimOf, IsFaultOfClaimInput}
 use Rattle.commands.specs.Inputs.{Drawable, alone, with_claim, IsDrawableOf, IsFaultOfDrawableInput}
 use Rattle.commands.specs.Judging.{IsVerdictClaim, IsFaulty, IsJudged, IsShrunk, IsSound, Judges, Shrinks, Verifies, Draws, DrawsAlone, DrawsClaim}
@@ -48,34 +48,34 @@ use Rattle.commands.proofs.ShrunkTexts.{one_verdict_claim}
 
 -- ---- from what is answered of values and faults to what is answered of inputs
 
-pub answers_memory : (answer : Answer) (fault : TextFault) → answer ≡ answer_of_text_fault fault → fault ≡ text.Memory → answer ≡ memory_fault
+pub answers_memory : (answer : Reply) (fault : TextFault) → answer ≡ answer_of_text_fault fault → fault ≡ text.Memory → answer ≡ memory_fault
 answers_memory answer fault is same = is ∙ ap answer_of_text_fault same
 
-module _ {A : Type 0} (IsInputOf : Ahead → A → Type 0) (IsFaultOf : Ahead → TextFault → Type 0) (OfValue : A → Answer → Type 0)
+module _ {A : Type 0} (IsInputOf : Ahead → A → Type 0) (IsFaultOf : Ahead → TextFault → Type 0) (OfValue : A → Reply → Type 0)
     (one_input : (input : Ahead) (x y : A) → IsInputOf input x → IsInputOf input y → x ≡ y)
     (no_fault : (input : Ahead) (x : A) (fault : TextFault) → IsInputOf input x → fault ≢ text.Memory → IsFaultOf input fault → ⊥) where
-  of_value_and_fault : (input : Ahead) (a : Answer) → IsOfFault IsFaultOf input a → (x : A) → IsInputOf input x → a ≡ memory_fault
+  of_value_and_fault : (input : Ahead) (a : Reply) → IsOfFault IsFaultOf input a → (x : A) → IsInputOf input x → a ≡ memory_fault
   of_value_and_fault input a faulty x is = elim (is_memory faulty.fault) [
     | inl memory ↦ answers_memory a faulty.fault faulty.is memory
     | inr known ↦ absurd (no_fault input x faulty.fault is known faulty.first)
   ]
 
   -- what is answered of an input is answered of the value that it says
-  answered_of : (input : Ahead) (x : A) (a : Answer) → IsInputOf input x → AnswersFor IsInputOf IsFaultOf OfValue input a → AnswersOrNoMemory OfValue x a
+  answered_of : (input : Ahead) (x : A) (a : Reply) → IsInputOf input x → AnswersFor IsInputOf IsFaultOf OfValue input a → AnswersOrNoMemory OfValue x a
   answered_of input x a is (inl read) = subst (λ v. AnswersOrNoMemory OfValue v a) (one_input input read.value x read.input_of is) read.answered
   answered_of input x a is (inr faulty) = inr (of_value_and_fault input a faulty x is)
 
-module _ {A : Type 0} (IsInputOf : Ahead → A → Type 0) (IsFaultOf : Ahead → TextFault → Type 0) (OfValue : A → Answer → Type 0)
+module _ {A : Type 0} (IsInputOf : Ahead → A → Type 0) (IsFaultOf : Ahead → TextFault → Type 0) (OfValue : A → Reply → Type 0)
     (one_input : (input : Ahead) (x y : A) → IsInputOf input x → IsInputOf input y → x ≡ y)
     (no_fault : (input : Ahead) (x : A) (fault : TextFault) → IsInputOf input x → fault ≢ text.Memory → IsFaultOf input fault → ⊥)
     (one_fault : (input : Ahead) (f g : TextFault) → f ≢ text.Memory → g ≢ text.Memory → IsFaultOf input f → IsFaultOf input g → f ≡ g)
-    (one_of_value : (x : A) (a b : Answer) → OfValue x a → OfValue x b → a ≡ b) where
-  of_value : (x : A) (a b : Answer) → AnswersOrNoMemory OfValue x a → AnswersOrNoMemory OfValue x b → SameOrNoMemory a b
+    (one_of_value : (x : A) (a b : Reply) → OfValue x a → OfValue x b → a ≡ b) where
+  of_value : (x : A) (a b : Reply) → AnswersOrNoMemory OfValue x a → AnswersOrNoMemory OfValue x b → SameOrNoMemory a b
   of_value x a b (inl is_a) (inl is_b) = inl (one_of_value x a b is_a is_b)
   of_value x a b (inr none) is_b = inr (inl none)
   of_value x a b (inl is_a) (inr none) = inr (inr none)
 
-  of_faults : (input : Ahead) (a b : Answer) → IsOfFault IsFaultOf input a → IsOfFault IsFaultOf input b → SameOrNoMemory a b
+  of_faults : (input : Ahead) (a b : Reply) → IsOfFault IsFaultOf input a → IsOfFault IsFaultOf input b → SameOrNoMemory a b
   of_faults input a b x y = elim (is_memory x.fault) [
     | inl memory ↦ inr (inl (answers_memory a x.fault x.is memory))
     | inr known_x ↦ elim (is_memory y.fault) [
@@ -84,7 +84,7 @@ module _ {A : Type 0} (IsInputOf : Ahead → A → Type 0) (IsFaultOf : Ahead �
     ]
   ]
 
-  of_input : (input : Ahead) (a b : Answer) → AnswersFor IsInputOf IsFaultOf OfValue input a → AnswersFor IsInputOf IsFaultOf OfValue input b
+  of_input : (input : Ahead) (a b : Reply) → AnswersFor IsInputOf IsFaultOf OfValue input a → AnswersFor IsInputOf IsFaultOf OfValue input b
       → SameOrNoMemory a b
   of_input input a b (inl x) (inl y) = of_value y.value a b (subst (λ v. AnswersOrNoMemory OfValue v a)
       (one_input input x.value y.value x.input_of y.input_of) x.answered) y.answered
@@ -94,19 +94,19 @@ module _ {A : Type 0} (IsInputOf : Ahead → A → Type 0) (IsFaultOf : Ahead �
 
 -- ---- histories
 
-not_both : (history : HistoryView) (answer : Answer) → IsFaulty history answer → IsSound history → ⊥
+not_both : (history : HistoryView) (answer : Reply) → IsFaulty history answer → IsSound history → ⊥
 not_both history answer faulty complete =
     faulty.known (complete_from_has_no_fault history.initial history.events faulty.fault faulty.first complete)
 
-one_faulty : (history : HistoryView) (a b : Answer) → IsFaulty history a → IsFaulty history b → a ≡ b
+one_faulty : (history : HistoryView) (a b : Reply) → IsFaulty history a → IsFaulty history b → a ≡ b
 one_faulty history a b x y = x.is ∙ ap answer_of_history_fault
     (one_first_fault_from history.initial history.events x.fault y.fault x.known y.known x.first y.first) ∙ sym y.is
 
-one_judged : (text : HistoryText) (a b : Answer) → HasText text → IsJudged (said_by text) a → IsJudged (said_by text) b → a ≡ b
+one_judged : (text : HistoryText) (a b : Reply) → HasText text → IsJudged (said_by text) a → IsJudged (said_by text) b → a ≡ b
 one_judged text a b has x y = x.is ∙ ap (λ c. judged c)
     (one_verdict_claim (said_by text) x.claimed y.claimed x.complete (few_values text has) x.right y.right) ∙ sym y.is
 
-pub one_judgement : (text : HistoryText) (a b : Answer) → HasText text → Judges text a → Judges text b → a ≡ b
+pub one_judgement : (text : HistoryText) (a b : Reply) → HasText text → Judges text a → Judges text b → a ≡ b
 one_judgement text a b has (inl x) (inl y) = one_faulty (said_by text) a b x y
 one_judgement text a b has (inl x) (inr y) = absurd (not_both (said_by text) a x y.complete)
 one_judgement text a b has (inr x) (inl y) = absurd (not_both (said_by text) b y x.complete)
@@ -118,7 +118,7 @@ one_judgement text a b has (inr x) (inr y) = one_judged text a b has x y
 from_nothing : (events : List Event) → IsCompleteHistory events → IsCompleteFrom [] events
 from_nothing events complete = (complete_from_nothing events).1 complete
 
-one_small : (text : HistoryText) (a b : Answer) → HasText text → (x : IsShrunk text a) (y : IsShrunk text b) → x.small ≡ y.small
+one_small : (text : HistoryText) (a b : Reply) → HasText text → (x : IsShrunk text a) (y : IsShrunk text b) → x.small ≡ y.small
 one_small text a b has x y =
     let whole = said_by text in
     let few = few_values text has in
@@ -137,7 +137,7 @@ one_small text a b has x y =
       few = let shorter = no_longer part.0 text.initial in let long = ap length part.1 in omega arith;
     }
 
-one_shrunk : (text : HistoryText) (a b : Answer) → HasText text → IsShrunk text a → IsShrunk text b → a ≡ b
+one_shrunk : (text : HistoryText) (a b : Reply) → HasText text → IsShrunk text a → IsShrunk text b → a ≡ b
 one_shrunk text a b has x y =
     let smalls = one_small text a b has x y in
     let moved = subst (λ (h : HistoryView). IsVerdictClaim h x.claimed) smalls x.right in
@@ -147,7 +147,7 @@ one_shrunk text a b has x y =
     let claims = one_verdict_claim y.small x.claimed y.claimed y.small_is_complete (omega arith) moved y.right in
     x.is ∙ (λ i. shown (said_in text.version (smalls i)) (claims i)) ∙ sym y.is
 
-one_shrinking : (text : HistoryText) (a b : Answer) → HasText text → Shrinks text a → Shrinks text b → a ≡ b
+one_shrinking : (text : HistoryText) (a b : Reply) → HasText text → Shrinks text a → Shrinks text b → a ≡ b
 one_shrinking text a b has (inl x) (inl y) = one_faulty (said_by text) a b x y
 one_shrinking text a b has (inl x) (inr (inl y)) = absurd (not_both (said_by text) a x y.1.complete)
 one_shrinking text a b has (inl x) (inr (inr y)) = absurd (not_both (said_by text) a x y.complete)
@@ -166,7 +166,7 @@ one_truth false false P is_x is_y = refl
 one_truth true false P is_x is_y = sym (is_y.1 (is_x.0 refl))
 one_truth false true P is_x is_y = is_x.1 (is_y.0 refl)
 
-pub one_verification : (claim : ClaimOnText) (a b : Answer) → Verifies claim a → Verifies claim b → a ≡ b
+pub one_verification : (claim : ClaimOnText) (a b : Reply) → Verifies claim a → Verifies claim b → a ≡ b
 one_verification claim a b (inl x) (inl y) = one_faulty (said_by claim.text) a b x y
 one_verification claim a b (inl x) (inr y) = absurd (not_both (said_by claim.text) a x y.complete)
 one_verification claim a b (inr x) (inl y) = absurd (not_both (said_by claim.text) b y x.complete)
@@ -177,15 +177,15 @@ one_verification claim a b (inr x) (inr y) =
 -- ---- pictures
 
 -- what is answered of a complete history
-abbrev DrawsComplete : PictureForm → ClaimOnText → Answer → Type 0
+abbrev DrawsComplete : PictureForm → ClaimOnText → Reply → Type 0
 DrawsComplete form claim answer = IsTooLarge claim answer ⊎ (IsRefuted claim answer ⊎ IsDrawn form claim answer)
 
-drawn_of : (form : PictureForm) (claim : ClaimOnText) (a : Answer) → DrawsComplete form claim a → IsSound (said_by claim.text)
+drawn_of : (form : PictureForm) (claim : ClaimOnText) (a : Reply) → DrawsComplete form claim a → IsSound (said_by claim.text)
 drawn_of form claim a (inl x) = x.complete
 drawn_of form claim a (inr (inl x)) = x.complete
 drawn_of form claim a (inr (inr x)) = x.complete
 
-one_picture_of_complete : (form : PictureForm) (claim : ClaimOnText) (a b : Answer) → DrawsComplete form claim a → DrawsComplete form claim b → a ≡ b
+one_picture_of_complete : (form : PictureForm) (claim : ClaimOnText) (a b : Reply) → DrawsComplete form claim a → DrawsComplete form claim b → a ≡ b
 one_picture_of_complete form claim a b (inl x) (inl y) = x.is ∙ sym y.is
 one_picture_of_complete form claim a b (inl x) (inr (inl y)) = absurd (x.large y.small)
 one_picture_of_complete form claim a b (inl x) (inr (inr y)) = absurd (x.large y.small)
@@ -196,14 +196,14 @@ one_picture_of_complete form claim a b (inr (inl x)) (inr (inr y)) = absurd (x.u
 one_picture_of_complete form claim a b (inr (inr x)) (inr (inl y)) = absurd (y.untrue x.evidence)
 one_picture_of_complete form claim a b (inr (inr x)) (inr (inr y)) = x.is ∙ sym y.is
 
-pub one_picture_of_claim : (form : PictureForm) (claim : ClaimOnText) (a b : Answer) → DrawsClaim form claim a → DrawsClaim form claim b → a ≡ b
+pub one_picture_of_claim : (form : PictureForm) (claim : ClaimOnText) (a b : Reply) → DrawsClaim form claim a → DrawsClaim form claim b → a ≡ b
 one_picture_of_claim form claim a b (inl x) (inl y) = one_faulty (said_by claim.text) a b x y
 one_picture_of_claim form claim a b (inl x) (inr y) = absurd (not_both (said_by claim.text) a x (drawn_of form claim b y))
 one_picture_of_claim form claim a b (inr x) (inl y) = absurd (not_both (said_by claim.text) b y (drawn_of form claim a x))
 one_picture_of_claim form claim a b (inr x) (inr y) = one_picture_of_complete form claim a b x y
 
 -- what is answered of a history alone is answered of it with the claim of its verdict
-pub alone_as_claimed : (form : PictureForm) (text : HistoryText) (claimed : Claimed) (a : Answer) → HasText text → IsSound (said_by text)
+pub alone_as_claimed : (form : PictureForm) (text : HistoryText) (claimed : Claimed) (a : Reply) → HasText text → IsSound (said_by text)
     → IsVerdictClaim (said_by text) claimed → DrawsAlone form text a → DrawsClaim form (record { text = text; claimed = claimed }) a
 alone_as_claimed form text claimed a has complete right (inl x) = inl x
 alone_as_claimed form text claimed a has complete right (inr (inl x)) =
@@ -216,10 +216,10 @@ alone_as_claimed form text claimed a has complete right (inr (inr x)) = inr (eli
     same : x.claimed ≡ claimed
     same = one_verdict_claim (said_by text) x.claimed claimed complete (few_values text has) x.right right
 
-decided_of : (form : PictureForm) (text : HistoryText) (a : Answer) → IsDrawnDecided form text a → IsSound (said_by text)
+decided_of : (form : PictureForm) (text : HistoryText) (a : Reply) → IsDrawnDecided form text a → IsSound (said_by text)
 decided_of form text a x = elim x.answered [ inl large ↦ large.complete | inr drawn ↦ drawn.complete ]
 
-one_picture_alone : (form : PictureForm) (text : HistoryText) (a b : Answer) → HasText text → DrawsAlone form text a → DrawsAlone form text b → a ≡ b
+one_picture_alone : (form : PictureForm) (text : HistoryText) (a b : Reply) → HasText text → DrawsAlone form text a → DrawsAlone form text b → a ≡ b
 one_picture_alone form text a b has (inr (inr x)) y =
     let complete = decided_of form text a x in
     one_picture_of_claim form (record { text = text; claimed = x.claimed }) a b
@@ -246,7 +246,7 @@ one_merged lists xs ys merged_x merged_y complete_x complete_y =
         let all = flat_map (λ (list : List Event). list) lists in
         Contains-permutation all ws e merged_w.holds_each_once (Contains-permutation zs all e (IsPermutation-sym all zs merged_z.holds_each_once) among)
 
-one_simulation : (schedule : Schedule) (a b : Answer) → Simulates schedule a → Simulates schedule b → a ≡ b
+one_simulation : (schedule : Schedule) (a b : Reply) → Simulates schedule a → Simulates schedule b → a ≡ b
 one_simulation schedule a b (inl x) (inl y) = x.is ∙ sym y.is
 one_simulation schedule a b (inl x) (inr y) = absurd (x.undone y.done)
 one_simulation schedule a b (inr x) (inl y) = absurd (y.undone x.done)
@@ -266,24 +266,24 @@ only_memory_of_history =
     only_memory HasText text_of (IsTextFault 0) NoRoomForText histories.texts_agree (histories.text_has_no_fault 0) (histories.one_first_fault 0)
 
 -- what is answered of an input is answered of the history's text that it is
-pub answered_of_history : (OfText : HistoryText → Answer → Type 0) (input : Ahead) (text : HistoryText) (a : Answer) → IsHistoryOf input text
+pub answered_of_history : (OfText : HistoryText → Reply → Type 0) (input : Ahead) (text : HistoryText) (a : Reply) → IsHistoryOf input text
     → AnswersFor IsHistoryOf IsFaultOfHistoryInput OfText input a → AnswersOrNoMemory OfText text a
 answered_of_history OfText = answered_of IsHistoryOf IsFaultOfHistoryInput OfText one_history only_memory_of_history
 
 -- and of the claim on a text that it is
-pub answered_of_claim : (OfClaim : ClaimOnText → Answer → Type 0) (input : Ahead) (claim : ClaimOnText) (a : Answer) → IsClaimOf input claim
+pub answered_of_claim : (OfClaim : ClaimOnText → Reply → Type 0) (input : Ahead) (claim : ClaimOnText) (a : Reply) → IsClaimOf input claim
     → AnswersFor IsClaimOf IsFaultOfClaimInput OfClaim input a → AnswersOrNoMemory OfClaim claim a
 answered_of_claim OfClaim = answered_of IsClaimOf IsFaultOfClaimInput OfClaim one_claim only_memory_of_claim
 
-of_history : (OfText : HistoryText → Answer → Type 0) → ((text : HistoryText) (a b : Answer) → HasText text → OfText text a → OfText text b → a ≡ b)
-    → (input : Ahead) (a b : Answer)
+of_history : (OfText : HistoryText → Reply → Type 0) → ((text : HistoryText) (a b : Reply) → HasText text → OfText text a → OfText text b → a ≡ b)
+    → (input : Ahead) (a b : Reply)
     → AnswersFor IsHistoryOf IsFaultOfHistoryInput OfText input a → AnswersFor IsHistoryOf IsFaultOfHistoryInput OfText input b → SameOrNoMemory a b
 of_history OfText one input a b answers_a answers_b = go answers_a answers_b
   where
-    OfWritten : HistoryText → Answer → Type 0
+    OfWritten : HistoryText → Reply → Type 0
     OfWritten text answer = HasText text × OfText text answer
 
-    written : (answer : Answer) → AnswersFor IsHistoryOf IsFaultOfHistoryInput OfText input answer
+    written : (answer : Reply) → AnswersFor IsHistoryOf IsFaultOfHistoryInput OfText input answer
         → AnswersFor IsHistoryOf IsFaultOfHistoryInput OfWritten input answer
     written answer (inr faulty) = inr faulty
     written answer (inl read) = inl (record {
@@ -323,10 +323,10 @@ draw_has_one form input a b x y =
     have_texts input (alone text) is = is.0
     have_texts input (with_claim claim) is = is.history
 
-    OfWritten : Drawable → Answer → Type 0
+    OfWritten : Drawable → Reply → Type 0
     OfWritten read answer = HasTexts read × Draws form read answer
 
-    written : (input : Ahead) (answer : Answer) → AnswersFor IsDrawableOf IsFaultOfDrawableInput (Draws form) input answer
+    written : (input : Ahead) (answer : Reply) → AnswersFor IsDrawableOf IsFaultOfDrawableInput (Draws form) input answer
         → AnswersFor IsDrawableOf IsFaultOfDrawableInput OfWritten input answer
     written input answer (inr faulty) = inr faulty
     written input answer (inl read) = inl (record {
@@ -335,11 +335,11 @@ draw_has_one form input a b x y =
       answered = elim read.answered [ inl is ↦ inl (have_texts input read.value read.input_of, is) | inr none ↦ inr none ];
     })
 
-    one_of_written : (read : Drawable) (a b : Answer) → OfWritten read a → OfWritten read b → a ≡ b
+    one_of_written : (read : Drawable) (a b : Reply) → OfWritten read a → OfWritten read b → a ≡ b
     one_of_written (alone text) a b of_a of_b = one_picture_alone form text a b of_a.0 of_a.1 of_b.1
     one_of_written (with_claim claim) a b of_a of_b = one_picture_of_claim form claim a b of_a.1 of_b.1
 
-one_conversion : (text : HistoryText) (a b : Answer) → HasText text → Converts text a → Converts text b → a ≡ b
+one_conversion : (text : HistoryText) (a b : Reply) → HasText text → Converts text a → Converts text b → a ≡ b
 one_conversion text a b has (inl x) (inl y) = one_faulty (said_by text) a b x y
 one_conversion text a b has (inl x) (inr y) = absurd (not_both (said_by text) a x y.complete)
 one_conversion text a b has (inr x) (inl y) = absurd (not_both (said_by text) b y x.complete)

@@ -7,7 +7,7 @@ use Rattle.clap.specs.Values.{kind_of}
 use Rattle.clap.specs.declared.error.Error.{Error}
 use Rattle.command_words.specs.Commands.{Request, stress}
 use Rattle.command_words.specs.Options.{Settings}
-use Rattle.commands.specs.Answers.{Answer, memory_fault}
+use Rattle.commands.specs.Answers.{Reply, memory_fault}
 use Rattle.commands.specs.Judging.{AnswersOrNoMemory}
 use Rattle.commands.specs.Running.{AnswersOf, PrintsOneOf, PrintsAnswer}
 use Rattle.commands.specs.Inner.Running.{Explains}
@@ -33,7 +33,7 @@ reads_out_of_memory request e kinds (Some a) old new refused result none has exp
 
 -- ---- what was found is printed
 
-module _ (asked : Option Request) (given : Request) (is_given : asked ≡ Some given) (answer : Answer) (old new : Option (List ℕ)) (refused : Bool)
+module _ (asked : Option Request) (given : Request) (is_given : asked ≡ Some given) (answer : Reply) (old new : Option (List ℕ)) (refused : Bool)
     (result : ℕ) (printed : PrintsAnswer old new refused result answer) where
   -- of a command that reads
   pub reads_printed : (request : Request) (input : Option Ahead) → asked ≡ Some request → IfSome input (λ a. AnswersOf given a answer)

@@ -23,7 +23,7 @@ use Rattle.history_text.specs.declared.version.Version.TheVariants.{One, Two}
 use Rattle.history_text.specs.Histories.{HasHistoryText, HasEventLine}
 use Rattle.history_text.specs.Versions.{text_of, HasText, HaveValueLines, IsTextFault, said_in}
 use Rattle.history_text.proofs.OneHistory as histories
-use Rattle.commands.specs.Answers.{Answer, judged, shown, memory_fault, answer_of_text_fault, answer_of_history_fault}
+use Rattle.commands.specs.Answers.{Reply, judged, shown, memory_fault, answer_of_text_fault, answer_of_history_fault}
 use Rattle.commands.specs.Inputs.{IsHistoryOf, IsFaultOfHistoryInput, IsFaultAfter}
 use Rattle.commands.specs.Judging.{IsSound, IsVerdictClaim, said_by, Judges, Shrinks, AnswersFor, AnswersOrNoMemory}
 use Rattle.commands.specs.Evidence.{ShrunkIsValid, ShrunkIsChecked, input_of}
@@ -143,7 +143,7 @@ one_verdict_claim history c d complete few x y =
     x.claim ∙ ap (claim_of history.initial (operations_of history.events)) one ∙ sym y.claim
 
 -- the verdict on a history that has a text is what is judged of that text
-written_is_judged : (t : HistoryText) (claimed : Claimed) (answer : Answer) → IsWritten t claimed
+written_is_judged : (t : HistoryText) (claimed : Claimed) (answer : Reply) → IsWritten t claimed
     → AnswersFor IsHistoryOf IsFaultOfHistoryInput Judges (input_of (text_of t)) answer
     → (answer ≡ judged claimed) ⊎ (answer ≡ memory_fault)
 written_is_judged t claimed answer is (inl read) = by_answer read.answered

@@ -18,7 +18,7 @@ use Rattle.history_text.specs.Claims.{HasVerdictText, IsVerdictTextFault}
 use Rattle.history_text.proofs.OneHistory as histories
 use Rattle.history_text.proofs.OneVerdict as verdict_texts
 use Rattle.history_text.proofs.WrittenClaims.{claim_has_text}
-use Rattle.commands.specs.Answers.{Answer, judged, verified, memory_fault, answer_of_text_fault, answer_of_history_fault}
+use Rattle.commands.specs.Answers.{Reply, judged, verified, memory_fault, answer_of_text_fault, answer_of_history_fault}
 use Rattle.commands.specs.Inputs.{ClaimOnText, AfterHistory, IsClaimOf, IsFaultOfClaimInput, IsHistoryOf, IsFaultOfHistoryInput}
 use Rattle.commands.specs.Judging.{IsSound, IsVerdictClaim, said_by, Judges, Verifies, AnswersFor, AnswersOrNoMemory}
 use Rattle.commands.proofs.Findings.{few_values}
@@ -91,7 +91,7 @@ only_memory t claimed text.Cut written said is = absurd (no_text_fault t claimed
 only_memory t claimed text.Trailing written said is = absurd (no_text_fault t claimed text.Trailing written said is)
 
 -- what is answered of a claim that is so
-true_is_valid : (claim : ClaimOnText) (answer : Answer) → IsSound (said_by claim.text)
+true_is_valid : (claim : ClaimOnText) (answer : Reply) → IsSound (said_by claim.text)
     → IsTrueClaim claim.text.initial (operations_of claim.text.events) claim.claimed
     → AnswersOrNoMemory Verifies claim answer
     → IsValidOrNoMemory answer
@@ -101,7 +101,7 @@ true_is_valid claim answer complete holds (inl (inr is)) = inl (is.is ∙ ap (λ
 true_is_valid claim answer complete holds (inr none) = inr none
 
 -- the text of a history and of its verdict is answered with `VALID`
-pub written_is_valid : (t : HistoryText) (claimed : Claimed) (answer : Answer) → IsWritten t claimed
+pub written_is_valid : (t : HistoryText) (claimed : Claimed) (answer : Reply) → IsWritten t claimed
     → AnswersFor IsClaimOf IsFaultOfClaimInput Verifies (input_of (text_of t ++ verdict_text claimed)) answer → IsValidOrNoMemory answer
 written_is_valid t claimed answer is (inl read) =
     let said = claim_is_written t claimed is in

@@ -21,33 +21,33 @@ use Rattle.verdicts.specs.declared.verifying.Claimed.{Claimed}
 use Rattle.verdicts.specs.declared.verifying.Claimed.TheVariants as claim
 
 -- what a command answers
-pub data Answer : Type 0 where
+pub data Reply : Type 0 where
   -- a verdict
-  judged : Claimed → Answer
+  judged : Claimed → Reply
   -- a history and its verdict
-  shown : HistoryText → Claimed → Answer
+  shown : HistoryText → Claimed → Reply
   -- the refused steps of a schedule, after which the machine isn't done
-  left_open : List Rejection → Answer
+  left_open : List Rejection → Reply
   -- the refused steps of a schedule, and the collected history and its verdict
-  played : List Rejection → List Event → Claimed → Answer
+  played : List Rejection → List Event → Claimed → Reply
   -- whether a verdict is evidence
-  verified : Bool → Answer
+  verified : Bool → Reply
   -- a history alone
-  converted : HistoryText → Answer
+  converted : HistoryText → Reply
   -- a picture, in lines of characters
-  drawn : List ℕ → Answer
+  drawn : List ℕ → Reply
   -- the input is refused
-  refused_text : TextFault → Answer
-  refused_history : HistoryFault → Answer
+  refused_text : TextFault → Reply
+  refused_history : HistoryFault → Reply
   -- the history or the verdict is too large to be drawn
-  refused_size : Answer
+  refused_size : Reply
   -- the words are refused: no queue has this name, or there are too many operations
-  refused_queue : Answer
-  refused_limit : Answer
+  refused_queue : Reply
+  refused_limit : Reply
   -- a read failed, memory ran out, or a run gave no history
-  read_fault : Answer
-  memory_fault : Answer
-  run_fault : RunFault → Answer
+  read_fault : Reply
+  memory_fault : Reply
+  run_fault : RunFault → Reply
 
 -- ---- names
 
@@ -89,7 +89,7 @@ validity true = codes "VALID"
 validity false = codes "INVALID"
 
 -- the text of an answer
-abbrev pub answer_text : Answer → List ℕ
+abbrev pub answer_text : Reply → List ℕ
 answer_text (judged claimed) = verdict_text claimed
 answer_text (shown text claimed) = text_of text ++ verdict_text claimed
 answer_text (left_open rejections) = rejection_lines rejections ++ line (codes "OPEN")
@@ -124,7 +124,7 @@ fault_status true = 2
 fault_status false = 3
 
 -- the status that goes with an answer
-abbrev pub answer_status : Answer → ℕ
+abbrev pub answer_status : Reply → ℕ
 answer_status (judged claimed) = claim_status claimed
 answer_status (shown text claimed) = claim_status claimed
 answer_status (left_open rejections) = 0
@@ -144,12 +144,12 @@ answer_status (run_fault fault) = fault_status false
 -- ---- answers to faults
 
 -- a text's fault is refused input, a read that failed, or want of memory
-abbrev pub answer_of_text_fault : TextFault → Answer
+abbrev pub answer_of_text_fault : TextFault → Reply
 answer_of_text_fault text.Read = read_fault
 answer_of_text_fault text.Memory = memory_fault
 answer_of_text_fault fault = refused_text fault
 
 -- a history's fault is refused input, or want of memory
-abbrev pub answer_of_history_fault : HistoryFault → Answer
+abbrev pub answer_of_history_fault : HistoryFault → Reply
 answer_of_history_fault history.Memory = memory_fault
 answer_of_history_fault fault = refused_history fault

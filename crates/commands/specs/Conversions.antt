@@ -7,7 +7,7 @@ use Rattle.history_text.specs.declared.version.Version.TheVariants.{Two}
 use Rattle.history_text.specs.Claims.{HasVerdictText}
 use Rattle.history_text.specs.Versions.{text_of}
 use Rattle.history_text.specs.Verdicts.{verdict_text}
-use Rattle.commands.specs.Answers.{Answer, converted}
+use Rattle.commands.specs.Answers.{Reply, converted}
 use Rattle.commands.specs.Evidence.{input_of}
 use Rattle.commands.specs.Inputs.{IsHistoryOf}
 use Rattle.commands.specs.Judging.{said_by}
@@ -26,11 +26,11 @@ ConvertedIsKept = (bytes : List ℕ) (text to : HistoryText) → IsHistoryOf (in
 
 -- `check` answers a text and its conversion alike, or memory runs out
 abbrev pub ConvertedIsChecked : Type 0
-ConvertedIsChecked = (bytes : List ℕ) (to : HistoryText) (a b : Answer) → AnswersOf convert (input_of bytes) (converted to)
+ConvertedIsChecked = (bytes : List ℕ) (to : HistoryText) (a b : Reply) → AnswersOf convert (input_of bytes) (converted to)
     → AnswersOf check (input_of bytes) a → AnswersOf check (input_of (text_of to)) b → SameOrNoMemory a b
 
 -- `verify` answers a claim alike behind a text and behind its conversion, or memory runs out
 abbrev pub ConvertedIsVerified : Type 0
-ConvertedIsVerified = (bytes : List ℕ) (to : HistoryText) (claimed : Claimed) (a b : Answer) → HasVerdictText claimed
+ConvertedIsVerified = (bytes : List ℕ) (to : HistoryText) (claimed : Claimed) (a b : Reply) → HasVerdictText claimed
     → AnswersOf convert (input_of bytes) (converted to) → AnswersOf verify (input_of (bytes ++ verdict_text claimed)) a
     → AnswersOf verify (input_of (text_of to ++ verdict_text claimed)) b → SameOrNoMemory a b

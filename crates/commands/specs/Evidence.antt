@@ -6,7 +6,7 @@ use Rattle.text_lines.specs.Input.{Ahead, EndOfInput}
 use Rattle.command_words.specs.declared.options.PictureForm.{PictureForm}
 use Rattle.command_words.specs.Commands.{check, shrink, verify, draw}
 use Rattle.history_text.specs.Versions.{text_of}
-use Rattle.commands.specs.Answers.{Answer, judged, shown, verified, memory_fault, answer_text}
+use Rattle.commands.specs.Answers.{Reply, judged, shown, verified, memory_fault, answer_text}
 use Rattle.commands.specs.Running.{AnswersOf}
 use Rattle.commands.specs.OneAnswer.{SameOrNoMemory}
 
@@ -15,26 +15,26 @@ abbrev pub input_of : List ℕ → Ahead
 input_of bytes = record { bytes = bytes; ending = EndOfInput }
 
 -- the verdict is evidence, or memory ran out
-abbrev pub IsValidOrNoMemory : Answer → Type 0
+abbrev pub IsValidOrNoMemory : Reply → Type 0
 IsValidOrNoMemory answer = (answer ≡ verified true) ⊎ (answer ≡ memory_fault)
 
 -- where `check` answers an input with a verdict, `verify` answers that input, with the verdict's text behind it, with `VALID`
 abbrev pub CheckedIsValid : Type 0
-CheckedIsValid = (bytes : List ℕ) (claimed : Claimed) (answer : Answer) → AnswersOf check (input_of bytes) (judged claimed)
+CheckedIsValid = (bytes : List ℕ) (claimed : Claimed) (answer : Reply) → AnswersOf check (input_of bytes) (judged claimed)
     → AnswersOf verify (input_of (bytes ++ answer_text (judged claimed))) answer → IsValidOrNoMemory answer
 
 -- where `shrink` answers an input with a history and its verdict, `verify` answers these two texts with `VALID`
 abbrev pub ShrunkIsValid : Type 0
-ShrunkIsValid = (bytes : List ℕ) (small : HistoryText) (claimed : Claimed) (answer : Answer) → AnswersOf shrink (input_of bytes) (shown small claimed)
+ShrunkIsValid = (bytes : List ℕ) (small : HistoryText) (claimed : Claimed) (answer : Reply) → AnswersOf shrink (input_of bytes) (shown small claimed)
     → AnswersOf verify (input_of (answer_text (shown small claimed))) answer → IsValidOrNoMemory answer
 
 -- and `check` answers the text of that history with that same verdict, or memory runs out
 abbrev pub ShrunkIsChecked : Type 0
-ShrunkIsChecked = (bytes : List ℕ) (small : HistoryText) (claimed : Claimed) (answer : Answer) → AnswersOf shrink (input_of bytes) (shown small claimed)
+ShrunkIsChecked = (bytes : List ℕ) (small : HistoryText) (claimed : Claimed) (answer : Reply) → AnswersOf shrink (input_of bytes) (shown small claimed)
     → AnswersOf check (input_of (text_of small)) answer → (answer ≡ judged claimed) ⊎ (answer ≡ memory_fault)
 
 -- where `check` answers an input with a verdict, `draw` answers that input as it answers it with the verdict's text behind it, or
 -- memory runs out
 abbrev pub DrawnAsChecked : PictureForm → Type 0
-DrawnAsChecked form = (bytes : List ℕ) (claimed : Claimed) (a b : Answer) → AnswersOf check (input_of bytes) (judged claimed)
+DrawnAsChecked form = (bytes : List ℕ) (claimed : Claimed) (a b : Reply) → AnswersOf check (input_of bytes) (judged claimed)
     → AnswersOf (draw form) (input_of bytes) a → AnswersOf (draw form) (input_of (bytes ++ answer_text (judged claimed))) b → SameOrNoMemory a b

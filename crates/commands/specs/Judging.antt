@@ -36,7 +36,7 @@ use Rattle.text_lines.specs.declared.fault.TextFault.{TextFault}
 use Rattle.history_text.specs.declared.schedule.Schedule.{Schedule}
 use Rattle.text_lines.specs.Input.{Ahead}
 use Rattle.commands.specs.Inputs.{ClaimOnText, Drawable, alone, with_claim}
-use Rattle.commands.specs.Answers.{Answer, judged, shown, left_open, played, verified, converted, drawn, refused_size, memory_fault, answer_of_text_fault}
+use Rattle.commands.specs.Answers.{Reply, judged, shown, left_open, played, verified, converted, drawn, refused_size, memory_fault, answer_of_text_fault}
 use Rattle.commands.specs.Answers.{answer_of_history_fault}
 
 -- ---- histories
@@ -62,25 +62,25 @@ pub record IsVerdictClaim (history : HistoryView) (claimed : Claimed) : Type 0 w
   pub claim : claimed ≡ claim_of history.initial (operations_of history.events) verdict
 
 -- it is no complete history, and this is its first fault
-pub record IsFaulty (history : HistoryView) (answer : Answer) : Type 0 where
+pub record IsFaulty (history : HistoryView) (answer : Reply) : Type 0 where
   pub fault : HistoryFault
   pub first : IsFirstFaultFrom history.initial history.events fault
   pub known : fault ≢ Memory
   pub is : answer ≡ answer_of_history_fault fault
 
 -- it is a complete history, and this is its verdict
-pub record IsJudged (history : HistoryView) (answer : Answer) : Type 0 where
+pub record IsJudged (history : HistoryView) (answer : Reply) : Type 0 where
   pub complete : IsSound history
   pub claimed : Claimed
   pub right : IsVerdictClaim history claimed
   pub is : answer ≡ judged claimed
 
 -- the first fault of a history, or its verdict
-abbrev pub JudgesHistory : HistoryView → Answer → Type 0
+abbrev pub JudgesHistory : HistoryView → Reply → Type 0
 JudgesHistory history answer = IsFaulty history answer ⊎ IsJudged history answer
 
 -- `check`: the first fault of the history that a text says, or its verdict
-abbrev pub Judges : HistoryText → Answer → Type 0
+abbrev pub Judges : HistoryText → Reply → Type 0
 Judges text answer = JudgesHistory (said_by text) answer
 
 -- the initial values and the events of this history were gathered, and there are no more than a history may have
@@ -92,7 +92,7 @@ pub record IsGathered (history : HistoryView) (builder : PreloadedBuilder) : Typ
 -- it is a complete history that isn't linearizable; of the chosen violation the initial values and the events are shown, with their own
 -- verdict. They are a complete history: values with all their operations, and an empty answer; nothing can be left out of them, and no
 -- shorter cover exists
-pub record IsShrunk (text : HistoryText) (answer : Answer) : Type 0 where
+pub record IsShrunk (text : HistoryText) (answer : Reply) : Type 0 where
   pub complete : IsSound (said_by text)
   pub not_linearizable : ¬ (IsLinearizableFrom text.initial (operations_of text.events))
   pub violation : Violation
@@ -110,21 +110,21 @@ pub record IsShrunk (text : HistoryText) (answer : Answer) : Type 0 where
   pub is : answer ≡ shown (said_in text.version small) claimed
 
 -- `shrink`: the first fault of the history, or its verdict where that is a yes, or what shows the no
-abbrev pub Shrinks : HistoryText → Answer → Type 0
+abbrev pub Shrinks : HistoryText → Reply → Type 0
 Shrinks text answer = IsFaulty (said_by text) answer
     ⊎ ((IsLinearizableFrom text.initial (operations_of text.events) × IsJudged (said_by text) answer) ⊎ IsShrunk text answer)
 
 -- ---- claims
 
 -- it is a complete history, and this is whether the claim is evidence in it
-pub record IsVerified (claim : ClaimOnText) (answer : Answer) : Type 0 where
+pub record IsVerified (claim : ClaimOnText) (answer : Reply) : Type 0 where
   pub complete : IsSound (said_by claim.text)
   pub valid : Bool
   pub right : IsTrue valid ↔ IsTrueClaim claim.text.initial (operations_of claim.text.events) claim.claimed
   pub is : answer ≡ verified valid
 
 -- `verify`: the first fault of the history, or whether the claim is evidence
-abbrev pub Verifies : ClaimOnText → Answer → Type 0
+abbrev pub Verifies : ClaimOnText → Reply → Type 0
 Verifies claim answer = IsFaulty (said_by claim.text) answer ⊎ IsVerified claim answer
 
 -- ---- pictures
@@ -140,13 +140,13 @@ pub record IsSmall (claim : ClaimOnText) : Type 0 where
   pub few_lines : count_of_lines claim.claimed ≤ MOST_DRAWN
 
 -- it is a complete history, which is too large to be drawn, or the claim is
-pub record IsTooLarge (claim : ClaimOnText) (answer : Answer) : Type 0 where
+pub record IsTooLarge (claim : ClaimOnText) (answer : Reply) : Type 0 where
   pub complete : IsSound (said_by claim.text)
   pub large : ¬ (IsSmall claim)
   pub is : answer ≡ refused_size
 
 -- it is a complete history, and the claim is no evidence in it
-pub record IsRefuted (claim : ClaimOnText) (answer : Answer) : Type 0 where
+pub record IsRefuted (claim : ClaimOnText) (answer : Reply) : Type 0 where
   pub complete : IsSound (said_by claim.text)
   pub small : IsSmall claim
   pub untrue : ¬ (IsTrueClaim claim.text.initial (operations_of claim.text.events) claim.claimed)
@@ -158,34 +158,34 @@ picture_in Svg history claimed = svg_picture history claimed
 picture_in Terminal history claimed = terminal_picture history claimed
 
 -- it is a complete history, the claim is evidence in it, and this is the picture of both in that form
-pub record IsDrawn (form : PictureForm) (claim : ClaimOnText) (answer : Answer) : Type 0 where
+pub record IsDrawn (form : PictureForm) (claim : ClaimOnText) (answer : Reply) : Type 0 where
   pub complete : IsSound (said_by claim.text)
   pub small : IsSmall claim
   pub evidence : IsTrueClaim claim.text.initial (operations_of claim.text.events) claim.claimed
   pub is : answer ≡ drawn (picture_in form (said_by claim.text) claim.claimed)
 
 -- the first fault of the history, or the picture in a form with the claim, where they are small and the claim is evidence
-abbrev pub DrawsClaim : PictureForm → ClaimOnText → Answer → Type 0
+abbrev pub DrawsClaim : PictureForm → ClaimOnText → Reply → Type 0
 DrawsClaim form claim answer = IsFaulty (said_by claim.text) answer ⊎ (IsTooLarge claim answer ⊎ (IsRefuted claim answer ⊎ IsDrawn form claim answer))
 
 -- it is a complete history, which is too large to be drawn, whatever is claimed of it
-pub record IsTooLargeAlone (text : HistoryText) (answer : Answer) : Type 0 where
+pub record IsTooLargeAlone (text : HistoryText) (answer : Reply) : Type 0 where
   pub complete : IsSound (said_by text)
   pub large : ¬ (IsSmallHistory (said_by text))
   pub is : answer ≡ refused_size
 
 -- this is the picture in that form of a complete history and the claim of its verdict, or they are too large to be drawn
-pub record IsDrawnDecided (form : PictureForm) (text : HistoryText) (answer : Answer) : Type 0 where
+pub record IsDrawnDecided (form : PictureForm) (text : HistoryText) (answer : Reply) : Type 0 where
   pub claimed : Claimed
   pub right : IsVerdictClaim (said_by text) claimed
   pub answered : IsTooLarge (record { text = text; claimed = claimed }) answer ⊎ IsDrawn form (record { text = text; claimed = claimed }) answer
 
 -- the first fault of the history, or the picture in a form with the claim of its verdict, where they are small
-abbrev pub DrawsAlone : PictureForm → HistoryText → Answer → Type 0
+abbrev pub DrawsAlone : PictureForm → HistoryText → Reply → Type 0
 DrawsAlone form text answer = IsFaulty (said_by text) answer ⊎ (IsTooLargeAlone text answer ⊎ IsDrawnDecided form text answer)
 
 -- `draw`: what is answered of a history with a claim; and of a history alone, which is decided
-abbrev pub Draws : PictureForm → Drawable → Answer → Type 0
+abbrev pub Draws : PictureForm → Drawable → Reply → Type 0
 Draws form (alone text) answer = DrawsAlone form text answer
 Draws form (with_claim claim) answer = DrawsClaim form claim answer
 
@@ -196,23 +196,23 @@ abbrev pub in_version_2 : HistoryText → HistoryText
 in_version_2 text = said_in Two (said_by text)
 
 -- it is a complete history, and this is its text of version 2
-pub record IsConverted (text : HistoryText) (answer : Answer) : Type 0 where
+pub record IsConverted (text : HistoryText) (answer : Reply) : Type 0 where
   pub complete : IsSound (said_by text)
   pub is : answer ≡ converted (in_version_2 text)
 
 -- `convert`: the first fault of the history, or its text of version 2
-abbrev pub Converts : HistoryText → Answer → Type 0
+abbrev pub Converts : HistoryText → Reply → Type 0
 Converts text answer = IsFaulty (said_by text) answer ⊎ IsConverted text answer
 
 -- ---- schedules
 
 -- the machine isn't done
-pub record IsLeftOpen (setting : Setting) (schedule : List Attempt) (answer : Answer) : Type 0 where
+pub record IsLeftOpen (setting : Setting) (schedule : List Attempt) (answer : Reply) : Type 0 where
   pub undone : ¬ (IsDone setting schedule)
   pub is : answer ≡ left_open (rejections setting schedule)
 
 -- the machine is done, and these are the collected events by ticket, with their verdict
-pub record IsPlayed (setting : Setting) (schedule : List Attempt) (answer : Answer) : Type 0 where
+pub record IsPlayed (setting : Setting) (schedule : List Attempt) (answer : Reply) : Type 0 where
   pub done : IsDone setting schedule
   pub events : List Event
   pub merged : IsMerged (collected_lists setting schedule) events
@@ -222,32 +222,32 @@ pub record IsPlayed (setting : Setting) (schedule : List Attempt) (answer : Answ
   pub is : answer ≡ played (rejections setting schedule) events claimed
 
 -- what is answered of these steps in this setting
-abbrev pub SimulatesIn : Setting → List Attempt → Answer → Type 0
+abbrev pub SimulatesIn : Setting → List Attempt → Reply → Type 0
 SimulatesIn setting schedule answer = IsLeftOpen setting schedule answer ⊎ IsPlayed setting schedule answer
 
 -- `sim`: the steps tried one after another, where no growth is refused
-abbrev pub Simulates : Schedule → Answer → Type 0
+abbrev pub Simulates : Schedule → Reply → Type 0
 Simulates schedule answer = SimulatesIn (record { threads = schedule.threads; ring = schedule.ring; initial = [] }) (schedule_of schedule.steps) answer
 
 -- ---- inputs
 
 -- the answer is that of what the input says
-pub record IsOfValue {A : Type 0} (IsInputOf : Ahead → A → Type 0) (OfValue : A → Answer → Type 0) (input : Ahead) (answer : Answer) : Type 0 where
+pub record IsOfValue {A : Type 0} (IsInputOf : Ahead → A → Type 0) (OfValue : A → Reply → Type 0) (input : Ahead) (answer : Reply) : Type 0 where
   pub value : A
   pub input_of : IsInputOf input value
   pub answered : OfValue value answer
 
 -- the answer is that of the input's fault
-pub record IsOfFault (IsFaultOf : Ahead → TextFault → Type 0) (input : Ahead) (answer : Answer) : Type 0 where
+pub record IsOfFault (IsFaultOf : Ahead → TextFault → Type 0) (input : Ahead) (answer : Reply) : Type 0 where
   pub fault : TextFault
   pub first : IsFaultOf input fault
   pub is : answer ≡ answer_of_text_fault fault
 
 -- what is answered of a value: want of memory may be answered of any
-abbrev pub AnswersOrNoMemory : {A : Type 0} → (A → Answer → Type 0) → A → Answer → Type 0
+abbrev pub AnswersOrNoMemory : {A : Type 0} → (A → Reply → Type 0) → A → Reply → Type 0
 AnswersOrNoMemory OfValue value answer = OfValue value answer ⊎ (answer ≡ memory_fault)
 
 -- what is answered of an input: the answer of what it says, or its fault. Want of memory is answered where the input says
 -- something, or where a line without fault stands in it
-abbrev pub AnswersFor : {A : Type 0} → (Ahead → A → Type 0) → (Ahead → TextFault → Type 0) → (A → Answer → Type 0) → Ahead → Answer → Type 0
+abbrev pub AnswersFor : {A : Type 0} → (Ahead → A → Type 0) → (Ahead → TextFault → Type 0) → (A → Reply → Type 0) → Ahead → Reply → Type 0
 AnswersFor IsInputOf IsFaultOf OfValue input answer = IsOfValue IsInputOf (AnswersOrNoMemory OfValue) input answer ⊎ IsOfFault IsFaultOf input answer

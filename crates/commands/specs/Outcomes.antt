@@ -1,38 +1,73 @@
--- What a command found, as the answer that it prints.
-use Rattle.std.specs.Prelude.{◌≡◌, [], ⊤}
+-- What a command found, or why it found nothing, as the answer that it prints.
+use Rattle.std.specs.Prelude.{◌≡◌, ℕ, List, [], Option, None, Ok, Err, codes, ⊤}
 use Rattle.history_text.specs.declared.version.Version.TheVariants.{One, Two}
 use Rattle.history_text.specs.Versions.{said_in}
+use Rattle.text_lines.specs.Faults as text_names
+use Rattle.history_merge.specs.Names as history_names
 use Rattle.history_merge.specs.Operations.{operations_of}
+use Rattle.stress_run.specs.Faults as run_names
 use Rattle.verdicts.specs.Claiming.{claim_of, IsWithin}
-use Rattle.commands.specs.declared.outcome.Outcome.{Outcome}
-use Rattle.commands.specs.declared.outcome.Outcome.TheVariants.{Judged, Shown, LeftOpen, Played, Verified, Converted, Drawn, TextFailed, HistoryFailed}
-use Rattle.commands.specs.declared.outcome.Outcome.TheVariants.{SizeRefused, QueueRefused, LimitRefused, MemoryFault, RunFailed}
-use Rattle.commands.specs.Answers.{Answer, judged, shown, left_open, played, verified, converted, drawn, refused_size}
+use Rattle.std.specs.declared.result.Result.{Result}
+use Rattle.commands.specs.declared.outcome.Found.{Found}
+use Rattle.commands.specs.declared.outcome.Found.TheVariants.{Judged, Shown, LeftOpen, Played, Verified, Converted, Drawn}
+use Rattle.commands.specs.declared.outcome.Fault.{Fault}
+use Rattle.commands.specs.declared.outcome.Fault.TheVariants.{Text, History, Size, Queue, Limit, Memory, Run}
+use Rattle.commands.specs.Answers.{Reply, judged, shown, left_open, played, verified, converted, drawn, refused_size}
 use Rattle.commands.specs.Answers.{refused_queue, refused_limit, memory_fault, run_fault, answer_of_text_fault, answer_of_history_fault}
 
--- the answer that an outcome prints: of a verdict what it claims, of a fault what is answered of it, of the rest the same
-abbrev pub answer_of : Outcome → Answer
-answer_of (Judged parts verdict) = judged (claim_of parts.initial.items parts.operations.items verdict)
-answer_of (Shown version history verdict) =
+-- the answer that is printed of what was found: of a verdict what it claims, of the rest the same
+abbrev pub answer_of_found : Found → Reply
+answer_of_found (Judged parts verdict) = judged (claim_of parts.initial.items parts.operations.items verdict)
+answer_of_found (Shown version history verdict) =
     shown (said_in version history) (claim_of history.initial (operations_of history.events) verdict)
-answer_of (LeftOpen rejections) = left_open rejections
-answer_of (Played rejections history verdict) =
+answer_of_found (LeftOpen rejections) = left_open rejections
+answer_of_found (Played rejections history verdict) =
     played rejections history.events (claim_of history.initial (operations_of history.events) verdict)
-answer_of (Verified valid) = verified valid
-answer_of (Converted history) = converted (said_in Two history)
-answer_of (Drawn picture) = drawn picture.items
-answer_of (TextFailed fault) = answer_of_text_fault fault
-answer_of (HistoryFailed fault) = answer_of_history_fault fault
-answer_of SizeRefused = refused_size
-answer_of QueueRefused = refused_queue
-answer_of LimitRefused = refused_limit
-answer_of MemoryFault = memory_fault
-answer_of (RunFailed fault) = run_fault fault
+answer_of_found (Verified valid) = verified valid
+answer_of_found (Converted history) = converted (said_in Two history)
+answer_of_found (Drawn picture) = drawn picture.items
+
+-- the answer that is printed of a fault
+abbrev pub answer_of_fault : Fault → Reply
+answer_of_fault (Text fault) = answer_of_text_fault fault
+answer_of_fault (History fault) = answer_of_history_fault fault
+answer_of_fault Size = refused_size
+answer_of_fault Queue = refused_queue
+answer_of_fault Limit = refused_limit
+answer_of_fault Memory = memory_fault
+answer_of_fault (Run fault) = run_fault fault
+
+-- the answer that an outcome prints
+abbrev pub answer_of : Result Found Fault → Reply
+answer_of (Ok found) = answer_of_found found
+answer_of (Err fault) = answer_of_fault fault
+
+-- the name of a fault, as it is printed
+abbrev pub name_of : Fault → List ℕ
+name_of (Text fault) = text_names.name_of fault
+name_of (History fault) = history_names.name_of fault
+name_of Size = codes "Size"
+name_of Queue = codes "Queue"
+name_of Limit = codes "Limit"
+name_of Memory = codes "Memory"
+name_of (Run fault) = run_names.name_of fault
+
+-- the line, the place, the ticket or the thread that it tells
+abbrev pub place_in : Fault → Option ℕ
+place_in (Text fault) = text_names.line_in fault
+place_in (History fault) = history_names.place_in fault
+place_in (Run fault) = run_names.place_in fault
+place_in _ = None
 
 -- a verdict names places of its own history, and a history is shown in a version that has a text for it
-abbrev pub NamesPlaces : Outcome → Type 0
-NamesPlaces (Judged parts verdict) = IsWithin parts.initial.items parts.operations.items verdict
-NamesPlaces (Shown version history verdict) =
+abbrev pub HasPlaces : Found → Type 0
+HasPlaces (Judged parts verdict) = IsWithin parts.initial.items parts.operations.items verdict
+HasPlaces (Shown version history verdict) =
     IsWithin history.initial (operations_of history.events) verdict × (version ≡ One → history.initial ≡ [])
-NamesPlaces (Played rejections history verdict) = IsWithin history.initial (operations_of history.events) verdict × (history.initial ≡ [])
-NamesPlaces _ = ⊤
+HasPlaces (Played rejections history verdict) = IsWithin history.initial (operations_of history.events) verdict × (history.initial ≡ [])
+HasPlaces _ = ⊤
+
+-- what was found, if anything was, has such places
+abbrev pub NamesPlaces : Result Found Fault → Type 0
+NamesPlaces (Ok found) = HasPlaces found
+NamesPlaces (Err fault) = ⊤

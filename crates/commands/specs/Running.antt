@@ -8,7 +8,7 @@ use Rattle.clap.specs.Kinds.{Kinds, IsAmong}
 use Rattle.clap.specs.declared.error.kind.ErrorKind.{ErrorKind}
 use Rattle.clap.specs.declared.error.kind.ErrorKind.TheVariants as kind
 use Rattle.command_words.specs.Commands.{Request, check, shrink, verify, draw, convert, sim, stress}
-use Rattle.commands.specs.Answers.{Answer, memory_fault, answer_text, answer_status}
+use Rattle.commands.specs.Answers.{Reply, memory_fault, answer_text, answer_status}
 use Rattle.commands.specs.Inputs.{IsHistoryOf, IsFaultOfHistoryInput, IsScheduleOf, IsFaultOfScheduleInput, IsClaimOf, IsFaultOfClaimInput}
 use Rattle.commands.specs.Inputs.{IsDrawableOf, IsFaultOfDrawableInput}
 use Rattle.commands.specs.Judging.{AnswersFor, Judges, Shrinks, Verifies, Draws, Converts, Simulates}
@@ -24,11 +24,11 @@ WritesAndFlushes goes false old new = IsFlushed goes old new
 WritesAndFlushes goes true old new = IsRefused goes old new
 
 -- the answer's text is printed, with its status
-abbrev pub PrintsAnswer : Option (List ℕ) → Option (List ℕ) → Bool → ℕ → Answer → Type 0
+abbrev pub PrintsAnswer : Option (List ℕ) → Option (List ℕ) → Bool → ℕ → Reply → Type 0
 PrintsAnswer old new refused result answer = Prints old new refused result (answer_text answer) (answer_status answer)
 
 -- what a command answers of an input; `stress` reads none
-abbrev pub AnswersOf : Request → Ahead → Answer → Type 0
+abbrev pub AnswersOf : Request → Ahead → Reply → Type 0
 AnswersOf check input answer = AnswersFor IsHistoryOf IsFaultOfHistoryInput Judges input answer
 AnswersOf shrink input answer = AnswersFor IsHistoryOf IsFaultOfHistoryInput Shrinks input answer
 AnswersOf verify input answer = AnswersFor IsClaimOf IsFaultOfClaimInput Verifies input answer
@@ -38,8 +38,8 @@ AnswersOf sim input answer = AnswersFor IsScheduleOf IsFaultOfScheduleInput Simu
 AnswersOf (stress settings) input answer = Unit {0}
 
 -- an answer of this kind was printed
-pub record PrintsOneOf (IsAnswer : Answer → Type 0) (old new : Option (List ℕ)) (refused : Bool) (result : ℕ) : Type 0 where
-  pub answer : Answer
+pub record PrintsOneOf (IsAnswer : Reply → Type 0) (old new : Option (List ℕ)) (refused : Bool) (result : ℕ) : Type 0 where
+  pub answer : Reply
   pub right : IsAnswer answer
   pub printed : PrintsAnswer old new refused result answer
 

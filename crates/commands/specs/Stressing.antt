@@ -3,7 +3,7 @@ use Rattle.std.specs.Prelude.{◌≡◌, ◌≢◌, ℕ, ◌*◌, ◌==◌, ◌<
 use Rattle.std.specs.List.{range_with_len}
 use Rattle.event_records.specs.declared.event.Event.{Event}
 use Rattle.event_records.specs.declared.kind.Kind.{Kind}
-use Rattle.event_records.specs.declared.kind.Answer.{Answer as Told}
+use Rattle.event_records.specs.declared.kind.Answer.{Answer}
 use Rattle.event_records.specs.declared.limits.TheConstants.{LEAST_INITIAL_NAME, MAX_OPERATIONS}
 use Rattle.event_records.specs.Question.{Question}
 use Rattle.history_merge.specs.Initial.{HistoryView, IsCompleteFrom}
@@ -20,7 +20,7 @@ use Rattle.stress_run.specs.Failed.{IsFaultOfRun}
 use Rattle.verdicts.specs.declared.verifying.Claimed.{Claimed}
 use Rattle.command_words.specs.Options.{Settings}
 use Rattle.commands.specs.declared.stress.TheConstants.{TRIES}
-use Rattle.commands.specs.Answers.{Answer, shown, refused_queue, refused_limit, memory_fault, run_fault}
+use Rattle.commands.specs.Answers.{Reply, shown, refused_queue, refused_limit, memory_fault, run_fault}
 use Rattle.commands.specs.Judging.{IsVerdictClaim}
 
 -- x is the first element of the list that this name fits
@@ -44,7 +44,7 @@ abbrev pub run_version : ℕ → Version
 run_version count = if count == 0 then One else Two
 
 -- a run of the seed's plan on a queue that may answer so: its lists by ticket, with their verdict
-pub record IsRecordedRun (may : Question → Told → Type 0) (settings : Settings) (answer : Answer) : Type 0 where
+pub record IsRecordedRun (may : Question → Answer → Type 0) (settings : Settings) (answer : Reply) : Type 0 where
   pub plan : List (List Kind)
   pub seeded : IsSeeded settings.seed settings.threads settings.operations settings.percent plan
   pub lists : List (List Event)
@@ -60,7 +60,7 @@ pub record IsRecordedRun (may : Question → Told → Type 0) (settings : Settin
   pub is : answer ≡ shown (said_in (run_version settings.initial) (run_history settings.initial events)) claimed
 
 -- no history: a fault that a run of the seed's plan may have, on a queue that may answer so, with rings and tries of these sizes
-pub record IsFailedRun (may : Question → Told → Type 0) (settings : Settings) (answer : Answer) : Type 0 where
+pub record IsFailedRun (may : Question → Answer → Type 0) (settings : Settings) (answer : Reply) : Type 0 where
   pub plan : List (List Kind)
   pub seeded : IsSeeded settings.seed settings.threads settings.operations settings.percent plan
   pub fault : RunFault
@@ -69,17 +69,17 @@ pub record IsFailedRun (may : Question → Told → Type 0) (settings : Settings
   pub is : answer ≡ run_fault fault
 
 -- a run and its verdict, or a fault that a run may have, or want of memory
-abbrev pub RunsOrFails : (Question → Told → Type 0) → Settings → Answer → Type 0
+abbrev pub RunsOrFails : (Question → Answer → Type 0) → Settings → Reply → Type 0
 RunsOrFails may settings answer = IsRecordedRun may settings answer ⊎ (IsFailedRun may settings answer ⊎ (answer ≡ memory_fault))
 
 -- what is answered of a queue that may answer so: too many operations are refused, and no others
-abbrev pub StressesQueue : (Question → Told → Type 0) → Settings → Answer → Type 0
+abbrev pub StressesQueue : (Question → Answer → Type 0) → Settings → Reply → Type 0
 StressesQueue may settings answer =
     ((MAX_OPERATIONS < settings.threads * settings.operations) × (answer ≡ refused_limit))
     ⊎ ((settings.threads * settings.operations ≤ MAX_OPERATIONS) × RunsOrFails may settings answer)
 
 -- `stress` on a shelf of queues with names: the first of the name is run, and a name that none has is refused
-abbrev pub Stresses : {X : Type 0} → (X → List ℕ) → (X → Question → Told → Type 0) → List X → Settings → Answer → Type 0
+abbrev pub Stresses : {X : Type 0} → (X → List ℕ) → (X → Question → Answer → Type 0) → List X → Settings → Reply → Type 0
 Stresses {X} name_of may_of shelf settings answer =
     (All (λ x. name_of x ≢ settings.queue) shelf × (answer ≡ refused_queue))
     ⊎ ((x : X) × IsFirstNamed name_of settings.queue shelf x × StressesQueue (may_of x) settings answer)

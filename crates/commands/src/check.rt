@@ -8,7 +8,7 @@ ghost use Rattle.commands.specs.Judging.{Judges, AnswersFor, AnswersOrNoMemory};
 ghost use Rattle.commands.specs.Outcomes.{answer_of, NamesPlaces};
 
 use crate::input::gathered_of;
-use crate::outcome::Outcome;
+use crate::outcome::{Found, Outcome};
 use history_merge::PreloadedBuilder;
 use history_text::TextSource;
 use std::alloc::Global;
@@ -26,10 +26,8 @@ where
     ensures found { IfSome (S.ahead reader) (λ input. AnswersFor IsHistoryOf IsFaultOfHistoryInput Judges input (answer_of result)) }
     ensures places { NamesPlaces result }
 {
-    match gathered_of(alloc, reader) {
-        Ok(builder) => judge(rt, alloc, builder),
-        Err(fault) => Outcome::TextFailed(fault),
-    }
+    let builder = gathered_of(alloc, reader)?;
+    judge(rt, alloc, builder)
 }
 
 /// What `check` finds in the history that a history in the making was given.
@@ -38,12 +36,7 @@ fn judge<R: Threads + Sync>(rt: &R, alloc: Global, builder: PreloadedBuilder) ->
     ensures found { (text : HistoryText) → HasText text → HasGatheredFrom text.initial text.events builder → AnswersOrNoMemory Judges text (answer_of result) }
     ensures places { NamesPlaces result }
 {
-    let parts = match builder.finish() {
-        Ok(parts) => parts,
-        Err(fault) => return Outcome::HistoryFailed(fault),
-    };
-    match decide_from_par(rt, alloc, &parts.initial, &parts.operations, PIECES) {
-        Ok(verdict) => Outcome::Judged(parts, verdict),
-        Err(_) => Outcome::MemoryFault,
-    }
+    let parts = builder.finish()?;
+    let verdict = decide_from_par(rt, alloc, &parts.initial, &parts.operations, PIECES)?;
+    Ok(Found::Judged(parts, verdict))
 }

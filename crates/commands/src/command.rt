@@ -12,7 +12,7 @@ ghost use Rattle.clap.specs.Values.{kind_of};
 use crate::check::check;
 use crate::convert::convert;
 use crate::draw::draw;
-use crate::outcome::Outcome;
+use crate::outcome::{Fault, Outcome};
 use crate::print::{print_outcome, print_text};
 use crate::shrink::shrink;
 use crate::sim::sim;
@@ -70,7 +70,7 @@ where
     match task_in(rt.alloc(), words) {
         Ok(task) => {
             let outcome = outcome_of(rt, task, reader, shelf);
-            print_outcome(writer, &outcome)
+            print_outcome(&outcome, writer)
         }
         Err(error) => explain(rt.alloc(), &error, writer),
     }
@@ -133,10 +133,10 @@ fn explain<W: TextSink>(alloc: Global, error: &Error, writer: &mut W) -> u8
     ensures passed_on { W.has_refused writer.new ≡ false → W.holds_back writer.new ≡ false }
 {
     if error.kind() == ErrorKind::OutOfMemory {
-        return print_outcome(writer, &Outcome::MemoryFault);
+        return print_outcome(&Err(Fault::Memory), writer);
     }
     match format!(in alloc; "{error}") {
-        Ok(text) => print_text(writer, text.as_bytes(), usage_status(error.kind())),
-        Err(_) => print_outcome(writer, &Outcome::MemoryFault),
+        Ok(text) => print_text(text.as_bytes(), usage_status(error.kind()), writer),
+        Err(_) => print_outcome(&Err(Fault::Memory), writer),
     }
 }

@@ -5,7 +5,7 @@ ghost use Rattle.commands.specs.Judging.{AnswersFor, Converts};
 ghost use Rattle.commands.specs.Outcomes.{answer_of, NamesPlaces};
 
 use crate::input::given_history;
-use crate::outcome::Outcome;
+use crate::outcome::{Found, Outcome};
 use history_text::TextSource;
 use std::alloc::Global;
 
@@ -16,8 +16,6 @@ where
     ensures found { IfSome (S.ahead reader) (λ input. AnswersFor IsHistoryOf IsFaultOfHistoryInput Converts input (answer_of result)) }
     ensures places { NamesPlaces result }
 {
-    match given_history(alloc, reader) {
-        Ok((_version, history)) => Outcome::Converted(history),
-        Err(outcome) => outcome,
-    }
+    let (_version, history) = given_history(alloc, reader)?;
+    Ok(Found::Converted(history))
 }

@@ -10,7 +10,7 @@ ghost use Rattle.commands.specs.Judging.{Draws, DrawsAlone, DrawsClaim, IsDrawn,
 ghost use Rattle.commands.specs.Outcomes.{answer_of, NamesPlaces};
 
 use crate::input::{drawable_of, history_of};
-use crate::outcome::Outcome;
+use crate::outcome::{Fault, Found, Outcome};
 use command_words::PictureForm;
 use drawing::{MOST_DRAWN, count_of_lines, terminal_picture};
 use history_merge::History;
@@ -26,14 +26,9 @@ where
     ensures found { IfSome (S.ahead reader) (λ input. AnswersFor IsDrawableOf IsFaultOfDrawableInput (Draws form) input (answer_of result)) }
     ensures places { NamesPlaces result }
 {
-    let (text, claimed) = match drawable_of(alloc, reader) {
-        Ok(read) => read,
-        Err(fault) => return Outcome::TextFailed(fault),
-    };
-    match history_of(alloc, text) {
-        Ok((_version, history)) => draw_history(alloc, &history, &claimed, form),
-        Err(outcome) => outcome,
-    }
+    let (text, claimed) = drawable_of(alloc, reader)?;
+    let (_version, history) = history_of(alloc, text)?;
+    draw_history(alloc, &history, &claimed, form)
 }
 
 /// The picture of this history with the claim, or with its verdict where there is none.
@@ -47,7 +42,7 @@ fn draw_history(
     ensures places { NamesPlaces result }
 {
     if history.initial().len() > MOST_DRAWN || history.operations().len() > MOST_DRAWN {
-        return Outcome::SizeRefused;
+        return Err(Fault::Size);
     }
     match claimed {
         Some(claimed) => draw_claim(alloc, history, claimed, form),
@@ -64,13 +59,12 @@ fn draw_claim(alloc: Global, history: &History, claimed: &Claimed, form: Picture
     ensures places { NamesPlaces result }
 {
     if count_of_lines(claimed) > MOST_DRAWN {
-        return Outcome::SizeRefused;
+        return Err(Fault::Size);
     }
-    match verdicts::verify(alloc, history, claimed) {
-        Ok(true) => draw_evidence(alloc, history, claimed, form),
-        Ok(false) => Outcome::Verified(false),
-        Err(_) => Outcome::MemoryFault,
+    if !verdicts::verify(alloc, history, claimed)? {
+        return Ok(Found::Verified(false));
     }
+    draw_evidence(alloc, history, claimed, form)
 }
 
 /// The picture of a small history with its verdict, where that is small.
@@ -80,14 +74,10 @@ fn draw_verdict(alloc: Global, history: &History, form: PictureForm) -> Outcome
     ensures found { (version : Version) → AnswersOrNoMemory (DrawsAlone form) (said_in version history.now) (answer_of result) }
     ensures places { NamesPlaces result }
 {
-    let Ok(verdict) = decide(alloc, history) else {
-        return Outcome::MemoryFault;
-    };
-    let Ok(claimed) = claim(alloc, history, &verdict) else {
-        return Outcome::MemoryFault;
-    };
+    let verdict = decide(alloc, history)?;
+    let claimed = claim(alloc, history, &verdict)?;
     if count_of_lines(&claimed) > MOST_DRAWN {
-        return Outcome::SizeRefused;
+        return Err(Fault::Size);
     }
     draw_evidence(alloc, history, &claimed, form)
 }
@@ -102,10 +92,8 @@ fn draw_evidence(alloc: Global, history: &History, claimed: &Claimed, form: Pict
         → AnswersOrNoMemory (IsDrawn form) (record { text = said_in version history.now; claimed = claimed.now }) (answer_of result) }
     ensures places { NamesPlaces result }
 {
-    match picture_in(alloc, history, claimed, form) {
-        Ok(picture) => Outcome::Drawn(picture),
-        Err(_) => Outcome::MemoryFault,
-    }
+    let picture = picture_in(alloc, history, claimed, form)?;
+    Ok(Found::Drawn(picture))
 }
 
 /// The picture of a history and a claim in this form.

@@ -3,28 +3,13 @@ ghost use Rattle.std.specs.Prelude.{◌≡◌, ◌≤◌, ◌++◌, ◌||◌, []
 ghost use Rattle.std.specs.Io.KnownBytes.{Appends};
 ghost use Rattle.text_lines.specs.Lines.{line};
 ghost use Rattle.text_lines.specs.Writing.{AppendsFront, IsWritten, IsRefused};
-ghost use Rattle.commands.specs.Answers.{answer_text, answer_status, answer_of_text_fault, answer_of_history_fault, beginning, fault_status, named};
-ghost use Rattle.commands.specs.Answers.{text_fault_name, history_fault_name};
+ghost use Rattle.commands.specs.Answers.{answer_text, answer_status, beginning, fault_status, named};
+ghost use Rattle.commands.specs.Outcomes.{answer_of_fault, name_of, place_in};
 
+use crate::outcome::Fault;
 use history_merge::HistoryFault;
 use history_text::{TextFault, TextSink, WriteFault, write_piece};
 use text_lines::Kept;
-
-/// Whether the text is refused for its fault, or else the command failed.
-pub fn refuses_text(fault: TextFault) -> bool
-    ensures line { answer_text (answer_of_text_fault fault) ≡ line (beginning result ++ text_fault_name fault) }
-    ensures status { answer_status (answer_of_text_fault fault) ≡ fault_status result }
-{
-    !matches!(fault, TextFault::Read | TextFault::Memory)
-}
-
-/// Whether the events are refused for their fault, or else the command failed.
-pub fn refuses_events(fault: HistoryFault) -> bool
-    ensures line { answer_text (answer_of_history_fault fault) ≡ line (beginning result ++ history_fault_name fault) }
-    ensures status { answer_status (answer_of_history_fault fault) ≡ fault_status result }
-{
-    !matches!(fault, HistoryFault::Memory)
-}
 
 /// How the line of a refusal begins, or that of a failure.
 fn beginning_of(is_refused: bool) -> &'static [u8]
@@ -34,22 +19,64 @@ fn beginning_of(is_refused: bool) -> &'static [u8]
     if is_refused { b"REFUSED " } else { b"FAULT " }
 }
 
-/// The status of a refusal, or that of a failure.
-pub fn status_of_fault(is_refused: bool) -> u8
-    ensures { result ≡ fault_status is_refused }
-{
-    if is_refused { 2 } else { 3 }
+impl Fault {
+    /// Its name, as it is printed before its place.
+    pub fn name(self) -> &'static str
+        ensures name { result.now ≡ name_of self }
+        ensures short { length result.now ≤ 20 }
+    {
+        match self {
+            Fault::Text(fault) => fault.name(),
+            Fault::History(fault) => fault.name(),
+            Fault::Size => "Size",
+            Fault::Queue => "Queue",
+            Fault::Limit => "Limit",
+            Fault::Memory => "Memory",
+            Fault::Run(fault) => fault.name(),
+        }
+    }
+
+    /// The place, the line, the ticket or the thread that it tells.
+    pub fn place(self) -> Option<u64>
+        ensures { result ≡ place_in self }
+    {
+        match self {
+            Fault::Text(fault) => fault.line(),
+            Fault::History(fault) => fault.place(),
+            Fault::Run(fault) => fault.place(),
+            Fault::Size | Fault::Queue | Fault::Limit | Fault::Memory => None,
+        }
+    }
+
+    /// Whether what the command was given is refused; else the command failed.
+    pub fn is_refusal(self) -> bool
+        ensures line { answer_text (answer_of_fault self) ≡ line (beginning result ++ named (name_of self) (place_in self)) }
+        ensures status { answer_status (answer_of_fault self) ≡ fault_status result }
+    {
+        match self {
+            Fault::Text(TextFault::Read | TextFault::Memory) => false,
+            Fault::History(HistoryFault::Memory) => false,
+            Fault::Memory | Fault::Run(_) => false,
+            _ => true,
+        }
+    }
+
+    /// The status of a refusal, or that of a failure.
+    pub fn status(self) -> u8
+        ensures { result ≡ answer_status (answer_of_fault self) }
+    {
+        if self.is_refusal() { 2 } else { 3 }
+    }
 }
 
 /// The line of a fault.
-fn push_fault(kept: &mut Kept, is_refused: bool, name: &str, place: Option<u64>)
-    requires fresh { kept.old ≡ [] }
-    requires short { length name.now ≤ 20 }
-    ensures { kept.new ≡ line (beginning is_refused ++ named name.now place) }
+fn push_fault(fault: Fault, kept: &mut Kept)
+    requires { kept.old ≡ [] }
+    ensures { kept.new ≡ answer_text (answer_of_fault fault) }
 {
-    kept.push(beginning_of(is_refused));
-    kept.push(name.as_bytes());
-    if let Some(place) = place {
+    kept.push(beginning_of(fault.is_refusal()));
+    kept.push(fault.name().as_bytes());
+    if let Some(place) = fault.place() {
         kept.push(b" ");
         kept.push_number(place);
     }
@@ -58,20 +85,14 @@ fn push_fault(kept: &mut Kept, is_refused: bool, name: &str, place: Option<u64>)
 
 /// Writes the line of a fault: whether the input is refused or the command failed, the fault's name, and the place, the line,
 /// the ticket or the thread that it tells.
-pub fn write_fault<W: TextSink>(
-    writer: &mut W,
-    is_refused: bool,
-    name: &str,
-    place: Option<u64>,
-) -> Result<(), WriteFault>
-    requires short { length name.now ≤ 20 }
-    ensures ok { OnOk result (Appends (W.contents writer.old) (W.contents writer.new) (line (beginning is_refused ++ named name.now place))) }
-    ensures err { OnErr result (AppendsFront (W.contents writer.old) (W.contents writer.new) (line (beginning is_refused ++ named name.now place))) }
+pub fn write_fault<W: TextSink>(fault: Fault, writer: &mut W) -> Result<(), WriteFault>
+    ensures ok { OnOk result (Appends (W.contents writer.old) (W.contents writer.new) (answer_text (answer_of_fault fault))) }
+    ensures err { OnErr result (AppendsFront (W.contents writer.old) (W.contents writer.new) (answer_text (answer_of_fault fault))) }
     ensures refused { W.has_refused writer.new ≡ (W.has_refused writer.old || is_err result) }
     ensures written { OnOk result (IsWritten W.goes writer.old writer.new) }
     ensures stopped { OnErr result (IsRefused W.goes writer.old writer.new) }
 {
     let mut kept = Kept::new();
-    push_fault(&mut kept, is_refused, name, place);
+    push_fault(fault, &mut kept);
     write_piece(writer, kept.as_slice())
 }

@@ -8,9 +8,9 @@ ghost use Rattle.history_text.specs.Schedules.{IsSetting};
 ghost use Rattle.commands.specs.Inputs.{IsHistoryOf, IsFaultOfHistoryInput, IsScheduleOf, IsFaultOfScheduleInput, IsClaimOf, IsFaultOfClaimInput};
 ghost use Rattle.commands.specs.Inputs.{IsDrawableOf, IsFaultOfDrawableInput, drawable};
 ghost use Rattle.commands.specs.Judging.{IsFaulty, AnswersFor, AnswersOrNoMemory, said_by};
-ghost use Rattle.commands.specs.Outcomes.{answer_of, NamesPlaces};
+ghost use Rattle.commands.specs.Outcomes.{answer_of_fault};
 
-use crate::outcome::Outcome;
+use crate::outcome::Fault;
 use history_merge::{History, PreloadedBuilder, history_from};
 use history_text::{
     HistoryText, Schedule, TextFault, TextReader, TextSource, Version, at_end, gather_any,
@@ -96,38 +96,32 @@ where
     Ok((text, Some(claimed)))
 }
 
-/// The one history that the reader gives, and the version of its text; or what is found where there is none.
-pub fn given_history<S: TextSource>(alloc: Global, reader: S) -> Result<(Version, History), Outcome>
+/// The one history that the reader gives, and the version of its text.
+pub fn given_history<S: TextSource>(alloc: Global, reader: S) -> Result<(Version, History), Fault>
 where
     S: Drop,
     ensures history { IfOk result (λ read. IfSome (S.ahead reader) (λ input. IsHistoryOf input (said_in read.0 read.1))) }
     ensures has { IfOk result (λ read. HasText (said_in read.0 read.1)) }
     ensures complete { IfOk result (λ read. IsCompleteFrom read.1.initial read.1.events) }
-    ensures found { IfErr result (λ outcome. IfSome (S.ahead reader) (λ input.
-        AnswersFor IsHistoryOf IsFaultOfHistoryInput (λ text. IsFaulty (said_by text)) input (answer_of outcome))) }
-    ensures places { IfErr result NamesPlaces }
+    ensures fault { IfErr result (λ fault. IfSome (S.ahead reader) (λ input.
+        AnswersFor IsHistoryOf IsFaultOfHistoryInput (λ text. IsFaulty (said_by text)) input (answer_of_fault fault))) }
 {
-    match text_of(alloc, reader) {
-        Ok(text) => history_of(alloc, text),
-        Err(fault) => Err(Outcome::TextFailed(fault)),
-    }
+    let text = text_of(alloc, reader)?;
+    history_of(alloc, text)
 }
 
-/// The history that a text says, and its version; or what is found where it says none.
-pub fn history_of(alloc: Global, text: HistoryText) -> Result<(Version, History), Outcome>
+/// The history that a text says, and its version.
+pub fn history_of(alloc: Global, text: HistoryText) -> Result<(Version, History), Fault>
     requires { HasText text }
     ensures history { IfOk result (λ read. said_in read.0 read.1 ≡ text) }
     ensures complete { IfOk result (λ read. IsCompleteFrom read.1.initial read.1.events) }
-    ensures found { IfErr result (λ outcome. AnswersOrNoMemory IsFaulty (said_by text) (answer_of outcome)) }
-    ensures places { IfErr result NamesPlaces }
+    ensures fault { IfErr result (λ fault. AnswersOrNoMemory IsFaulty (said_by text) (answer_of_fault fault)) }
 {
     let HistoryText {
         version,
         initial,
         events,
     } = text;
-    match history_from(alloc, initial.into_vec(), events.into_vec()) {
-        Ok(history) => Ok((version, history)),
-        Err(fault) => Err(Outcome::HistoryFailed(fault)),
-    }
+    let history = history_from(alloc, initial.into_vec(), events.into_vec())?;
+    Ok((version, history))
 }

@@ -9,7 +9,7 @@ ghost use Rattle.recorder_core.specs.Laws.{IsDone};
 ghost use Rattle.recorder_core.specs.Replay.{IsHonest};
 ghost use Rattle.simulation.specs.Simulations.{rejections};
 ghost use Rattle.verdicts.specs.declared.verifying.Claimed.TheVariants.{Yes};
-ghost use Rattle.commands.specs.Answers.{Answer, played};
+ghost use Rattle.commands.specs.Answers.{Reply, played};
 ghost use Rattle.commands.specs.Judging.{SimulatesIn};
 ghost use Rattle.commands.specs.OneAnswer.{HasOneAnswer};
 ghost use Rattle.command_words.specs.declared.options.PictureForm.{PictureForm};
@@ -17,7 +17,7 @@ ghost use Rattle.command_words.specs.Commands.{check, shrink, verify, draw, conv
 
 /// No false alarm: what is answered of an honest schedule that is done is a yes.
 pub fn honest_schedules_get_a_yes()
-    ensures { (setting : Setting) (schedule : List Attempt) (answer : Answer)
+    ensures { (setting : Setting) (schedule : List Attempt) (answer : Reply)
         → setting.threads ≤ MAX_THREADS → IsHonest setting schedule → IsDone setting schedule → SimulatesIn setting schedule answer
         → (events : List Event) × (order : List Operation) × (answer ≡ played (rejections setting schedule) events (Yes order)) }
 {}

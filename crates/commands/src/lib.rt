@@ -27,8 +27,9 @@ pub use evidence::{
     a_checked_verdict_is_valid, a_history_is_drawn_with_its_verdict, what_is_shrunk_is_valid,
 };
 pub use laws::{honest_schedules_get_a_yes, one_answer};
-pub use outcome::Outcome;
+pub use outcome::{Fault, Found, Outcome};
+pub use print::status_of;
 pub use shelf::{BuiltIn, built_ins};
 pub use stress::{Shelved, TRIES};
-pub use texts::{check_text, judge_gathered, shrink_text, verify_text};
+pub use texts::{check_text, judge_gathered, shrink_text, text_of_outcome, verify_text};
 pub use words::{StartFault, print_start_fault, words_of};

@@ -1,13 +1,21 @@
-//! What a command found.
+//! What a command found, or why it found nothing.
+ghost use Rattle.std.specs.Prelude.{◌≡◌};
+ghost use Rattle.commands.specs.declared.outcome.Fault.TheVariants as made;
+
 use history_merge::{History, HistoryFault, HistoryParts};
 use history_text::{TextFault, Version};
 use simulation::Rejections;
+use std::alloc::AllocError;
 use stress_run::RunFault;
+use thiserror::Error;
 use verdicts::Verdict;
 
-/// What a command found, to be printed.
+/// What a command found, to be printed; or why it found nothing.
+pub type Outcome = Result<Found, Fault>;
+
+/// What a command found.
 #[derive(Debug, Drop)]
-pub enum Outcome {
+pub enum Found {
     /// The verdict on a history, with its initial values and its operations.
     Judged(HistoryParts, Verdict),
     /// A history to be shown in a version, with its verdict.
@@ -22,18 +30,62 @@ pub enum Outcome {
     Converted(History),
     /// A picture, in lines of characters.
     Drawn(Vec<u8>),
+}
+
+/// Why a command found nothing: what it was given is refused, or it failed.
+#[derive(Clone, Copy, Debug, PartialEq, Eq, Error)]
+pub enum Fault {
     /// The input is not the text that it should be, or it wasn't read whole.
-    TextFailed(TextFault),
+    #[error("{0}")]
+    Text(TextFault),
     /// The events are no complete history, or there was no memory for one.
-    HistoryFailed(HistoryFault),
+    #[error("{0}")]
+    History(HistoryFault),
     /// The history or the verdict has more initial values, operations or lines than are drawn.
-    SizeRefused,
+    #[error("{name}", name = self.name())]
+    Size,
     /// No queue has the name that was asked for.
-    QueueRefused,
+    #[error("{name}", name = self.name())]
+    Queue,
     /// More operations were asked for than a run may have.
-    LimitRefused,
+    #[error("{name}", name = self.name())]
+    Limit,
     /// Memory ran out.
-    MemoryFault,
+    #[error("{name}", name = self.name())]
+    Memory,
     /// A run gave no history.
-    RunFailed(RunFault),
+    #[error("{0}")]
+    Run(RunFault),
+}
+
+impl From<AllocError> for Fault {
+    ghost from_gives = { λ _ fault. fault ≡ made.Memory };
+
+    fn from(_refused: AllocError) -> Fault {
+        Fault::Memory
+    }
+}
+
+impl From<TextFault> for Fault {
+    ghost from_gives = { λ found fault. fault ≡ made.Text found };
+
+    fn from(fault: TextFault) -> Fault {
+        Fault::Text(fault)
+    }
+}
+
+impl From<HistoryFault> for Fault {
+    ghost from_gives = { λ found fault. fault ≡ made.History found };
+
+    fn from(fault: HistoryFault) -> Fault {
+        Fault::History(fault)
+    }
+}
+
+impl From<RunFault> for Fault {
+    ghost from_gives = { λ found fault. fault ≡ made.Run found };
+
+    fn from(fault: RunFault) -> Fault {
+        Fault::Run(fault)
+    }
 }

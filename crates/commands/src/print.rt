@@ -8,14 +8,14 @@ ghost use Rattle.commands.specs.Answers.{answer_text, answer_status, claim_statu
 ghost use Rattle.commands.specs.Outcomes.{answer_of, NamesPlaces};
 ghost use Rattle.commands.specs.Running.{Prints, PrintsAnswer, WritesAndFlushes};
 
-use crate::faults::{refuses_events, refuses_text, status_of_fault, write_fault};
-use crate::outcome::Outcome;
+use crate::faults::write_fault;
+use crate::outcome::{Found, Outcome};
 use crate::show::{write_left_open, write_played, write_shown};
 use history_text::{TextSink, WriteFault, write_history_2, write_piece, write_verdict_on};
 use verdicts::Verdict;
 
-/// Writes what a command found.
-pub fn write_outcome<W: TextSink>(writer: &mut W, outcome: &Outcome) -> Result<(), WriteFault>
+/// Writes what a command found, or why it found nothing.
+pub fn write_outcome<W: TextSink>(outcome: &Outcome, writer: &mut W) -> Result<(), WriteFault>
     requires { NamesPlaces outcome.now }
     ensures ok { OnOk result (Appends (W.contents writer.old) (W.contents writer.new) (answer_text (answer_of outcome.now))) }
     ensures err { OnErr result (AppendsFront (W.contents writer.old) (W.contents writer.new) (answer_text (answer_of outcome.now))) }
@@ -24,33 +24,21 @@ pub fn write_outcome<W: TextSink>(writer: &mut W, outcome: &Outcome) -> Result<(
     ensures stopped { OnErr result (IsRefused W.goes writer.old writer.new) }
 {
     match outcome {
-        Outcome::Judged(parts, verdict) => {
+        Ok(Found::Judged(parts, verdict)) => {
             return write_verdict_on(&parts.initial, &parts.operations, verdict, writer);
         }
-        Outcome::Shown(version, history, verdict) => {
-            return write_shown(writer, *version, history, verdict);
+        Ok(Found::Shown(version, history, verdict)) => {
+            return write_shown(*version, history, verdict, writer);
         }
-        Outcome::LeftOpen(rejections) => return write_left_open(writer, rejections),
-        Outcome::Played(rejections, history, verdict) => {
-            return write_played(writer, rejections, history, verdict);
+        Ok(Found::LeftOpen(rejections)) => return write_left_open(rejections, writer),
+        Ok(Found::Played(rejections, history, verdict)) => {
+            return write_played(rejections, history, verdict, writer);
         }
-        Outcome::Converted(history) => return write_history_2(history, writer),
-        Outcome::Verified(true) => return write_piece(writer, b"VALID\n"),
-        Outcome::Verified(false) => return write_piece(writer, b"INVALID\n"),
-        Outcome::Drawn(picture) => return write_piece(writer, picture.as_slice()),
-        Outcome::TextFailed(fault) => {
-            return write_fault(writer, refuses_text(*fault), fault.name(), fault.line());
-        }
-        Outcome::HistoryFailed(fault) => {
-            return write_fault(writer, refuses_events(*fault), fault.name(), fault.place());
-        }
-        Outcome::SizeRefused => return write_fault(writer, true, "Size", None),
-        Outcome::QueueRefused => return write_fault(writer, true, "Queue", None),
-        Outcome::LimitRefused => return write_fault(writer, true, "Limit", None),
-        Outcome::MemoryFault => return write_fault(writer, false, "Memory", None),
-        Outcome::RunFailed(fault) => {
-            return write_fault(writer, false, fault.name(), fault.place());
-        }
+        Ok(Found::Converted(history)) => return write_history_2(history, writer),
+        Ok(Found::Verified(true)) => return write_piece(writer, b"VALID\n"),
+        Ok(Found::Verified(false)) => return write_piece(writer, b"INVALID\n"),
+        Ok(Found::Drawn(picture)) => return write_piece(writer, picture.as_slice()),
+        Err(fault) => return write_fault(*fault, writer),
     }
 }
 
@@ -63,38 +51,30 @@ fn status_of_verdict(verdict: &Verdict) -> u8
     }
 }
 
-/// The status that goes with what a command found.
+/// The status that goes with what a command found, or with why it found nothing.
 pub fn status_of(outcome: &Outcome) -> u8
     ensures { result ≡ answer_status (answer_of outcome.now) }
 {
     match outcome {
-        Outcome::Judged(_, verdict) => return status_of_verdict(verdict),
-        Outcome::Shown(_, _, verdict) => return status_of_verdict(verdict),
-        Outcome::LeftOpen(_) => return 0,
-        Outcome::Played(_, _, verdict) => return status_of_verdict(verdict),
-        Outcome::Converted(_) => return 0,
-        Outcome::Verified(true) => return 0,
-        Outcome::Verified(false) => return 1,
-        Outcome::Drawn(_) => return 0,
-        Outcome::TextFailed(fault) => return status_of_fault(refuses_text(*fault)),
-        Outcome::HistoryFailed(fault) => return status_of_fault(refuses_events(*fault)),
-        Outcome::SizeRefused => return status_of_fault(true),
-        Outcome::QueueRefused => return status_of_fault(true),
-        Outcome::LimitRefused => return status_of_fault(true),
-        Outcome::MemoryFault => return status_of_fault(false),
-        Outcome::RunFailed(_) => return status_of_fault(false),
+        Ok(Found::Judged(_, verdict)) => return status_of_verdict(verdict),
+        Ok(Found::Shown(_, _, verdict)) => return status_of_verdict(verdict),
+        Ok(Found::Played(_, _, verdict)) => return status_of_verdict(verdict),
+        Ok(Found::LeftOpen(_) | Found::Converted(_) | Found::Drawn(_)) => return 0,
+        Ok(Found::Verified(true)) => return 0,
+        Ok(Found::Verified(false)) => return 1,
+        Err(fault) => return fault.status(),
     }
 }
 
 /// Writes what a command found and flushes the writer; answers the status.
-pub fn print_outcome<W: TextSink>(writer: &mut W, outcome: &Outcome) -> u8
+pub fn print_outcome<W: TextSink>(outcome: &Outcome, writer: &mut W) -> u8
     requires fresh { W.has_refused writer.old ≡ false }
     requires places { NamesPlaces outcome.now }
     ensures printed { PrintsAnswer (W.contents writer.old) (W.contents writer.new) (W.has_refused writer.new) result (answer_of outcome.now) }
     ensures asked { WritesAndFlushes W.goes (W.has_refused writer.new) writer.old writer.new }
     ensures passed_on { W.has_refused writer.new ≡ false → W.holds_back writer.new ≡ false }
 {
-    if write_outcome(writer, outcome).is_err() {
+    if write_outcome(outcome, writer).is_err() {
         return 3;
     }
     if writer.flush().is_err() {
@@ -104,7 +84,7 @@ pub fn print_outcome<W: TextSink>(writer: &mut W, outcome: &Outcome) -> u8
 }
 
 /// Writes a text and flushes the writer; answers the status.
-pub fn print_text<W: TextSink>(writer: &mut W, text: &[u8], status: u8) -> u8
+pub fn print_text<W: TextSink>(text: &[u8], status: u8, writer: &mut W) -> u8
     requires fresh { W.has_refused writer.old ≡ false }
     ensures printed { Prints (W.contents writer.old) (W.contents writer.new) (W.has_refused writer.new) result text.now status }
     ensures asked { WritesAndFlushes W.goes (W.has_refused writer.new) writer.old writer.new }

@@ -19,10 +19,10 @@ use verdicts::Verdict;
 
 /// Writes a history, and a verdict on it.
 pub fn write_shown<W: TextSink>(
-    writer: &mut W,
     version: Version,
     history: &History,
     verdict: &Verdict,
+    writer: &mut W,
 ) -> Result<(), WriteFault>
     requires places { IsWithin history.now.initial (operations_of history.now.events) verdict.now }
     requires version { version ≡ One → history.now.initial ≡ [] }
@@ -40,8 +40,8 @@ pub fn write_shown<W: TextSink>(
 
 /// Writes refused steps, and that the machine isn't done.
 pub fn write_left_open<W: TextSink>(
-    writer: &mut W,
     rejections: &Rejections,
+    writer: &mut W,
 ) -> Result<(), WriteFault>
     ensures ok { OnOk result (Appends (W.contents writer.old) (W.contents writer.new) (rejection_lines rejections.now ++ line (codes "OPEN"))) }
     ensures err { OnErr result (AppendsFront (W.contents writer.old) (W.contents writer.new) (rejection_lines rejections.now ++ line (codes "OPEN"))) }
@@ -49,16 +49,16 @@ pub fn write_left_open<W: TextSink>(
     ensures written { OnOk result (IsWritten W.goes writer.old writer.new) }
     ensures stopped { OnErr result (IsRefused W.goes writer.old writer.new) }
 {
-    write_rejections(writer, rejections.as_slice())?;
+    write_rejections(rejections.as_slice(), writer)?;
     write_piece(writer, b"OPEN\n")
 }
 
 /// Writes refused steps, then a history and the verdict on it.
 pub fn write_played<W: TextSink>(
-    writer: &mut W,
     rejections: &Rejections,
     history: &History,
     verdict: &Verdict,
+    writer: &mut W,
 ) -> Result<(), WriteFault>
     requires places { IsWithin history.now.initial (operations_of history.now.events) verdict.now }
     requires none { history.now.initial ≡ [] }
@@ -70,12 +70,12 @@ pub fn write_played<W: TextSink>(
     ensures written { OnOk result (IsWritten W.goes writer.old writer.new) }
     ensures stopped { OnErr result (IsRefused W.goes writer.old writer.new) }
 {
-    write_rejections(writer, rejections.as_slice())?;
-    write_shown(writer, Version::One, history, verdict)
+    write_rejections(rejections.as_slice(), writer)?;
+    write_shown(Version::One, history, verdict, writer)
 }
 
 /// Writes a line for each refused step.
-fn write_rejections<W: TextSink>(writer: &mut W, rejections: &[Rejection]) -> Result<(), WriteFault>
+fn write_rejections<W: TextSink>(rejections: &[Rejection], writer: &mut W) -> Result<(), WriteFault>
     ensures ok { OnOk result (Appends (W.contents writer.old) (W.contents writer.new) (rejection_lines rejections.now)) }
     ensures err { OnErr result (AppendsFront (W.contents writer.old) (W.contents writer.new) (rejection_lines rejections.now)) }
     ensures refused { W.has_refused writer.new ≡ (W.has_refused writer.old || is_err result) }
@@ -85,14 +85,14 @@ fn write_rejections<W: TextSink>(writer: &mut W, rejections: &[Rejection]) -> Re
     let mut kept = Kept::new();
     for rejection in rejections {
         kept.clear();
-        push_rejection(&mut kept, *rejection);
+        push_rejection(*rejection, &mut kept);
         write_piece(writer, kept.as_slice())?;
     }
     Ok(())
 }
 
 /// The line of a refused step.
-fn push_rejection(kept: &mut Kept, rejection: Rejection)
+fn push_rejection(rejection: Rejection, kept: &mut Kept)
     requires { kept.old ≡ [] }
     ensures { kept.new ≡ rejection_line rejection }
 {

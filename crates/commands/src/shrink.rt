@@ -11,7 +11,7 @@ ghost use Rattle.commands.specs.Judging.{Shrinks, IsShrunk, AnswersFor, AnswersO
 ghost use Rattle.commands.specs.Outcomes.{answer_of, NamesPlaces};
 
 use crate::input::given_history;
-use crate::outcome::Outcome;
+use crate::outcome::{Found, Outcome};
 use history_merge::{History, HistoryParts};
 use history_text::{TextSource, Version};
 use std::alloc::{AllocError, Global};
@@ -25,10 +25,8 @@ where
     ensures found { IfSome (S.ahead reader) (λ input. AnswersFor IsHistoryOf IsFaultOfHistoryInput Shrinks input (answer_of result)) }
     ensures places { NamesPlaces result }
 {
-    match given_history(alloc, reader) {
-        Ok((version, history)) => shrink_history(alloc, version, history),
-        Err(outcome) => outcome,
-    }
+    let (version, history) = given_history(alloc, reader)?;
+    shrink_history(alloc, version, history)
 }
 
 /// What `shrink` finds in a history, of a text of this version.
@@ -38,13 +36,12 @@ fn shrink_history(alloc: Global, version: Version, history: History) -> Outcome
     ensures found { AnswersOrNoMemory Shrinks (said_in version history) (answer_of result) }
     ensures places { NamesPlaces result }
 {
-    match decide(alloc, &history) {
-        Ok(Verdict::Yes(order)) => match parts_of(alloc, history) {
-            Ok(parts) => Outcome::Judged(parts, Verdict::Yes(order)),
-            Err(_) => Outcome::MemoryFault,
-        },
-        Ok(Verdict::No(violation)) => shrink_violation(alloc, version, &history, &violation),
-        Err(_) => Outcome::MemoryFault,
+    match decide(alloc, &history)? {
+        Verdict::Yes(order) => {
+            let parts = parts_of(alloc, history)?;
+            Ok(Found::Judged(parts, Verdict::Yes(order)))
+        }
+        Verdict::No(violation) => shrink_violation(alloc, version, &history, &violation),
     }
 }
 
@@ -75,11 +72,7 @@ fn shrink_violation(
 {
     // A history is complete, as its accessor says.
     let _events = history.events();
-    let Ok(small) = verdicts::shrink(alloc, history, violation) else {
-        return Outcome::MemoryFault;
-    };
-    match decide(alloc, &small) {
-        Ok(verdict) => Outcome::Shown(version, small, verdict),
-        Err(_) => Outcome::MemoryFault,
-    }
+    let small = verdicts::shrink(alloc, history, violation)?;
+    let verdict = decide(alloc, &small)?;
+    Ok(Found::Shown(version, small, verdict))
 }

@@ -6,7 +6,7 @@ ghost use Rattle.commands.specs.Judging.{Simulates, AnswersFor, AnswersOrNoMemor
 ghost use Rattle.commands.specs.Outcomes.{answer_of, NamesPlaces};
 
 use crate::input::schedule_of;
-use crate::outcome::Outcome;
+use crate::outcome::{Found, Outcome};
 use history_merge::merged_history;
 use history_text::{Schedule, TextSource};
 use simulation::{Ending, Simulation, simulate};
@@ -20,10 +20,8 @@ where
     ensures found { IfSome (S.ahead reader) (λ input. AnswersFor IsScheduleOf IsFaultOfScheduleInput Simulates input (answer_of result)) }
     ensures places { NamesPlaces result }
 {
-    match schedule_of(alloc, reader) {
-        Ok(schedule) => play(alloc, &schedule),
-        Err(fault) => Outcome::TextFailed(fault),
-    }
+    let schedule = schedule_of(alloc, reader)?;
+    play(alloc, &schedule)
 }
 
 /// What the steps of a schedule do.
@@ -32,24 +30,17 @@ fn play(alloc: Global, schedule: &Schedule) -> Outcome
     ensures found { AnswersOrNoMemory Simulates schedule.now (answer_of result) }
     ensures places { NamesPlaces result }
 {
-    let Ok(played) = simulate(
+    let Simulation { rejections, ending } = simulate(
         alloc,
         schedule.threads,
         schedule.ring,
         schedule.steps.as_slice(),
-    ) else {
-        return Outcome::MemoryFault;
-    };
-    let Simulation { rejections, ending } = played;
+    )?;
     let lists = match ending {
-        Ending::Open => return Outcome::LeftOpen(rejections),
+        Ending::Open => return Ok(Found::LeftOpen(rejections)),
         Ending::Done(lists) => lists,
     };
-    let Ok(history) = merged_history(alloc, &lists) else {
-        return Outcome::MemoryFault;
-    };
-    match decide(alloc, &history) {
-        Ok(verdict) => Outcome::Played(rejections, history, verdict),
-        Err(_) => Outcome::MemoryFault,
-    }
+    let history = merged_history(alloc, &lists)?;
+    let verdict = decide(alloc, &history)?;
+    Ok(Found::Played(rejections, history, verdict))
 }

@@ -6,7 +6,7 @@ ghost use Rattle.commands.specs.Outcomes.{answer_of, NamesPlaces};
 ghost use Rattle.commands.specs.Stressing.{IsFirstNamed, RunsOrFails, Stresses, StressesQueue, first_values, run_version};
 
 use crate::check::PIECES;
-use crate::outcome::Outcome;
+use crate::outcome::{Fault, Found, Outcome};
 use command_words::StressOptions;
 use event_records::{LEAST_INITIAL_NAME, MAX_OPERATIONS};
 use history_text::Version;
@@ -40,10 +40,10 @@ pub fn stress<'a, R: Threads + Sync>(
     ensures found { Stresses (λ s. s.name.now) (λ s. may s.queue) shelf.now (settings_of options.now) (answer_of result) }
     ensures places { NamesPlaces result }
 {
-    match find(shelf, options.queue) {
-        None => Outcome::QueueRefused,
-        Some(shelved) => stress_shelved(rt, alloc, shelved, options),
-    }
+    let Some(shelved) = find(shelf, options.queue) else {
+        return Err(Fault::Queue);
+    };
+    stress_shelved(rt, alloc, shelved, options)
 }
 
 /// The first queue of this name.
@@ -71,7 +71,7 @@ fn stress_shelved<'a, R: Threads + Sync>(
     ensures places { NamesPlaces result }
 {
     if options.threads as u64 * options.operations as u64 > MAX_OPERATIONS {
-        return Outcome::LimitRefused;
+        return Err(Fault::Limit);
     }
     run_plan(rt, alloc, &*shelved.queue, options)
 }
@@ -88,29 +88,18 @@ fn run_plan<'a, R: Threads + Sync>(
     ensures found { RunsOrFails (may queue.now) (settings_of options.now) (answer_of result) }
     ensures places { NamesPlaces result }
 {
-    let Ok(plan) = Plan::from_seed(
+    let plan = Plan::from_seed(
         alloc,
         options.seed,
         options.threads,
         options.operations,
         options.percent,
-    ) else {
-        return Outcome::MemoryFault;
-    };
-    let Ok(initial) = first_values(alloc, options.initial) else {
-        return Outcome::MemoryFault;
-    };
-    let recorded = match run_from(rt, alloc, queue, &initial, &plan, options.ring, TRIES) {
-        Ok(recorded) => recorded,
-        Err(fault) => return Outcome::RunFailed(fault),
-    };
-    let Ok(history) = recorded.history(alloc) else {
-        return Outcome::MemoryFault;
-    };
-    match decide_par(rt, alloc, &history, PIECES) {
-        Ok(verdict) => Outcome::Shown(run_version(options.initial), history, verdict),
-        Err(_) => Outcome::MemoryFault,
-    }
+    )?;
+    let initial = first_values(alloc, options.initial)?;
+    let recorded = run_from(rt, alloc, queue, &initial, &plan, options.ring, TRIES)?;
+    let history = recorded.history(alloc)?;
+    let verdict = decide_par(rt, alloc, &history, PIECES)?;
+    Ok(Found::Shown(run_version(options.initial), history, verdict))
 }
 
 /// So many values for a queue, which are names of initial values.

@@ -2,15 +2,15 @@
 ghost use Rattle.std.specs.Prelude.{◌≡◌, IfOk};
 ghost use Rattle.history_merge.specs.Initial.{HistoryView};
 ghost use Rattle.command_words.specs.Commands.{check, shrink, verify};
-ghost use Rattle.commands.specs.Answers.{answer_text, answer_status};
+ghost use Rattle.commands.specs.Answers.{answer_text};
 ghost use Rattle.commands.specs.Evidence.{input_of};
 ghost use Rattle.commands.specs.Judging.{JudgesHistory, IsGathered, AnswersOrNoMemory};
 ghost use Rattle.commands.specs.Outcomes.{answer_of, NamesPlaces};
 ghost use Rattle.commands.specs.Running.{AnswersOf};
 
 use crate::input::gathered_of;
-use crate::outcome::Outcome;
-use crate::print::{status_of, write_outcome};
+use crate::outcome::{Found, Outcome};
+use crate::print::write_outcome;
 use crate::shrink::shrink;
 use crate::verify::verify;
 use history_merge::PreloadedBuilder;
@@ -23,10 +23,8 @@ pub fn check_text(alloc: Global, text: &[u8]) -> Outcome
     ensures found { AnswersOf check (input_of text.now) (answer_of result) }
     ensures places { NamesPlaces result }
 {
-    match gathered_of(alloc, MemorySource::new(text)) {
-        Ok(builder) => judge_gathered(alloc, builder),
-        Err(fault) => Outcome::TextFailed(fault),
-    }
+    let builder = gathered_of(alloc, MemorySource::new(text))?;
+    judge_gathered(alloc, builder)
 }
 
 /// What `shrink` finds in a text.
@@ -51,33 +49,19 @@ pub fn judge_gathered(alloc: Global, builder: PreloadedBuilder) -> Outcome
     ensures found { (history : HistoryView) → IsGathered history builder → AnswersOrNoMemory JudgesHistory history (answer_of result) }
     ensures places { NamesPlaces result }
 {
-    let parts = match builder.finish() {
-        Ok(parts) => parts,
-        Err(fault) => return Outcome::HistoryFailed(fault),
-    };
-    match decide_from(alloc, &parts.initial, &parts.operations) {
-        Ok(verdict) => Outcome::Judged(parts, verdict),
-        Err(_) => Outcome::MemoryFault,
-    }
+    let parts = builder.finish()?;
+    let verdict = decide_from(alloc, &parts.initial, &parts.operations)?;
+    Ok(Found::Judged(parts, verdict))
 }
 
-impl Outcome {
-    /// The text that a command prints of what it found. `AllocError` comes only where a growth was refused.
-    pub fn text(&self, alloc: Global) -> Result<Vec<u8>, AllocError>
-        requires { NamesPlaces self.now }
-        ensures { IfOk result (λ text. text.items ≡ answer_text (answer_of self.now)) }
-    {
-        let mut writer = Watched::new(Vec::new(alloc));
-        match write_outcome(&mut writer, self) {
-            Ok(()) => Ok(writer.into_inner()),
-            Err(_) => Err(AllocError),
-        }
-    }
-
-    /// The status that goes with it.
-    pub fn status(&self) -> u8
-        ensures { result ≡ answer_status (answer_of self.now) }
-    {
-        status_of(self)
+/// The text that a command prints of what it found, or why it found nothing. `AllocError` comes only where a growth was refused.
+pub fn text_of_outcome(alloc: Global, outcome: &Outcome) -> Result<Vec<u8>, AllocError>
+    requires { NamesPlaces outcome.now }
+    ensures { IfOk result (λ text. text.items ≡ answer_text (answer_of outcome.now)) }
+{
+    let mut writer = Watched::new(Vec::new(alloc));
+    match write_outcome(outcome, &mut writer) {
+        Ok(()) => Ok(writer.into_inner()),
+        Err(_) => Err(AllocError),
     }
 }

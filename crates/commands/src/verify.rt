@@ -7,7 +7,7 @@ ghost use Rattle.commands.specs.Judging.{IsFaulty, Verifies, AnswersFor, Answers
 ghost use Rattle.commands.specs.Outcomes.{answer_of, NamesPlaces};
 
 use crate::input::{claim_of, history_of};
-use crate::outcome::Outcome;
+use crate::outcome::{Found, Outcome};
 use history_merge::History;
 use history_text::{TextSource, Version};
 use std::alloc::Global;
@@ -20,30 +20,9 @@ where
     ensures found { IfSome (S.ahead reader) (λ input. AnswersFor IsClaimOf IsFaultOfClaimInput Verifies input (answer_of result)) }
     ensures places { NamesPlaces result }
 {
-    match claimed_history(alloc, reader) {
-        Ok((_version, history, claimed)) => verify_claim(alloc, &history, &claimed),
-        Err(outcome) => outcome,
-    }
-}
-
-/// The history that the reader gives, and what is claimed of it; or what is found where there is none.
-fn claimed_history<S: TextSource>(
-    alloc: Global,
-    reader: S,
-) -> Result<(Version, History, Claimed), Outcome>
-where
-    S: Drop,
-    ensures claim { IfOk result (λ read. IfSome (S.ahead reader) (λ input. IsClaimOf input (record { text = said_in read.0 read.1; claimed = read.2 }))) }
-    ensures found { IfErr result (λ outcome. IfSome (S.ahead reader) (λ input.
-        AnswersFor IsClaimOf IsFaultOfClaimInput (λ claim. IsFaulty (said_by claim.text)) input (answer_of outcome))) }
-    ensures places { IfErr result NamesPlaces }
-{
-    let (text, claimed) = match claim_of(alloc, reader) {
-        Ok(read) => read,
-        Err(fault) => return Err(Outcome::TextFailed(fault)),
-    };
-    let (version, history) = history_of(alloc, text)?;
-    Ok((version, history, claimed))
+    let (text, claimed) = claim_of(alloc, reader)?;
+    let (_version, history) = history_of(alloc, text)?;
+    verify_claim(alloc, &history, &claimed)
 }
 
 /// Whether the claim is evidence in the history.
@@ -53,8 +32,6 @@ fn verify_claim(alloc: Global, history: &History, claimed: &Claimed) -> Outcome
 {
     // A history is complete, as its accessor says.
     let _events = history.events();
-    match verdicts::verify(alloc, history, claimed) {
-        Ok(valid) => Outcome::Verified(valid),
-        Err(_) => Outcome::MemoryFault,
-    }
+    let valid = verdicts::verify(alloc, history, claimed)?;
+    Ok(Found::Verified(valid))
 }

@@ -4,7 +4,7 @@ ghost use Rattle.commands.specs.Answers.{memory_fault};
 ghost use Rattle.commands.specs.Running.{Prints, PrintsAnswer, WritesAndFlushes, no_text};
 ghost use Rattle.commands.specs.declared.words.StartFault.TheVariants.{NoText, Memory};
 
-use crate::outcome::Outcome;
+use crate::outcome::Fault;
 use crate::print::{print_outcome, print_text};
 use history_text::TextSink;
 use std::env;
@@ -37,7 +37,7 @@ pub fn words_of<R: Env + AllocGlobal>(rt: &R) -> Result<Vec<String>, StartFault>
 }
 
 /// Writes why a command can't begin, flushes the writer and answers the status.
-pub fn print_start_fault<W: TextSink>(writer: &mut W, fault: StartFault) -> u8
+pub fn print_start_fault<W: TextSink>(fault: StartFault, writer: &mut W) -> u8
     requires fresh { W.has_refused writer.old ≡ false }
     ensures no_text { fault ≡ NoText → Prints (W.contents writer.old) (W.contents writer.new) (W.has_refused writer.new) result no_text 2 }
     ensures memory { fault ≡ Memory → PrintsAnswer (W.contents writer.old) (W.contents writer.new) (W.has_refused writer.new) result memory_fault }
@@ -45,7 +45,7 @@ pub fn print_start_fault<W: TextSink>(writer: &mut W, fault: StartFault) -> u8
     ensures passed_on { W.has_refused writer.new ≡ false → W.holds_back writer.new ≡ false }
 {
     match fault {
-        StartFault::NoText => print_text(writer, b"error: a word is not valid UTF-8\n", 2),
-        StartFault::Memory => print_outcome(writer, &Outcome::MemoryFault),
+        StartFault::NoText => print_text(b"error: a word is not valid UTF-8\n", 2, writer),
+        StartFault::Memory => print_outcome(&Err(Fault::Memory), writer),
     }
 }

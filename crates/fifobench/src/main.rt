@@ -33,5 +33,5 @@ fn main(rt: HostRuntime) -> ExitCode {
 /// Says why the command can't begin.
 fn explain_start<R: Print>(rt: &R, fault: StartFault) -> ExitCode {
     let mut writer = Buffered::new(Watched::new(std::io::writer(rt)));
-    ExitCode::from(print_start_fault(&mut writer, fault))
+    ExitCode::from(print_start_fault(fault, &mut writer))
 }

@@ -69,3 +69,28 @@ fn assert_answer<R: AllocGlobal + Threads + Sync + Abort>(
     assert_eq!(rt; answer.1, status, "{command} of {input}");
     Ok(())
 }
+
+/// Asserts that a command answers each input with its text, and all of them with this status.
+fn assert_answers<R: AllocGlobal + Threads + Sync + Abort>(
+    rt: &R,
+    command: &str,
+    cases: &[(&str, &str)],
+    status: u8,
+) -> Result<(), AllocError> {
+    for (input, text) in cases {
+        assert_answer(rt, command, input, text, status)?;
+    }
+    Ok(())
+}
+
+/// Asserts that a command answers each input with its text and its status.
+fn assert_each<R: AllocGlobal + Threads + Sync + Abort>(
+    rt: &R,
+    command: &str,
+    cases: &[(&str, &str, u8)],
+) -> Result<(), AllocError> {
+    for (input, text, status) in cases {
+        assert_answer(rt, command, input, text, *status)?;
+    }
+    Ok(())
+}

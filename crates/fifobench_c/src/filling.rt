@@ -5,7 +5,7 @@ ghost use Rattle.commands.specs.Outcomes.{answer_of, NamesPlaces};
 ghost use Rattle.fifobench_c.specs.Filling.{Fills, Tells, TellsAnswer};
 ghost use Rattle.fifobench_c.specs.Recorded.{bad_what_line};
 
-use commands::Outcome;
+use commands::{Outcome, status_of, text_of_outcome};
 use itoa::Buffer;
 use std::alloc::{AllocError, Global};
 
@@ -14,7 +14,12 @@ pub fn tell(alloc: Global, outcome: &Outcome, answer: &mut [u8], needed: &mut us
     requires { NamesPlaces outcome.now }
     ensures { TellsAnswer (answer_of outcome.now) answer.old answer.new needed.new result ⊎ TellsAnswer memory_fault answer.old answer.new needed.new result }
 {
-    tell_text(outcome.text(alloc), outcome.status(), answer, needed)
+    tell_text(
+        text_of_outcome(alloc, outcome),
+        status_of(outcome),
+        answer,
+        needed,
+    )
 }
 
 /// Tells that the kind of the event at this place isn't known; or that memory ran out for the line.

@@ -23,7 +23,7 @@ ghost use Rattle.fifobench_c.specs.Recorded.{AreEvents, IsFirstUnknown, bad_what
 
 use crate::filling::{tell, tell_bad_what};
 use crate::recorded::gathered;
-use commands::{Outcome, check_text, judge_gathered, shrink_text, verify_text};
+use commands::{Fault, check_text, judge_gathered, shrink_text, verify_text};
 use event_records::MAX_EVENTS;
 pub use laws::events_and_their_text_agree;
 pub use recorded::{CALL_DEQ, CALL_ENQ, RET_DEQ, RET_EMPTY, RET_ENQ, RET_NOT, RecordedEvent};
@@ -92,7 +92,7 @@ pub extern "C" fn fifobench_check_events(
         → TellsAnswer refused_limit answer.old answer.new needed.new result ⊎ TellsAnswer memory_fault answer.old answer.new needed.new result }
 {
     if events.len() > MAX_EVENTS {
-        return tell(alloc, &Outcome::LimitRefused, answer, needed);
+        return tell(alloc, &Err(Fault::Limit), answer, needed);
     }
     match gathered(alloc, events) {
         Ok(builder) => tell(alloc, &judge_gathered(alloc, builder), answer, needed),

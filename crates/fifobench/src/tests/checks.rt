@@ -1,4 +1,4 @@
-use super::{assert_answer, run};
+use super::{assert_answers, run};
 use history_text::MemorySource;
 use std::test::Fail;
 
@@ -42,9 +42,7 @@ pub const ORDERS: [(&str, &str); 10] = [
 
 #[test]
 fn legal_orders(rt: HostRuntime) -> Result<(), Fail> {
-    for (input, text) in ORDERS {
-        assert_answer(&rt, "check", input, text, 0)?;
-    }
+    assert_answers(&rt, "check", &ORDERS, 0)?;
     Ok(())
 }
 
@@ -95,17 +93,13 @@ pub const OVERTAKEN_OR_NEVER_EMPTY: [(&str, &str); 5] = [
 
 #[test]
 fn violations(rt: HostRuntime) -> Result<(), Fail> {
-    for (input, text) in VIOLATIONS {
-        assert_answer(&rt, "check", input, text, 1)?;
-    }
+    assert_answers(&rt, "check", &VIOLATIONS, 1)?;
     Ok(())
 }
 
 #[test]
 fn violations_of_the_order_and_of_empty_answers(rt: HostRuntime) -> Result<(), Fail> {
-    for (input, text) in OVERTAKEN_OR_NEVER_EMPTY {
-        assert_answer(&rt, "check", input, text, 1)?;
-    }
+    assert_answers(&rt, "check", &OVERTAKEN_OR_NEVER_EMPTY, 1)?;
     Ok(())
 }
 
@@ -172,9 +166,7 @@ const REFUSALS: [(&str, &str); 19] = [
 
 #[test]
 fn refusals(rt: HostRuntime) -> Result<(), Fail> {
-    for (input, text) in REFUSALS {
-        assert_answer(&rt, "check", input, text, 2)?;
-    }
+    assert_answers(&rt, "check", &REFUSALS, 2)?;
     Ok(())
 }
 

@@ -1,5 +1,5 @@
 //! Histories of queues that hold values first.
-use super::assert_answer;
+use super::{assert_answer, assert_each};
 use std::test::Fail;
 
 /// The front value is dequeued.
@@ -21,9 +21,7 @@ const VERDICTS: [(&str, &str, u8); 4] = [
 
 #[test]
 fn initial_values_are_judged(rt: HostRuntime) -> Result<(), Fail> {
-    for (input, verdict, status) in VERDICTS {
-        assert_answer(&rt, "check", input, verdict, status)?;
-    }
+    assert_each(&rt, "check", &VERDICTS)?;
     Ok(())
 }
 

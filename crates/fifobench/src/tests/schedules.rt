@@ -1,4 +1,4 @@
-use super::assert_answer;
+use super::{assert_answer, assert_answers, assert_each};
 use std::test::Fail;
 
 /// Schedules, what is written of them, and the status.
@@ -104,9 +104,7 @@ NO VFresh
 
 #[test]
 fn schedules_are_played(rt: HostRuntime) -> Result<(), Fail> {
-    for (input, text, status) in SCHEDULES {
-        assert_answer(&rt, "sim", input, text, status)?;
-    }
+    assert_each(&rt, "sim", &SCHEDULES)?;
     Ok(())
 }
 
@@ -155,8 +153,6 @@ const REFUSALS: [(&str, &str); 8] = [
 
 #[test]
 fn faulty_schedules_are_refused(rt: HostRuntime) -> Result<(), Fail> {
-    for (input, text) in REFUSALS {
-        assert_answer(&rt, "sim", input, text, 2)?;
-    }
+    assert_answers(&rt, "sim", &REFUSALS, 2)?;
     Ok(())
 }

@@ -1,4 +1,4 @@
-use super::assert_answer;
+use super::assert_each;
 use std::test::Fail;
 
 /// Histories, what is written of them, and the status.
@@ -87,8 +87,6 @@ NO VWit
 
 #[test]
 fn histories_are_shrunk(rt: HostRuntime) -> Result<(), Fail> {
-    for (input, text, status) in HISTORIES {
-        assert_answer(&rt, "shrink", input, text, status)?;
-    }
+    assert_each(&rt, "shrink", &HISTORIES)?;
     Ok(())
 }

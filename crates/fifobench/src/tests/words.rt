@@ -55,7 +55,7 @@ fn words_that_are_no_text_are_a_mistake(rt: HostRuntime) -> Result<(), Fail> {
         Ok(_) => assert!(rt; false),
     }
     let mut writer = Watched::new(Vec::new(rt.alloc()));
-    let status = print_start_fault(&mut writer, StartFault::NoText);
+    let status = print_start_fault(StartFault::NoText, &mut writer);
     let written = writer.into_inner();
     if written.is_empty() {
         return Err(Fail::from("want of memory"));

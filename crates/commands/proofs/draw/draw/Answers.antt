@@ -1,3 +1,4 @@
+use Rattle.std.proofs.lemmas.Result.{err_from_is_err_and}
 use Rattle.std.proofs.Common.{subst}
 use Rattle.commands.specs.Inputs.{IsDrawableOf, IsFaultOfDrawableInput, drawable}
 use Rattle.commands.specs.Judging.{AnswersOrNoMemory, Draws}
@@ -6,14 +7,15 @@ use Rattle.commands.proofs.Findings.{of_value}
 use Rattle.commands.proofs.Drawn.{faulty_history}
 use Rattle.commands.proofs.draw.draw.Goals as goal
 
-pub returns-in-Ok-history_of-clause-found : goal.returns-in-Ok-history_of-clause-found
-returns-in-Ok-history_of-clause-found g c =
-    let answer = answer_of c.draw_history.result in
-    of_value IsDrawableOf IsFaultOfDrawableInput (Draws c.args.form) (g.S.TextSource.ahead c.args.reader) _ answer c.in-Ok.ensures.drawable
-    (subst (λ t. AnswersOrNoMemory (Draws c.args.form) (drawable t c.in-Ok.read.1) answer) c.in-Ok-history_of.ensures.history
-    (c.draw_history.ensures.found c.in-Ok-history_of._version))
+pub returns-in_err-_version-clause-found : goal.returns-in_err-_version-clause-found
+returns-in_err-_version-clause-found g c =
+    let p = err_from_is_err_and c.from_residual-in_err-_version.result c.from_residual-in_err-_version.ensures.1 in
+    rw (p.1, p.2) (of_value IsDrawableOf IsFaultOfDrawableInput (Draws c.args.form) (g.S.TextSource.ahead c.args.reader) _ _
+    c.in_ok-text.ensures.drawable (faulty_history c.args.form c.in_ok-text.text c.in_ok-text.claimed _ c.in_err-_version.ensures.fault))
 
 pub returns-clause-found : goal.returns-clause-found
 returns-clause-found g c =
-    of_value IsDrawableOf IsFaultOfDrawableInput (Draws c.args.form) (g.S.TextSource.ahead c.args.reader) _ _ c.in-Ok.ensures.drawable
-    (faulty_history c.args.form c.in-Ok.read.0 c.in-Ok.read.1 _ c.in-Err-history_of.ensures.found)
+    let answer = answer_of c.draw_history.result in
+    of_value IsDrawableOf IsFaultOfDrawableInput (Draws c.args.form) (g.S.TextSource.ahead c.args.reader) _ answer c.in_ok-text.ensures.drawable
+    (subst (λ t. AnswersOrNoMemory (Draws c.args.form) (drawable t c.in_ok-text.claimed) answer) c.in_ok-_version.ensures.history
+    (c.draw_history.ensures.found c.in_ok-_version._version))

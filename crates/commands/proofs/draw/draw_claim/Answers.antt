@@ -8,6 +8,6 @@ returns-then-count_of_lines-gt-MOST_DRAWN-clause-found c = λ version.
     inl (inr (inl (too_many_lines (said_in version c.args.history.now) c.args.claimed.now c.requires.complete
     (omega (arith, c.count_of_lines.ensures, c.if-count_of_lines-gt-MOST_DRAWN.true)))))
 
-pub returns-in-Ok-true-clause-found : goal.returns-in-Ok-true-clause-found
-returns-in-Ok-true-clause-found c = λ version.
+pub returns-clause-found : goal.returns-clause-found
+returns-clause-found c = λ version.
     drawn_claim c.args.form (said_in version c.args.history.now) c.args.claimed.now _ (c.draw_evidence.ensures.found version)

@@ -5,19 +5,22 @@ use Rattle.commands.proofs.draw.draw_verdict.Goals as goal
 
 pub draw_evidence-requires-clause-evidence : goal.draw_evidence-requires-clause-evidence
 draw_evidence-requires-clause-evidence c =
-    let is = c.in-Ok.ensures in
-    let right = claims_verdict c.args.history.now c.in-Ok.verdict c.in-Ok-claim.claimed is.chosen is.evidence is.exact c.in-Ok-claim.ensures.claim in
-    decided_is_true c.args.history.now c.in-Ok-claim.claimed c.requires.complete c.requires.small right
+    let is = c.in_ok-verdict.ensures in
+    let right = claims_verdict c.args.history.now c.in_ok-verdict.verdict c.in_ok-claimed.claimed is.chosen is.evidence is.exact
+    c.in_ok-claimed.ensures.claim in
+    decided_is_true c.args.history.now c.in_ok-claimed.claimed c.requires.complete c.requires.small right
 
 pub returns-then-count_of_lines-gt-MOST_DRAWN-clause-found : goal.returns-then-count_of_lines-gt-MOST_DRAWN-clause-found
 returns-then-count_of_lines-gt-MOST_DRAWN-clause-found c = λ version.
-    let is = c.in-Ok.ensures in
-    let right = claims_verdict c.args.history.now c.in-Ok.verdict c.in-Ok-claim.claimed is.chosen is.evidence is.exact c.in-Ok-claim.ensures.claim in
-    inl (large_decided c.args.form (said_in version c.args.history.now) c.in-Ok-claim.claimed right c.requires.complete
+    let is = c.in_ok-verdict.ensures in
+    let right = claims_verdict c.args.history.now c.in_ok-verdict.verdict c.in_ok-claimed.claimed is.chosen is.evidence is.exact
+    c.in_ok-claimed.ensures.claim in
+    inl (large_decided c.args.form (said_in version c.args.history.now) c.in_ok-claimed.claimed right c.requires.complete
     (omega (arith, c.count_of_lines.ensures, c.if-count_of_lines-gt-MOST_DRAWN.true)))
 
 pub returns-clause-found : goal.returns-clause-found
 returns-clause-found c = λ version.
-    let is = c.in-Ok.ensures in
-    let right = claims_verdict c.args.history.now c.in-Ok.verdict c.in-Ok-claim.claimed is.chosen is.evidence is.exact c.in-Ok-claim.ensures.claim in
-    drawn_decided c.args.form (said_in version c.args.history.now) c.in-Ok-claim.claimed _ right (c.draw_evidence.ensures.found version)
+    let is = c.in_ok-verdict.ensures in
+    let right = claims_verdict c.args.history.now c.in_ok-verdict.verdict c.in_ok-claimed.claimed is.chosen is.evidence is.exact
+    c.in_ok-claimed.ensures.claim in
+    drawn_decided c.args.form (said_in version c.args.history.now) c.in_ok-claimed.claimed _ right (c.draw_evidence.ensures.found version)

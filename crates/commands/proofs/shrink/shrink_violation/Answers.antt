@@ -4,30 +4,30 @@ use Rattle.verdicts.specs.Claiming.{claim_of}
 use Rattle.commands.proofs.Findings.{decided_claim, part_of_none}
 use Rattle.commands.proofs.shrink.shrink_violation.Goals as goal
 
-pub returns-in-Ok-decide-clause-found : goal.returns-in-Ok-decide-clause-found
-returns-in-Ok-decide-clause-found c =
-    let small = c.in-Ok.small in
-    let verdict = c.in-Ok-decide.verdict in
+pub returns-clause-found : goal.returns-clause-found
+returns-clause-found c =
+    let small = c.in_ok-small.small in
+    let verdict = c.in_ok-verdict.verdict in
     inl (record {
       complete = c.events-events.ensures.from;
       not_linearizable = c.requires.no;
       violation = c.args.violation.now;
       chosen = c.requires.chosen;
       small = small;
-      small_is_complete = c.in-Ok.ensures.complete;
-      initial = c.in-Ok.ensures.initial;
-      events = c.in-Ok.ensures.events;
-      kept = c.in-Ok.ensures.kept;
-      same = c.in-Ok.ensures.same_violation;
-      minimal = c.in-Ok.ensures.minimal;
-      shortest = c.in-Ok.ensures.shortest;
+      small_is_complete = c.in_ok-small.ensures.complete;
+      initial = c.in_ok-small.ensures.initial;
+      events = c.in_ok-small.ensures.events;
+      kept = c.in_ok-small.ensures.kept;
+      same = c.in_ok-small.ensures.same_violation;
+      minimal = c.in_ok-small.ensures.minimal;
+      shortest = c.in_ok-small.ensures.shortest;
       claimed = claim_of small.initial (operations_of small.events) verdict;
-      right = decided_claim small verdict c.in-Ok-decide.ensures.chosen c.in-Ok-decide.ensures.evidence c.in-Ok-decide.ensures.exact;
+      right = decided_claim small verdict c.in_ok-verdict.ensures.chosen c.in_ok-verdict.ensures.evidence c.in_ok-verdict.ensures.exact;
       is = refl;
     })
 
-pub returns-in-Ok-decide-clause-places : goal.returns-in-Ok-decide-clause-places
-returns-in-Ok-decide-clause-places c = (
-  c.in-Ok-decide.ensures.places,
-  λ one. part_of_none c.args.history.now.initial c.in-Ok.small.initial c.in-Ok.ensures.initial (c.requires.version one),
+pub returns-clause-places : goal.returns-clause-places
+returns-clause-places c = (
+  c.in_ok-verdict.ensures.places,
+  λ one. part_of_none c.args.history.now.initial c.in_ok-small.small.initial c.in_ok-small.ensures.initial (c.requires.version one),
 )

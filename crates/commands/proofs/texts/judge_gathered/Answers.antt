@@ -1,5 +1,8 @@
+use Rattle.std.proofs.lemmas.Result.{err_from_is_err_and}
 use Rattle.commands.proofs.Findings.{fault_or}
 use Rattle.commands.proofs.texts.judge_gathered.Goals as goal
 
-pub returns-in-Err-clause-found : goal.returns-in-Err-clause-found
-returns-in-Err-clause-found c = λ history is. fault_or history c.in-Err.fault (c.in-Err.ensures.outcome history.initial history.events is.gathered)
+pub returns-in_err-parts-clause-found : goal.returns-in_err-parts-clause-found
+returns-in_err-parts-clause-found c = λ history is.
+    let p = err_from_is_err_and c.from_residual.result c.from_residual.ensures.1 in
+    rw (p.1, p.2) (fault_or history _ (c.in_err-parts.ensures.outcome history.initial history.events is.gathered))

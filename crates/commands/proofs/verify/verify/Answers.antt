@@ -1,16 +1,20 @@
-use Rattle.std.proofs.Common.{inl}
+use Rattle.std.proofs.Common.{subst}
+use Rattle.std.proofs.lemmas.Result.{err_from_is_err_and}
 use Rattle.commands.specs.Inputs.{IsClaimOf, IsFaultOfClaimInput}
-use Rattle.commands.specs.Judging.{IsFaulty, Verifies, said_by}
+use Rattle.commands.specs.Judging.{AnswersOrNoMemory, Verifies}
 use Rattle.commands.specs.Outcomes.{answer_of}
-use Rattle.commands.proofs.Findings.{answers_more, of_value}
+use Rattle.commands.proofs.Findings.{faulty_or, of_value}
 use Rattle.commands.proofs.verify.verify.Goals as goal
 
-pub returns-in-Err-clause-found : goal.returns-in-Err-clause-found
-returns-in-Err-clause-found g c =
-    answers_more IsClaimOf IsFaultOfClaimInput (λ claim. IsFaulty (said_by claim.text)) Verifies (g.S.TextSource.ahead c.args.reader)
-    (answer_of c.in-Err.outcome) (λ claim faulty. inl faulty) c.in-Err.ensures.found
+pub returns-in_err-_version-clause-found : goal.returns-in_err-_version-clause-found
+returns-in_err-_version-clause-found g c =
+    let p = err_from_is_err_and c.from_residual-in_err-_version.result c.from_residual-in_err-_version.ensures.1 in
+    rw (p.1, p.2) (of_value IsClaimOf IsFaultOfClaimInput Verifies (g.S.TextSource.ahead c.args.reader) _ _ c.in_ok-text.ensures.claim
+    (faulty_or _ _ c.in_err-_version.ensures.fault))
 
-pub returns-in-Ok-clause-found : goal.returns-in-Ok-clause-found
-returns-in-Ok-clause-found g c =
-    of_value IsClaimOf IsFaultOfClaimInput Verifies (g.S.TextSource.ahead c.args.reader) _ (answer_of c.verify_claim.result) c.in-Ok.ensures.claim
-    (c.verify_claim.ensures.found c.in-Ok._version)
+pub returns-clause-found : goal.returns-clause-found
+returns-clause-found g c =
+    let answer = answer_of c.verify_claim.result in
+    of_value IsClaimOf IsFaultOfClaimInput Verifies (g.S.TextSource.ahead c.args.reader) _ answer c.in_ok-text.ensures.claim
+    (subst (λ t. AnswersOrNoMemory Verifies (record { text = t; claimed = c.in_ok-text.claimed }) answer) c.in_ok-_version.ensures.history
+    (c.verify_claim.ensures.found c.in_ok-_version._version))
