@@ -3,14 +3,4 @@
 #![tactic(auto)]
 
 #[cfg(test)]
-mod comparing;
-#[cfg(test)]
-mod histories;
-#[cfg(test)]
-mod plain_gaps;
-#[cfg(test)]
-mod plain_order;
-#[cfg(test)]
-mod plain_pairs;
-#[cfg(test)]
 mod tests;

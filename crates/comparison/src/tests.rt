@@ -1,5 +1,13 @@
-use crate::comparing::{Kind, compare, kind_of};
-use crate::histories::{Lies, MOST_OPERATIONS, covered_history, honest_history, seeded_history};
+mod comparing;
+mod histories;
+mod plain_gaps;
+mod plain_order;
+mod plain_pairs;
+
+use crate::tests::comparing::compare;
+use crate::tests::histories::{
+    Lies, MOST_OPERATIONS, covered_history, honest_history, seeded_history,
+};
 use empty_witness::{GapAnswer, gap_for};
 use event_records::MAX_THREAD_OPERATIONS;
 use history_merge::History;
@@ -7,7 +15,7 @@ use std::alloc::Global;
 use std::process::Abort;
 use std::test::Fail;
 use value_match::{Matched, match_values};
-use verdicts::{claim, decide, verify};
+use verdicts::{Claimed, Verdict, ViolationKind, claim, decide, verify};
 
 /// The histories of each rate of lies.
 const SEEDS: u64 = 100;
@@ -26,13 +34,13 @@ struct Met {
 }
 
 impl Met {
-    fn count(&mut self, kind: Kind) {
+    fn count(&mut self, kind: Option<ViolationKind>) {
         match kind {
-            Kind::Legal => self.legal = self.legal.saturating_add(1),
-            Kind::Fresh => self.fresh = self.fresh.saturating_add(1),
-            Kind::Repeat => self.repeat = self.repeat.saturating_add(1),
-            Kind::Order => self.order = self.order.saturating_add(1),
-            Kind::Witness => self.witness = self.witness.saturating_add(1),
+            None => self.legal = self.legal.saturating_add(1),
+            Some(ViolationKind::VFresh) => self.fresh = self.fresh.saturating_add(1),
+            Some(ViolationKind::VRepeat) => self.repeat = self.repeat.saturating_add(1),
+            Some(ViolationKind::VOrd) => self.order = self.order.saturating_add(1),
+            Some(ViolationKind::VWit) => self.witness = self.witness.saturating_add(1),
         }
     }
 }
@@ -71,7 +79,7 @@ fn sweeps_answer_as_plain_scans(rt: HostRuntime) -> Result<(), Fail> {
 fn a_large_history_is_legal(rt: HostRuntime) -> Result<(), Fail> {
     let history = honest_history(rt.alloc(), 0, MAX_THREAD_OPERATIONS)?;
     assert_eq!(rt; history.operations().len(), 400_000);
-    assert_eq!(rt; kind_of(&decide(rt.alloc(), &history)?), Kind::Legal);
+    assert!(rt; matches!(&decide(rt.alloc(), &history)?, Verdict::Yes(_)));
     Ok(())
 }
 
@@ -109,8 +117,8 @@ fn a_large_cover_is_found_and_claimed(rt: HostRuntime) -> Result<(), Fail> {
     assert_eq!(rt; history.operations().len(), 80_000);
     assert!(rt; matches!(first_gap(rt.alloc(), &history)?, GapAnswer::Covered(_)));
     let verdict = decide(rt.alloc(), &history)?;
-    assert_eq!(rt; kind_of(&verdict), Kind::Witness);
     let claimed = claim(rt.alloc(), &history, &verdict)?;
+    assert!(rt; matches!(&claimed, Claimed::No(ViolationKind::VWit, _)));
     assert!(rt; verify(rt.alloc(), &history, &claimed)?);
     Ok(())
 }

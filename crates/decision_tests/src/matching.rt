@@ -1,20 +1,10 @@
-ghost use Rattle.std.specs.Prelude.{◌≤◌, length};
-
 use crate::deciding::enqueue_of;
-use crate::small_histories::{at, by};
-use event_records::{Event, MAX_EVENTS, What};
-use history_merge::{History, HistoryFault, OpId, OpKind, history};
-use std::alloc::Global;
+use crate::small_histories::{by, history_of, in_turn, matching_of, op};
+use history_merge::OpKind::{Deq, Empty, Enq, Not};
+use history_merge::{OpId, Operation};
 use std::process::Abort;
 use std::test::Fail;
 use value_match::{Life, LongestTable, Matched, MatchedValue, Violation, match_values};
-
-/// The history of these events.
-fn history_of(alloc: Global, events: &[Event]) -> Result<History, HistoryFault>
-    requires { length events.now ≤ MAX_EVENTS }
-{
-    history(alloc, events.to_vec(alloc)?)
-}
 
 /// The places that a violation of the first two kinds names.
 fn places(matched: &Matched) -> Option<[Option<OpId>; 3]> {
@@ -31,164 +21,61 @@ fn places(matched: &Matched) -> Option<[Option<OpId>; 3]> {
     }
 }
 
-/// Checks that the history of these events breaks a rule of the first two kinds, and which places are named.
+/// Checks that the history of these operations breaks a rule of the first two kinds, and which places are named.
 fn check_places(
-    rt: &impl Abort,
-    alloc: Global,
-    events: &[Event],
+    rt: &(impl Abort + AllocGlobal),
+    operations: &[Operation],
     named: [Option<usize>; 3],
 ) -> Result<(), Fail> {
-    assert!(rt; events.len() <= MAX_EVENTS);
-    let history = history_of(alloc, events)?;
+    let history = history_of(rt.alloc(), operations)?;
     let named = named.map(|place| place.map(OpId::new));
-    assert_eq!(rt; places(&match_values(alloc, &history)?), Some(named));
+    let matched = match_values(rt.alloc(), &history)?;
+    assert_eq!(rt; places(&matched), Some(named), "{operations:?}");
     Ok(())
 }
 
 #[test]
 fn names_the_dequeue_of_a_value_that_was_not_there(rt: HostRuntime) -> Result<(), Fail> {
-    let cases: [(&[Event], usize, Option<usize>); 5] = [
+    let (early, first) = (op(0, 3, Deq(9)), by(1, 1, 2, Deq(8)));
+    let repeated_before = in_turn([Enq(7), Deq(7), Deq(7), Deq(9)]);
+    let cases: [(&[Operation], usize, Option<usize>); 5] = [
         // never enqueued
-        (
-            &[at(0, 0, What::CallDeq), at(1, 0, What::RetDeq(9))],
-            0,
-            None,
-        ),
+        (&in_turn([Deq(9)]), 0, None),
         // enqueued only afterwards
-        (
-            &[
-                at(0, 0, What::CallDeq),
-                at(1, 0, What::RetDeq(7)),
-                at(2, 0, What::CallEnq(7)),
-                at(3, 0, What::RetEnq),
-            ],
-            0,
-            Some(1),
-        ),
+        (&in_turn([Deq(7), Enq(7)]), 0, Some(1)),
         // refused
-        (
-            &[
-                at(0, 0, What::CallEnq(7)),
-                at(1, 0, What::RetNot),
-                at(2, 0, What::CallDeq),
-                at(3, 0, What::RetDeq(7)),
-            ],
-            1,
-            Some(0),
-        ),
+        (&in_turn([Not(7), Deq(7)]), 1, Some(0)),
         // two of them, of which the one that is called last returns first
-        (
-            &[
-                at(0, 0, What::CallDeq),
-                at(1, 1, What::CallDeq),
-                at(2, 1, What::RetDeq(8)),
-                at(3, 0, What::RetDeq(9)),
-            ],
-            1,
-            None,
-        ),
+        (&[early, first], 1, None),
         // a value is dequeued twice before
-        (
-            &[
-                at(0, 0, What::CallEnq(7)),
-                at(1, 0, What::RetEnq),
-                at(2, 0, What::CallDeq),
-                at(3, 0, What::RetDeq(7)),
-                at(4, 0, What::CallDeq),
-                at(5, 0, What::RetDeq(7)),
-                at(6, 0, What::CallDeq),
-                at(7, 0, What::RetDeq(9)),
-            ],
-            3,
-            None,
-        ),
+        (&repeated_before, 3, None),
     ];
-    for (events, deq, enq) in cases {
-        check_places(&rt, rt.alloc(), events, [Some(deq), enq, None])?;
+    for (operations, deq, enq) in cases {
+        check_places(&rt, operations, [Some(deq), enq, None])?;
     }
     Ok(())
 }
 
 #[test]
 fn names_the_first_two_dequeues_of_a_value(rt: HostRuntime) -> Result<(), Fail> {
-    let cases: [(&[Event], usize, usize, usize); 3] = [
-        (
-            &[
-                at(0, 0, What::CallEnq(7)),
-                at(1, 0, What::RetEnq),
-                at(2, 0, What::CallDeq),
-                at(3, 0, What::RetDeq(7)),
-                at(4, 0, What::CallDeq),
-                at(5, 0, What::RetDeq(7)),
-            ],
-            0,
-            1,
-            2,
-        ),
-        // the first that is called returns last
-        (
-            &[
-                at(0, 0, What::CallEnq(7)),
-                at(1, 0, What::RetEnq),
-                at(2, 0, What::CallDeq),
-                at(3, 1, What::CallDeq),
-                at(4, 1, What::RetDeq(7)),
-                at(5, 2, What::CallDeq),
-                at(6, 2, What::RetDeq(7)),
-                at(7, 0, What::RetDeq(7)),
-            ],
-            0,
-            2,
-            3,
-        ),
-        // of two values the greater comes back first
-        (
-            &[
-                at(0, 0, What::CallEnq(5)),
-                at(1, 0, What::RetEnq),
-                at(2, 0, What::CallEnq(7)),
-                at(3, 0, What::RetEnq),
-                at(4, 0, What::CallDeq),
-                at(5, 0, What::RetDeq(5)),
-                at(6, 0, What::CallDeq),
-                at(7, 0, What::RetDeq(7)),
-                at(8, 0, What::CallDeq),
-                at(9, 0, What::RetDeq(7)),
-                at(10, 0, What::CallDeq),
-                at(11, 0, What::RetDeq(5)),
-            ],
-            1,
-            3,
-            4,
-        ),
-    ];
-    for (events, enq, first, second) in cases {
-        check_places(&rt, rt.alloc(), events, [enq, first, second].map(Some))?;
-    }
-    Ok(())
+    let twice = in_turn([Enq(7), Deq(7), Deq(7)]);
+    check_places(&rt, &twice, [0, 1, 2].map(Some))?;
+    // the first that is called returns last
+    let (enq, last) = (op(0, 1, Enq(7)), op(2, 7, Deq(7)));
+    let thrice = [enq, last, by(1, 3, 4, Deq(7)), by(2, 5, 6, Deq(7))];
+    check_places(&rt, &thrice, [0, 2, 3].map(Some))?;
+    // of two values the greater comes back first
+    let both_twice = in_turn([Enq(5), Enq(7), Deq(5), Deq(7), Deq(7), Deq(5)]);
+    check_places(&rt, &both_twice, [1, 3, 4].map(Some))
 }
 
 #[test]
 fn matches_a_history_without_such_violations(rt: HostRuntime) -> Result<(), Fail> {
-    let events = [
-        at(0, 0, What::CallEnq(7)),
-        at(1, 1, What::CallDeq),
-        at(2, 2, What::CallEnq(9)),
-        at(3, 1, What::RetDeq(7)),
-        at(4, 0, What::RetEnq),
-        at(5, 2, What::RetEnq),
-        at(6, 0, What::CallEnq(8)),
-        at(7, 1, What::CallDeq),
-        at(8, 0, What::RetNot),
-        at(9, 1, What::RetEmpty),
-    ];
-    let history = history_of(rt.alloc(), &events)?;
-    let Matched::Clear(matching) = match_values(rt.alloc(), &history)? else {
-        panic!(rt; "no violation of the first two kinds");
-    };
-    let enq_7 = by(0, 0, 4, OpKind::Enq(7));
-    let deq_7 = by(1, 1, 3, OpKind::Deq(7));
-    let enq_9 = by(2, 2, 5, OpKind::Enq(9));
+    let (enq_7, deq_7) = (by(0, 0, 4, Enq(7)), by(1, 1, 3, Deq(7)));
+    let enq_9 = by(2, 2, 5, Enq(9));
+    let (refused, empty) = (by(0, 6, 8, Not(8)), by(1, 7, 9, Empty));
+    let history = history_of(rt.alloc(), &[enq_7, deq_7, enq_9, refused, empty])?;
+    let matching = matching_of(rt.alloc(), &history)?;
     let values = [
         MatchedValue {
             life: Life {
@@ -220,24 +107,11 @@ fn matches_a_history_without_such_violations(rt: HostRuntime) -> Result<(), Fail
 
 #[test]
 fn finds_the_longest_of_the_values_before_a_ticket(rt: HostRuntime) -> Result<(), Fail> {
-    let events = [
-        at(0, 0, What::CallEnq(1)),
-        at(1, 1, What::CallEnq(2)),
-        at(2, 0, What::RetEnq),
-        at(4, 1, What::RetEnq),
-        at(5, 0, What::CallEnq(3)),
-        at(6, 1, What::CallEnq(4)),
-        at(8, 0, What::RetEnq),
-        at(10, 1, What::RetEnq),
-        at(20, 0, What::CallDeq),
-        at(21, 0, What::RetDeq(1)),
-        at(30, 0, What::CallDeq),
-        at(31, 0, What::RetDeq(2)),
-    ];
-    let history = history_of(rt.alloc(), &events)?;
-    let Matched::Clear(matching) = match_values(rt.alloc(), &history)? else {
-        panic!(rt; "no violation of the first two kinds");
-    };
+    let (enq_1, enq_2) = (op(0, 2, Enq(1)), by(1, 1, 4, Enq(2)));
+    let (enq_3, enq_4) = (op(5, 8, Enq(3)), by(1, 6, 10, Enq(4)));
+    let (deq_1, deq_2) = (op(20, 21, Deq(1)), op(30, 31, Deq(2)));
+    let history = history_of(rt.alloc(), &[enq_1, enq_2, enq_3, enq_4, deq_1, deq_2])?;
+    let matching = matching_of(rt.alloc(), &history)?;
     let table = LongestTable::new(rt.alloc(), matching.filled().values())?;
     // Up to each limit, the call of the longest value's enqueue.
     let cases = [

@@ -1,9 +1,11 @@
-use crate::deciding::{
-    COVERED_BY_TWO, NEVER_EMPTY, ONCE_EMPTY, OVERLAPPING, OVERTAKEN, Row, enqueue_of, history_of,
-    matching_of, push_cover, push_maybe,
+use crate::deciding::{enqueue_of, push_cover, push_maybe};
+use crate::small_histories::{
+    by, covered_by_two, dequeued_later, hidden, history_of, in_turn, matching_of, never_empty,
+    once_empty, op, overlapping, overtaken,
 };
 use empty_witness::WitnessAnswer;
-use history_merge::OpKind;
+use history_merge::OpKind::{Deq, Empty, Enq};
+use history_merge::Operation;
 use order_violation::OrderPair;
 use parallel_finders::{find_order_par, find_witness_par, order_in_pieces, witness_in_pieces};
 use std::alloc::{AllocError, Global};
@@ -67,15 +69,15 @@ fn found_in_pieces<R: Threads + Sync>(
 }
 
 /// Asserts what is found with 1, 2 and 64 pieces.
-fn check<R: Abort + Threads + Sync>(
+fn check<R: Abort + AllocGlobal + Threads + Sync>(
     rt: &R,
-    alloc: Global,
-    rows: &[Row],
+    operations: &[Operation],
     pair: Option<&[usize]>,
     witness: Result<&[u64], &[usize]>,
 ) -> Result<(), Fail> {
-    let history = history_of(rt, alloc, rows)?;
-    let matching = matching_of(rt, alloc, &history)?;
+    let alloc = rt.alloc();
+    let history = history_of(alloc, operations)?;
+    let matching = matching_of(alloc, &history)?;
     for pieces in [1, 2, 64] {
         let (found, answer) = found_in_pieces(rt, alloc, &matching, pieces)?;
         match (&found, pair) {
@@ -94,102 +96,70 @@ fn check<R: Abort + Threads + Sync>(
 
 #[test]
 fn finds_pairs_in_pieces(rt: HostRuntime) -> Result<(), Fail> {
-    let alloc = rt.alloc();
-    let dequeued_later: &[Row] = &[
-        (0, OpKind::Enq(7), 0, 1),
-        (0, OpKind::Enq(9), 2, 3),
-        (0, OpKind::Deq(9), 4, 5),
-        (0, OpKind::Deq(7), 6, 7),
-    ];
-    let hidden: &[Row] = &[
-        (0, OpKind::Enq(7), 0, 6),
-        (1, OpKind::Deq(7), 1, 3),
-        (2, OpKind::Deq(9), 2, 7),
-        (1, OpKind::Enq(9), 4, 5),
-    ];
     // the pair of the second piece comes first
-    let two_pairs: &[Row] = &[
-        (0, OpKind::Enq(1), 0, 1),
-        (0, OpKind::Enq(2), 2, 3),
-        (0, OpKind::Enq(3), 4, 5),
-        (0, OpKind::Enq(4), 6, 7),
-        (0, OpKind::Deq(4), 8, 9),
-        (0, OpKind::Deq(2), 10, 11),
-    ];
-    check(&rt, alloc, OVERLAPPING, None, Ok(&[]))?;
-    check(&rt, alloc, OVERTAKEN, Some(&[0, 1, 2]), Ok(&[]))?;
-    check(&rt, alloc, dequeued_later, Some(&[0, 1, 2, 3]), Ok(&[]))?;
-    check(&rt, alloc, hidden, None, Ok(&[]))?;
-    check(&rt, alloc, two_pairs, Some(&[0, 3, 4]), Ok(&[]))
+    let two_pairs = in_turn([Enq(1), Enq(2), Enq(3), Enq(4), Deq(4), Deq(2)]);
+    check(&rt, &overlapping(), None, Ok(&[]))?;
+    check(&rt, &overtaken(), Some(&[0, 1, 2]), Ok(&[]))?;
+    check(&rt, &dequeued_later(), Some(&[0, 1, 2, 3]), Ok(&[]))?;
+    check(&rt, &hidden(), None, Ok(&[]))?;
+    check(&rt, &two_pairs, Some(&[0, 3, 4]), Ok(&[]))
 }
 
 #[test]
 fn finds_covers_in_pieces(rt: HostRuntime) -> Result<(), Fail> {
-    let alloc = rt.alloc();
     // of four answers the first has a gap, and of the others the third returns first
-    let thrice_covered: &[Row] = &[
-        (3, OpKind::Empty, 0, 1),
-        (0, OpKind::Enq(1), 2, 3),
-        (1, OpKind::Empty, 4, 11),
-        (2, OpKind::Empty, 5, 6),
-        (3, OpKind::Empty, 7, 10),
-    ];
-    check(&rt, alloc, NEVER_EMPTY, None, Err(&[1, 0, 3, 2, 4]))?;
-    check(&rt, alloc, ONCE_EMPTY, None, Ok(&[4]))?;
-    check(&rt, alloc, COVERED_BY_TWO, None, Err(&[1, 0, 4, 3, 6]))?;
-    check(&rt, alloc, thrice_covered, None, Err(&[3, 1]))
+    let (early, enq) = (by(3, 0, 1, Empty), op(2, 3, Enq(1)));
+    let (long, short) = (by(1, 4, 11, Empty), by(2, 5, 6, Empty));
+    let thrice_covered = [early, enq, long, short, by(3, 7, 10, Empty)];
+    check(&rt, &never_empty(), None, Err(&[1, 0, 3, 2, 4]))?;
+    check(&rt, &once_empty(), None, Ok(&[4]))?;
+    check(&rt, &covered_by_two(), None, Err(&[1, 0, 4, 3, 6]))?;
+    check(&rt, &thrice_covered, None, Err(&[3, 1]))
 }
 
 /// Values that are enqueued and dequeued one after another, each followed by an empty answer; one of them stays.
-fn rounds(alloc: Global, staying: u64) -> Result<Vec<Row>, AllocError> {
-    let mut rows = Vec::new(alloc);
+fn rounds(alloc: Global, staying: u64) -> Result<Vec<Operation>, AllocError> {
+    let mut operations = Vec::new(alloc);
     for round in 0u64..5000 {
         let ticket = 6 * round;
-        rows.push((0, OpKind::Enq(round), ticket, ticket + 1))?;
+        operations.push(op(ticket, ticket + 1, Enq(round)))?;
         if round != staying {
-            rows.push((0, OpKind::Deq(round), ticket + 2, ticket + 3))?;
+            operations.push(op(ticket + 2, ticket + 3, Deq(round)))?;
         }
-        rows.push((0, OpKind::Empty, ticket + 4, ticket + 5))?;
+        operations.push(op(ticket + 4, ticket + 5, Empty))?;
     }
-    Ok(rows)
+    Ok(operations)
 }
 
-/// What the searches find of the operations, which are few.
-fn found<R: Threads + Sync>(
-    rt: &R,
-    alloc: Global,
-    matching: &Matching,
-) -> Result<Found, AllocError> {
-    let pair = find_order_par(rt, alloc, matching, 64)?;
-    let answer = find_witness_par(rt, alloc, matching, 64)?;
-    Ok((
-        places_of_pair(alloc, pair)?,
-        places_of_witness(alloc, &answer)?,
-    ))
+/// What the searches find of the rounds, which is the same in pieces.
+fn found_of_rounds<R>(rt: &R, staying: u64) -> Result<Found, Fail>
+where
+    R: Abort + AllocGlobal + Threads + Sync,
+{
+    let alloc = rt.alloc();
+    let history = history_of(alloc, rounds(alloc, staying)?.as_slice())?;
+    let matching = matching_of(alloc, &history)?;
+    let pair = places_of_pair(alloc, find_order_par(rt, alloc, &matching, 64)?)?;
+    let answer = places_of_witness(alloc, &find_witness_par(rt, alloc, &matching, 64)?)?;
+    let found = (pair, answer);
+    assert!(rt; found == found_in_pieces(rt, alloc, &matching, 64)?);
+    Ok(found)
 }
 
 #[test]
 fn finds_the_same_in_any_pieces(rt: HostRuntime) -> Result<(), Fail> {
-    let alloc = rt.alloc();
-    let history = history_of(&rt, alloc, rounds(alloc, 5000)?.as_slice())?;
-    let emptied = matching_of(&rt, alloc, &history)?;
-    let (pair, answer) = found(&rt, alloc, &emptied)?;
+    let (pair, answer) = found_of_rounds(&rt, 5000)?;
     assert!(rt; pair.is_none());
     assert_eq!(rt; answer.as_ref().map_or(0, |gaps| gaps.len()), 5000);
-    assert!(rt; (pair, answer) == found_in_pieces(&rt, alloc, &emptied, 64)?);
     Ok(())
 }
 
 #[test]
 fn finds_one_value_in_any_pieces(rt: HostRuntime) -> Result<(), Fail> {
-    let alloc = rt.alloc();
-    let history = history_of(&rt, alloc, rounds(alloc, 3000)?.as_slice())?;
-    let overtaken = matching_of(&rt, alloc, &history)?;
-    let (pair, answer) = found(&rt, alloc, &overtaken)?;
-    let places = pair.as_ref().ok_or("no pair is found")?;
+    let (pair, answer) = found_of_rounds(&rt, 3000)?;
+    let places = pair.ok_or("no pair is found")?;
     assert_eq!(rt; places.as_slice(), [9000, 9002, 9003].as_slice());
     let covered = answer.as_ref().err().ok_or("no window is covered")?;
     assert_eq!(rt; covered.as_slice(), [9001, 9000].as_slice());
-    assert!(rt; (pair, answer) == found_in_pieces(&rt, alloc, &overtaken, 64)?);
     Ok(())
 }

@@ -1,15 +1,15 @@
 //! Where the values of a verdict come from: an initial value by its place among these, an operation by its own.
 
 use crate::deciding::first_answer;
-use crate::small_histories::{by, history_behind, op};
+use crate::small_histories::{by, history_behind, matching_of, op};
 use empty_witness::{GapAnswer, WitnessAnswer, find_witness};
 use history_merge::OpKind::{Deq, Empty};
-use history_merge::{History, OpId, OpKind, Operation};
+use history_merge::{OpId, OpKind, Operation};
 use order_violation::{OrderPair, find_order};
 use std::alloc::{AllocError, Global};
 use std::test::Fail;
 use value_match::Source::{Enq, Initial};
-use value_match::{CoverStep, Matched, Matching, Places, Source, Violation, match_values};
+use value_match::{CoverStep, Matching, Places, Source, Violation};
 use verdicts::{Verdict, decide};
 
 /// The violation of a history of these operations, of a queue that starts with these values.
@@ -164,22 +164,10 @@ fn an_order_lists_operations_alone(rt: HostRuntime) -> Result<(), Fail> {
     Ok(())
 }
 
-/// The matching of a history in which each dequeue is of a value that was there, and none is of the value of another.
-fn matching_of(history: &History, alloc: Global) -> Result<Matching<'_>, Fail> {
-    match match_values(alloc, history)? {
-        Matched::Clear(matching) => Ok(matching),
-        _ => Err(Fail::from("no matching")),
-    }
-}
-
-/// The pair that is found in the matching of a history of these operations, of a queue that starts with these values.
-fn pair_found(
-    alloc: Global,
-    initial: &[u64],
-    operations: &[Operation],
-) -> Result<Option<OrderPair>, Fail> {
-    let history = history_behind(alloc, initial, operations)?;
-    Ok(find_order(alloc, &matching_of(&history, alloc)?)?)
+/// The pair that is found where this value comes first out of a queue of 5 and 6.
+fn pair_found(alloc: Global, dequeued: u64) -> Result<Option<OrderPair>, Fail> {
+    let history = history_behind(alloc, &[5, 6], &[op(0, 1, Deq(dequeued))])?;
+    Ok(find_order(alloc, &matching_of(alloc, &history)?)?)
 }
 
 #[test]
@@ -190,9 +178,8 @@ fn a_pair_names_initial_values(rt: HostRuntime) -> Result<(), Fail> {
         deq_b: id(0),
         deq_a: None,
     };
-    let found = pair_found(rt.alloc(), &[5, 6], &[op(0, 1, Deq(6))])?;
-    assert_eq!(rt; found, Some(pair));
-    assert_eq!(rt; pair_found(rt.alloc(), &[5, 6], &[op(0, 1, Deq(5))])?, None);
+    assert_eq!(rt; pair_found(rt.alloc(), 6)?, Some(pair));
+    assert_eq!(rt; pair_found(rt.alloc(), 5)?, None);
     Ok(())
 }
 
@@ -204,7 +191,7 @@ fn left_empty() -> [Operation; 3] {
 #[test]
 fn a_matching_shows_the_history(rt: HostRuntime) -> Result<(), Fail> {
     let history = history_behind(rt.alloc(), &[5], &left_empty())?;
-    let matching = matching_of(&history, rt.alloc())?;
+    let matching = matching_of(rt.alloc(), &history)?;
     assert_eq!(rt; matching.initial(), [5].as_slice());
     assert_eq!(rt; matching.operations(), left_empty().as_slice());
     Ok(())
@@ -213,7 +200,7 @@ fn a_matching_shows_the_history(rt: HostRuntime) -> Result<(), Fail> {
 #[test]
 fn a_matching_shows_the_filled_history(rt: HostRuntime) -> Result<(), Fail> {
     let history = history_behind(rt.alloc(), &[5], &left_empty())?;
-    let matching = matching_of(&history, rt.alloc())?;
+    let matching = matching_of(rt.alloc(), &history)?;
     let filled = matching.filled();
     let first = filled.operations().first().copied();
     assert_eq!(rt; first, Some(op(0, 1, enqueued(5))));
@@ -225,7 +212,7 @@ fn a_matching_shows_the_filled_history(rt: HostRuntime) -> Result<(), Fail> {
 #[test]
 fn a_matching_names_empty_answers_and_refused_enqueues(rt: HostRuntime) -> Result<(), Fail> {
     let history = history_behind(rt.alloc(), &[5], &left_empty())?;
-    let matching = matching_of(&history, rt.alloc())?;
+    let matching = matching_of(rt.alloc(), &history)?;
     assert_eq!(rt; only_of(&matching.empties()), Some(id(1)));
     assert_eq!(rt; only_of(&matching.refused()), Some(id(2)));
     Ok(())
@@ -239,7 +226,7 @@ fn only_of(places: &Places) -> Option<OpId> {
 #[test]
 fn enqueues_of_initial_values_have_tickets_below_zero(rt: HostRuntime) -> Result<(), Fail> {
     let history = history_behind(rt.alloc(), &[5, 6], &[op(0, 1, Deq(5))])?;
-    let matching = matching_of(&history, rt.alloc())?;
+    let matching = matching_of(rt.alloc(), &history)?;
     for (clock, ticket) in [(0, -2), (1, -2), (2, -1), (3, -1), (4, 0), (5, 1)] {
         assert_eq!(rt; matching.ticket(clock), ticket);
     }
@@ -265,10 +252,10 @@ fn a_gap_is_told_by_tickets_of_the_history(rt: HostRuntime) -> Result<(), Fail> 
         &[5, 6],
         &[op(0, 1, Deq(5)), by(1, 2, 5, Deq(6)), op(3, 4, Empty)],
     )?;
-    let (gap, _) = gap_or_sources(alloc, &matching_of(&history, alloc)?)?;
+    let (gap, _) = gap_or_sources(alloc, &matching_of(alloc, &history)?)?;
     assert_eq!(rt; gap, Some(3));
     let history = history_behind(alloc, &[5, 6], &[op(0, 1, Deq(5)), op(2, 3, Empty)])?;
-    let (gap, sources) = gap_or_sources(alloc, &matching_of(&history, alloc)?)?;
+    let (gap, sources) = gap_or_sources(alloc, &matching_of(alloc, &history)?)?;
     assert_eq!(rt; gap, None);
     assert_eq!(rt; sources.as_slice(), [Initial(1)].as_slice());
     Ok(())
@@ -282,7 +269,7 @@ fn free_gaps_are_told_by_tickets_of_the_history(rt: HostRuntime) -> Result<(), F
         &[5],
         &[op(0, 1, Deq(5)), op(2, 3, Empty), op(4, 5, enqueued(7))],
     )?;
-    let matching = matching_of(&history, alloc)?;
+    let matching = matching_of(alloc, &history)?;
     let gaps = match find_witness(alloc, &matching)? {
         WitnessAnswer::Gaps(gaps) => gaps,
         WitnessAnswer::Covered { .. } => return Err(Fail::from("a covered window")),
@@ -295,7 +282,7 @@ fn free_gaps_are_told_by_tickets_of_the_history(rt: HostRuntime) -> Result<(), F
 fn a_covered_answer_is_told_by_its_place_in_the_history(rt: HostRuntime) -> Result<(), Fail> {
     let alloc = rt.alloc();
     let history = history_behind(alloc, &[5], &[op(0, 1, enqueued(7)), op(2, 3, Empty)])?;
-    match find_witness(alloc, &matching_of(&history, alloc)?)? {
+    match find_witness(alloc, &matching_of(alloc, &history)?)? {
         WitnessAnswer::Gaps(_) => Err(Fail::from("no covered window")),
         WitnessAnswer::Covered { empty, cover } => {
             let step = CoverStep {

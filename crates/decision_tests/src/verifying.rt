@@ -1,42 +1,24 @@
-use crate::small_histories::{by, history_of, lines_of, op};
+use crate::small_histories::{by, claim_of, history_of, op};
 use history_merge::OpKind::{Deq, Empty, Enq, Not};
 use history_merge::Operation;
 use std::process::Abort;
 use std::test::Fail;
 use verdicts::ViolationKind::{VFresh, VOrd, VRepeat, VWit};
-use verdicts::{ClaimLines, Claimed, Lines, ViolationKind, verify};
+use verdicts::{ViolationKind, verify};
 
 /// Lines, and whether they are evidence.
 type Case<'a> = (&'a [Operation], bool);
 
-/// Claims each of the lines as a yes for the history of these operations.
-fn expect_yes(
+/// Claims each of the lines for the history of these operations: as a no of this kind, or as a yes.
+fn check_cases(
     rt: &(impl Abort + AllocGlobal),
     operations: &[Operation],
+    kind: Option<ViolationKind>,
     cases: &[Case],
 ) -> Result<(), Fail> {
     let history = history_of(rt.alloc(), operations)?;
     for (lines, valid) in cases {
-        let claimed = Claimed::Yes(Lines::from_vec(Vec::from_slice(rt.alloc(), lines)?));
-        assert_eq!(rt;
-            verify(rt.alloc(), &history, &claimed)?,
-            *valid,
-            "{claimed:?}"
-        );
-    }
-    Ok(())
-}
-
-/// Claims each of the lines as a no of this kind for the history of these operations.
-fn expect_no(
-    rt: &(impl Abort + AllocGlobal),
-    operations: &[Operation],
-    kind: ViolationKind,
-    cases: &[Case],
-) -> Result<(), Fail> {
-    let history = history_of(rt.alloc(), operations)?;
-    for (lines, valid) in cases {
-        let claimed = Claimed::No(kind, ClaimLines::from_vec(lines_of(rt.alloc(), lines)?));
+        let claimed = claim_of(rt.alloc(), kind, lines)?;
         assert_eq!(rt;
             verify(rt.alloc(), &history, &claimed)?,
             *valid,
@@ -55,7 +37,7 @@ fn a_yes_lists_each_operation_once(rt: HostRuntime) -> Result<(), Fail> {
         (&[only, only], false),
         (&[by(1, 0, 1, Enq(7))], false),
     ];
-    expect_yes(&rt, &[only], &cases)
+    check_cases(&rt, &[only], None, &cases)
 }
 
 #[test]
@@ -67,18 +49,28 @@ fn a_yes_is_a_legal_order(rt: HostRuntime) -> Result<(), Fail> {
         (&[first, second, third, fourth], false),
         (&[first, second, fourth, third], false),
     ];
-    expect_yes(&rt, &[first, second, third, fourth], &cases)
+    check_cases(&rt, &[first, second, third, fourth], None, &cases)
 }
 
 #[test]
 fn a_no_shows_a_fresh_value(rt: HostRuntime) -> Result<(), Fail> {
     let (deq, enq) = (op(0, 1, Deq(7)), op(2, 3, Enq(7)));
     let cases: [Case; 3] = [(&[deq, enq], true), (&[deq], false), (&[enq, deq], false)];
-    expect_no(&rt, &[deq, enq], VFresh, &cases)?;
-    expect_no(&rt, &[deq], VFresh, &[(&[deq], true), (&[deq, enq], false)])?;
+    check_cases(&rt, &[deq, enq], Some(VFresh), &cases)?;
+    check_cases(
+        &rt,
+        &[deq],
+        Some(VFresh),
+        &[(&[deq], true), (&[deq, enq], false)],
+    )?;
 
     let (refused, later) = (op(0, 1, Not(7)), op(2, 3, Deq(7)));
-    expect_no(&rt, &[refused, later], VFresh, &[(&[later, refused], true)])
+    check_cases(
+        &rt,
+        &[refused, later],
+        Some(VFresh),
+        &[(&[later, refused], true)],
+    )
 }
 
 #[test]
@@ -89,7 +81,7 @@ fn a_no_shows_a_repeated_value(rt: HostRuntime) -> Result<(), Fail> {
         (&[enq, second, first], false),
         (&[enq, first, first], false),
     ];
-    expect_no(&rt, &[enq, first, second], VRepeat, &cases)
+    check_cases(&rt, &[enq, first, second], Some(VRepeat), &cases)
 }
 
 #[test]
@@ -100,10 +92,10 @@ fn a_no_shows_two_values_out_of_order(rt: HostRuntime) -> Result<(), Fail> {
         (&[enq_a, enq_b, deq_b, deq_a], true),
         (&[enq_a, enq_b, deq_b], false),
     ];
-    expect_no(&rt, &[enq_a, enq_b, deq_b, deq_a], VOrd, &cases)?;
+    check_cases(&rt, &[enq_a, enq_b, deq_b, deq_a], Some(VOrd), &cases)?;
 
     let overlapping = [enq_a, enq_b, op(4, 7, Deq(9)), by(1, 5, 6, Deq(7))];
-    expect_no(&rt, &overlapping, VOrd, &[(&overlapping, false)])
+    check_cases(&rt, &overlapping, Some(VOrd), &[(&overlapping, false)])
 }
 
 #[test]
@@ -116,11 +108,16 @@ fn a_no_shows_a_cover(rt: HostRuntime) -> Result<(), Fail> {
         (&[empty, enq_a, deq_a], false),
         (&[empty], false),
     ];
-    expect_no(&rt, &[enq_a, empty, enq_b, deq_a, deq_b], VWit, &cases)?;
-    expect_no(
+    check_cases(
+        &rt,
+        &[enq_a, empty, enq_b, deq_a, deq_b],
+        Some(VWit),
+        &cases,
+    )?;
+    check_cases(
         &rt,
         &[enq_a, empty],
-        VWit,
+        Some(VWit),
         &[(&[empty, enq_a], true), (&[empty, enq_a, deq_a], false)],
     )
 }

@@ -1,8 +1,8 @@
 //! The answers about one history beside those of plain scans.
 
-use crate::plain_gaps::{PlainWitness, operation_at, plain_cover, plain_gap, plain_witness};
-use crate::plain_order::plain_linearization;
-use crate::plain_pairs::plain_pair;
+use crate::tests::plain_gaps::{PlainWitness, operation_at, plain_cover, plain_gap, plain_witness};
+use crate::tests::plain_order::plain_linearization;
+use crate::tests::plain_pairs::plain_pair;
 use empty_witness::{GapAnswer, WitnessAnswer, find_witness, gap_for};
 use history_merge::{History, OpId};
 use order_violation::{OrderPair, find_order};
@@ -10,17 +10,7 @@ use std::alloc::{AllocError, Global};
 use std::process::Abort;
 use std::test::Fail;
 use value_match::{CoverStep, Matched, MatchedValue, Matching, Values, Violation, match_values};
-use verdicts::{Verdict, decide};
-
-/// The kinds of verdict.
-#[derive(Clone, Copy, Debug, PartialEq, Eq)]
-pub enum Kind {
-    Legal,
-    Fresh,
-    Repeat,
-    Order,
-    Witness,
-}
+use verdicts::{Claimed, Verdict, ViolationKind, claim, decide};
 
 /// What plain scans answer of a matching.
 #[derive(Drop)]
@@ -30,23 +20,20 @@ enum Plain {
     Witness(OpId, Vec<CoverStep>),
 }
 
-pub fn kind_of(verdict: &Verdict) -> Kind {
-    match verdict {
-        Verdict::Yes(_) => Kind::Legal,
-        Verdict::No(Violation::Fresh { .. }) => Kind::Fresh,
-        Verdict::No(Violation::Repeat { .. }) => Kind::Repeat,
-        Verdict::No(Violation::Order { .. }) => Kind::Order,
-        Verdict::No(Violation::Witness { .. }) => Kind::Witness,
-    }
-}
-
-/// Compares the answers about this history, and gives the kind of its verdict.
-pub fn compare(rt: &impl Abort, alloc: Global, history: &History) -> Result<Kind, Fail> {
+/// Compares the answers about this history, and gives the kind of its violation, if it has one.
+pub fn compare(
+    rt: &impl Abort,
+    alloc: Global,
+    history: &History,
+) -> Result<Option<ViolationKind>, Fail> {
     let verdict = decide(alloc, history)?;
-    let kind = kind_of(&verdict);
+    let kind = match claim(alloc, history, &verdict)? {
+        Claimed::Yes(_) => None,
+        Claimed::No(kind, _) => Some(kind),
+    };
     match match_values(alloc, history)? {
-        Matched::Fresh(_) => assert_eq!(rt; kind, Kind::Fresh),
-        Matched::Repeat(_) => assert_eq!(rt; kind, Kind::Repeat),
+        Matched::Fresh(_) => assert_eq!(rt; kind, Some(ViolationKind::VFresh)),
+        Matched::Repeat(_) => assert_eq!(rt; kind, Some(ViolationKind::VRepeat)),
         Matched::Clear(matching) => compare_clear(rt, alloc, &matching, &verdict)?,
     }
     Ok(kind)
