@@ -283,6 +283,6 @@ fn helps_are_shown_whole(rt: HostRuntime) -> Result<(), Fail> {
 
 #[test]
 fn the_version_is_shown(rt: HostRuntime) -> Result<(), Fail> {
-    let version = "fifobench 0.1.0\nproved and built with rattle-kit-13b logic dac8208d650f15bf\n";
+    let version = "fifobench 0.1.0\nproved and built with rattle-kit-13f logic dac8208d650f15bf\n";
     assert_help(&rt, &["fifobench", "--version"], version)
 }
