@@ -54,6 +54,7 @@ module _ (test : Text → Text → Bool) where
   without_passes : (name : Text) (rows : List Row) → RowsPass rows → RowsPass (without name rows)
   without_passes name rows p = at_row_passes name (λ _. []) [] rows (λ r q. tt) tt p
 
+  -- values whose first passes leave rows that pass
   pub with_values_passes : (name : Text) (how : Reading) (s : ValueSource) (values : List Text) (rows : List Row) → FirstPasses name values → RowsPass rows
       → RowsPass (with_values name how s values rows)
   with_values_passes name how s values rows f p = at_row_passes name (more_values s values) _ rows (λ r q. (still_first r.id r.values values q, tt)) (f, tt) p
@@ -86,6 +87,7 @@ module _ (test : Text → Text → Bool) where
       go true = p
       go false = default_rows_pass a.id (reading_by a) a.defaults rows d p
 
+  -- rows that pass still do with the defaults of their rules
   pub defaults_pass : (rules : List Rule) (rows : List Row) → DefaultsPass rules → RowsPass rows → RowsPass (fold with_default rows rules)
   defaults_pass [] rows d p = p
   defaults_pass (a ∷ rules) rows d p = defaults_pass rules (with_default rows a) d.1 (with_default_passes rows a d.0 p)

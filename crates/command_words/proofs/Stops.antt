@@ -78,6 +78,7 @@ module _ (s : Shape) (names : Names) (helps : s.disable_help_subcommand ≡ fals
   step_stops (subcommand name) word w h e p = p
   step_stops value word w h e p = positional_stops (arg_by_index s.rules w.position) word w h e
 
+  -- a word without fault leaves a walk that stops well
   pub turn_stops : (w : Walk) (word : Text) → turn_fault s names w word ≡ [] → StopsWell w.stopped → StopsWell (walked s.rules names w word).stopped
   unfolding walked
   turn_stops w word e p = go w.stopped refl e p

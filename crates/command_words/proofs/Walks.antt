@@ -39,6 +39,7 @@ module _ (test : Text → Text → Bool) where
   AllUseWell [] = ⊤
   AllUseWell (a ∷ rules) = UsesWell a × AllUseWell rules
 
+  -- what is found in a list whose rules all read well reads well
   pub finds_well : (c : List Rule) → AllUseWell c → FindsWell c
   finds_well [] all p = tt
   finds_well (a ∷ rules) all p = go (p a) (finds_well rules all.1 p)
@@ -190,6 +191,7 @@ module _ (test : Text → Text → Bool) (s : Shape) (names : Names) (well : Fin
   step_passes (subcommand name) word w h e p = p
   step_passes value word w h e p = to_positional_passes (arg_by_index s.rules w.position) word w h e p
 
+  -- a word without fault leaves rows that pass
   pub turn_passes : (w : Walk) (word : Text) → turn_fault s names w word ≡ [] → RowsPass test w.held.rows
       → RowsPass test (walked s.rules names w word).held.rows
   unfolding walked

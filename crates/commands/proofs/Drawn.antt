@@ -43,6 +43,7 @@ pub drawn_decided : (form : PictureForm) (text : HistoryText) (claimed : Claimed
 drawn_decided form text claimed answer right (inl drawn) = inl (inr (inr (record { claimed = claimed; right = right; answered = inr drawn })))
 drawn_decided form text claimed answer right (inr memory) = inr memory
 
+-- a history whose verdict has too many lines is answered by its size
 pub large_decided : (form : PictureForm) (text : HistoryText) (claimed : Claimed) → IsVerdictClaim (said_by text) claimed → IsSound (said_by text)
     → MOST_DRAWN < count_of_lines claimed → DrawsAlone form text refused_size
 large_decided form text claimed right complete many =

@@ -33,6 +33,7 @@ same_picture form t claimed a b is (inl x) (inr none) = inr (inr none)
 same_picture form t claimed a b is (inl x) (inl y) = inl (one_picture_of_claim form (record { text = t; claimed = claimed }) a b
     (alone_as_claimed form t claimed a is.history is.complete is.right x) y)
 
+-- a history is drawn alone as with its verdict behind it
 pub drawn_as_checked : (form : PictureForm) → DrawnAsChecked form
 drawn_as_checked form bytes claimed a b checked draws_a draws_b =
     let read = judged_is_written (input_of bytes) claimed checked in

@@ -48,6 +48,7 @@ use Rattle.commands.proofs.ShrunkTexts.{one_verdict_claim}
 
 -- ---- from what is answered of values and faults to what is answered of inputs
 
+-- the answer to want of memory is want of memory
 pub answers_memory : (answer : Reply) (fault : TextFault) → answer ≡ answer_of_text_fault fault → fault ≡ text.Memory → answer ≡ memory_fault
 answers_memory answer fault is same = is ∙ ap answer_of_text_fault same
 
@@ -106,6 +107,7 @@ one_judged : (text : HistoryText) (a b : Reply) → HasText text → IsJudged (s
 one_judged text a b has x y = x.is ∙ ap (λ c. judged c)
     (one_verdict_claim (said_by text) x.claimed y.claimed x.complete (few_values text has) x.right y.right) ∙ sym y.is
 
+-- a history has one judgement
 pub one_judgement : (text : HistoryText) (a b : Reply) → HasText text → Judges text a → Judges text b → a ≡ b
 one_judgement text a b has (inl x) (inl y) = one_faulty (said_by text) a b x y
 one_judgement text a b has (inl x) (inr y) = absurd (not_both (said_by text) a x y.complete)
@@ -166,6 +168,7 @@ one_truth false false P is_x is_y = refl
 one_truth true false P is_x is_y = sym (is_y.1 (is_x.0 refl))
 one_truth false true P is_x is_y = is_x.1 (is_y.0 refl)
 
+-- a claim on a history is verified in one way
 pub one_verification : (claim : ClaimOnText) (a b : Reply) → Verifies claim a → Verifies claim b → a ≡ b
 one_verification claim a b (inl x) (inl y) = one_faulty (said_by claim.text) a b x y
 one_verification claim a b (inl x) (inr y) = absurd (not_both (said_by claim.text) a x y.complete)
@@ -196,6 +199,7 @@ one_picture_of_complete form claim a b (inr (inl x)) (inr (inr y)) = absurd (x.u
 one_picture_of_complete form claim a b (inr (inr x)) (inr (inl y)) = absurd (y.untrue x.evidence)
 one_picture_of_complete form claim a b (inr (inr x)) (inr (inr y)) = x.is ∙ sym y.is
 
+-- a claim on a history is drawn in one way
 pub one_picture_of_claim : (form : PictureForm) (claim : ClaimOnText) (a b : Reply) → DrawsClaim form claim a → DrawsClaim form claim b → a ≡ b
 one_picture_of_claim form claim a b (inl x) (inl y) = one_faulty (said_by claim.text) a b x y
 one_picture_of_claim form claim a b (inl x) (inr y) = absurd (not_both (said_by claim.text) a x (drawn_of form claim b y))

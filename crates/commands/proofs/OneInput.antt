@@ -37,6 +37,7 @@ module _ {A : Type 0} (Has : A → Type 0) (said : A → List ℕ) (IsFirst : En
   stands_before x input fault (inl (same, more)) = (more.byte ∷ more.more, more.bytes)
   stands_before x input fault (inr (same, fails)) = ([], fails.bytes ∙ sym (append-nil (said x)))
 
+  -- an input is the whole text of one value
   pub one_value : (input : Ahead) (x y : A) → Has x × IsWhole (said x) input → Has y × IsWhole (said y) input → x ≡ y
   one_value input x y is_x is_y = (agree x y [] [] is_x.0 is_y.0 (sym (whole_again x input is_x.1) ∙ whole_again y input is_y.1)).0
 

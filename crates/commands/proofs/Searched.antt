@@ -25,9 +25,11 @@ parted (y ∷ ys) (suc i) x h e = ap (λ l. y ∷ l) (parted ys i x (omega (arit
 
 module _ {X : Type 0} (name_of : X → List ℕ) (name : List ℕ) (xs : List X) (i : ℕ) (x : X) (inside : i < length xs) (is : x ≡ get_or xs i x)
     (passed : All (λ y. name_of y ≢ name) (take i xs)) where
+  -- a queue with the name, before which none has it, is the first of the name
   pub found_first : name_of x ≡ name → IsFirstNamed name_of name xs x
   found_first named = record { before = take i xs; after = drop (suc i) xs; parts = parted xs i x inside is; named = named; others = passed }
 
+  -- where the next has another name, none of one more has it
   pub passed_more : (name_of x ≢ name) → All (λ y. name_of y ≢ name) (take (i + 1) xs)
   passed_more other =
       let more = ap (λ n. take n xs) (add-one i) ∙ take-suc xs i x inside ∙ ap (λ z. take i xs ++ z ∷ []) (sym is) in

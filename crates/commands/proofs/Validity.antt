@@ -56,6 +56,7 @@ pub record IsWritten (t : HistoryText) (claimed : Claimed) : Type 0 where
   pub history : HasText t
   pub right : IsVerdictClaim (said_by t) claimed
 
+-- the claim of a verdict that is written has a text
 pub claim_is_written : (t : HistoryText) (claimed : Claimed) → IsWritten t claimed → HasVerdictText claimed
 claim_is_written t claimed is =
     let few_initial = few_values t is.history in

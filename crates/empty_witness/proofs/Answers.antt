@@ -38,9 +38,11 @@ kind_of_empty (Enq v) is = cc
 kind_of_empty (Deq v) is = cc
 kind_of_empty (Not v) is = cc
 
+-- one of the empty answers is an operation that was answered so
 pub is_empty_did : (operations : List Operation) (o : Operation) → Contains (filter is_empty_answer operations) o → Did operations o Empty
 is_empty_did operations o among = let passed = passed_filter is_empty_answer operations o among in (passed.0, kind_of_empty o.kind passed.1)
 
+-- an operation that was answered so is one of the empty answers
 pub empty_is_listed : (operations : List Operation) (o : Operation) → Did operations o Empty → Contains (filter is_empty_answer operations) o
 empty_is_listed operations o did = passes_filter is_empty_answer operations o (rw did.1 refl) did.0
 
@@ -56,6 +58,7 @@ places_are_empty operations places named = All-from_get_or (IsEmptyAnswerAt oper
         (Contains-get_or (filter is_empty_answer operations) i found.0 found.2) in
         (found.0, found.1, (is_empty_did operations found.0 among).1)
 
+-- at the i-th of the places stands an empty answer
 pub answer_is_empty : (operations : List Operation) (places : List ℕ) (i place : ℕ) → All (IsEmptyAnswerAt operations) places → i < length places
     → place ≡ get_or places i place → IsEmptyAnswerAt operations place
 answer_is_empty operations places i place empty within is = subst (IsEmptyAnswerAt operations) (sym is)
@@ -84,6 +87,7 @@ pub covered_if_none : (operations : List Operation) (o : Operation) (found : Opt
 covered_if_none operations o None covered none = covered
 covered_if_none operations o (Some c) is none = cc
 
+-- a gap that is found is the least free one of the window
 pub gap_if_some : (operations : List Operation) (o : Operation) (found : Option ℕ)
     → MatchOption found (IsCovered operations o) (λ c. IsLeastFreeGap operations o c) → is_none found ≡ false → (c : ℕ) × IsLeastFreeGap operations o c
 gap_if_some operations o None covered some = cc
@@ -152,6 +156,7 @@ module _ (operations : List Operation) where
   low_is_first low high gaps a is zip = first_of (low ++ high) a (covered_of low a is)
       (All-append (ReturnsLater a) low high is.first (later_than_free a high (gaps_are_free high gaps zip)))
 
+  -- where each of the others has a gap, the first covered one of the rest is that of all
   pub high_is_first : (low high gaps : List ℕ) (b : EmptyAnswer) → AreGapsAt operations low gaps → IsFirstCovered operations high b
       → IsFirstCovered operations (low ++ high) b
   high_is_first low high gaps b zip is = first_of (low ++ high) b (covered_of high b is)
@@ -195,6 +200,7 @@ module _ (operations : List Operation) where
   one_more_free seen others i place c o first within is so_far at free =
       one_further seen others i place first within is (low_is_first (seen ++ take i others) (place ∷ []) (c ∷ []) first so_far ((o, at, free), tt))
 
+  -- gaps of the first i windows and of the next are those of i + 1
   pub one_more_gap : (places gaps : List ℕ) (i place c : ℕ) (o : Operation) → i < length places → place ≡ get_or places i place
       → AreGapsAt operations (take i places) gaps → IsAt operations place o → IsLeastFreeGap operations o c
       → AreGapsAt operations (take (i + 1) places) (gaps ++ c ∷ [])

@@ -125,6 +125,7 @@ module _ (stays rest : List Span) (first : Span) (same : stays ≡ first ∷ res
   rest_rises : IsNonDecreasingBy (λ stay. stay.start) stays → IsNonDecreasingBy (λ stay. stay.start) (first ∷ rest)
   rest_rises rises = subst (IsNonDecreasingBy (λ stay. stay.start)) same rises
 
+  -- the first of rising stays begins no later than any other
   pub first_is_least : IsNonDecreasingBy (λ stay. stay.start) stays → AllWithin (λ stay. first.start ≤ stay.start) rest 0 (length rest)
   first_is_least rises k d above within = rest_rises rises 0 (suc k) d (omega arith) (omega arith)
 

@@ -89,6 +89,7 @@ module _ (operations : List Operation) (spans : List Span) (o : Operation) (gap 
   covered_to : o.ret ≤ gap → IsCovered operations o
   covered_to past c window = (are.cover c).0 (is.least c window.0 (omega (arith, window.1)))
 
+  -- a gap within the window is its least free one; past the window, that is covered
   pub gap_of_window : (found : Option ℕ) → found ≡ then_some (ltb gap o.ret) gap
       → MatchOption found (IsCovered operations o) (λ c. IsLeastFreeGap operations o c)
   gap_of_window found same = subst (λ found. MatchOption found (IsCovered operations o) (λ c. IsLeastFreeGap operations o c)) (sym same)

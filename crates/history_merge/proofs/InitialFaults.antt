@@ -259,6 +259,7 @@ twice_before initial j n below distinct (before, (v, here, earlier)) =
     (get_or-take n initial earlier.0 v (omega arith) ∙ sym (get_or-take j initial earlier.0 v low) ∙ earlier.2
     ∙ sym (get_or_from_slice_get initial j v v here) ∙ sym (get_or-take n initial j v below))
 
+-- of distinct values none stands twice
 pub twice_not_distinct : (initial : List ℕ) (j : ℕ) → AreDistinct initial → IsFirstTwice initial j → ⊥
 twice_not_distinct initial j distinct twice =
     let inside = slice_get_within initial j twice.1.0 twice.1.1 in
@@ -315,6 +316,7 @@ plain_fault before i e = rw (calls_nothing e) (join (fault_at before i e))
     join None = refl
     join (Some f) = refl
 
+-- with no initial values the first fault is that of the events alone
 pub plain_first : (events : List Event) (fault : HistoryFault) → IsFirstFaultFrom [] events fault → IsFirstFault events fault
 plain_first events fault first = join fault first
   where

@@ -38,6 +38,7 @@ all_back : (n : ℕ) (operations : List Operation) → map (earlier_by n) (map (
 all_back n operations =
     map_map (later_by n) (earlier_by n) operations ∙ map_fixed (λ o. earlier_by n (later_by n o)) operations (λ k d below. there_and_back n _)
 
+-- operations that are the same when moved were the same
 pub later_injective : (n : ℕ) (xs ys : List Operation) → map (later_by n) xs ≡ map (later_by n) ys → xs ≡ ys
 later_injective n xs ys same = sym (all_back n xs) ∙ ap (map (earlier_by n)) same ∙ all_back n ys
 

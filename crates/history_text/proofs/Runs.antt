@@ -37,10 +37,12 @@ abbrev pub Stops : {A : Type 0} → Format A → ℕ → ℕ → Ending → List
 Stops {A} format n k ending bytes = (item : A) (rest : List ℕ) → item_at_front format n k ending (front_of bytes) ≡ Ok (Some item, rest) → ⊥
 
 module _ {A : Type 0} (format : Format A) (back : IsReadBack format) where
+  -- items stop where the last line stands
   pub stops_at_last : (n k : ℕ) (ending : Ending) (bytes after : List ℕ) → item_at_front format n k ending (front_of bytes) ≡ Ok (None, after)
       → Stops format n k ending bytes
   stops_at_last n k ending bytes after last item rest h = last_or_item item after rest (sym last ∙ h)
 
+  -- items stop where a fault stands
   pub stops_at_fault : (n k : ℕ) (ending : Ending) (bytes : List ℕ) (fault : TextFault) → item_at_front format n k ending (front_of bytes) ≡ Err fault
       → Stops format n k ending bytes
   stops_at_fault n k ending bytes fault is item rest h = fault_or_ok _ fault (sym h ∙ is)
@@ -76,6 +78,7 @@ module _ {A : Type 0} (format : Format A) (back : IsReadBack format) where
       let more = same_run (k + 1) i j n m ending xs ys r s (omega arith) (omega arith) all_x.1 all_y.1 few_i few_j stop_r stop_s parts.1 in
       (ap₂ (λ (z : A) (zs : List A). z ∷ zs) parts.0 more.0, more.1)
 
+  -- bytes that two lists of items begin, behind which each stops, begin with one list
   pub same_items : (n m : ℕ) (ending : Ending) (xs ys : List A) (r s : List ℕ) → HaveLines format xs → HaveLines format ys
       → Stops format n (length xs) ending r → Stops format m (length ys) ending s → lines_of format xs ++ r ≡ lines_of format ys ++ s → (xs ≡ ys) × (r ≡ s)
   same_items n m ending xs ys r s right_x right_y stop_r stop_s same =

@@ -70,6 +70,7 @@ next_idle idles k x p never at from before =
 -- one operation more, than which none of those ahead stands before
 module _ (operations : List Operation) (lives : List Life) (idles : List Placed) (i j left k : ℕ) (places : List ℕ)
     (merged : IsMergedUpTo operations lives idles i j left k places) where
+  -- the merged list grows by an operation before which none of those ahead stands
   pub grown : (i' j' left' k' : ℕ) (x : Placed) (values' : List Placed) → HoldsUpTo operations lives i' j' left' values'
       → IsPermutation ((merged.values ++ take k idles) ++ x ∷ []) (values' ++ take k' idles)
       → IsAhead lives idles i j k (position_of x.position) → ((p : Position) → IsAhead lives idles i' j' k' p → IsAhead lives idles i j k p)

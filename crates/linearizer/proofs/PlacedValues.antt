@@ -163,6 +163,7 @@ all_placed operations places i j left placed order all_in all_out so_far = recor
 
 -- the next enqueue is placed
 module _ (operations : List Operation) (lives : List Life) (i : ℕ) (m : MatchedValue) (gap : ℕ) (turn : IsTurn operations lives i m gap) where
+  -- one enqueue more is placed
   pub enqueue_more : (j left : ℕ) (placed : List Placed) (first : Placed) → HoldsUpTo operations lives i j left placed → first.operation ≡ m.enqueue
       → position_of first.position ≡ record { gap = gap; class = enqueues; rank = i }
       → HoldsUpTo operations lives (i + 1) j left (placed ++ first ∷ [])
@@ -182,6 +183,7 @@ module _ (operations : List Operation) (lives : List Life) (i : ℕ) (m : Matche
 -- the turn of the next dequeue
 module _ (operations : List Operation) (lives : List Life) (j : ℕ) (m : MatchedValue) (gap left left' : ℕ) (turn : IsTurn operations lives j m gap)
     (left_is : left' ≡ max (leaves_from m.life) left) (i : ℕ) (placed : List Placed) (so_far : HoldsUpTo operations lives i j left placed) where
+  -- the gap is the greatest that the values up to the next dequeue leave from
   pub left_more : left' ≡ greatest_leaves_from (take (j + 1) lives)
   left_more = let more = greatest_more operations lives turn.order j m.life turn.at in omega (arith, more, left_is, so_far.left_is)
 
@@ -198,6 +200,7 @@ module _ (operations : List Operation) (lives : List Life) (j : ℕ) (m : Matche
     each_placed = zip_joined (IsPlaced operations lives) so_far.listed (option_to_list (dequeue_of m.life)) placed rest so_far.each_placed zip;
   }
 
+  -- a value that is never dequeued has its turn, and nothing is placed
   pub turn_alone : m.dequeue ≡ None → HoldsUpTo operations lives i (j + 1) left' placed
   turn_alone none = subst (HoldsUpTo operations lives i (j + 1) left') (append-nil placed)
       (with_rest [] (nothing m.dequeue (dequeue_of m.life) none turn.places.1))
@@ -208,6 +211,7 @@ module _ (operations : List Operation) (lives : List Life) (j : ℕ) (m : Matche
       nothing None (Some d) same places = absurd places
       nothing (Some p) dequeue same places = cc
 
+  -- one dequeue more is placed
   pub turn_with_dequeue : (p later : ℕ) (second : Placed) → m.dequeue ≡ Some p → later ≡ max left' gap → second.operation ≡ p
       → position_of second.position ≡ record { gap = later; class = (if nat_lt gap later then earlier_dequeues else other_dequeues); rank = j }
       → HoldsUpTo operations lives i (j + 1) left' (placed ++ second ∷ [])

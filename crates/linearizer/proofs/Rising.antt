@@ -65,6 +65,7 @@ pub record AreGaps (n : ℕ) (enter leave : ℕ → ℕ) : Type 0 where
   pub enters_first : (i : ℕ) → i < n → enter i ≤ leave i
 
 module _ (n : ℕ) (enter leave : ℕ → ℕ) (gaps : AreGaps n enter leave) where
+  -- the enqueue of an earlier value stands before that of a later one
   pub enqueues_rise : (i j : ℕ) → i < j → j < n → StandsBefore (enqueue_at enter i) (enqueue_at enter j)
   enqueues_rise i j below within = let le = gaps.enter_rises i j (omega arith) within in
       by_rank (enqueue_at enter i) (enqueue_at enter j) le (omega arith) below
@@ -78,6 +79,7 @@ module _ (n : ℕ) (enter leave : ℕ → ℕ) (gaps : AreGaps n enter leave) wh
         | inr late ↦ elim (class_of enter leave j) [ inl early ↦ absurd (omega (arith, late.0, early.0)) | inr late' ↦ omega (arith, late.1, late'.1) ]
       ]
 
+  -- the dequeue of an earlier value stands before that of a later one
   pub dequeues_rise : (i j : ℕ) → i < j → j < n → StandsBefore (dequeue_at enter leave i) (dequeue_at enter leave j)
   dequeues_rise i j below within =
       let le = gaps.leave_rises i j (omega arith) within in
@@ -87,6 +89,7 @@ module _ (n : ℕ) (enter leave : ℕ → ℕ) (gaps : AreGaps n enter leave) wh
         | inr same ↦ by_rank (dequeue_at enter leave i) (dequeue_at enter leave j) le (class_falls i j (omega arith) within same) below
       ]
 
+  -- the enqueue of a value stands before its dequeue
   pub enqueued_before_dequeued : (i : ℕ) → i < n → StandsBefore (enqueue_at enter i) (dequeue_at enter leave i)
   enqueued_before_dequeued i within =
       let le = gaps.enters_first i within in
@@ -101,9 +104,11 @@ module _ (n : ℕ) (enter leave : ℕ → ℕ) (gaps : AreGaps n enter leave) wh
       let classes : 2 ≡ (dequeue_at enter leave j).class = ap (λ p. p.class) same in
       elim (class_of enter leave j) [ inl early ↦ absurd (omega (arith, early.1)) | inr late ↦ absurd (omega (arith, late.1)) ]
 
+  -- the position of an idle answer is that of no enqueue
   pub idle_is_no_enqueue : (p : Position) (i : ℕ) → p.class ≡ idle_answers → ¬ (p ≡ enqueue_at enter i)
   idle_is_no_enqueue p i idle same = let classes : p.class ≡ 2 = ap (λ p. p.class) same in omega arith
 
+  -- the position of an idle answer is that of no dequeue
   pub idle_is_no_dequeue : (p : Position) (i : ℕ) → p.class ≡ idle_answers → ¬ (p ≡ dequeue_at enter leave i)
   idle_is_no_dequeue p i idle same =
       let classes : p.class ≡ (dequeue_at enter leave i).class = ap (λ p. p.class) same in

@@ -222,6 +222,7 @@ module _ (number : Life → ℕ) (values : List MatchedValue) (entries : List Ti
       (subst (λ e. e.time ≤ (get_or entries stands.0 entry.0).time) here rises) in
       subst (λ n. first.entry.time ≤ n) time times
 
+  -- the value of the first entry that is left is the least of those left
   pub least_left : (i : ℕ) (first : IsFirstLeft entries taken i) → IsLeastLeft number values taken first.entry
   least_left i first =
       let found = value_of i first.entry first.is_at in

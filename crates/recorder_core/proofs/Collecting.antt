@@ -86,6 +86,7 @@ map_blocks h f zero = refl
 map_blocks {X} {Y} h f (suc n) = map-append h (blocks f n) (f n) ∙ ap (λ (l : List Y). l ++ map h (f n)) (map_blocks h f n)
 
 module _ (setting : Setting) (schedule : List Attempt) (few : setting.threads ≤ MAX_THREADS) (done : IsDone setting schedule) where
+  -- each call of a thread has its return
   pub all_returned : (t : ℕ) → t < setting.threads → asks t (accepted setting schedule) ≡ returns t (accepted setting schedule)
   all_returned t within =
       let c = (recorded setting t schedule).0 in
@@ -102,6 +103,7 @@ module _ (setting : Setting) (schedule : List Attempt) (few : setting.threads �
         not_too_long = omega (arith, k.0.events_are, same, k.1.few);
       }
 
+  -- all collected events are those of the threads, one thread after another
   pub joined_are : flat_map (λ list. list) (collected_lists setting schedule) ≡ blocks (λ t. events_in setting schedule t) setting.threads
   joined_are = joined_blocks (λ t. collected_in setting schedule t) setting.threads ∙ blocks_same _ _ setting.threads (all_collected setting schedule done)
 
@@ -119,6 +121,7 @@ module _ (setting : Setting) (schedule : List Attempt) (few : setting.threads �
     length-range_with_len 0 (tickets (accepted setting schedule)),
   )
 
+  -- the collected lists fit
   pub collected_is_fit : AreFit (collected_lists setting schedule)
   collected_is_fit = record {
     not_too_many = omega (arith, length-map-range_with_len (λ t. collected_in setting schedule t) 0 setting.threads, few);

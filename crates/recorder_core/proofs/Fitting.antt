@@ -147,6 +147,7 @@ module _ (lists : List (List Event)) (merged : List Event) (fit : AreFit lists) 
       let tickets : a.ticket ≡ b.ticket = ap ticket_of (same_Some a b events) in
       omega arith
 
+  -- lists that fit merge to a complete history
   pub merged_is_complete : IsCompleteHistory merged
   merged_is_complete = record {
     tickets_rise = rises;
@@ -163,6 +164,7 @@ module _ (lists : List (List Event)) (merged : List Event) (fit : AreFit lists) 
       let n = named m.0 v m.1 m.2 in
       omega (arith, low_thread m.0 m.1, n.4, n.5)
 
+  -- and to one from initial values whose names no thread gives
   pub merged_is_complete_from : (initial : List ℕ) → AreInitialNames initial → IsCompleteFrom initial merged
   merged_is_complete_from initial names = record {
     complete = merged_is_complete;

@@ -196,5 +196,6 @@ module _ (setting : Setting) (schedule : List Attempt) (merged : List Event) (fe
       let c = IsPermutation-sym _ _ (effects_by_thread setting (operation_at setting steps) schedule honest) in
       IsPermutation-trans _ _ _ a (IsPermutation-trans _ _ _ b c)
 
+  -- the order of the effects is a legal one of the collected history
   pub effects_order_is_legal : IsLegalOrderFrom setting.initial (operations_of merged) (effects_order setting steps)
   effects_order_is_legal = record { holds_each_once = each_once; extends_precedence = in_precedence; is_accepted = accepted_in_turn }

@@ -134,6 +134,7 @@ module _ (lists : List (List Event)) (fit : AreFit lists) (ring : ℕ) (initial 
   silent_attempts [] = refl
   silent_attempts (step ∷ steps) = ap (λ (b : Bool). not (is_effect step) && b) (silent_attempts steps)
 
+  -- lists that fit are what a schedule collects
   pub lists_replay : Replays ring initial lists
   lists_replay =
       let end = closed (length lists) (omega arith) in

@@ -335,6 +335,7 @@ module _ (lists : List (List Event)) (fit : AreFit lists) (ring : ℕ) (initial 
               ]
         ]
 
+  -- the events of the first n tickets are replayed
   pub replayed : (n : ℕ) → n ≤ length all → IsReplayed n
   replayed zero below = replayed_none
   replayed (suc n) below = let f = found n (omega arith) in one_more_ticket n (replayed n (omega arith)) f.0 f.1 f.2 f.3 f.4

@@ -27,6 +27,7 @@ module _ (setting : Setting) (P : List Step → Type 0) (start : P [])
   one_more before attempt None is h = goes_on before attempt h is
   one_more before attempt (Some refused) is h = h
 
+  -- it holds of the accepted steps of a schedule
   pub after_each : (schedule : List Attempt) → P (accepted setting schedule)
   after_each [] = start
   after_each (attempt ∷ before) = one_more (accepted setting before) attempt (refusal setting (accepted setting before) attempt) refl (after_each before)

@@ -302,6 +302,7 @@ module _ (old : MachineView) (u i : ℕ) (thread new : ThreadView) (same : i ≡
   at : slice_get old.threads u ≡ Some thread
   at = rw same at at'
 
+  -- an ask that nothing refuses takes the next ticket, and its call event is held
   pub ask_taken : (kind : Kind) → None ≡ find (seen thread none_other) (Closed ∷ Held ∷ PendingRefused ∷ []) → is_limited thread.asked old.asked ≡ false →
       new ≡ after_ask thread (asked_for kind u thread.asked) (record { ticket = old.next_ticket; thread = u; what = call_of (asked_for kind u thread.asked) }) →
       TakesStep old (ask_of kind u) (Ok (Ticket old.next_ticket)) (record old
@@ -316,6 +317,7 @@ module _ (old : MachineView) (u i : ℕ) (thread new : ThreadView) (same : i ≡
       ∙ sym (own_ask setting u before (all u) (may_ask_of setting before u kind none) kind) in
       (none, ap Ticket left.next_ticket ∙ done_ask setting before u kind, put_ask setting old before u kind new left f.0 is')))
 
+  -- a push that nothing refuses puts the held event last into the ring
   pub push_taken : None ≡ find (seen thread (when_pushing (leb old.capacity (length thread.ring)) false)) (Closed ∷ NothingHeld ∷ RingFull ∷ Memory ∷ []) →
       new ≡ record thread { held = None; ring = with_last thread.ring thread.held } →
       TakesStep old (Push u) (Ok Pushed) (record old { threads = set old.threads i new })
@@ -330,6 +332,7 @@ module _ (old : MachineView) (u i : ℕ) (thread new : ThreadView) (same : i ≡
             (changed ∙ ap P f.1 ∙ sym own) left.asked left.next_ticket left.queue_is,
       )))
 
+  -- an effect that nothing refuses gives the queue's answer, and the queue changes
   pub effect_taken : (asked : Request) (answer : Answer) (items : List ℕ) → None ≡ find (seen thread none_other) (Closed ∷ NotPending ∷ AnswerTaken ∷ []) →
       thread.pending ≡ Some (record { request = asked; answer = None }) → answer ≡ queue_answer asked old.queue → items ≡ queue_after asked old.queue
       → new ≡ after_answer thread asked answer →
@@ -348,6 +351,7 @@ module _ (old : MachineView) (u i : ℕ) (thread new : ThreadView) (same : i ≡
             (rw (q, ← left.queue_is) leaves),
       )))
 
+  -- an answer of the right kind that nothing refuses is given, and the queue stays
   pub say_taken : (asked : Request) (told : Answer) → None ≡ find (seen thread none_other) (Closed ∷ NotPending ∷ AnswerTaken ∷ []) →
       thread.pending ≡ Some (record { request = asked; answer = None }) → is_wrong told (Some asked) ≡ false → new ≡ after_answer thread asked told →
       TakesStep old (Say u told) (Ok (Answered told)) (record old { threads = set old.threads i new })
@@ -361,6 +365,7 @@ module _ (old : MachineView) (u i : ℕ) (thread new : ThreadView) (same : i ≡
       let is' = changed ∙ ap (λ (x : ThreadView). after_answer x asked told) f.1 ∙ sym own in
       (none, refl, put_thread setting old before (Say u told) new old.asked old.next_ticket old.queue left f.0 is' left.asked left.next_ticket left.queue_is)))
 
+  -- a return that nothing refuses takes the next ticket, and its event is held
   pub return_taken : (answer : Answer) → None ≡ find (seen thread none_other) (Closed ∷ Held ∷ NotPending ∷ NoAnswer ∷ [])
       → given_answer thread.pending ≡ Some answer →
       new ≡ after_return thread (record { ticket = old.next_ticket; thread = u; what = return_what answer }) →
@@ -380,6 +385,7 @@ module _ (old : MachineView) (u i : ℕ) (thread new : ThreadView) (same : i ≡
             (omega (arith, left.next_ticket)) left.queue_is,
       )))
 
+  -- a drain collects the first events of the ring, up to its number
   pub drain_taken : (n m : ℕ) → m ≡ min n (length thread.ring) → new
       ≡ record thread { ring = drop m thread.ring; collected = thread.collected ++ take m thread.ring } →
       TakesStep old (Drain u n) (Ok (Drained m)) (record old { threads = set old.threads i new })
@@ -394,6 +400,7 @@ module _ (old : MachineView) (u i : ℕ) (thread new : ThreadView) (same : i ≡
             (Drain u n) new old.asked old.next_ticket old.queue left f.0 is' left.asked left.next_ticket left.queue_is,
       )))
 
+  -- a close that nothing refuses closes the thread
   pub close_taken : None ≡ find (seen thread none_other) (Closed ∷ Held ∷ PendingRefused ∷ []) → new ≡ record thread { closed = true } →
       TakesStep old (Close u) (Ok CloseDone) (record old { threads = set old.threads i new })
   close_taken is changed = rw same (step_accepted old _ (Close u) CloseDone (length-set old.threads u new) (λ setting before all left.
@@ -417,33 +424,40 @@ module _ (old : MachineView) (u i : ℕ) (thread new : ThreadView) (same : i ≡
   at_place : slice_get old.threads u ≡ Some thread
   at_place = rw same at at'
 
+  -- an ask that is refused changes nothing
   pub ask_refused : (kind : Kind) (r : StepRefused) → Some r ≡ find (seen thread none_other) (Closed ∷ Held ∷ PendingRefused ∷ [])
       → TakesStep old (ask_of kind u) (Err r) (record old { threads = set old.threads i new })
   ask_refused kind r is = refused_at (ask_of kind u) r (λ setting before all left. says_ask old u thread at_place setting before all left kind
       (is_memory r) (Some r) is)
 
+  -- an ask beyond a limit changes nothing
   pub ask_limited : (kind : Kind) → None ≡ find (seen thread none_other) (Closed ∷ Held ∷ PendingRefused ∷ [])
       → is_limited thread.asked old.asked ≡ true → TakesStep old (ask_of kind u) (Err Limit) (record old { threads = set old.threads i new })
   ask_limited kind is many = refused_at (ask_of kind u) Limit (λ setting before all left. says_ask old u thread at_place setting before all left kind
       false None is ∙ ap (λ (b : Bool). cond b (Some Limit) None) many)
 
+  -- a push that is refused changes nothing
   pub push_refused : (r : StepRefused) → Some r ≡ find (seen thread (when_pushing (leb old.capacity (length thread.ring)) (is_memory r)))
       (Closed ∷ NothingHeld ∷ RingFull ∷ Memory ∷ []) → TakesStep old (Push u) (Err r) (record old { threads = set old.threads i new })
   push_refused r is = refused_at (Push u) r (λ setting before all left. says_push old u thread at_place setting before all left (is_memory r) (Some r) is)
 
+  -- an effect that is refused changes nothing
   pub effect_refused : (r : StepRefused) → Some r ≡ find (seen thread none_other) (Closed ∷ NotPending ∷ AnswerTaken ∷ [])
       → TakesStep old (Effect u) (Err r) (record old { threads = set old.threads i new })
   effect_refused r is = refused_at (Effect u) r (λ setting before all left. says_effect old u thread at_place setting before all left (is_memory r) (Some r) is)
 
+  -- an effect without memory changes nothing
   pub effect_starved : None ≡ find (seen thread none_other) (Closed ∷ NotPending ∷ AnswerTaken ∷ [])
       → TakesStep old (Effect u) (Err Memory) (record old { threads = set old.threads i new })
   effect_starved is = refused_at (Effect u) Memory (λ setting before all left. says_effect old u thread at_place setting before all left true None is)
 
+  -- an answer that is refused changes nothing
   pub say_refused : (told : Answer) (r : StepRefused) → Some r ≡ find (seen thread none_other) (Closed ∷ NotPending ∷ AnswerTaken ∷ [])
       → TakesStep old (Say u told) (Err r) (record old { threads = set old.threads i new })
   say_refused told r is = refused_at (Say u told) r (λ setting before all left. says_say old u thread at_place setting before all left told
       (is_memory r) (Some r) is)
 
+  -- an answer of the other kind changes nothing
   pub say_wrong : (asked : Request) (told : Answer) → None ≡ find (seen thread none_other) (Closed ∷ NotPending ∷ AnswerTaken ∷ [])
       → thread.pending ≡ Some (record { request = asked; answer = None }) → is_wrong told (Some asked) ≡ true →
       TakesStep old (Say u told) (Err WrongAnswer) (record old { threads = set old.threads i new })
@@ -451,13 +465,16 @@ module _ (old : MachineView) (u i : ℕ) (thread new : ThreadView) (same : i ≡
       says_say old u thread at_place setting before all left told false None is
       ∙ ap (λ (b : Bool). cond b (Some WrongAnswer) None) (ap (is_wrong told) (asked_is old u thread at_place setting before all left asked shows) ∙ wrong))
 
+  -- a return that is refused changes nothing
   pub return_refused : (r : StepRefused) → Some r ≡ find (seen thread none_other) (Closed ∷ Held ∷ NotPending ∷ NoAnswer ∷ [])
       → TakesStep old (Ret u) (Err r) (record old { threads = set old.threads i new })
   return_refused r is = refused_at (Ret u) r (λ setting before all left. says_return old u thread at_place setting before all left (is_memory r) (Some r) is)
 
+  -- a drain without memory changes nothing
   pub drain_starved : (n : ℕ) → TakesStep old (Drain u n) (Err Memory) (record old { threads = set old.threads i new })
   drain_starved n = refused_at (Drain u n) Memory (λ setting before all left. says_drain old u thread at_place setting before all left n true)
 
+  -- a close that is refused changes nothing
   pub close_refused : (r : StepRefused) → Some r ≡ find (seen thread none_other) (Closed ∷ Held ∷ PendingRefused ∷ [])
       → TakesStep old (Close u) (Err r) (record old { threads = set old.threads i new })
   close_refused r is = refused_at (Close u) r (λ setting before all left. says_close old u thread at_place setting before all left (is_memory r) (Some r) is)

@@ -125,6 +125,7 @@ module _ (setting : Setting) (u : ℕ) (before : List Step) (k : Counted setting
       let e2 : ltb (returns u before) (answers u before) ≡ false = le-ltb (returns u before) (answers u before) (omega arith) in
       rw (e1, e2) refl
 
+  -- an ask leaves its thread with a call that is pending and held
   pub own_ask : MayAsk setting u before → (kind : Kind) → thread_after setting u (ask_of kind u ∷ before) ≡ record (thread_after setting u before) {
     asked = asks u before + 1;
     pending = Some (record { request = asked_for kind u (asks u before); answer = None });
@@ -135,6 +136,7 @@ module _ (setting : Setting) (u : ℕ) (before : List Step) (k : Counted setting
   own_ask m Deq = rw (same_number u) (same_view _ _ refl (omega arith) (new_pending Dequeue m)
       (slice_get_at (events setting u before) _ (pushes u before) (omega arith)) (ring_kept _) (collected_kept _))
 
+  -- a push moves the held event of its thread into the ring
   pub own_push : MayPush setting u before → thread_after setting u (Push u ∷ before) ≡ record (thread_after setting u before) {
     held = None;
     ring = with_last (thread_after setting u before).ring (thread_after setting u before).held;
@@ -155,11 +157,13 @@ module _ (setting : Setting) (u : ℕ) (before : List Step) (k : Counted setting
       let e2 : ltb (returns u before) (suc (answers u before)) ≡ true = lt-ltb (returns u before) (suc (answers u before)) (omega arith) in
       rw (e1, e2, is) refl
 
+  -- an effect gives the pending operation of its thread the queue's answer
   pub own_effect : MayAnswer setting u before → (asked : Request) → request u before ≡ Some asked →
       thread_after setting u (Effect u ∷ before) ≡ record (thread_after setting u before)
       { pending = Some (record { request = asked; answer = Some (effect_answer setting u before) }) }
   own_effect m asked is = rw (same_number u) (same_view _ _ refl refl (own_answer m asked (effect_answer setting u before) is) refl refl refl)
 
+  -- a say gives the pending operation of its thread that answer
   pub own_say : MayAnswer setting u before → (asked : Request) (answer : Answer) → request u before ≡ Some asked →
       thread_after setting u (Say u answer ∷ before) ≡ record (thread_after setting u before)
       { pending = Some (record { request = asked; answer = Some answer }) }
@@ -178,6 +182,7 @@ module _ (setting : Setting) (u : ℕ) (before : List Step) (k : Counted setting
       of_map None h = cc
       of_map (Some q) h = h
 
+  -- a return leaves its thread with its event held, and nothing pending
   pub own_return : MayReturn setting u before → (answer : Answer) → answered setting u before ≡ Some answer
       → thread_after setting u (Ret u ∷ before) ≡ record (thread_after setting u before) {
         pending = None;
@@ -188,6 +193,7 @@ module _ (setting : Setting) (u : ℕ) (before : List Step) (k : Counted setting
       rw (same_number u, is) (same_view _ _ refl refl (rw e refl)
       (slice_get_at (events setting u before) _ (pushes u before) (omega arith)) (ring_kept _) (collected_kept _))
 
+  -- a drain moves the first events of its thread's ring to the collected ones
   pub own_drain : (n : ℕ) → let m = min n (in_ring u before) in thread_after setting u (Drain u n ∷ before) ≡ record (thread_after setting u before) {
     ring = drop m (thread_after setting u before).ring;
     collected = (thread_after setting u before).collected ++ take m (thread_after setting u before).ring;
@@ -200,6 +206,7 @@ module _ (setting : Setting) (u : ℕ) (before : List Step) (k : Counted setting
       (sym (drop-drop m d (take p l)))
       (sym (take-take (d + m) p l fits) ∙ take-add d m (take p l) ∙ ap (λ (x : List Event). x ++ take m (drop d (take p l))) (take-take d p l (omega arith))))
 
+  -- a close leaves its thread closed
   pub own_close : thread_after setting u (Close u ∷ before) ≡ record (thread_after setting u before) { closed = true }
   own_close = rw (same_number u) refl
 
@@ -207,9 +214,11 @@ module _ (setting : Setting) (u : ℕ) (before : List Step) (k : Counted setting
   pub seen_held : is_some (thread_after setting u before).held ≡ ltb (pushes u before) (asks u before + returns u before)
   seen_held = is_some-slice_get (events setting u before) (pushes u before) ∙ ap (ltb (pushes u before)) k.events_are
 
+  -- a thread holds no event where it pushed as many as it asked and returned
   pub seen_none_held : is_none (thread_after setting u before).held ≡ leb (asks u before + returns u before) (pushes u before)
   seen_none_held = is_none-slice_get (events setting u before) (pushes u before) ∙ ap (λ (n : ℕ). leb n (pushes u before)) k.events_are
 
+  -- a ring has as many events as the counts tell
   pub seen_ring : length (thread_after setting u before).ring ≡ in_ring u before
   seen_ring = omega (
     arith,
@@ -222,6 +231,7 @@ module _ (setting : Setting) (u : ℕ) (before : List Step) (k : Counted setting
   is_some-mapped f None h = cc
   is_some-mapped f (Some x) h = (refl, refl)
 
+  -- an operation is pending where more were asked than returned
   pub seen_pending : (is_some (thread_after setting u before).pending ≡ ltb (returns u before) (asks u before))
       × (is_none (thread_after setting u before).pending ≡ leb (asks u before) (returns u before))
   seen_pending = elim (cases_lt (returns u before) (asks u before)) [
@@ -259,6 +269,7 @@ module _ (setting : Setting) (u : ℕ) (before : List Step) (k : Counted setting
     | inr more ↦ rw (le-ltb a b more, le-leb b a more) refl
   ]
 
+  -- the pending operation has its answer where more were answered than returned
   pub seen_given : (is_some (given_answer (thread_after setting u before).pending) ≡ ltb (returns u before) (answers u before))
       × (is_none (given_answer (thread_after setting u before).pending) ≡ leb (answers u before) (returns u before))
   seen_given = elim (cases_lt (returns u before) (asks u before)) [

@@ -47,7 +47,8 @@ first_is_call e [] turns = absurd turns
 first_is_call e (f ∷ later) turns = call_cases e.what f.what turns.0
 
 -- which answer a return gives
-pub answer_in : (asked : Request) (what : What) → answers (call_of asked) what ≡ true → (a : Answer) × (what ≡ return_what a) × (is_wrong a (Some asked) ≡ false)
+pub answer_in : (asked : Request) (what : What) → answers (call_of asked) what ≡ true
+    → (a : Answer) × (what ≡ return_what a) × (is_wrong a (Some asked) ≡ false)
 answer_in (Enqueue v) RetEnq fit = (Taken, refl, refl)
 answer_in (Enqueue v) RetNot fit = (Not, refl, refl)
 answer_in (Enqueue v) (CallEnq w) fit = cc

@@ -117,6 +117,7 @@ module _ (rest : PassView) (done : List WorkerView) (w : WorkerView) where
   still_stands standing fault (Some f) p (inr (inr own)) =
       inr (inr (w, Contains-push done w, own))
 
+  -- one worker more is closed: its token is kept, and the fault that counts is told
   pub closing_more : (standing : Option RunFault) (tokens : List TokenView) (pass : PassView) (fault : Option RunFault) (tokens' : List TokenView)
       (pass' : PassView) (fault' : Option RunFault)
       → IsClosing rest done standing tokens pass fault

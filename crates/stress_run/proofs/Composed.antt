@@ -55,6 +55,7 @@ rising-join (x ∷ z ∷ xs) ys r s above (suc k) h =
     subst (λ i. get_or (z ∷ xs ++ ys) k 0 < get_or (x ∷ z ∷ xs ++ ys) i 0) (sym next) more
 
 module _ (may : Question → Answer → Type 0) where
+  -- what stays over each of two parts stays over both
   pub same_then : (w v u : WorkerView) → SameWorker w v → SameWorker v u → SameWorker w u
   same_then w v u p q = record {
     thread = q.thread ∙ p.thread;
@@ -76,6 +77,7 @@ module _ (may : Question → Answer → Type 0) where
       ∙ sym (range-append first (length ks) (length ls))
       ∙ ap (range_with_len first) (sym (length-append ks ls))
 
+  -- no operation leaves a worker as it was
   pub works_none : (w : WorkerView) → Works may [] w w
   works_none w = record {
     same = record { thread = refl; ring = refl; capacity = refl; tries = refl; key = refl; share = refl };
@@ -90,6 +92,7 @@ module _ (may : Question → Answer → Type 0) where
     above = λ k d h. absurd (omega (arith, h));
   }
 
+  -- operations and then further ones are all of them
   pub works_then : (ks ls : List Kind) (w v u : WorkerView) → Works may ks w v → Works may ls v u → Works may (ks ++ ls) w u
   works_then ks ls w v u p q =
       let os = p.operates.operations in
@@ -125,6 +128,7 @@ module _ (may : Question → Answer → Type 0) where
             (λ k d h. All-left (λ t. t < get_or (map ticket_of q.events) k d) w.pass.drawn (map ticket_of p.events) (later k d h)));
       }
 
+  -- the first i operations and the next are the first i + 1
   pub works_more : (kinds : List Kind) (i : ℕ) (d : Kind) (w v u : WorkerView) → i < length kinds → Works may (take i kinds) w v
       → Works may (get_or kinds i d ∷ []) v u → Works may (take (i + 1) kinds) w u
   works_more kinds i d w v u below p q =
@@ -133,15 +137,18 @@ module _ (may : Question → Answer → Type 0) where
       let P : List Kind → Type 0 = λ ks. Works may ks w u in
       subst P (sym e) (works_then (take i kinds) (get_or kinds i d ∷ []) w v u p q)
 
+  -- operations up to the last are all operations
   pub works_all : (kinds : List Kind) (i : ℕ) (w v : WorkerView) → length kinds ≤ i → i ≤ length kinds → Works may (take i kinds) w v → Works may kinds w v
   works_all kinds i w v past within p =
       let f : i ≡ length kinds = omega (arith, past, within) in
       let P : List Kind → Type 0 = λ ks. Works may ks w v in
       subst P (ap (λ n. take n kinds) f ∙ take-length kinds) p
 
+  -- a worker that made all operations made them or stalled
   pub works_or : (kinds : List Kind) (w v : WorkerView) → Works may kinds w v → WorksOrStalls may kinds w v
   works_or kinds w v p = inl p
 
+  -- a worker that stalls at an operation stalls
   pub stalls_at : (kinds : List Kind) (i : ℕ) (d : Kind) (w v u : WorkerView) → i < length kinds → Works may (take i kinds) w v
       → Stalls (get_or kinds i d) v u → WorksOrStalls may kinds w u
   stalls_at kinds i d w v u inside p q = inr (record {
@@ -154,10 +161,12 @@ module _ (may : Question → Answer → Type 0) where
     stalls = q;
   })
 
+  -- a worker that works or stalls stays the same one
   pub stays : (kinds : List Kind) (w u : WorkerView) → WorksOrStalls may kinds w u → SameWorker w u
   stays kinds w u (inl p) = p.same
   stays kinds w u (inr s) = same_then w s.until u s.works.same s.stalls.same
 
+  -- a worker that wasn't stopped made all operations
   pub runs : (kinds : List Kind) (w u : WorkerView) → WorksOrStalls may kinds w u → u.stopped ≡ false → Works may kinds w u
   runs kinds w u (inl p) e = p
   runs kinds w u (inr s) e = absurd (false≢true (sym e ∙ s.stalls.stopped))

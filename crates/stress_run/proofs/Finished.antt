@@ -98,9 +98,11 @@ ends_fresh (w ∷ ws) zero d h = refl
 ends_fresh (w ∷ ws) (suc k) d h = ends_fresh ws k d (omega (arith, h))
 
 module _ (key : TableId) (sizes : SizesView) (rows : List (List Kind)) (workers : List WorkerView) (crew : IsCrew key sizes rows workers) where
+  -- there are as many workers as rows
   pub crew_long : length workers ≡ length rows
   crew_long = AllZip-long (IsNew key sizes) rows workers crew.each
 
+  -- the ends are those of the threads in their order
   pub in_order : map (λ e. e.thread) (map end_of workers) ≡ numbers_below (length (map end_of workers))
   in_order = ends_threads workers ∙ crew.threads ∙ ap numbers_below (sym (length-map workers end_of ∙ crew_long))
 
@@ -121,6 +123,7 @@ module _ (key : TableId) (sizes : SizesView) (rows : List (List Kind)) (workers 
       let number = numbered_at (λ (v : WorkerView). v.thread) workers (length rows) t w crew.threads h inside at in
       record { row = z.0; at_row = z.2; new = subst (IsNew key sizes z.0) same z.4; thread = number; row_is = ap (λ n. get_or rows n []) number ∙ z.2 [] }
 
+  -- the workers of a plan are ready for its rows
   pub ready : IsPlan rows → All (IsReadyIn key rows) workers
   ready plan k d h =
       let w = get_or workers k d in

@@ -42,9 +42,11 @@ module _ (key : TableId) (sizes : SizesView) (rows : List (List Kind)) (place : 
   here d = ap (sum_by length) (drop-cons rows place d inside) ∙ sum_by-cons length (get_or rows place d) (drop (suc place) rows)
       ∙ ap (λ (n : ℕ). length (get_or rows place d) + sum_by length (drop n rows)) (sym (add-one place))
 
+  -- the rest of the pass is of the same tickets
   pub key_is : rest.key ≡ key
   key_is = ap (λ (r : PassView). r.key) p.rest_is
 
+  -- the rest of the pass has two tickets for each operation of the next row
   pub enough : (row : List Kind) → row ≡ get_or rows place row → 2 * length row ≤ rest.left
   enough row is =
       let left = ap (λ (r : PassView). r.left) p.rest_is in
@@ -52,6 +54,7 @@ module _ (key : TableId) (sizes : SizesView) (rows : List (List Kind)) (place : 
       let same = ap (λ (r : List Kind). length r) is in
       omega (arith, left, sum, same)
 
+  -- one worker more is made, and its share is taken from the pass
   pub made_more : (row : List Kind) (w : WorkerView) (rest' : PassView) (end : DrainView) (workers' : List WorkerView) (ends' : List DrainView)
       → row ≡ get_or rows place row → IsNew key sizes row w → w.thread ≡ place → end ≡ end_of w → rest' ≡ record rest { left = rest.left - 2 * length row }
       → workers' ≡ workers ++ w ∷ [] → ends' ≡ ends ++ end ∷ [] → IsMaking key sizes rows (place + 1) rest' workers' ends'

@@ -14,9 +14,11 @@ not_after f g h (inr a) (inr b) = inr (a.0 ∙ b.0, omega (arith, a.1, b.1))
 
 module _ (faults : List RunFault) (place : ℕ) (inside : place < length faults) (old fault new : RunFault) (is : fault ≡ get_or faults place fault)
     (either : (new ≡ old) ⊎ (new ≡ fault)) where
+  -- a fault that stood among the faults is still one of them
   pub still_stands : Contains faults old → Contains faults new
   still_stands stands = elim either [ inl e ↦ subst (Contains faults) (sym e) stands | inr e ↦ subst (Contains faults) (sym e) (place, inside, sym is) ]
 
+  -- the lesser of the least so far and the next is the least of one more
   pub still_least : All (IsNotAfter old) (take place faults) → IsNotAfter new old → IsNotAfter new fault → All (IsNotAfter new) (take (place + 1) faults)
   still_least all before at =
       let more = ap (λ (n : ℕ). take n faults) (add-one place) ∙ take-suc faults place fault inside

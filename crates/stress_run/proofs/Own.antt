@@ -25,6 +25,7 @@ module _ (tokens : List TokenView) (own : threads_of_tokens tokens ≡ numbers_b
       let here = ap (λ l. get_or l place 0) same in
       f.foreign (omega (arith, left, right, here))
 
+  -- the fault of a seal whose tokens are in their places is want of memory
   pub memory_alone : (error : CollectError) (fault : RunFault) → ((thread : ℕ) → error ≡ OfToken thread → IsFirstForeign tokens thread)
       → IsFaultOf error fault → fault ≡ Memory
   memory_alone OfMemory fault foreign is = is

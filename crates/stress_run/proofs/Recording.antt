@@ -101,6 +101,7 @@ module _ (may : Question → Answer → Type 0) (t : ℕ) (key : TableId) where
       let number : first + 1 + n ≡ first + suc n = omega arith in
       named os (first + 1) n value call (All-tail Asked o os h) (tail_same _ _ _ _ e) later what ∙ ap (value_name t) number
 
+  -- what a worker's operations recorded is the list of its thread
   pub is_list : (kinds : List Kind) (events : List Event) → length kinds ≤ MAX_THREAD_OPERATIONS → Operates may t key 0 kinds events
       → IsStrictlyIncreasing (tickets_of events) → IsListOf t events
   is_list kinds events short o rising =

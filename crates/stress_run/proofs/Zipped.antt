@@ -3,6 +3,7 @@ use Rattle.std.proofs.Common.{◌≡◌, ℕ, suc, ◌<◌, List, [], ◌∷◌,
 use Rattle.std.specs.List.{AllZip}
 
 module _ {X Y : Type 0} (R : X → Y → Type 0) where
+  -- what holds at each place of two lists of one length holds place by place
   pub zip_each : (xs : List X) (ys : List Y) → length ys ≡ length xs → ((i : ℕ) → i < length xs → (x : X) (y : Y) → R (get_or xs i x) (get_or ys i y))
       → AllZip R xs ys
   zip_each [] [] e k = tt

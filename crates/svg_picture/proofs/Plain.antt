@@ -57,12 +57,14 @@ digits_plain (suc k) n bytes h =
     go xs ys true p q = p
     go xs ys false p q = q
 
+-- the digits of a number are plain
 pub decimal_plain : (n : ℕ) → are_plain (decimal n) ≡ true
 unfolding digits
 decimal_plain n = digits_plain 64 n [] refl
 
 -- ---- pieces
 
+-- plain bytes behind plain bytes are plain
 pub plain_append : (xs ys : List ℕ) → are_plain xs ≡ true → are_plain ys ≡ true → are_plain (xs ++ ys) ≡ true
 plain_append xs ys h k = list_all-append is_plain xs ys ∙ ap₂ ◌&&◌ h k
 
@@ -71,6 +73,7 @@ abbrev pub AllPlain : List (List ℕ) → Type 0
 AllPlain [] = ⊤
 AllPlain (bytes ∷ more) = (are_plain bytes ≡ true) × AllPlain more
 
+-- plain pieces put together are plain
 pub plain_concat : (pieces : List (List ℕ)) → AllPlain pieces → are_plain (concat pieces) ≡ true
 plain_concat [] h = refl
 plain_concat (bytes ∷ more) h = plain_append bytes (concat more) h.0 (plain_concat more h.1)
@@ -101,24 +104,28 @@ parts_plain (b ∷ bytes) h = go (is_line_feed b) (parts_plain bytes (back (is_p
 
 -- ---- the words of a picture
 
+-- the label of an operation is plain
 pub label_plain : (k : OpKind) → are_plain (label k) ≡ true
 label_plain (kind.Enq v) = decimal_plain v
 label_plain (kind.Deq v) = decimal_plain v
 label_plain (kind.Not v) = decimal_plain v
 label_plain kind.Empty = refl
 
+-- the class of an operation is plain
 pub kind_plain : (k : OpKind) → are_plain (kind_word k) ≡ true
 kind_plain (kind.Enq v) = refl
 kind_plain (kind.Deq v) = refl
 kind_plain (kind.Not v) = refl
 kind_plain kind.Empty = refl
 
+-- the words `in` and `out` are plain
 pub way_plain : (k : OpKind) → are_plain (way k) ≡ true
 way_plain (kind.Enq v) = refl
 way_plain (kind.Deq v) = refl
 way_plain (kind.Not v) = refl
 way_plain kind.Empty = refl
 
+-- the class of a band is plain
 pub form_plain : (head : Head) → are_plain (form_class head) ≡ true
 form_plain (SurelyIn v) = refl
 form_plain (NotIn v) = refl
@@ -127,6 +134,7 @@ form_plain (InAndOut v) = refl
 form_plain SaidEmpty = refl
 form_plain (InOrOut v) = refl
 
+-- the words above a band are plain
 pub head_plain : (head : Head) → are_plain (head_text head) ≡ true
 head_plain (SurelyIn v) = plain_append (decimal v) _ (decimal_plain v) refl
 head_plain (NotIn v) = plain_append (decimal v) _ (decimal_plain v) refl
@@ -135,6 +143,7 @@ head_plain (InAndOut v) = plain_append (decimal v) _ (decimal_plain v) refl
 head_plain SaidEmpty = refl
 head_plain (InOrOut v) = plain_append (decimal v) _ (decimal_plain v) refl
 
+-- the first words of a picture are plain
 pub headline_plain : (claimed : Claimed) → are_plain (headline claimed) ≡ true
 headline_plain (Yes order) = refl
 headline_plain (No VFresh lines) = refl
@@ -142,6 +151,7 @@ headline_plain (No VRepeat lines) = refl
 headline_plain (No VOrd lines) = refl
 headline_plain (No VWit lines) = refl
 
+-- how to read a picture is said in plain bytes
 pub legend_plain : (initial : List ℕ) (claimed : Claimed) → are_plain (legend initial claimed) ≡ true
 unfolding legend reading
 legend_plain [] (Yes order) = refl
@@ -155,23 +165,28 @@ legend_plain (v ∷ initial) (No VRepeat lines) = refl
 legend_plain (v ∷ initial) (No VOrd lines) = refl
 legend_plain (v ∷ initial) (No VWit lines) = refl
 
+-- the colours on a light background are plain
 pub light_plain : are_plain light ≡ true
 unfolding light
 light_plain = refl
 
+-- the colours on a dark background are plain
 pub dark_plain : are_plain dark ≡ true
 unfolding dark
 dark_plain = refl
 
+-- the mark of an operation is plain
 pub mark_plain : (claimed : Claimed) (place : Option ℕ) → are_plain (mark claimed place) ≡ true
 mark_plain (Yes order) place = refl
 mark_plain (No kind lines) None = refl
 mark_plain (No kind lines) (Some place) = refl
 
+-- the number of a place, in words, is plain
 pub number_plain : (place : Option ℕ) → are_plain (number_words place) ≡ true
 number_plain None = refl
 number_plain (Some place) = decimal_plain (place + 1)
 
+-- what is told of a bar is plain
 pub bar_words_plain : (o : Operation) (place : Option ℕ) → are_plain (bar_words o place) ≡ true
 unfolding bar_words
 bar_words_plain o place =
@@ -202,14 +217,17 @@ bar_words_plain o place =
       ),
     )
 
+-- the label of an initial value is plain
 pub initial_plain : (v : ℕ) → are_plain (initial_label v) ≡ true
 initial_plain v = decimal_plain v
 
+-- what is told of an initial value is plain
 pub initial_words_plain : (v : ℕ) (place : Option ℕ) → are_plain (initial_words v place) ≡ true
 unfolding initial_words
 initial_words_plain v place =
     plain_concat (initial_label v ∷ codes ", in the queue first" ∷ number_words place ∷ []) (initial_plain v, (refl, (number_plain place, tt)))
 
+-- the name of a thread is plain
 pub thread_plain : (thread : ℕ) → are_plain (thread_name thread) ≡ true
 unfolding thread_name
 thread_plain thread = decimal_plain thread
@@ -283,6 +301,7 @@ unfolding witness_words
 witness_plain [] = refl
 witness_plain (empty ∷ cover) = plain_append witness_words (cover_caption 2 cover) refl (cover_plain 2 cover)
 
+-- the caption of a claim is plain
 pub caption_plain : (claimed : Claimed) → are_plain (caption claimed) ≡ true
 unfolding caption yes_caption
 caption_plain (Yes order) = refl

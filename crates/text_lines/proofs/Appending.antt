@@ -97,10 +97,12 @@ front_of_kept a b c kept mid xs ys h k = front_next a b c kept mid xs ys h (fron
 -- ---- a text for each of a list
 
 module _ {X : Type 0} (f : X → List ℕ) where
+  -- the texts of one item more are those of the items before it, and its own
   pub flat_map-more : (xs : List X) (i : ℕ) (d : X) → i < length xs → flat_map f (take (i + 1) xs) ≡ flat_map f (take i xs) ++ f (get_or xs i d)
   flat_map-more xs i d within = ap (flat_map f) (take_more xs i d within) ∙ flat_map-append f (take i xs) (get_or xs i d ∷ [])
       ∙ ap (λ (r : List ℕ). flat_map f (take i xs) ++ r) (append-nil (f (get_or xs i d)))
 
+  -- the texts of a front and of the rest are those of all
   pub flat_map-parts : (xs : List X) (i : ℕ) → flat_map f (take i xs) ++ flat_map f (drop i xs) ≡ flat_map f xs
   flat_map-parts xs i = sym (flat_map-append f (take i xs) (drop i xs)) ∙ ap (flat_map f) (take-append-drop i xs)
 

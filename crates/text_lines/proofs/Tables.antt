@@ -68,6 +68,7 @@ pub numbers_are_over : (n : ℕ) (numbers : List ℕ) (forms : List Field) (i : 
     → after_numbers numbers (numbers_in n (map form_of (drop i forms)) []) ≡ Ok numbers
 numbers_are_over n numbers forms i left = rw (no_numbers n (map form_of (drop i forms)), append-nil) refl
 
+-- behind the last form the numbers read are all
 pub numbers_are_all : (n : ℕ) (numbers : List ℕ) (forms : List Field) (i : ℕ) (fields : List (List ℕ)) → length forms ≤ i
     → after_numbers numbers (numbers_in n (map form_of (drop i forms)) fields) ≡ Ok numbers
 numbers_are_all n numbers forms i fields over = rw (past forms i over, append-nil) refl

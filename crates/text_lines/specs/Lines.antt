@@ -83,8 +83,8 @@ number_in n greatest field =
     if is_number field then (if nat_le (digits_value 10 field) greatest then Ok (digits_value 10 field) else Err (Limit n))
     else Err (Number n)
 
--- the first fault stops; where there is none the next step goes on with the value
 infixl 10 ◌>>=◌
+-- the first fault stops; where there is none the next step goes on with the value
 abbrev pub ◌>>=◌ : {A B : Type 0} → Result A TextFault → (A → Result B TextFault) → Result B TextFault
 (Ok x) >>= f = f x
 (Err e) >>= f = Err e

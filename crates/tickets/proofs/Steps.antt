@@ -141,6 +141,7 @@ below_all n = subst (λ (m : ℕ). All (λ t. t < m) (numbers_below n)) (omega a
 -- ---- the account, and its table
 
 module _ (budget : ℕ) where
+  -- all passes together have drawn as many tickets as the next number tells
   pub total : (next : ℕ) (views : List Holding) → IsAccount budget next views → sum_by count_of views ≡ next
   total next views a = sym (length-flat_map drawn_of views) ∙ sym (length_permutation (flat_map drawn_of views) (numbers_below next) a.complete)
       ∙ length-range_with_len 0 next
@@ -188,6 +189,7 @@ module _ (budget : ℕ) where
         complete = subst (IsPermutation (flat_map drawn_of (set views i w))) pushed third;
       }
 
+  -- a draw is a step that keeps the account: the pass draws the word's number
   pub draws : (slots id : ℕ) (me : Me (Unit {0}) Holding) → 0 < me.0.left
       → Allows (KeepsAccount budget) slots id me 0 (λ n. (n + 1) % 2 ^ 64) (λ found after. DrawsNext me.0 found after.0 × (after.1 ≡ me.1))
   draws slots id me some_left s r _ at small =
@@ -210,6 +212,7 @@ module _ (budget : ℕ) where
         ((omega arith, refl, below, omega arith), refl),
       )
 
+  -- a split keeps the account: the new pass has its share, and has drawn nothing
   pub splits : (id : ℕ) (v : Holding) (n : ℕ) → n ≤ v.left → Splits (KeepsAccount budget) id v (holding (v.left - n) v.drawn) (holding n [])
   splits id v n fits s r at =
       let a = r.1 in
@@ -235,6 +238,7 @@ module _ (budget : ℕ) where
         },
       )
 
+  -- a join keeps the account: share, rest and tickets of both are put together
   pub joins : (id : ℕ) (v : Holding) (other : ℕ) (w : Holding) → Joins (KeepsAccount budget) id v other w (put_together v w) (holding 0 [])
   joins id v other w s r at apart there =
       let a = r.1 in
@@ -273,6 +277,7 @@ module _ (budget : ℕ) where
         },
       )
 
+  -- a look at a pass keeps the account and changes nothing
   pub looks : (slots id : ℕ) (me : Me (Unit {0}) Holding) → Allows (KeepsAccount budget) slots id me 0 (λ n. n)
       (λ found after. LooksAtShare me.0 × (after ≡ me))
   looks slots id me s r _ at _ =

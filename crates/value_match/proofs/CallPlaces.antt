@@ -65,6 +65,7 @@ named_if_found operations names v (Some place) some found = found.1
 -- an operation that called to enqueue nothing, a call of a value that is where its name tells, and any other call
 module _ (operations : List Operation) (names : Names) (i : ℕ) (o : Operation) (calls : List Call) (here : IsAt operations i o)
     (met : MetOthers operations names i calls) where
+  -- an operation that calls to enqueue nothing adds no call
   pub others_no_call : enqueued_value o.kind ≡ None → MetOthers operations names (i + 1) calls
   others_no_call none = record {
     are_calls = met.are_calls;
@@ -72,6 +73,7 @@ module _ (operations : List Operation) (names : Names) (i : ℕ) (o : Operation)
         λ v unnamed none_of. met_no_call operations i o v None here none (met.has_all v unnamed none_of);
   }
 
+  -- a call whose value is where its name tells adds none
   pub others_named : (w : ℕ) → enqueued_value o.kind ≡ Some w → IsNamed operations names w → MetOthers operations names (i + 1) calls
   others_named w called named = record {
     are_calls = met.are_calls;
@@ -79,6 +81,7 @@ module _ (operations : List Operation) (names : Names) (i : ℕ) (o : Operation)
         (λ same. unnamed (subst (IsNamed operations names) (let e = sym called ∙ same in cc) named)) (met.has_all v unnamed none_of);
   }
 
+  -- any other call is added with its place
   pub others_more : (w : ℕ) → enqueued_value o.kind ≡ Some w → MetOthers operations names (i + 1) (calls ++ record { value = w; place = i } ∷ [])
   others_more w called = record {
     are_calls = All-push (IsCall operations) calls (record { value = w; place = i }) met.are_calls (o, here, called);

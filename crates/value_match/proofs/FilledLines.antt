@@ -35,6 +35,7 @@ at_filling_from n (v ∷ rest) (suc j) =
     later_place : (n j : ℕ) → filling_from_at (n + 2) j ≡ filling_from_at n (suc j)
     later_place n j = λ i v. same_operation (filling_from_at (n + 2) j v) (filling_from_at n (suc j) v) (omega arith) (omega arith) refl refl i
 
+-- the j-th operation of the filling enqueues the j-th initial value
 pub at_filling : (initial : List ℕ) (j : ℕ) → slice_get (filling_from 0 initial) j ≡ option_map (filling_at j) (slice_get initial j)
 at_filling initial j = at_filling_from 0 initial j ∙ ap (λ (f : ℕ → Operation). option_map f (slice_get initial j)) first_clock
   where
@@ -170,11 +171,13 @@ none_fills_from_cases initial kind false some = (
 
 -- ---- what stands at a place of the filled history
 
+-- a place within the first list is one of the first list
 pub get_before : {X : Type 0} (xs ys : List X) (p : ℕ) → p < length xs → slice_get (xs ++ ys) p ≡ slice_get xs p
 get_before [] ys p within = absurd (omega arith)
 get_before (x ∷ xs) ys zero within = refl
 get_before (x ∷ xs) ys (suc p) within = get_before xs ys p (omega arith)
 
+-- a place behind the first list is one of the second
 pub get_behind : {X : Type 0} (xs ys : List X) (n p : ℕ) → n ≡ length xs → n ≤ p → slice_get (xs ++ ys) p ≡ slice_get ys (p - n)
 get_behind [] ys n p is within = ap (slice_get ys) (omega arith)
 get_behind (x ∷ xs) ys n zero is within = absurd (omega arith)
@@ -217,6 +220,7 @@ pub record IsLaterAt (initial : List ℕ) (operations : List Operation) (p : ℕ
   pub stands : slice_get operations (p - length initial) ≡ Some operation
   pub is : later_by (2 * length initial) operation ≡ x
 
+-- at a place of the filled history stands the enqueue of an initial value, or an operation, later
 pub filled_at : (initial : List ℕ) (operations : List Operation) (p : ℕ) (x : Operation) → slice_get (filled initial operations) p ≡ Some x
     → IsFillingAt initial p x ⊎ IsLaterAt initial operations p x
 filled_at initial operations p x at = elim (at_filled initial operations p) [
@@ -234,9 +238,11 @@ filled_at initial operations p x at = elim (at_filled initial operations p) [
 abbrev pub earlier : ℕ → Operation → Option Operation
 earlier n o = cond (nat_lt o.call n) None (Some (record { call = o.call - n; ret = o.ret - n; thread = o.thread; kind = o.kind }))
 
+-- the enqueue of an initial value is no operation of the history
 pub earlier_none : (n : ℕ) (o : Operation) → o.call < n → earlier n o ≡ None
 earlier_none n o early = rw (lt-ltb o.call n early) refl
 
+-- an operation that is moved later and back is as it was
 pub earlier_later : (n : ℕ) (o : Operation) → earlier n (later_by n o) ≡ Some o
 earlier_later n o = pick (nat_lt (o.call + n) n) refl
   where

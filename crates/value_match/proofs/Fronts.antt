@@ -185,12 +185,14 @@ module _ (values : List MatchedValue) (fronts : List Front) (limit i : ℕ) (tab
       let no = ltb-false (get_or fronts k nowhere).enqueue_return limit (point.1 k nowhere after inside) in
       omega (arith, no, less, return_at d e k nowhere inside)
 
+  -- where no front is before the limit, no value entered before it
   pub none_before : i ≡ 0 → NonePasses (EntersBefore limit) values
   none_before none =
       let order = values_at values table.0 nobody in
       All-permutation (λ v. ¬ (EntersBefore limit v.life)) order values (IsPermutation-sym values order (table.1.are.each_once nobody))
       (All-from_get_or (λ v. ¬ (EntersBefore limit v.life)) order nobody (λ k inside. enters_not nobody nobody k (omega arith) (omega (arith, counted nobody))))
 
+  -- the last front before the limit names the value that stays longest of those before it
   pub longest_found : (last : ℕ) (front : Front) (d : MatchedValue) → last + 1 ≡ i → front ≡ get_or fronts last front
       → IsLongestOf (EntersBefore limit) values (get_or values front.place d)
   longest_found last front d is here = record {

@@ -42,6 +42,7 @@ module _ (k : ℕ) where
       by_count true is = rw is refl
       by_count false is = refl
 
+  -- the steps of a cover of the filled history are told as they were
   pub cover_told : (steps : List CoverStep) → map (unfilled_step k) (map (filled_step k) steps) ≡ steps
   cover_told [] = refl
   cover_told (step ∷ steps) =
@@ -82,12 +83,15 @@ module _ (initial : List ℕ) (operations : List Operation) where
     | inr late ↦ late.behind
   ]
 
+  -- the place of what isn't the enqueue of an initial value comes back
   pub place_back : (p : ℕ) (o : Operation) → IsAt all p o → ((v : ℕ) → o.kind ≡ Enq v → o.call < 2 * k → ⊥) → behind k (unfilled_place k p) ≡ p
   place_back p o at other = let after = stands_behind p o at other in omega arith
 
+  -- the place of a dequeue comes back
   pub dequeue_back : (p : ℕ) (o : Operation) (v : ℕ) → IsAt all p o → o.kind ≡ Deq v → behind k (unfilled_place k p) ≡ p
   dequeue_back p o v at is = place_back p o at (λ w enq early. let clash : Deq v ≡ Enq w = sym is ∙ enq in cc)
 
+  -- the source of a value comes back
   pub source_back : (s : Source) (o : Operation) → IsSource all s o → filled_source k (unfilled_source k s) ≡ s
   source_back (source.Enq p) o at = by_count (nat_lt p k) refl
     where
@@ -97,12 +101,14 @@ module _ (initial : List ℕ) (operations : List Operation) where
       by_count false is = let after : k ≤ p = ltb-false p k is in ap source.Enq (omega arith)
   source_back (source.Initial p) o at = absurd at
 
+  -- the place of a dequeue, where there is one, comes back
   pub maybe_back : (p : Option ℕ) (o : Option Operation) → IsMaybeAt all p o → MatchOption o ⊤ (λ d. (v : ℕ) × (d.kind ≡ Deq v))
       → option_map (behind k) (option_map (unfilled_place k) p) ≡ p
   maybe_back None o at is = refl
   maybe_back (Some p) None at is = absurd at
   maybe_back (Some p) (Some o) at is = ap (λ q. Some q) (dequeue_back p o is.0 at is.1)
 
+  -- the steps of a cover come back
   pub cover_back : (steps : List CoverStep) (cover : List Life) → NamesCover all steps cover → AreLives cover
       → map (filled_step k) (map (unfilled_step k) steps) ≡ steps
   cover_back [] [] names are = refl
@@ -133,6 +139,7 @@ module _ (initial : List ℕ) (operations : List Operation) where
         | inr accepted ↦ let after = accepted.1 in omega (arith, late)
       ]
 
+  -- a violation of the filled history comes back from what is told of it
   pub violation_back : (v : Violation) (breach : Breach) → Names all v breach → IsBreachOf all breach
       → filled_violation k (unfilled_violation k v) ≡ v
   violation_back (violation.Fresh deq enq) (fresh d e) names is =
@@ -178,6 +185,7 @@ module _ (initial : List ℕ) (operations : List Operation) where
   pub fresh_back : (v : Violation) → NamesChosenFresh all v → NamesChosenFresh all (filled_violation k (unfilled_violation k v))
   fresh_back v chosen = subst (NamesChosenFresh all) (sym (violation_back v (fresh chosen.0 chosen.1) chosen.2 chosen.3.violates)) chosen
 
+  -- the chosen repeated value comes back
   pub repeat_back : (v : Violation) → NamesChosenRepeat all v → NamesChosenRepeat all (filled_violation k (unfilled_violation k v))
   repeat_back v chosen =
       subst (NamesChosenRepeat all) (sym (violation_back v (repeat chosen.0 chosen.1 chosen.2) chosen.3 chosen.4.1.violates)) chosen
@@ -233,6 +241,7 @@ module _ (initial : List ℕ) (operations : List Operation) where
   empties_told places holds = places_told places (filter is_empty_answer operations)
       (subst (ArePlacesOf all places) (filter_filled is_empty_answer (λ o v is. rw is refl) (λ o. refl)) holds)
 
+  -- the places of refused enqueues are told as the history's
   pub refused_told : (places : List ℕ) → HoldsPlaces all is_refused places → HoldsPlaces operations is_refused (map (unfilled_place k) places)
   refused_told places holds = places_told places (filter is_refused operations)
       (subst (ArePlacesOf all places) (filter_filled is_refused (λ o v is. rw is refl) (λ o. refl)) holds)
@@ -271,9 +280,11 @@ module _ (initial : List ℕ) (operations : List Operation) where
 
 -- ---- with no initial values it is so as it stands
 
+-- a place stays as it is
 pub place_with_none : (p : ℕ) → unfilled_place 0 p ≡ p
 place_with_none p = omega arith
 
+-- an order stays as it is
 pub order_with_none : (places : List ℕ) → filter_map (place_behind 0) places ≡ places
 order_with_none [] = refl
 order_with_none (p ∷ places) = rw (le-ltb p 0 (omega arith)) (ap₂ (λ (q : ℕ) (ps : List ℕ). q ∷ ps) (place_with_none p) (order_with_none places))
@@ -286,6 +297,7 @@ source_with_none : (s : Source) → unfilled_source 0 s ≡ s
 source_with_none (source.Enq p) = rw (le-ltb p 0 (omega arith)) (ap source.Enq (place_with_none p))
 source_with_none (source.Initial p) = refl
 
+-- the steps of a cover stay as they are
 pub cover_with_none : (steps : List CoverStep) → map (unfilled_step 0) steps ≡ steps
 cover_with_none [] = refl
 cover_with_none (step ∷ steps) =

@@ -28,6 +28,7 @@ maybe_itself : (d : Option Operation) → option_map itself d ≡ d
 maybe_itself None = refl
 maybe_itself (Some d) = refl
 
+-- the life of a value is its own image
 pub life_itself : (life : Life) → mapped_life itself life ≡ life
 life_itself life = let dequeue = maybe_itself (dequeue_of life) in λ i. record { enqueue = enqueue_of life; dequeue = dequeue i }
 

@@ -98,16 +98,19 @@ module _ (operations : List Operation) (empty before : Operation) where
 
   -- ---- the same, of lines by their places
 
+  -- no lines show no cover
   pub none_shown : (lines : List Operation) → length lines < 1 → ¬ (ShowsCover operations empty before lines)
   none_shown [] short = no_lines
   none_shown (e ∷ lines) short = absurd (omega arith)
 
+  -- one line shows a cover that ends with a value never dequeued
   pub shown_by_one : (lines : List Operation) (o : Operation) → 1 ≤ length lines → length lines < 2
       → BeginsBefore operations before (life_of (get_or lines 0 o) None) ↔ ShowsCover operations empty before lines
   shown_by_one [] o long short = absurd (omega arith)
   shown_by_one (e ∷ []) o long short = one_line e
   shown_by_one (e ∷ d ∷ lines) o long short = absurd (omega arith)
 
+  -- two lines show a cover that ends with a value dequeued after the empty answer
   pub shown_by_two : (lines : List Operation) (o : Operation) → 2 ≤ length lines → length lines < 3
       → (BeginsBefore operations before (life_of (get_or lines 0 o) (Some (get_or lines 1 o))) × Precedes empty (get_or lines 1 o)) ↔ ShowsCover
       operations empty before lines
@@ -116,6 +119,7 @@ module _ (operations : List Operation) (empty before : Operation) where
   shown_by_two (e ∷ d ∷ []) o long short = two_lines e d
   shown_by_two (e ∷ d ∷ x ∷ lines) o long short = absurd (omega arith)
 
+  -- of more lines the first two are a value's, and the rest show a cover from its dequeue on
   pub shown_by_more : (lines : List Operation) (o : Operation) → 3 ≤ length lines
       → (BeginsBefore operations before (life_of (get_or lines 0 o) (Some (get_or lines 1 o)))
       × ShowsCover operations empty (get_or lines 1 o) (drop 2 lines)) ↔ ShowsCover operations empty before lines

@@ -57,21 +57,25 @@ module _ (f : Filled) where
 
   -- ---- lines of a length
 
+  -- one line stands for its operation
   pub one_stands : (lines : List ClaimLine) (d : ClaimLine) (x : Operation) → 1 ≤ length lines → length lines < 2 → stands (get_or lines 0 d) ≡ Some x
       → StandFor f.initial.now lines (x ∷ [])
   one_stands [] d x long short at = absurd (omega arith)
   one_stands (l ∷ []) d x long short at = ap (λ o. o ∷ []) at
   one_stands (l ∷ m ∷ lines) d x long short at = absurd (omega arith)
 
+  -- a first line and the later ones stand for their operations
   pub more_stand : (lines : List ClaimLine) (d : ClaimLine) (x : Operation) (later : List Operation) → 1 ≤ length lines → stands (get_or lines 0 d) ≡ Some x
       → StandFor f.initial.now (drop 1 lines) later → StandFor f.initial.now lines (x ∷ later)
   more_stand [] d x later long at rest = absurd (omega arith)
   more_stand (l ∷ lines) d x later long at rest = ap (λ o. o ∷ map stands lines) at ∙ ap (λ os. Some x ∷ os) rest
 
+  -- no line stands for no operation
   pub none_left : (lines : List ClaimLine) → length lines < 1 → StandFor f.initial.now lines []
   none_left [] short = refl
   none_left (l ∷ lines) short = absurd (omega arith)
 
+  -- three lines and the later ones stand for their operations
   pub three_stand : (lines : List ClaimLine) (d : ClaimLine) (x y z : Operation) (later : List Operation) → 3 ≤ length lines
       → stands (get_or lines 0 d) ≡ Some x → stands (get_or lines 1 d) ≡ Some y → stands (get_or lines 2 d) ≡ Some z
       → StandFor f.initial.now (drop 3 lines) later → StandFor f.initial.now lines (x ∷ y ∷ z ∷ later)
@@ -82,6 +86,7 @@ module _ (f : Filled) where
       more_stand (l ∷ m ∷ n ∷ lines) d x (y ∷ z ∷ later) (omega arith) a
       (more_stand (m ∷ n ∷ lines) d y (z ∷ later) (omega arith) b (more_stand (n ∷ lines) d z later (omega arith) c rest))
 
+  -- two lines and the later ones stand for their operations
   pub two_stand : (lines : List ClaimLine) (d : ClaimLine) (x y : Operation) (later : List Operation) → 2 ≤ length lines
       → stands (get_or lines 0 d) ≡ Some x → stands (get_or lines 1 d) ≡ Some y → StandFor f.initial.now (drop 2 lines) later
       → StandFor f.initial.now lines (x ∷ y ∷ later)
@@ -95,18 +100,21 @@ module _ (f : Filled) where
 
   -- ---- lines that show a violation, by what they stand for
 
+  -- one line shows a fresh value exactly where nobody enqueued it
   pub one_line_fresh_is : (lines : List ClaimLine) (d : ClaimLine) (x : Operation) → 1 ≤ length lines → length lines < 2
       → stands (get_or lines 0 d) ≡ Some x → IsNeverEnqueued (all_of f) x ↔ ShowsKind f VFresh lines
   one_line_fresh_is lines d x long short at =
       through (one_line_fresh (all_of f) (x ∷ []) x (omega arith) (omega arith))
       (shown_by_all VFresh lines (x ∷ []) (more_stand lines d x [] long at (none_left (drop 1 lines) (none_after 1 lines (omega arith)))))
 
+  -- two lines show a fresh value exactly where its enqueue came too late or was refused
   pub two_lines_fresh_are : (lines : List ClaimLine) (d : ClaimLine) (x y : Operation) → 2 ≤ length lines → length lines < 3
       → stands (get_or lines 0 d) ≡ Some x → stands (get_or lines 1 d) ≡ Some y → IsEnqueuedTooLate (all_of f) x y ↔ ShowsKind f VFresh lines
   two_lines_fresh_are lines d x y long short a b =
       through (two_lines_fresh (all_of f) (x ∷ y ∷ []) x (omega arith) (omega arith))
       (shown_by_all VFresh lines (x ∷ y ∷ []) (two_stand lines d x y [] long a b (none_left (drop 2 lines) (none_after 2 lines (omega arith)))))
 
+  -- three lines show a repeated value exactly where the two dequeues are of the enqueue's value
   pub three_lines_repeat_are : (lines : List ClaimLine) (d : ClaimLine) (x y z : Operation) → 3 ≤ length lines → length lines < 4
       → stands (get_or lines 0 d) ≡ Some x → stands (get_or lines 1 d) ≡ Some y → stands (get_or lines 2 d) ≡ Some z
       → IsRepeatViolation (all_of f) x y z ↔ ShowsKind f VRepeat lines
@@ -115,6 +123,7 @@ module _ (f : Filled) where
       (shown_by_all VRepeat lines (x ∷ y ∷ z ∷ [])
       (three_stand lines d x y z [] long a b c (none_left (drop 3 lines) (none_after 3 lines (omega arith)))))
 
+  -- three lines show two values out of order exactly where the first is never dequeued
   pub three_lines_order_are : (lines : List ClaimLine) (d : ClaimLine) (x y z : Operation) → 3 ≤ length lines → length (drop 3 lines) < 1
       → stands (get_or lines 0 d) ≡ Some x → stands (get_or lines 1 d) ≡ Some y → stands (get_or lines 2 d) ≡ Some z
       → IsOrderViolation (all_of f) x y z None ↔ ShowsKind f VOrd lines
@@ -122,6 +131,7 @@ module _ (f : Filled) where
       through (three_lines_order (all_of f) (x ∷ y ∷ z ∷ []) x (omega arith) (omega arith))
       (shown_by_all VOrd lines (x ∷ y ∷ z ∷ []) (three_stand lines d x y z [] long a b c (none_left (drop 3 lines) short)))
 
+  -- four lines show two values out of order exactly where the first is dequeued later
   pub four_lines_order_are : (lines : List ClaimLine) (d e : ClaimLine) (x y z v : Operation) → 3 ≤ length lines → 1 ≤ length (drop 3 lines)
       → length (drop 3 lines) < 2
       → stands (get_or lines 0 d) ≡ Some x → stands (get_or lines 1 d) ≡ Some y → stands (get_or lines 2 d) ≡ Some z
@@ -180,10 +190,12 @@ module _ (f : Filled) where
     λ shows. subst (ShowsCover (all_of f) empty before) (same_shown shows.0 shown (sym shows.1 ∙ are)) shows.2,
   )
 
+  -- no lines stand for no cover
   pub no_lines_cover : (empty before : Operation) (lines : List ClaimLine) → length lines < 1 → ¬ (StandForCover f empty before lines)
   no_lines_cover empty before lines short covers =
       let same = as_many lines covers.0 covers.1 in none_shown (all_of f) empty before covers.0 (omega arith) covers.2
 
+  -- one line stands for a cover exactly where its value is never dequeued and was in before
   pub one_line_covers : (empty before : Operation) (lines : List ClaimLine) (d : ClaimLine) (x : Operation) → 1 ≤ length lines → length lines < 2
       → stands (get_or lines 0 d) ≡ Some x
       → (IsLife (all_of f) (record { enqueue = x; dequeue = None }) × Precedes x before) ↔ StandForCover f empty before lines
@@ -191,6 +203,7 @@ module _ (f : Filled) where
       let are = one_stands lines d x long short at in
       through (shown_by_one (all_of f) empty before (x ∷ []) x (omega arith) (omega arith)) (cover_by_all empty before lines (x ∷ []) are)
 
+  -- a first line that stands for nothing stands for no cover
   pub none_stands_for_cover : (empty before : Operation) (lines : List ClaimLine) (d : ClaimLine) → 1 ≤ length lines → stands (get_or lines 0 d) ≡ None
       → ¬ (StandForCover f empty before lines)
   none_stands_for_cover empty before lines d long none covers = none_stands lines covers.0 0 d long none covers.1

@@ -23,6 +23,7 @@ module _ (operations : List Operation) (empty : Operation) where
   others_chosen life rest y among true test ends = absurd (not_in_none y (subst (λ lives. Contains lives y) ends among))
   others_chosen life rest y among false test further = (ltb-false empty.ret (dequeue_call life) test, further)
 
+  -- the values of a chosen cover are lives of the history
   pub chosen_are_lives : (cover : List Life) (frontier : ℕ) (y : Life) → IsChosenCoverFrom operations empty frontier cover → Contains cover y
       → IsLife operations y
   chosen_are_lives [] frontier y chosen among = absurd chosen

@@ -11,9 +11,11 @@ use Rattle.verdicts.specs.Verdicts.{HasOperationsFrom}
 use Rattle.verdicts.proofs.FewLines.{two_events_each}
 
 module _ (initial : List ℕ) (operations : List Operation) (are : HasOperationsFrom initial operations) where
+  -- the filled history is complete
   pub filled_complete : AreComplete (filled initial operations)
   filled_complete = subst (λ os. AreComplete (filled initial os)) (sym are.are) (filled_are_complete initial are.events are.complete are.few_initial)
 
+  -- there are no more operations than events may be
   pub few_operations : length operations ≤ MAX_EVENTS
   few_operations =
       let half = two_events_each are.events (up_to_more are.events (omega arith) are.complete.complete) in

@@ -259,6 +259,7 @@ module _ (events : List Event) (complete : IsCompleteUpTo MAX_CLOCK events) (mos
       [ inl same ↦ subst (Contains operations) same did.0 | inr later ↦ (lines o later).0 ])
       (λ among. (lines empty among).1 did.1, apart)
 
+  -- a chosen violation has few lines
   pub few_chosen : (breach : Breach) → IsChosenBreach (operations_of events) breach → length (lines_of breach) ≤ most
   few_chosen (fresh deq None) chosen = omega arith
   few_chosen (fresh deq (Some enq)) chosen = omega arith
@@ -273,6 +274,7 @@ module _ (events : List Event) (complete : IsCompleteUpTo MAX_CLOCK events) (mos
       (apart_from_rise (operations_of events) (operations_rise (operations_of events) (events, complete, refl))) in
       omega (arith, half, few)
 
+  -- a chosen order has few operations
   pub few_in_order : (listed : List Operation) → IsChosenOrder (operations_of events) listed → length listed ≤ most
   few_in_order listed chosen =
       let moved = length_permutation (operations_of events) listed chosen.holds_each_once in

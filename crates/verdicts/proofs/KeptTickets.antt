@@ -64,6 +64,7 @@ module _ (operations : List Operation) (complete : AreComplete operations) (test
       let clash : true ≡ false = sym passed.1 ∙ ap test one ∙ passes in
       cc
 
+  -- the tickets of an operation that passes are kept, both, and of no other
   pub tickets_keep_both : KeepsBoth (holds_ticket (filter test operations)) test operations
   tickets_keep_both o among = (
     held_as_tested o o.call among (inl refl) (test o) (holds_ticket (filter test operations) o.call) refl refl,

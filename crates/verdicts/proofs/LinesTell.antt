@@ -45,6 +45,7 @@ one_maybe None (Some d') same = cc
 one_maybe (Some d) None same = cc
 one_maybe (Some d) (Some d') same = cc
 
+-- two violations of one kind with the same lines are one
 pub lines_tell_breach : LinesTellBreach
 lines_tell_breach operations others (fresh deq enq) (fresh deq' enq') is is' kinds lines =
     let one : deq ≡ deq' = cc in let later : option_to_list enq ≡ option_to_list enq' = cc in let enqs = one_maybe enq enq' later in cc

@@ -248,6 +248,7 @@ module _ (operations : List Operation) (complete : AreComplete operations) (brea
   stays_violation = breach_in_selected operations values calls breach (chosen_is_breach operations breach complete chosen)
       (lines_are_selected (lines_of breach) values calls named)
 
+  -- from the selected operations nothing can be left out
   pub selection_is_minimal : AreMinimal (filter (selects values calls) operations)
   selection_is_minimal = (
     λ linear. breach_excludes_order (filter (selects values calls) operations) breach

@@ -150,6 +150,7 @@ module _ (lines : List Operation) (values calls : ℕ → Bool) (named : Selects
     pub same_value : value_of line.kind ≡ value_of o.kind
     pub itself : value_of o.kind ≡ None → line ≡ o
 
+  -- an operation is selected for a line
   pub selected_for : (operations : List Operation) (o : Operation) → AreComplete operations
       → ((l : Operation) → Contains lines l → Contains operations l) → Contains (filter (selects values calls) operations) o
       → (line : Operation) × IsSelectedFor o line

@@ -158,6 +158,7 @@ module _ (initial : List ℕ) (operations : List Operation) where
       held None is at' = cc
       held (Some v) is at' = slice_get_within initial p v is
 
+  -- the places of lines that are shown are within the history
   pub all_within : (places : List LinePlace) (listed : List Operation) → AllZip IsShownAt places listed → All (IsPlaceWithin initial operations) places
   all_within [] [] each = All-nil (IsPlaceWithin initial operations)
   all_within [] (o ∷ listed) each = absurd each

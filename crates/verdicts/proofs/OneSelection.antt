@@ -144,6 +144,7 @@ module _ (whole x : HistoryView) (violation : Violation) (is_x : IsWhole x) (sta
   none_differs : part ≢ contents_of x → ⊥
   none_differs differs = not_linearizable (minimal.1 part (values, empties, refl) differs)
 
+  -- a selection that is not linearizable is the whole
   pub part_is_whole : part ≡ contents_of x
   part_is_whole = by_values (all_or_one values x.initial) (all_or_one (selects values empties) (operations_of x.events))
     where

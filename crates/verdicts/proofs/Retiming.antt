@@ -74,6 +74,7 @@ module _ (h : ℕ → ℕ) (rises : Rises h) where
     | inr (inr above) ↦ let more = rises b a above in absurd (omega arith)
   ]
 
+  -- two tickets with one image are one
   pub same_back : (a b : ℕ) → h a ≡ h b → a ≡ b
   same_back a b same = let below = at_most_back a b (omega arith) in let above = at_most_back b a (omega arith) in omega arith
 
@@ -91,6 +92,7 @@ module _ (h : ℕ → ℕ) (rises : Rises h) where
 
   -- ---- operations
 
+  -- two operations with one image are one
   pub one_retimed : (x y : Operation) → retimed h x ≡ retimed h y → x ≡ y
   one_retimed x y same = same_operation x y (same_back x.call y.call (ap (λ (o : Operation). o.call) same))
       (same_back x.ret y.ret (ap (λ (o : Operation). o.ret) same)) (ap (λ (o : Operation). o.thread) same) (ap (λ (o : Operation). o.kind) same)

@@ -28,6 +28,7 @@ module _ (operations : List Operation) (values empties : ℕ → Bool) where
   abbrev selected : List Operation
   selected = filter (selects values empties) operations
 
+  -- what was done in the selection was done in the whole
   pub did_in_whole : (o : Operation) (kind : OpKind) → Did selected o kind → Did operations o kind
   did_in_whole o kind did = ((passed_filter (selects values empties) operations o did.0).0, did.1)
 
@@ -38,6 +39,7 @@ module _ (operations : List Operation) (values empties : ℕ → Bool) where
   pub selects_by_value : (o : Operation) (v : ℕ) (kind : OpKind) → o.kind ≡ kind → value_of kind ≡ Some v → selects values empties o ≡ values v
   selects_by_value o v kind did is = ap (λ k. option_map_or values (value_of k) (empties o.call)) did ∙ ap (λ w. option_map_or values w (empties o.call)) is
 
+  -- the value of a selected operation is selected
   pub value_is_selected : (o : Operation) (v : ℕ) (kind : OpKind) → Did selected o kind → value_of kind ≡ Some v → values v ≡ true
   value_is_selected o v kind did is = sym (selects_by_value o v kind did.1 is) ∙ (passed_filter (selects values empties) operations o did.0).1
 
@@ -59,6 +61,7 @@ module _ (operations : List Operation) (values empties : ℕ → Bool) where
   dequeue_in_selected v None selects_it none = none_did_in_selected (Deq v) none
   dequeue_in_selected v (Some d) selects_it did = did_in_selected d (Deq v) did (selects_by_value d v (Deq v) did.1 refl ∙ selects_it)
 
+  -- a life of the selection is one of the whole
   pub life_in_whole : (life : Life) → IsLife selected life → IsLife operations life
   life_in_whole life is = (
     is.0,
@@ -67,6 +70,7 @@ module _ (operations : List Operation) (values empties : ℕ → Bool) where
         (value_is_selected (enqueue_of life) is.0 (Enq is.0) is.1 refl) is.2,
   )
 
+  -- a life of the whole whose enqueue is selected is one of the selection
   pub life_in_selected : (life : Life) → IsLife operations life → selects values empties (enqueue_of life) ≡ true → IsLife selected life
   life_in_selected life is selects_it =
       let value = sym (selects_by_value (enqueue_of life) is.0 (Enq is.0) is.1.1 refl) ∙ selects_it in

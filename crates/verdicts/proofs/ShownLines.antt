@@ -24,9 +24,11 @@ abbrev pub line_of : ℕ → Operation → ClaimLine
 line_of n o = cond (nat_lt o.call n) (Initial (accepted_value o.kind))
     (Op (record { call = o.call - n; ret = o.ret - n; thread = o.thread; kind = o.kind }))
 
+-- the line of the enqueue of an initial value is that of the value
 pub early_line : (n : ℕ) (o : Operation) → o.call < n → line_of n o ≡ Initial (accepted_value o.kind)
 early_line n o early = rw (lt-ltb o.call n early) refl
 
+-- the line of any other operation is that operation, as it was
 pub late_line : (n : ℕ) (o : Operation) → n ≤ o.call
     → line_of n o ≡ Op (record { call = o.call - n; ret = o.ret - n; thread = o.thread; kind = o.kind })
 late_line n o late = rw (le-ltb o.call n late) refl
@@ -47,6 +49,7 @@ call_of_line n o call is = pick (nat_lt o.call n) refl is
         let le = ltb-false o.call n late in
         omega arith
 
+-- the line of an operation has its call
 pub line_of_call : (n : ℕ) (o : Operation) (call : ℕ) → o.call ≡ call + n → call_in (line_of n o) ≡ Some call
 line_of_call n o call is = ap call_in (late_line n o (omega arith)) ∙ ap (λ t. Some t) (let e : o.call - n ≡ call = omega arith in e)
 

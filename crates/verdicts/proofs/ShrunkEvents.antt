@@ -46,9 +46,11 @@ module _ (initial : List ℕ) (events : List Event) (whole : IsCompleteFrom init
   abbrev pub events_kept : List Event
   events_kept = events_at_tickets_of (filter test (operations_of events)) events
 
+  -- the operations of the kept events are those that pass the test
   pub operations_kept : operations_of events_kept ≡ filter test (operations_of events)
   operations_kept = operations_of_selected test events (omega arith) whole.complete
 
+  -- the kept events are a complete history from the kept initial values
   pub kept_is_complete_from : IsCompleteFrom (filter values initial) events_kept
   kept_is_complete_from =
       let complete = selected_events_are_complete test events (omega arith) whole.complete in

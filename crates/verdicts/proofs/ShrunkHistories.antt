@@ -59,11 +59,13 @@ same_tests false true there back = back refl
 abbrev pub calls_at : List Operation → ℕ → Bool
 calls_at operations call = list_any (λ o. nat_eq o.call call) operations
 
+-- at a ticket that is one of the calls an operation was called
 pub called_at : (operations : List Operation) (call : ℕ) → calls_at operations call ≡ true → (o : Operation) × Contains operations o × (o.call ≡ call)
 called_at operations call is =
     let found = Any-from_list_any (λ o. nat_eq o.call call) operations is in
     (found.1, (found.0, found.2, found.3), eqb-true found.1.call call found.4)
 
+-- the call of an operation is one of the calls
 pub calls_at_call : (operations : List Operation) (o : Operation) (call : ℕ) → Contains operations o → o.call ≡ call → calls_at operations call ≡ true
 calls_at_call operations o call among is =
     list_any-from_Any (λ o. nat_eq o.call call) operations (among.0, o, among.1, among.2, eq-eqb o.call call is)
@@ -147,6 +149,7 @@ pub record IsWhole (history : HistoryView) : Type 0 where
   pub complete : IsCompleteFrom history.initial history.events
   pub few : length history.initial ≤ MAX_INITIAL
 
+-- the filled history of a complete one is complete
 pub filled_is_whole : (history : HistoryView) → IsWhole history → AreComplete (filled_of history)
 filled_is_whole history is = filled_are_complete history.initial history.events is.complete is.few
 
@@ -297,6 +300,7 @@ module _ (whole : HistoryView) (violation : Violation) (is_whole : IsWhole whole
           let called = call_before_return (filled_of small) o complete' (in_small o among) in
           same_line h (2 * length small.initial) n o rises behind (omega arith)
 
+  -- the chosen violation of the small history has the same claim
   pub stays : StaysChosen whole violation small
   stays = (
     small_named.0,
@@ -365,6 +369,7 @@ module _ (whole : HistoryView) (violation : Violation) (is_whole : IsWhole whole
     | inr one ↦ let clash : true ≡ false = sym (all_selected one.0 one.1) ∙ one.2 in cc
   ]
 
+  -- from the small history nothing can be left out
   pub is_minimal : IsMinimal (contents_of small)
   is_minimal = (
     λ linear. filled_is_minimal.0 ((linearizable_from_exactly small.initial (operations_of small.events)).0 linear),
@@ -387,6 +392,7 @@ module _ (whole : HistoryView) (violation : Violation) (is_whole : IsWhole whole
 
 -- ---- what is ensured of the small history
 
+-- all that is ensured of it
 pub record IsShrunk (whole : HistoryView) (violation : Violation) (small : HistoryView) : Type 0 where
   pub kept : KeepsViolation whole violation small
   pub same_violation : StaysChosen whole violation small
