@@ -20,9 +20,7 @@ use svg_picture::svg_picture;
 use verdicts::{Claimed, claim, decide};
 
 /// What `draw` finds in what the reader gives, for a picture in this form.
-pub fn draw<S: TextSource>(alloc: Global, reader: S, form: PictureForm) -> Outcome
-where
-    S: Drop,
+pub fn draw<S: TextSource + Drop>(alloc: Global, reader: S, form: PictureForm) -> Outcome
     ensures found { IfSome (S.ahead reader) (λ input. AnswersFor IsDrawableOf IsFaultOfDrawableInput (Draws form) input (answer_of result)) }
     ensures places { NamesPlaces result }
 {

@@ -20,9 +20,7 @@ use std::alloc::Global;
 use verdicts::Claimed;
 
 /// What the one text of a history that the reader gives says, of either version.
-fn text_of<S: TextSource>(alloc: Global, reader: S) -> Result<HistoryText, TextFault>
-where
-    S: Drop,
+fn text_of<S: TextSource + Drop>(alloc: Global, reader: S) -> Result<HistoryText, TextFault>
     ensures text { IfOk result (λ text. IfSome (S.ahead reader) (λ input. IsHistoryOf input text)) }
     ensures has { IfOk result HasText }
     ensures fault { IfErr result (λ fault. IfSome (S.ahead reader) (λ input. IsFaultOfHistoryInput input fault)) }
@@ -33,9 +31,10 @@ where
 }
 
 /// The one text of a history that the reader gives, as a history in the making, which keeps none of its events.
-pub fn gathered_of<S: TextSource>(alloc: Global, reader: S) -> Result<PreloadedBuilder, TextFault>
-where
-    S: Drop,
+pub fn gathered_of<S: TextSource + Drop>(
+    alloc: Global,
+    reader: S,
+) -> Result<PreloadedBuilder, TextFault>
     ensures text { IfOk result (λ builder. (text : HistoryText) × HasGatheredFrom text.initial text.events builder × HasText text
         × IfSome (S.ahead reader) (λ input. IsHistoryOf input text)) }
     ensures fault { IfErr result (λ fault. IfSome (S.ahead reader) (λ input. IsFaultOfHistoryInput input fault)) }
@@ -46,26 +45,11 @@ where
     Ok(builder)
 }
 
-/// The one schedule that the reader gives.
-pub fn schedule_of<S: TextSource>(alloc: Global, reader: S) -> Result<Schedule, TextFault>
-where
-    S: Drop,
-    ensures schedule { IfOk result (λ schedule. IfSome (S.ahead reader) (λ input. IsScheduleOf input schedule)) }
-    ensures setting { IfOk result (λ schedule. IsSetting schedule.threads schedule.ring) }
-    ensures fault { IfErr result (λ fault. IfSome (S.ahead reader) (λ input. IsFaultOfScheduleInput input fault)) }
-{
-    let mut texts = TextReader::new(reader);
-    let schedule = read_schedule(alloc, &mut texts)?;
-    at_end(&mut texts).map(|()| schedule)
-}
-
 /// What the text of a history says, and what the verdict text after it claims of it.
-pub fn claim_of<S: TextSource>(
+pub fn claim_of<S: TextSource + Drop>(
     alloc: Global,
     reader: S,
 ) -> Result<(HistoryText, Claimed), TextFault>
-where
-    S: Drop,
     ensures claim { IfOk result (λ read. IfSome (S.ahead reader) (λ input. IsClaimOf input (record { text = read.0; claimed = read.1 }))) }
     ensures has { IfOk result (λ read. HasText read.0) }
     ensures fault { IfErr result (λ fault. IfSome (S.ahead reader) (λ input. IsFaultOfClaimInput input fault)) }
@@ -77,12 +61,10 @@ where
 }
 
 /// What the text of a history says, and where anything follows what the verdict text after it claims of it.
-pub fn drawable_of<S: TextSource>(
+pub fn drawable_of<S: TextSource + Drop>(
     alloc: Global,
     reader: S,
 ) -> Result<(HistoryText, Option<Claimed>), TextFault>
-where
-    S: Drop,
     ensures drawable { IfOk result (λ read. IfSome (S.ahead reader) (λ input. IsDrawableOf input (drawable read.0 read.1))) }
     ensures has { IfOk result (λ read. HasText read.0) }
     ensures fault { IfErr result (λ fault. IfSome (S.ahead reader) (λ input. IsFaultOfDrawableInput input fault)) }
@@ -97,9 +79,10 @@ where
 }
 
 /// The one history that the reader gives, and the version of its text.
-pub fn given_history<S: TextSource>(alloc: Global, reader: S) -> Result<(Version, History), Fault>
-where
-    S: Drop,
+pub fn given_history<S: TextSource + Drop>(
+    alloc: Global,
+    reader: S,
+) -> Result<(Version, History), Fault>
     ensures history { IfOk result (λ read. IfSome (S.ahead reader) (λ input. IsHistoryOf input (said_in read.0 read.1))) }
     ensures has { IfOk result (λ read. HasText (said_in read.0 read.1)) }
     ensures complete { IfOk result (λ read. IsCompleteFrom read.1.initial read.1.events) }
@@ -124,4 +107,15 @@ pub fn history_of(alloc: Global, text: HistoryText) -> Result<(Version, History)
     } = text;
     let history = history_from(alloc, initial.into_vec(), events.into_vec())?;
     Ok((version, history))
+}
+
+/// The one schedule that the reader gives.
+pub fn schedule_of<S: TextSource + Drop>(alloc: Global, reader: S) -> Result<Schedule, TextFault>
+    ensures schedule { IfOk result (λ schedule. IfSome (S.ahead reader) (λ input. IsScheduleOf input schedule)) }
+    ensures setting { IfOk result (λ schedule. IsSetting schedule.threads schedule.ring) }
+    ensures fault { IfErr result (λ fault. IfSome (S.ahead reader) (λ input. IsFaultOfScheduleInput input fault)) }
+{
+    let mut texts = TextReader::new(reader);
+    let schedule = read_schedule(alloc, &mut texts)?;
+    at_end(&mut texts).map(|()| schedule)
 }

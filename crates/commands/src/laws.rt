@@ -9,11 +9,11 @@ ghost use Rattle.recorder_core.specs.Laws.{IsDone};
 ghost use Rattle.recorder_core.specs.Replay.{IsHonest};
 ghost use Rattle.simulation.specs.Simulations.{rejections};
 ghost use Rattle.verdicts.specs.declared.verifying.Claimed.TheVariants.{Yes};
+ghost use Rattle.command_words.specs.declared.options.PictureForm.{PictureForm};
+ghost use Rattle.command_words.specs.Commands.{check, shrink, verify, draw, convert, sim};
 ghost use Rattle.commands.specs.Answers.{Reply, played};
 ghost use Rattle.commands.specs.Judging.{SimulatesIn};
 ghost use Rattle.commands.specs.OneAnswer.{HasOneAnswer};
-ghost use Rattle.command_words.specs.declared.options.PictureForm.{PictureForm};
-ghost use Rattle.command_words.specs.Commands.{check, shrink, verify, draw, convert, sim};
 
 /// No false alarm: what is answered of an honest schedule that is done is a yes.
 pub fn honest_schedules_get_a_yes()

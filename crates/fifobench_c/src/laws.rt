@@ -5,9 +5,9 @@ ghost use Rattle.history_text.specs.Histories.{HasHistoryText, history_text};
 ghost use Rattle.command_words.specs.Commands.{check};
 ghost use Rattle.commands.specs.Answers.{Reply};
 ghost use Rattle.commands.specs.Evidence.{input_of};
-ghost use Rattle.commands.specs.Judging.{AnswersOrNoMemory, JudgesHistory, from_none};
 ghost use Rattle.commands.specs.OneAnswer.{SameOrNoMemory};
 ghost use Rattle.commands.specs.Running.{AnswersOf};
+ghost use Rattle.commands.specs.Judging.{AnswersOrNoMemory, JudgesHistory, from_none};
 
 /// Events and their text have one answer: what may be answered of the events, and what `check` may answer of their text, are
 /// the same, or one of them is want of memory.

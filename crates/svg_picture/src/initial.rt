@@ -26,12 +26,7 @@ fn initial_words(alloc: Global, value: u64, place: Option<usize>) -> Result<Vec<
 }
 
 #[tactic(auto, unfolding(crate::specs::Picture::initial_number))]
-fn push_initial_number(
-    text: &mut Vec<u8>,
-    sheet: &Sheet<'_>,
-    row: u128,
-    place: Option<usize>,
-) -> Added
+fn push_row_number(text: &mut Vec<u8>, sheet: &Sheet<'_>, row: u128, place: Option<usize>) -> Added
     requires row { row ≤ 2 ^ 65 }
     requires place { IfSome place (λ place. place ≤ MOST_DRAWN) }
     ensures { OnOk result (text.new.items ≡ text.old.items ++ text_of (initial_number (page_on sheet.now) row place)) }
@@ -76,17 +71,8 @@ fn push_initial_value(text: &mut Vec<u8>, sheet: &Sheet<'_>, j: usize, value: u6
     let words = initial_words(sheet.alloc, value, place)?;
     push_element(text, b"title", &[], words.as_slice())?;
     push_initial_rect(text, sheet, row, value)?;
-    push_initial_number(text, sheet, row, place)?;
+    push_row_number(text, sheet, row, place)?;
     push_end(text, b"g")
-}
-
-fn push_each_initial_value(text: &mut Vec<u8>, sheet: &Sheet<'_>) -> Added
-    ensures { OnOk result (text.new.items ≡ text.old.items ++ text_of (each (numbered_initial (page_on sheet.now)) (enumerate_from 0 sheet.now.initial.now))) }
-{
-    for (j, value) in sheet.initial.iter().enumerate() {
-        push_initial_value(text, sheet, j, *value)?;
-    }
-    Ok(())
 }
 
 /// Adds the initial values under their head, where there are some.
@@ -102,4 +88,14 @@ pub(crate) fn push_initial_values(text: &mut Vec<u8>, sheet: &Sheet<'_>) -> Adde
             push_each_initial_value(text, sheet)
         }
     }
+}
+
+/// Adds the initial values, each in its row.
+fn push_each_initial_value(text: &mut Vec<u8>, sheet: &Sheet<'_>) -> Added
+    ensures { OnOk result (text.new.items ≡ text.old.items ++ text_of (each (numbered_initial (page_on sheet.now)) (enumerate_from 0 sheet.now.initial.now))) }
+{
+    for (j, value) in sheet.initial.iter().enumerate() {
+        push_initial_value(text, sheet, j, *value)?;
+    }
+    Ok(())
 }
