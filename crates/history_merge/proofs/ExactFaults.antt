@@ -18,7 +18,7 @@ use Rattle.event_records.specs.Turns.{TakesTurns, TicketsRise}
 use Rattle.event_records.specs.Projection.{projection}
 use Rattle.history_merge.specs.declared.fault.HistoryFault.{HistoryFault}
 use Rattle.history_merge.specs.declared.fault.HistoryFault.TheVariants.{TicketOrder, BadThread, CallWhilePending, ReturnWithoutCall, WrongReturn}
-use Rattle.history_merge.specs.declared.fault.HistoryFault.TheVariants.{DuplicateValue, Pending, Memory, InitialTwice}
+use Rattle.history_merge.specs.declared.fault.HistoryFault.TheVariants.{DuplicateValue, Memory}
 use Rattle.history_merge.specs.Complete.{AreDistinct, IsCompleteHistory, called_values}
 use Rattle.history_merge.specs.Faults.{fault_at, NoFaultBefore, IsFirstFault, IsFirstFaultAt, repeats_value}
 use Rattle.history_merge.specs.Inner.Faults.{NothingPending, IsFirstRepeat}
@@ -26,6 +26,7 @@ use Rattle.history_merge.proofs.Distinct.{one_at}
 use Rattle.history_merge.proofs.Tracking.{projection-push_own, projection-push_other}
 use Rattle.history_merge.proofs.DistinctValues.{cut_at, distinct_push, new_from_distinct}
 use Rattle.history_merge.proofs.Turns.{TurnsSoFar, turns_push, fits_in_turns, nothing_after_turns}
+use Rattle.history_merge.proofs.FaultKinds.{by_kind}
 use Rattle.history_merge.proofs.FirstFaults.{MayFollow, may_follow, no_fault, one_of_rules}
 
 -- ---- no fault, hence a complete history
@@ -35,8 +36,8 @@ pub record IsSound (events : List Event) : Type 0 where
   pub tickets_rise : TicketsRise events
   pub tickets_in_range : All (λ e. e.ticket ≤ MAX_TICKET) events
   pub threads_in_range : All (λ e. e.thread ≤ MAX_THREAD) events
-  pub turns : (thread : ℕ) → TurnsSoFar (projection thread events)
   pub values_are_distinct : AreDistinct (called_values events)
+  pub turns : (thread : ℕ) → TurnsSoFar (projection thread events)
 
 -- the last event is the one at the last place
 last_is : (o : Option Event) (e : Event) (events : List Event) (d : Event) → last_or o (e ∷ events) ≡ Some (get_or (e ∷ events) (length events) d)
@@ -60,8 +61,8 @@ sound_push events e sound may = record {
   tickets_rise = all_pairs_push (λ x y. x.ticket < y.ticket) events e sound.tickets_rise (above_all events e.ticket sound.tickets_rise may.rises);
   tickets_in_range = All-push (λ x. x.ticket ≤ MAX_TICKET) events e sound.tickets_in_range may.ticket_in_range;
   threads_in_range = All-push (λ x. x.thread ≤ MAX_THREAD) events e sound.threads_in_range may.thread_in_range;
-  turns = turns;
   values_are_distinct = distinct_push events e sound.values_are_distinct may.is_new;
+  turns = turns;
 }
   where
     turns : (thread : ℕ) → TurnsSoFar (projection thread (events ++ e ∷ []))
@@ -78,8 +79,8 @@ sound_before events zero within none = record {
   tickets_rise = λ i j d below short. absurd (omega arith);
   tickets_in_range = All-nil (λ x. x.ticket ≤ MAX_TICKET);
   threads_in_range = All-nil (λ x. x.thread ≤ MAX_THREAD);
-  turns = λ thread. tt;
   values_are_distinct = λ i j d below short. absurd (omega arith);
+  turns = λ thread. tt;
 }
 sound_before events (suc n) within none =
     let d : Event = record { ticket = 0; thread = 0; what = CallEnq 0 } in
@@ -181,15 +182,10 @@ repeats_at events (Some j) i e first none here = elim (cases_order j i) [
 
 -- only want of memory is left as a fault of a complete history
 pub complete_has_no_fault : (events : List Event) (fault : HistoryFault) → IsFirstFault events fault → IsCompleteHistory events → fault ≡ Memory
-complete_has_no_fault events (TicketOrder i) found complete = absurd (no_first_fault events i (TicketOrder i) complete found)
-complete_has_no_fault events (BadThread i) found complete = absurd (no_first_fault events i (BadThread i) complete found)
-complete_has_no_fault events (CallWhilePending i) found complete = absurd (no_first_fault events i (CallWhilePending i) complete found)
-complete_has_no_fault events (ReturnWithoutCall i) found complete = absurd (no_first_fault events i (ReturnWithoutCall i) complete found)
-complete_has_no_fault events (WrongReturn i) found complete = absurd (no_first_fault events i (WrongReturn i) complete found)
-complete_has_no_fault events (DuplicateValue i) found complete = absurd (no_first_fault events i (DuplicateValue i) complete found)
-complete_has_no_fault events (Pending ticket) found complete =
+complete_has_no_fault events fault first complete = by_kind (λ f. IsFirstFault events f → f ≡ Memory)
+    (λ i f of found. absurd (no_first_fault events i f complete ((of.first events).0 found)))
+    (λ ticket found.
     let call = found.1.0 in
     let nothing = nothing_pending_in_complete events complete call.0 in
-    let there = call.2 in cc
-complete_has_no_fault events Memory found complete = refl
-complete_has_no_fault events (InitialTwice j) found complete = absurd found
+    let there = call.2 in cc)
+    (λ found. refl) (λ j found. absurd found) fault first

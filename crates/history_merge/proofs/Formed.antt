@@ -155,10 +155,7 @@ kind_answered _ _ h = cc
 kind_of_no_call : (call answer : What) → is_call call ≡ false → kind_of call answer ≡ None
 kind_of_no_call (CallEnq v) answer h = cc
 kind_of_no_call CallDeq answer h = cc
-kind_of_no_call RetEnq answer h = refl
-kind_of_no_call RetNot answer h = refl
-kind_of_no_call (RetDeq v) answer h = refl
-kind_of_no_call RetEmpty answer h = refl
+kind_of_no_call _ answer h = refl
 
 no_operation : (e : Event) (next : Option Event) → is_call e.what ≡ false → operation_of e next ≡ None
 no_operation e None h = refl

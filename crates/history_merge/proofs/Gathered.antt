@@ -197,19 +197,11 @@ formed_answer (e ∷ later) r place call waits returns = join (formed_answer lat
 
 enqueued_answered : (v : ℕ) (answer : What) → enqueued_value (answered (begun (CallEnq v)) answer) ≡ Some v
 enqueued_answered v (CallEnq w) = refl
-enqueued_answered v RetEnq = refl
-enqueued_answered v RetNot = refl
-enqueued_answered v CallDeq = refl
-enqueued_answered v (RetDeq w) = refl
-enqueued_answered v RetEmpty = refl
+enqueued_answered v _ = refl
 
 dequeued_answered : (answer : What) → enqueued_value (answered (begun CallDeq) answer) ≡ None
 dequeued_answered (CallEnq w) = refl
-dequeued_answered RetEnq = refl
-dequeued_answered RetNot = refl
-dequeued_answered CallDeq = refl
-dequeued_answered (RetDeq w) = refl
-dequeued_answered RetEmpty = refl
+dequeued_answered _ = refl
 
 -- the operations tell the values that were called
 pub called_in_operations : (events : List Event) (v : ℕ) → was_called events v ≡ is_called_in (operations_so_far events) v

@@ -14,14 +14,14 @@ use Rattle.std.proofs.lemmas.List.Kept.{AllPairs-cons}
 use Rattle.std.proofs.lemmas.Option.{slice_get_within, slice_get-get_or, get_or_from_slice_get}
 use Rattle.event_records.specs.declared.event.Event.{Event}
 use Rattle.history_merge.specs.declared.fault.HistoryFault.{HistoryFault}
-use Rattle.history_merge.specs.declared.fault.HistoryFault.TheVariants.{TicketOrder, BadThread, CallWhilePending, ReturnWithoutCall, WrongReturn}
-use Rattle.history_merge.specs.declared.fault.HistoryFault.TheVariants.{DuplicateValue, Pending, Memory, InitialTwice}
+use Rattle.history_merge.specs.declared.fault.HistoryFault.TheVariants.{DuplicateValue, Pending, Memory}
 use Rattle.history_merge.specs.Complete.{AreDistinct, IsCompleteHistory, called_value, called_values}
 use Rattle.history_merge.specs.Faults.{fault_at, NoFaultBefore, IsFirstFault, IsFirstFaultAt, calls_initial, is_initial, fault_from, NoFaultBeforeFrom}
 use Rattle.history_merge.specs.Faults.{IsFirstFaultAtFrom, IsFirstFaultFrom, IsFirstTwice}
 use Rattle.history_merge.specs.Gathering.{HasRefusedInitial, IsFirstInitialCall, NoInitialCallBefore}
 use Rattle.history_merge.specs.Initial.{HistoryView, IsCompleteFrom}
 use Rattle.history_merge.specs.Inner.Faults.{comes_by}
+use Rattle.history_merge.proofs.FaultKinds.{by_kind}
 use Rattle.history_merge.proofs.ExactFaults.{complete_has_no_fault, no_fault_in_complete}
 
 -- ---- the fault of one event
@@ -56,63 +56,35 @@ within events i fault found = slice_get_within events i found.1.0 found.1.1
 -- where no call has an initial value, the fault is that of the events
 pub first_without_calls : (initial : List ℕ) (events : List Event) (fault : HistoryFault) → AreDistinct initial
     → NoInitialCallBefore initial events (length events) → IsFirstFault events fault → IsFirstFaultFrom initial events fault
-first_without_calls initial events fault distinct new first = join fault first
+first_without_calls initial events fault distinct new first = by_kind (λ f. IsFirstFault events f → IsFirstFaultFrom initial events f)
+    (λ i f of found. (of.first_from initial events).1 (at i f ((of.first events).0 found)))
+    (λ ticket found. (distinct, λ k x below here. none_from initial (take k events) k x (found.0 k x below here) (new k x below here), found.1))
+    (λ found. tt) (λ j found. absurd found) fault first
   where
     at : (i : ℕ) (f : HistoryFault) → IsFirstFaultAt events i f → IsFirstFaultAtFrom initial events i f
     at i f found = let inside = within events i f found in at_from initial events i f distinct (λ k x below. new k x (omega arith)) found
 
-    join : (f : HistoryFault) → IsFirstFault events f → IsFirstFaultFrom initial events f
-    join (TicketOrder i) found = at i (TicketOrder i) found
-    join (BadThread i) found = at i (BadThread i) found
-    join (CallWhilePending i) found = at i (CallWhilePending i) found
-    join (ReturnWithoutCall i) found = at i (ReturnWithoutCall i) found
-    join (WrongReturn i) found = at i (WrongReturn i) found
-    join (DuplicateValue i) found = at i (DuplicateValue i) found
-    join (Pending ticket) found = (
-      distinct,
-      λ k x below here. none_from initial (take k events) k x (found.0 k x below here) (new k x below here),
-      found.1,
-    )
-    join Memory found = tt
-    join (InitialTwice j) found = absurd found
-
 -- the first fault comes no later than the first call with an initial value
 pub first_by_call : (initial : List ℕ) (events : List Event) (place : ℕ) (fault : HistoryFault) → AreDistinct initial
     → NoInitialCallBefore initial events place → IsFirstFault events fault → comes_by place fault ≡ true → IsFirstFaultFrom initial events fault
-first_by_call initial events place fault distinct new first by = join fault first by
+first_by_call initial events place fault distinct new first by =
+    by_kind (λ f. IsFirstFault events f → comes_by place f ≡ true → IsFirstFaultFrom initial events f)
+    (λ i f of found low. (of.first_from initial events).1 (at i f (sym (of.comes place) ∙ low) ((of.first events).0 found)))
+    (λ ticket found low. cc) (λ found low. tt) (λ j found low. absurd found) fault first by
   where
     at : (i : ℕ) (f : HistoryFault) → nat_le i place ≡ true → IsFirstFaultAt events i f → IsFirstFaultAtFrom initial events i f
     at i f up_to found = let low = leb-true i place up_to in at_from initial events i f distinct (λ k x below. new k x (omega arith)) found
 
-    join : (f : HistoryFault) → IsFirstFault events f → comes_by place f ≡ true → IsFirstFaultFrom initial events f
-    join (TicketOrder i) found low = at i (TicketOrder i) low found
-    join (BadThread i) found low = at i (BadThread i) low found
-    join (CallWhilePending i) found low = at i (CallWhilePending i) low found
-    join (ReturnWithoutCall i) found low = at i (ReturnWithoutCall i) low found
-    join (WrongReturn i) found low = at i (WrongReturn i) low found
-    join (DuplicateValue i) found low = at i (DuplicateValue i) low found
-    join (Pending ticket) found low = cc
-    join Memory found low = tt
-    join (InitialTwice j) found low = absurd found
-
 -- a fault that comes later leaves none up to the call
 pub none_by_call : (events : List Event) (place : ℕ) (fault : HistoryFault) → place < length events → IsFirstFault events fault
     → comes_by place fault ≡ false → NoFaultBefore events (place + 1)
-none_by_call events place fault inside first later = join fault first later
+none_by_call events place fault inside first later =
+    by_kind (λ f. IsFirstFault events f → comes_by place f ≡ false → NoFaultBefore events (place + 1))
+    (λ i f of found past. at i f (sym (of.comes place) ∙ past) ((of.first events).0 found))
+    (λ ticket found past k x below. found.0 k x (omega arith)) (λ found past. cc) (λ j found past. cc) fault first later
   where
     at : (i : ℕ) (f : HistoryFault) → nat_le i place ≡ false → IsFirstFaultAt events i f → NoFaultBefore events (place + 1)
     at i f past found = let high = leb-false i place past in λ k x below. found.0 k x (omega arith)
-
-    join : (f : HistoryFault) → IsFirstFault events f → comes_by place f ≡ false → NoFaultBefore events (place + 1)
-    join (TicketOrder i) found past = at i (TicketOrder i) past found
-    join (BadThread i) found past = at i (BadThread i) past found
-    join (CallWhilePending i) found past = at i (CallWhilePending i) past found
-    join (ReturnWithoutCall i) found past = at i (ReturnWithoutCall i) past found
-    join (WrongReturn i) found past = at i (WrongReturn i) past found
-    join (DuplicateValue i) found past = at i (DuplicateValue i) past found
-    join (Pending ticket) found past = λ k x below. found.0 k x (omega arith)
-    join Memory found past = cc
-    join (InitialTwice j) found past = cc
 
 -- then the call with an initial value is the first fault
 pub call_is_first : (initial : List ℕ) (events : List Event) (place : ℕ) → AreDistinct initial → IsFirstInitialCall initial events place
@@ -268,7 +240,10 @@ twice_not_distinct initial j distinct twice =
 -- only want of memory is left as a fault of a complete history
 pub complete_from_has_no_fault : (initial : List ℕ) (events : List Event) (fault : HistoryFault) → IsFirstFaultFrom initial events fault
     → IsCompleteFrom initial events → fault ≡ Memory
-complete_from_has_no_fault initial events fault first complete = join fault first
+complete_from_has_no_fault initial events fault first complete = by_kind (λ f. IsFirstFaultFrom initial events f → f ≡ Memory)
+    (λ i f of found. absurd (none i f ((of.first_from initial events).0 found)))
+    (λ ticket found. complete_has_no_fault events (Pending ticket) (no_fault_in_complete events complete.complete, found.2) complete.complete)
+    (λ found. refl) (λ j found. absurd (twice_not_distinct initial j (initial_distinct initial events complete) found)) fault first
   where
     none : (i : ℕ) (f : HistoryFault) → IsFirstFaultAtFrom initial events i f → ⊥
     none i f found =
@@ -277,18 +252,6 @@ complete_from_has_no_fault initial events fault first complete = join fault firs
         let clean = none_from initial (take i events) i e (no_fault_in_complete events complete.complete i e inside found.2.1)
         (no_initial_call initial events complete i e inside found.2.1) in
         let some = found.2.2 in cc
-
-    join : (f : HistoryFault) → IsFirstFaultFrom initial events f → f ≡ Memory
-    join (TicketOrder i) found = absurd (none i (TicketOrder i) found)
-    join (BadThread i) found = absurd (none i (BadThread i) found)
-    join (CallWhilePending i) found = absurd (none i (CallWhilePending i) found)
-    join (ReturnWithoutCall i) found = absurd (none i (ReturnWithoutCall i) found)
-    join (WrongReturn i) found = absurd (none i (WrongReturn i) found)
-    join (DuplicateValue i) found = absurd (none i (DuplicateValue i) found)
-    join (Pending ticket) found =
-        complete_has_no_fault events (Pending ticket) (no_fault_in_complete events complete.complete, found.2) complete.complete
-    join Memory found = refl
-    join (InitialTwice j) found = absurd (twice_not_distinct initial j (initial_distinct initial events complete) found)
 
 -- what is told of a result, and of what it is where it is one
 pub both_told : {T E : Type 0} (P : T → Type 0) (Q : E → Type 0) (C : Type 0) (result : Result T E) → MatchResult result P Q → IfOk result (λ _. C)
@@ -318,24 +281,15 @@ plain_fault before i e = rw (calls_nothing e) (join (fault_at before i e))
 
 -- with no initial values the first fault is that of the events alone
 pub plain_first : (events : List Event) (fault : HistoryFault) → IsFirstFaultFrom [] events fault → IsFirstFault events fault
-plain_first events fault first = join fault first
+plain_first events fault first = by_kind (λ f. IsFirstFaultFrom [] events f → IsFirstFault events f)
+    (λ i f of found. (of.first events).1 (at i f ((of.first_from [] events).0 found)))
+    (λ ticket found. (none (length events) found.1, found.2)) (λ found. tt) (λ j found. let here = found.1.1 in cc) fault first
   where
     none : (n : ℕ) → NoFaultBeforeFrom [] events n → NoFaultBefore events n
     none n clean k x below at = sym (plain_fault (take k events) k x) ∙ clean k x below at
 
     at : (i : ℕ) (f : HistoryFault) → IsFirstFaultAtFrom [] events i f → IsFirstFaultAt events i f
     at i f found = (none i found.1, (found.2.0, found.2.1, sym (plain_fault (take i events) i found.2.0) ∙ found.2.2))
-
-    join : (f : HistoryFault) → IsFirstFaultFrom [] events f → IsFirstFault events f
-    join (TicketOrder i) found = at i (TicketOrder i) found
-    join (BadThread i) found = at i (BadThread i) found
-    join (CallWhilePending i) found = at i (CallWhilePending i) found
-    join (ReturnWithoutCall i) found = at i (ReturnWithoutCall i) found
-    join (WrongReturn i) found = at i (WrongReturn i) found
-    join (DuplicateValue i) found = at i (DuplicateValue i) found
-    join (Pending ticket) found = (none (length events) found.1, found.2)
-    join Memory found = tt
-    join (InitialTwice j) found = let here = found.1.1 in cc
 
 -- the first fault of events of a queue that is empty first
 pub first_from_nothing : (events : List Event) (fault : HistoryFault) → IsFirstFaultFrom [] events fault ↔ IsFirstFault events fault

@@ -97,10 +97,7 @@ knows_set events e least old new values v calls long has adds same others = reco
 }
   where
     or_cond : (here before : Bool) → cond here true before ≡ (before || here)
-    or_cond true true = refl
-    or_cond true false = refl
-    or_cond false true = refl
-    or_cond false false = refl
+    or_cond here before = grind (arith, nat_tests)
 
     each : (q : ℕ) → contains nat_cmp new q ≡ was_called (events ++ e ∷ []) q
     each q = adds q ∙ ap (λ b. cond b true (contains nat_cmp old q)) (is_eq-nat_cmp v q) ∙ ap (cond (nat_eq v q) true) (has q)

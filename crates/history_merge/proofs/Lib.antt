@@ -3,7 +3,7 @@
 -- Tracking, KnownValues, Gathered: what a walk over events keeps (pending calls, called values, operations), and one more event.
 -- NextEvents: the same walk from the last event to the first.
 -- Completeness, Distinct: what the operations of a complete history have in common, and what tells them apart.
--- FirstFaults, ExactFaults: a list of events is a complete history exactly where it has no fault.
+-- FirstFaults, ExactFaults: a list of events is a complete history exactly where it has no fault. FaultKinds: the kinds of faults.
 -- Formed, MetFaults: what the builder holds after each event, and at the end: the operations, or the first fault.
 -- OneFault: a list of events has one first fault.
 -- InitialValues, InitialFaults, OneFaultFrom: the same of a queue that holds some values first.
@@ -24,6 +24,7 @@ pub mod Tracking
 pub mod DistinctValues
 pub mod Turns
 pub mod FirstFaults
+pub mod FaultKinds
 pub mod ExactFaults
 pub mod OneFault
 pub mod InitialFaults

@@ -4,7 +4,7 @@ use Rattle.std.specs.Prelude.{MatchOption}
 use Rattle.std.specs.Bool.{then_some}
 use Rattle.event_records.specs.declared.event.Event.{Event}
 use Rattle.event_records.specs.declared.event.What.{What}
-use Rattle.event_records.specs.declared.event.What.TheVariants.{CallEnq, RetEnq, RetNot, CallDeq, RetDeq, RetEmpty}
+use Rattle.event_records.specs.declared.event.What.TheVariants.{CallEnq, CallDeq}
 use Rattle.event_records.specs.Turns.{TakesTurns, is_call, answers}
 use Rattle.history_merge.specs.Inner.Forming.{FitsTurn}
 use Rattle.history_merge.proofs.Tracking.{pending_in, pending_in-push}
@@ -13,25 +13,17 @@ use Rattle.history_merge.proofs.Tracking.{pending_in, pending_in-push}
 pub answered_is_call : (call answer : What) → answers call answer ≡ true → is_call call ≡ true
 answered_is_call (CallEnq v) answer h = refl
 answered_is_call CallDeq answer h = refl
-answered_is_call RetEnq answer h = cc
-answered_is_call RetNot answer h = cc
-answered_is_call (RetDeq v) answer h = cc
-answered_is_call RetEmpty answer h = cc
+answered_is_call _ answer h = cc
 
 -- what answers is a return
 pub answer_is_return : (call answer : What) → answers call answer ≡ true → is_call answer ≡ false
-answer_is_return call RetEnq h = refl
-answer_is_return call RetNot h = refl
-answer_is_return call (RetDeq v) h = refl
-answer_is_return call RetEmpty h = refl
 answer_is_return (CallEnq v) (CallEnq w) h = cc
 answer_is_return (CallEnq v) CallDeq h = cc
 answer_is_return CallDeq (CallEnq w) h = cc
 answer_is_return CallDeq CallDeq h = cc
-answer_is_return RetEnq _ h = cc
-answer_is_return RetNot _ h = cc
-answer_is_return (RetDeq v) _ h = cc
-answer_is_return RetEmpty _ h = cc
+answer_is_return (CallEnq v) _ h = refl
+answer_is_return CallDeq _ h = refl
+answer_is_return _ _ h = cc
 
 -- a call with its answer leaves what the events after it leave
 pending_in-pair : (call answer : Event) (rest : List Event) → is_call answer.what ≡ false → pending_in (call ∷ answer ∷ rest) ≡ pending_in rest

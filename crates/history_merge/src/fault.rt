@@ -1,4 +1,5 @@
 ghost use Rattle.std.specs.Prelude.{◌≡◌, ◌≤◌, length};
+ghost use Rattle.history_merge.specs.declared.fault.HistoryFault.TheVariants.{Memory};
 ghost use Rattle.history_merge.specs.Inner.Faults.{comes_by};
 ghost use Rattle.history_merge.specs.Names.{name_of, place_in};
 
@@ -40,9 +41,6 @@ pub enum HistoryFault {
 }
 
 impl From<AllocError> for HistoryFault {
-    ghost use Rattle.std.specs.Prelude.{◌≡◌};
-    ghost use Rattle.history_merge.specs.declared.fault.HistoryFault.TheVariants.{Memory};
-
     ghost from_gives = { λ _ fault. fault ≡ Memory };
 
     fn from(_refused: AllocError) -> HistoryFault {
@@ -75,14 +73,9 @@ impl HistoryFault {
         ensures { result ≡ comes_by place self }
     {
         match self {
-            HistoryFault::TicketOrder(at)
-            | HistoryFault::BadThread(at)
-            | HistoryFault::CallWhilePending(at)
-            | HistoryFault::ReturnWithoutCall(at)
-            | HistoryFault::WrongReturn(at)
-            | HistoryFault::DuplicateValue(at) => at <= place,
             HistoryFault::Pending(_) => false,
             HistoryFault::Memory | HistoryFault::InitialTwice(_) => true,
+            _ => self.place().is_none_or(|at| at <= place as u64),
         }
     }
 
