@@ -6,7 +6,7 @@ use Rattle.std.specs.declared.result.Result.{Result}
 use Rattle.std.specs.List.{flat_map, AllByRecursion}
 use Rattle.std.proofs.lemmas.Grind.{flat_map-append}
 use Rattle.text_lines.specs.declared.fault.TextFault.{TextFault}
-use Rattle.text_lines.specs.declared.fault.TextFault.TheVariants.{Read, Header, Line, Number, Limit, Count, Cut, Trailing, Memory}
+use Rattle.text_lines.specs.declared.fault.TextFault.TheVariants.{Memory}
 use Rattle.text_lines.specs.Faults.{MemoryOr}
 use Rattle.text_lines.specs.Lines.{front_of}
 use Rattle.history_text.specs.Items.{Format, line_of, lines_of, HaveLines, ItemFault, NoRoom, item_at_front}
@@ -18,14 +18,7 @@ use Rattle.text_lines.proofs.MemoryOrNot.{is_memory, known_fault, follows}
 
 other_fault : (Lacking : Type 0) (IsFault : TextFault → Type 0) (fault : TextFault) → IsOfInput fault → IsFault fault → MemoryOr Lacking IsFault fault
 other_fault L F Memory other h = absurd other
-other_fault L F Read other h = h
-other_fault L F Header other h = h
-other_fault L F (Line n) other h = h
-other_fault L F (Number n) other h = h
-other_fault L F (Limit n) other h = h
-other_fault L F Count other h = h
-other_fault L F Cut other h = h
-other_fault L F Trailing other h = h
+other_fault L F fault other h = h
 
 -- a fault of the input is no want of memory
 pub first_is : (IsFault : Ending → List ℕ → TextFault → Type 0) (LacksRoom : List ℕ → Type 0) (old : Option Ahead) (fault : TextFault)

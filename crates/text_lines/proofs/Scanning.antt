@@ -1,5 +1,5 @@
 -- What stands at the front, found in one pass.
-use Rattle.std.proofs.Common.{◌≡◌, ℕ, ◌+◌, ◌-◌, ◌*◌, ◌^◌, ◌<◌, ◌≤◌, List, ◌++◌, length, take, drop, get_or, Bool, true, false, ◌||◌, not, nat_lt}
+use Rattle.std.proofs.Common.{◌≡◌, ℕ, ◌+◌, ◌-◌, ◌*◌, ◌^◌, ◌<◌, ◌≤◌, List, ◌++◌, length, take, drop, get_or, Bool, true, false, ◌||◌, not, nat_lt, nat_le}
 use Rattle.std.proofs.Common.{arith, ap, sym, subst, ◌∙◌, refl, inl, inr, [], ◌∷◌, zero, suc}
 use Rattle.std.specs.Prelude.{◌==◌, decimal, Option, Some, None, IfNone}
 use Rattle.std.specs.Int.{IsInRange}
@@ -13,15 +13,10 @@ use Rattle.std.proofs.lemmas.List.Folds.{list_all_more}
 use Rattle.std.proofs.lemmas.Fmt.{decimal_nonempty, decimal_digit, first_decimal, digits_value-decimal}
 use Rattle.std.proofs.lemmas.Str.Parse.{digits_value-take-le, numerals_by_value}
 use Rattle.text_lines.specs.Lines.{is_number, begins_with_digit}
+use Rattle.text_lines.specs.Inner.Digits.{IsDigitsSoFar, StopsAt, AreDigitsBeyond}
 use Rattle.text_lines.proofs.Digits.{digits_go_on}
 use Rattle.text_lines.proofs.Numbers.{number_spelled, both, tells}
 use Rattle.text_lines.proofs.WrittenLines.{all_digits}
-
--- the first bytes are digits, and this is their value
-pub record IsDigitsSoFar (bytes : List ℕ) (count value : ℕ) : Type 0 where
-  pub within : count ≤ length bytes
-  pub digits : list_all is_ascii_digit (take count bytes) ≡ true
-  pub value_is : value ≡ digits_value 10 (take count bytes)
 
 is_digit : (b : ℕ) → IsInRange 48 57 b → is_ascii_digit b ≡ true
 is_digit b range = grind (arith, nat_tests, range.0, range.1)
@@ -34,6 +29,15 @@ one_more_digit bytes count value last more so_far range last_is = record {
   digits = list_all_more is_ascii_digit bytes count 0 more ∙ rw (so_far.digits, is_digit (get_or bytes count 0) range) refl;
   value_is = digits_go_on bytes count value last more range last_is so_far.value_is;
 }
+
+digit_range : (b : ℕ) → is_ascii_digit b ≡ true → IsInRange 48 57 b
+digit_range b e = let p = both (nat_le 48 b) (nat_le b 57) e in (grind (arith, nat_tests, p.0), grind (arith, nat_tests, p.1))
+
+-- the same where it is tested to be a digit
+pub one_tested_more : (bytes : List ℕ) (count value last : ℕ) → count < length bytes → IsDigitsSoFar bytes count value
+    → is_ascii_digit (get_or bytes count 0) ≡ true → last ≡ get_or bytes count 0 - 48 → IsDigitsSoFar bytes (count + 1) (value * 10 + last)
+one_tested_more bytes count value last more so_far digit last_is =
+    one_more_digit bytes count value last more so_far (digit_range (get_or bytes count 0) digit) last_is
 
 left_true : (a b : Bool) → a ≡ true → (a || b) ≡ true
 left_true a b e = rw e refl
@@ -96,10 +100,6 @@ no_more (d ∷ ds) rest (suc n) digits stops =
     let less = no_more ds rest n (both (is_ascii_digit d) _ digits).1 (λ h. stops (omega (arith, h))) in
     omega (arith, less)
 
--- the digits at the front go no further than this
-abbrev pub StopsAt : List ℕ → ℕ → Type 0
-StopsAt bytes count = count < length bytes → is_ascii_digit (get_or bytes count 0) ≡ false
-
 by_digit : (b : Bool) → (b ≡ false → ⊥) → b ≡ true
 by_digit true h = refl
 by_digit false h = absurd (h refl)
@@ -145,6 +145,12 @@ module _ (bytes : List ℕ) (v : ℕ) (rest : List ℕ) (small : v < 2 ^ 64) (is
       let all = digits_value-take-le 10 (decimal v) (count + 1) (omega arith) in
       let whole : digits_value 10 (decimal v) ≡ v = digits_value-decimal (numerals_by_value _ tells) v small in
       omega (arith, value_is, all, whole, beyond, small))
+
+-- one digit more is beyond 64 bits
+pub digits_are_beyond : (bytes : List ℕ) (count value last : ℕ) → count < length bytes → IsDigitsSoFar bytes count value
+    → is_ascii_digit (get_or bytes count 0) ≡ true → last ≡ get_or bytes count 0 - 48 → 2 ^ 64 ≤ value * 10 + last → AreDigitsBeyond bytes
+digits_are_beyond bytes count value last more so_far digit last_is beyond = λ v rest small is.
+    none_beyond bytes v rest small is count value last more so_far (digit_range (get_or bytes count 0) digit) last_is beyond
 
 -- what holds anyway holds where there is none
 pub on_none : {X : Type 0} (found : Option X) (P : Type 0) → P → IfNone found P

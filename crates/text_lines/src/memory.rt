@@ -43,23 +43,18 @@ impl<'a> MemorySource<'a> {
     pub fn failing(bytes: &'a [u8]) -> Self
         ensures { result ≡ record { ahead = record { bytes = bytes.now; ending = Failure }; most = usize.MAX } }
     {
-        MemorySource {
-            bytes,
-            most: usize::MAX,
-            fails: true,
-        }
+        let mut source = MemorySource::new(bytes);
+        source.fails = true;
+        source
     }
 
     /// The same bytes with the same end, at most so many at each read.
-    pub fn in_pieces(self, most: usize) -> Self
+    pub fn in_pieces(mut self, most: usize) -> Self
         requires { 0 < most }
         ensures { result ≡ record { ahead = self.entry.ahead; most = most } }
     {
-        MemorySource {
-            bytes: self.bytes,
-            most,
-            fails: self.fails,
-        }
+        self.most = most;
+        self
     }
 }
 

@@ -1,6 +1,8 @@
 //! What stands at the front of some bytes, found in one pass.
-ghost use Rattle.std.specs.Prelude.{◌≡◌, ◌+◌, ◌*◌, ◌^◌, ◌<◌, ◌≤◌, ◌++◌, IfSome, IfNone, List, ℕ, decimal, true, false};
+ghost use Rattle.std.specs.Prelude.{◌≡◌, ◌+◌, ◌*◌, ◌^◌, ◌<◌, ◌≤◌, ◌++◌, IfSome, IfNone, List, ℕ, decimal, true, false, length, slice_index};
+ghost use Rattle.std.specs.Char.{is_ascii_digit};
 ghost use Rattle.text_lines.specs.Lines.{begins_with_digit};
+ghost use Rattle.text_lines.specs.Inner.Digits.{IsDigitsSoFar, AreDigitsFront, AreDigitsBeyond};
 
 /// The least number of 19 digits. With one digit more, a lesser one is in range.
 const LEAST_LONG: u64 = 1_000_000_000_000_000_000;
@@ -12,19 +14,7 @@ pub fn number_front(bytes: &[u8]) -> Option<(u64, &[u8])>
     ensures whole { IfSome result (λ p. begins_with_digit p.1.now ≡ false) }
     ensures none { IfNone result ((value : ℕ) (rest : List ℕ) → value < 2 ^ 64 → bytes.now ≡ decimal value ++ rest → begins_with_digit rest ≡ true) }
 {
-    let mut value = 0u64;
-    let mut count = 0;
-    while count < bytes.len() {
-        let byte = bytes[count];
-        if !byte.is_ascii_digit() {
-            break;
-        }
-        if value >= LEAST_LONG {
-            return long_number_front(bytes);
-        }
-        value = value * 10 + u64::from(byte - b'0');
-        count += 1;
-    }
+    let (value, count) = digits_front(bytes)?;
     if count == 0 {
         return None;
     }
@@ -34,12 +24,11 @@ pub fn number_front(bytes: &[u8]) -> Option<(u64, &[u8])>
     Some((value, &bytes[count..]))
 }
 
-/// The same of a number that may have 20 digits; none where it is out of range.
-#[inline(never)]
-fn long_number_front(bytes: &[u8]) -> Option<(u64, &[u8])>
-    ensures number { IfSome result (λ p. bytes.now ≡ decimal p.0 ++ p.1.now) }
-    ensures whole { IfSome result (λ p. begins_with_digit p.1.now ≡ false) }
-    ensures none { IfNone result ((value : ℕ) (rest : List ℕ) → value < 2 ^ 64 → bytes.now ≡ decimal value ++ rest → begins_with_digit rest ≡ true) }
+/// What all digits at the front stand for, and how many there are; none where that is beyond 64 bits.
+#[inline(always)]
+fn digits_front(bytes: &[u8]) -> Option<(u64, usize)>
+    ensures digits { IfSome result (λ p. AreDigitsFront bytes.now p.1 p.0) }
+    ensures beyond { IfNone result (AreDigitsBeyond bytes.now) }
 {
     let mut value = 0u64;
     let mut count = 0;
@@ -48,16 +37,31 @@ fn long_number_front(bytes: &[u8]) -> Option<(u64, &[u8])>
         if !byte.is_ascii_digit() {
             break;
         }
-        value = one_digit_more(value, u64::from(byte - b'0'))?;
+        if value >= LEAST_LONG {
+            return long_digits_front(bytes, count, value);
+        }
+        value = value * 10 + u64::from(byte - b'0');
         count += 1;
     }
-    if count == 0 {
+    Some((value, count))
+}
+
+/// The same where the digits before a last one stand for a number of 19 digits. A second digit more is beyond 64 bits.
+#[inline(never)]
+fn long_digits_front(bytes: &[u8], count: usize, value: u64) -> Option<(u64, usize)>
+    requires long { LEAST_LONG ≤ value }
+    requires so_far { IsDigitsSoFar bytes.now count value }
+    requires more { count < length bytes.now }
+    requires digit { is_ascii_digit (slice_index bytes.now count) ≡ true }
+    ensures digits { IfSome result (λ p. AreDigitsFront bytes.now p.1 p.0) }
+    ensures beyond { IfNone result (AreDigitsBeyond bytes.now) }
+{
+    let value = one_digit_more(value, u64::from(bytes[count] - b'0'))?;
+    let count = count + 1;
+    if count < bytes.len() && bytes[count].is_ascii_digit() {
         return None;
     }
-    if count > 1 && bytes[0] == b'0' {
-        return None;
-    }
-    Some((value, &bytes[count..]))
+    Some((value, count))
 }
 
 /// The number with one digit more, where it is in range.

@@ -1,31 +1,23 @@
-use Rattle.std.proofs.Common.{◌≡◌, ◌<◌, get_or, arith, sym}
-use Rattle.text_lines.proofs.Scanning.{one_more_digit, number_stands, none_at_first, none_after_zero}
+use Rattle.std.proofs.Common.{◌≡◌, ◌<◌, get_or, arith, subst}
+use Rattle.text_lines.specs.Inner.Digits.{StopsAt}
+use Rattle.text_lines.proofs.Scanning.{number_stands, none_at_first, none_after_zero}
 use Rattle.text_lines.proofs.scan.number_front.Goals.{else-count-gt1-via-then-count-gt1+else-bytes-eq48, else-count-gt1-via-else-count-gt1}
-use Rattle.text_lines.proofs.scan.number_front.Goals.{else-loop-count-test, then-loop-count-test+then-not-is_ascii_digit}
 use Rattle.text_lines.proofs.scan.number_front.Goals as goal
 
-pub loop-count-preserved : goal.loop-count-preserved
-loop-count-preserved c =
-    one_more_digit c.args.bytes.now c.loop-count.count c.loop-count.value c.from.result c.loop-count-test.true c.loop-count.invariant
-    c.if-not-is_ascii_digit.ensures.cases c.from.ensures
-
 pub returns-then-count-eq0-clause-none : goal.returns-then-count-eq0-clause-none
-returns-then-count-eq0-clause-none c = λ value rest small is. none_at_first c.args.bytes.now value rest small is
-    (elim c.loop-count-test.branch [
-      | else-loop-count-test w ↦ λ h. let over = w.loop-count-test.false in let zero = c.if-count-eq0.true in absurd (omega (arith, h, over, zero))
-      | then-loop-count-test+then-not-is_ascii_digit w ↦ λ h. let digit = rw c.if-count-eq0.true at w.if-not-is_ascii_digit.ensures.value in sym digit
-    ])
+returns-then-count-eq0-clause-none c = λ value rest small is.
+    none_at_first c.args.bytes.now value rest small is (subst (StopsAt c.args.bytes.now) c.if-count-eq0.true c.in_ok-value.ensures.digits.stops)
 
 pub returns-then-bytes-eq48-clause-none : goal.returns-then-bytes-eq48-clause-none
 returns-then-bytes-eq48-clause-none c = λ value rest small is.
-    none_after_zero c.args.bytes.now value rest small is c.loop-count.count c.loop-count.value c.loop-count.invariant
+    none_after_zero c.args.bytes.now value rest small is c.in_ok-value.count c.in_ok-value.value c.in_ok-value.ensures.digits.so_far
     c.if-count-gt1.true c.if-bytes-eq48.true
 
 pub returns-clause-number : goal.returns-clause-number
 returns-clause-number c =
-    let lead : 1 < c.loop-count.count → get_or c.args.bytes.now 0 0 ≡ 48 → ⊥ = elim c.else-count-gt1.branch [
+    let lead : 1 < c.in_ok-value.count → get_or c.args.bytes.now 0 0 ≡ 48 → ⊥ = elim c.else-count-gt1.branch [
       | else-count-gt1-via-then-count-gt1+else-bytes-eq48 w ↦ λ many zero. w.if-bytes-eq48.false zero
       | else-count-gt1-via-else-count-gt1 w ↦ λ many zero. let few = w.if-count-gt1.false in absurd (omega (arith, few, many))
     ] in
-    number_stands c.args.bytes.now c.loop-count.count c.loop-count.value c.loop-count.invariant (omega (arith, c.if-count-eq0.false)) lead
-    (omega (arith, c.loop-count.auto.value-fits))
+    number_stands c.args.bytes.now c.in_ok-value.count c.in_ok-value.value c.in_ok-value.ensures.digits.so_far (omega (arith, c.if-count-eq0.false)) lead
+    (omega arith)
