@@ -45,10 +45,4 @@ one_effect setting (Some asked) steps h = accept_more setting.initial (effect_ki
 pub effects_accepted : (setting : Setting) (steps : List Step) → accept_all setting.initial (effect_kinds setting steps) ≡ Some (queue setting steps)
 effects_accepted setting [] = refl
 effects_accepted setting (Effect t ∷ before) = one_effect setting (request t before) before (effects_accepted setting before)
-effects_accepted setting (AskEnq t ∷ before) = effects_accepted setting before
-effects_accepted setting (AskDeq t ∷ before) = effects_accepted setting before
-effects_accepted setting (Push t ∷ before) = effects_accepted setting before
-effects_accepted setting (Say t answer ∷ before) = effects_accepted setting before
-effects_accepted setting (Ret t ∷ before) = effects_accepted setting before
-effects_accepted setting (Drain t n ∷ before) = effects_accepted setting before
-effects_accepted setting (Close t ∷ before) = effects_accepted setting before
+effects_accepted setting (_ ∷ before) = effects_accepted setting before

@@ -117,19 +117,15 @@ events_none t = record {
 }
 
 module _ (t a n r next : ℕ) (asked : Option Request) (told : Option Answer) (list : List Event) (k : AreEventsOf t a n r next asked told list) where
+  -- the same events, with other tickets drawn and other answers given
+  same_events : (n' next' : ℕ) (told' : Option Answer) → All (λ e. e.ticket < next') list → (r < n' → Fits asked told')
+      → AreEventsOf t a n' r next' asked told' list
+  same_events n' next' told' below fits =
+      record { own = k.own; below = below; rise = k.rise; named = k.named; idle = k.idle; busy = k.busy; fits = fits; few = k.few }
+
   -- the others' steps take tickets
   events_later : (next' : ℕ) → next ≤ next' → AreEventsOf t a n r next' asked told list
-  events_later next' h = record {
-    own = k.own;
-    below = All-weaker (λ e. e.ticket < next) (λ e. e.ticket < next')
-        (λ e less. omega arith) list k.below;
-    rise = k.rise;
-    named = k.named;
-    idle = k.idle;
-    busy = k.busy;
-    fits = k.fits;
-    few = k.few;
-  }
+  events_later next' h = same_events n next' told (All-weaker (λ e. e.ticket < next) (λ e. e.ticket < next') (λ e less. omega arith) list k.below) k.fits
 
   own_more : (what : What) → All (λ e. e.thread ≡ t) (list ++ record { ticket = next; thread = t; what = what } ∷ [])
   own_more what = All-push (λ e. e.thread ≡ t) list _ k.own refl
@@ -160,8 +156,7 @@ module _ (t a n r next : ℕ) (asked : Option Request) (told : Option Answer) (l
       request = asked_for kind t a;
       events_are = refl;
       take_turns = k.idle (omega arith);
-      asked_is =
-          refl;
+      asked_is = refl;
       call_is = refl;
     };
     fits = λ less. absurd (omega arith);
@@ -169,17 +164,7 @@ module _ (t a n r next : ℕ) (asked : Option Request) (told : Option Answer) (l
   }
 
   events_answered : (answer : Answer) → Fits asked (Some answer) → AreEventsOf t a (suc n) r next asked (Some answer) list
-  events_answered answer right = record {
-    own = k.own;
-    below = k.below;
-    rise = k.rise;
-    named = k.named;
-    idle = k.idle;
-    busy = k.busy;
-    fits =
-        λ less. right;
-    few = k.few;
-  }
+  events_answered answer right = same_events (suc n) next (Some answer) k.below (λ less. right)
 
   events_returned : length list ≡ a + r → a ≡ suc r → n ≤ a → (answer : Answer) → told ≡ Some answer → r < n
       → AreEventsOf t a n (suc r) (suc next) asked told (list ++ record { ticket = next; thread = t; what = return_what answer } ∷ [])

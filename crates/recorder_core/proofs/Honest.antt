@@ -71,67 +71,59 @@ pub record IsTaken (next n r : ℕ) (told : Option Answer) (list : List Event) (
   pub waiting : r ≤ number → (a : Answer) × (told ≡ Some a) × (kind_of call.what (return_what a) ≡ Some kind)
 
 module _ (next n r : ℕ) (told : Option Answer) (list : List Event) (number time : ℕ) (kind : OpKind) (k : IsTaken next n r told list number time kind) where
-  taken_later : (next' : ℕ) → next ≤ next' → IsTaken next' n r told list number time kind
-  taken_later next' h = record {
+  -- after more steps, by what is known then of its call and its return
+  taken_then : (next' n' r' : ℕ) (told' : Option Answer) (list' : List Event) → next ≤ next' → n ≤ n' → slice_get list' (2 * number) ≡ Some k.call
+      → ((ret : Event) → slice_get list' (2 * number + 1) ≡ Some ret → (time ≤ ret.ticket) × (kind_of k.call.what ret.what ≡ Some kind))
+      → (r' ≤ number → (a : Answer) × (told' ≡ Some a) × (kind_of k.call.what (return_what a) ≡ Some kind))
+      → IsTaken next' n' r' told' list' number time kind
+  taken_then next' n' r' told' list' more answered called returned waiting = record {
     in_time = omega (arith, k.in_time);
-    was_answered = k.was_answered;
+    was_answered = omega (arith, k.was_answered);
     call = k.call;
-    called = k.called;
-    called_before =
-        k.called_before;
-    returned = k.returned;
-    waiting = k.waiting;
+    called = called;
+    called_before = k.called_before;
+    returned = returned;
+    waiting = waiting;
   }
+
+  taken_later : (next' : ℕ) → next ≤ next' → IsTaken next' n r told list number time kind
+  taken_later next' h = taken_then next' n r told list h (omega arith) k.called k.returned k.waiting
 
   still_called : (e : Event) → slice_get (list ++ e ∷ []) (2 * number) ≡ Some k.call
   still_called e = slice_get_front list e (2 * number) (slice_get_within list (2 * number) k.call k.called) ∙ k.called
 
+  -- the return of the operation
+  abbrev Returned : Event → Type 0
+  Returned ret = (time ≤ ret.ticket) × (kind_of k.call.what ret.what ≡ Some kind)
+
+  -- with one event more its return is one of those before, or this one
+  still_returned : (e : Event) → (2 * number + 1 ≡ length list → Returned e) → (ret : Event)
+      → slice_get (list ++ e ∷ []) (2 * number + 1) ≡ Some ret → Returned ret
+  still_returned e now ret at = elim (with_one_more list e ret (2 * number + 1) at) [
+    | inl earlier ↦ k.returned ret earlier
+    | inr (last, same) ↦ subst Returned same (now last)
+  ]
+
   -- an ask of its thread
   taken_asked : (e : Event) → length list ≡ r + r → IsTaken (suc next) n r told (list ++ e ∷ []) number time kind
-  taken_asked e long = record {
-    in_time = omega (arith, k.in_time);
-    was_answered = k.was_answered;
-    call = k.call;
-    called = still_called e;
-    called_before = k.called_before;
-    returned = λ ret at. elim (with_one_more list e ret (2 * number + 1) at) [
-      | inl earlier ↦ k.returned ret earlier
-      | inr (last, same) ↦ absurd (omega (arith, last, long))
-    ];
-    waiting = k.waiting;
-  }
+  taken_asked e long =
+      taken_then (suc next) n r told (list ++ e ∷ []) (omega arith) (omega arith) (still_called e)
+      (still_returned e (λ last. absurd (omega (arith, last, long)))) k.waiting
 
   -- a return of its thread
   taken_returned : (e : Event) (a : Answer) → length list ≡ suc (r + r) → n ≤ suc r → told ≡ Some a → e.ticket ≡ next → e.what ≡ return_what a
       → IsTaken (suc next) n (suc r) told (list ++ e ∷ []) number time kind
-  taken_returned e a long few is ticket what = record {
-    in_time = omega (arith, k.in_time);
-    was_answered = k.was_answered;
-    call = k.call;
-    called = still_called e;
-    called_before = k.called_before;
-    returned = λ ret at. elim (with_one_more list e ret (2 * number + 1) at) [
-      | inl earlier ↦ k.returned ret earlier
-      | inr (last, same) ↦
-          let w = k.waiting (omega (arith, last, long)) in
-          let one : w.0 ≡ a = same_Some w.0 a (sym w.1 ∙ is) in
-          let whats : ret.what ≡ return_what w.0 = ap (λ (x : Event). x.what) (sym same) ∙ what ∙ ap return_what (sym one) in
-          (omega (arith, k.in_time, ticket, ap (λ (x : Event). x.ticket) same), ap (kind_of k.call.what) whats ∙ w.2)
-    ];
-    waiting = λ none. absurd (omega (arith, k.was_answered));
-  }
+  taken_returned e a long few is ticket what =
+      taken_then (suc next) n (suc r) told (list ++ e ∷ []) (omega arith) (omega arith) (still_called e) (still_returned e (λ last.
+      let w = k.waiting (omega (arith, last, long)) in
+      let one : w.0 ≡ a = same_Some w.0 a (sym w.1 ∙ is) in
+      (omega (arith, k.in_time, ticket), ap (kind_of k.call.what) (what ∙ ap return_what (sym one)) ∙ w.2)))
+      (λ none. absurd (omega (arith, k.was_answered)))
 
   -- an effect of a later operation of its thread
   taken_answered : (told' : Option Answer) → n ≤ r → IsTaken next (suc n) r told' list number time kind
-  taken_answered told' few = record {
-    in_time = k.in_time;
-    was_answered = omega (arith, k.was_answered);
-    call = k.call;
-    called = k.called;
-    called_before = k.called_before;
-    returned = k.returned;
-    waiting = λ none. absurd (omega (arith, k.was_answered));
-  }
+  taken_answered told' few =
+      taken_then next (suc n) r told' list (omega arith) (omega arith) k.called k.returned (λ none. absurd (omega (arith, k.was_answered)))
 
 -- ---- an effect that is taken now
 
@@ -235,13 +227,7 @@ pub record AreTaken (setting : Setting) (steps : List Step) : Type 0 where
 -- the steps before an honest one are honest
 pub later_honest : (step : Step) (before : List Step) → without_says (step ∷ before) ≡ true → without_says before ≡ true
 later_honest (Say u answer) before honest = cc
-later_honest (AskEnq u) before honest = honest
-later_honest (AskDeq u) before honest = honest
-later_honest (Push u) before honest = honest
-later_honest (Effect u) before honest = honest
-later_honest (Ret u) before honest = honest
-later_honest (Drain u n) before honest = honest
-later_honest (Close u) before honest = honest
+later_honest _ before honest = honest
 
 one_effect : (setting : Setting) (u : ℕ) (starved : Bool) (before : List Step) → ((t : ℕ) → CountedAndRecorded setting t before)
     → without_says (Effect u ∷ before) ≡ true → refusal setting before (record { step = Effect u; starved = starved }) ≡ None
@@ -313,10 +299,4 @@ pub effected_are : (setting : Setting) (steps : List Step) → map (λ (x : Take
 effected_are setting [] = refl
 effected_are setting (Effect u ∷ before) = map_push (λ (x : TakenEffect). (x.thread, x.number)) (taken setting before) _
     ∙ ap (λ (l : List (ℕ × ℕ)). l ++ (u, answers u before) ∷ []) (effected_are setting before)
-effected_are setting (AskEnq u ∷ before) = effected_are setting before
-effected_are setting (AskDeq u ∷ before) = effected_are setting before
-effected_are setting (Push u ∷ before) = effected_are setting before
-effected_are setting (Say u answer ∷ before) = effected_are setting before
-effected_are setting (Ret u ∷ before) = effected_are setting before
-effected_are setting (Drain u n ∷ before) = effected_are setting before
-effected_are setting (Close u ∷ before) = effected_are setting before
+effected_are setting (_ ∷ before) = effected_are setting before

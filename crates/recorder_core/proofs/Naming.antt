@@ -4,6 +4,7 @@ use Rattle.std.proofs.Common.{subst, nat_eq, add-one, arith}
 use Rattle.std.specs.Prelude.{AllPairs, Contains}
 use Rattle.std.specs.List.{list_any}
 use Rattle.std.specs.Ordering.{nat_cmp, is_eq}
+use Rattle.std.proofs.Math.Bool.{or-false}
 use Rattle.std.proofs.Math.Seq.{take-suc}
 use Rattle.std.proofs.lemmas.Bool.{eqb-true, eq-eqb}
 use Rattle.std.proofs.lemmas.List.{get_or-take, get_or_default, length-take-le}
@@ -50,11 +51,7 @@ among_more : (xs : List ℕ) (i d v : ℕ) → i < length xs → is_among (take 
 among_more xs i d v within =
     ap (λ (n : ℕ). is_among (take n xs) v) (add-one i) ∙ ap (λ (l : List ℕ). is_among l v) (take-suc xs i d within)
     ∙ list_any-append (λ w. nat_eq w v) (take i xs) (get_or xs i d ∷ [])
-    ∙ ap (λ (b : Bool). is_among (take i xs) v || b) (or_false (nat_eq (get_or xs i d) v))
-  where
-    or_false : (b : Bool) → (b || false) ≡ b
-    or_false true = refl
-    or_false false = refl
+    ∙ ap (λ (b : Bool). is_among (take i xs) v || b) (or-false (nat_eq (get_or xs i d) v))
 
 -- whether a value is in a set of the values so far, and then in that with one value more
 pub noted : (xs : List ℕ) (i d v : ℕ) (before now : Bool) → i < length xs → before ≡ is_among (take i xs) v
@@ -64,10 +61,9 @@ noted xs i d v before now within was is =
     ∙ ap (λ (b : Bool). b || nat_eq (get_or xs i d) v) was ∙ sym (among_more xs i d v within)
   where
     or_flipped : (b c : Bool) → cond b true c ≡ (c || b)
+    or_flipped false c = sym (or-false c)
     or_flipped true true = refl
     or_flipped true false = refl
-    or_flipped false true = refl
-    or_flipped false false = refl
 
 -- a value that is none of those before it
 pub one_more_apart : (xs : List ℕ) (i d : ℕ) → i < length xs → is_among (take i xs) (get_or xs i d) ≡ false → AllPairs (λ v w. v ≢ w) (take i xs)

@@ -54,10 +54,7 @@ operations_by_thread (e ∷ later) n low =
 no_kind : (call answer : What) → is_call call ≡ false → kind_of call answer ≡ None
 no_kind (CallEnq v) answer e = cc
 no_kind CallDeq answer e = cc
-no_kind RetEnq answer e = refl
-no_kind RetNot answer e = refl
-no_kind (RetDeq v) answer e = refl
-no_kind RetEmpty answer e = refl
+no_kind _ answer e = refl
 
 -- a return begins no operation
 no_operation : (ret : Event) (next : Option Event) → is_call ret.what ≡ false → operation_of ret next ≡ None

@@ -19,6 +19,17 @@ pub passed : {X : Type 0} (b : Bool) (x : X) (rest : Option X) → cond b (Some 
 passed true x rest h = cc
 passed false x rest h = (refl, h)
 
+-- the same of the first four
+four_passed : {X : Type 0} (a b c d : Bool) (w x y z : X) (rest : Option X)
+    → cond a (Some w) (cond b (Some x) (cond c (Some y) (cond d (Some z) rest))) ≡ None
+    → (a ≡ false) × (b ≡ false) × (c ≡ false) × (d ≡ false) × (rest ≡ None)
+four_passed false false false false w x y z rest h = (refl, refl, refl, refl, h)
+four_passed _ _ _ _ w x y z rest h = cc
+
+-- the step isn't refused after these
+abbrev pub IsLetPass : Setting → List Step → Step → Bool → Type 0
+IsLetPass setting before step starved = refusal setting before (record { step = step; starved = starved }) ≡ None
+
 -- what holds of no step, and goes on with each step that is not refused, holds of the accepted steps
 module _ (setting : Setting) (P : List Step → Type 0) (start : P [])
     (goes_on : (before : List Step) (attempt : Attempt) → P before → refusal setting before attempt ≡ None → P (attempt.step ∷ before)) where
@@ -42,18 +53,16 @@ pub record MayAsk (setting : Setting) (u : ℕ) (before : List Step) : Type 0 wh
   pub machine_may : all_asks before < MAX_OPERATIONS
 
 -- also for an ask of a dequeue, which can meet the same refusals
-pub may_ask : (setting : Setting) (before : List Step) (u : ℕ) (starved : Bool)
-    → refusal setting before (record { step = AskEnq u; starved = starved }) ≡ None → MayAsk setting u before
+pub may_ask : (setting : Setting) (before : List Step) (u : ℕ) (starved : Bool) → IsLetPass setting before (AskEnq u) starved → MayAsk setting u before
 may_ask setting before u starved none =
-    let a = passed _ _ _ none in let b = passed _ _ _ a.1 in let c = passed _ _ _ b.1 in let d = passed _ _ _ c.1 in let e = passed _ _ _ d.1 in
+    let p = four_passed _ _ _ _ _ _ _ _ _ none in let e = passed _ _ _ p.4 in
     let f = or_parts _ _ e.0 in
     record {
-      known = leb-false _ _ a.0;
-      open_still = b.0;
-      none_held = ltb-false _ _ c.0;
-      none_pending = ltb-false _ _ d.0;
-      thread_may =
-          leb-false _ _ f.0;
+      known = leb-false _ _ p.0;
+      open_still = p.1;
+      none_held = ltb-false _ _ p.2;
+      none_pending = ltb-false _ _ p.3;
+      thread_may = leb-false _ _ f.0;
       machine_may = leb-false _ _ f.1;
     }
 
@@ -65,11 +74,10 @@ pub record MayPush (setting : Setting) (u : ℕ) (before : List Step) : Type 0 w
   pub has_room : in_ring u before < setting.ring
 
 -- a push that isn't refused may come
-pub may_push : (setting : Setting) (before : List Step) (u : ℕ) (starved : Bool)
-    → refusal setting before (record { step = Push u; starved = starved }) ≡ None → MayPush setting u before
+pub may_push : (setting : Setting) (before : List Step) (u : ℕ) (starved : Bool) → IsLetPass setting before (Push u) starved → MayPush setting u before
 may_push setting before u starved none =
-    let a = passed _ _ _ none in let b = passed _ _ _ a.1 in let c = passed _ _ _ b.1 in let d = passed _ _ _ c.1 in
-    record { known = leb-false _ _ a.0; open_still = b.0; one_held = leb-false _ _ c.0; has_room = leb-false _ _ d.0 }
+    let p = four_passed _ _ _ _ _ _ _ _ _ none in
+    record { known = leb-false _ _ p.0; open_still = p.1; one_held = leb-false _ _ p.2; has_room = leb-false _ _ p.3 }
 
 -- when an answer to a thread may come
 pub record MayAnswer (setting : Setting) (u : ℕ) (before : List Step) : Type 0 where
@@ -79,19 +87,17 @@ pub record MayAnswer (setting : Setting) (u : ℕ) (before : List Step) : Type 0
   pub no_answer : answers u before ≤ returns u before
 
 -- an effect that isn't refused may come
-pub may_effect : (setting : Setting) (before : List Step) (u : ℕ) (starved : Bool)
-    → refusal setting before (record { step = Effect u; starved = starved }) ≡ None → MayAnswer setting u before
+pub may_effect : (setting : Setting) (before : List Step) (u : ℕ) (starved : Bool) → IsLetPass setting before (Effect u) starved → MayAnswer setting u before
 may_effect setting before u starved none =
-    let a = passed _ _ _ none in let b = passed _ _ _ a.1 in let c = passed _ _ _ b.1 in let d = passed _ _ _ c.1 in
-    record { known = leb-false _ _ a.0; open_still = b.0; one_pending = leb-false _ _ c.0; no_answer = ltb-false _ _ d.0 }
+    let p = four_passed _ _ _ _ _ _ _ _ _ none in
+    record { known = leb-false _ _ p.0; open_still = p.1; one_pending = leb-false _ _ p.2; no_answer = ltb-false _ _ p.3 }
 
 -- an answer that isn't refused may come
-pub may_say : (setting : Setting) (before : List Step) (u : ℕ) (answer : Answer) (starved : Bool)
-    → refusal setting before (record { step = Say u answer; starved = starved }) ≡ None
+pub may_say : (setting : Setting) (before : List Step) (u : ℕ) (answer : Answer) (starved : Bool) → IsLetPass setting before (Say u answer) starved
     → MayAnswer setting u before × (is_wrong answer (request u before) ≡ false)
 may_say setting before u answer starved none =
-    let a = passed _ _ _ none in let b = passed _ _ _ a.1 in let c = passed _ _ _ b.1 in let d = passed _ _ _ c.1 in let e = passed _ _ _ d.1 in
-    (record { known = leb-false _ _ a.0; open_still = b.0; one_pending = leb-false _ _ c.0; no_answer = ltb-false _ _ d.0 }, e.0)
+    let p = four_passed _ _ _ _ _ _ _ _ _ none in let e = passed _ _ _ p.4 in
+    (record { known = leb-false _ _ p.0; open_still = p.1; one_pending = leb-false _ _ p.2; no_answer = ltb-false _ _ p.3 }, e.0)
 
 -- when a thread may return
 pub record MayReturn (setting : Setting) (u : ℕ) (before : List Step) : Type 0 where
@@ -102,11 +108,10 @@ pub record MayReturn (setting : Setting) (u : ℕ) (before : List Step) : Type 0
   pub has_answer : returns u before < answers u before
 
 -- a return that isn't refused may come
-pub may_return : (setting : Setting) (before : List Step) (u : ℕ) (starved : Bool)
-    → refusal setting before (record { step = Ret u; starved = starved }) ≡ None → MayReturn setting u before
+pub may_return : (setting : Setting) (before : List Step) (u : ℕ) (starved : Bool) → IsLetPass setting before (Ret u) starved → MayReturn setting u before
 may_return setting before u starved none =
-    let a = passed _ _ _ none in let b = passed _ _ _ a.1 in let c = passed _ _ _ b.1 in let d = passed _ _ _ c.1 in let e = passed _ _ _ d.1 in
-    record { known = leb-false _ _ a.0; open_still = b.0; none_held = ltb-false _ _ c.0; one_pending = leb-false _ _ d.0; has_answer = leb-false _ _ e.0 }
+    let p = four_passed _ _ _ _ _ _ _ _ _ none in let e = passed _ _ _ p.4 in
+    record { known = leb-false _ _ p.0; open_still = p.1; none_held = ltb-false _ _ p.2; one_pending = leb-false _ _ p.3; has_answer = leb-false _ _ e.0 }
 
 -- a drain that isn't refused is of a thread
 pub may_drain : (setting : Setting) (before : List Step) (u k : ℕ) (starved : Bool)
@@ -121,8 +126,7 @@ pub record MayClose (setting : Setting) (u : ℕ) (before : List Step) : Type 0 
   pub none_pending : asks u before ≤ returns u before
 
 -- a close that isn't refused may come
-pub may_close : (setting : Setting) (before : List Step) (u : ℕ) (starved : Bool)
-    → refusal setting before (record { step = Close u; starved = starved }) ≡ None → MayClose setting u before
+pub may_close : (setting : Setting) (before : List Step) (u : ℕ) (starved : Bool) → IsLetPass setting before (Close u) starved → MayClose setting u before
 may_close setting before u starved none =
-    let a = passed _ _ _ none in let b = passed _ _ _ a.1 in let c = passed _ _ _ b.1 in let d = passed _ _ _ c.1 in
-    record { known = leb-false _ _ a.0; open_still = b.0; none_held = ltb-false _ _ c.0; none_pending = ltb-false _ _ d.0 }
+    let p = four_passed _ _ _ _ _ _ _ _ _ none in
+    record { known = leb-false _ _ p.0; open_still = p.1; none_held = ltb-false _ _ p.2; none_pending = ltb-false _ _ p.3 }
