@@ -3,24 +3,4 @@
 #![tactic(auto)]
 
 #[cfg(test)]
-mod changed;
-#[cfg(test)]
-mod errors;
-#[cfg(test)]
-mod help;
-#[cfg(test)]
-mod outcomes;
-#[cfg(test)]
-mod pictures;
-#[cfg(test)]
-mod schedules;
-#[cfg(test)]
-mod sinks;
-#[cfg(test)]
-mod texts;
-#[cfg(test)]
-mod verdict_texts;
-#[cfg(test)]
-mod versions;
-#[cfg(test)]
-mod words;
+mod tests;

@@ -1,0 +1,11 @@
+mod claiming;
+mod deciding;
+mod histories;
+mod initial;
+mod initial_verdicts;
+mod matching;
+mod pieces;
+mod shrinking;
+mod small_histories;
+mod told_sources;
+mod verifying;

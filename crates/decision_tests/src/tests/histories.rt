@@ -1,0 +1,192 @@
+ghost use Rattle.std.specs.Prelude.{◌≤◌, length};
+
+use super::small_histories::{at, by};
+use event_records::{Event, Lists, MAX_EVENTS, What};
+use history_merge::{History, HistoryFault, OpKind, Operation, history, merge};
+use std::alloc::{AllocError, Global};
+use std::test::Fail;
+
+/// What `history` answers to these events; want of memory ends the test.
+fn judged(alloc: Global, events: &[Event]) -> Result<Result<History, HistoryFault>, AllocError>
+    requires { length events.now ≤ MAX_EVENTS }
+{
+    match history(alloc, events.to_vec(alloc)?) {
+        Err(HistoryFault::Memory) => Err(AllocError),
+        judgement => Ok(judgement),
+    }
+}
+
+#[test]
+fn names_the_first_fault(rt: HostRuntime) -> Result<(), Fail> {
+    let call_enq = What::CallEnq(7);
+    let cases: [(&[Event], HistoryFault); 13] = [
+        (
+            &[at(5, 0, What::CallDeq), at(5, 0, What::RetEmpty)],
+            HistoryFault::TicketOrder(1),
+        ),
+        (
+            &[at(5, 0, What::CallDeq), at(4, 64, What::CallDeq)],
+            HistoryFault::TicketOrder(1),
+        ),
+        (
+            &[at(1_000_000_000_000, 0, What::CallDeq)],
+            HistoryFault::TicketOrder(0),
+        ),
+        (&[at(0, 64, What::CallDeq)], HistoryFault::BadThread(0)),
+        (&[at(0, 64, What::RetEnq)], HistoryFault::BadThread(0)),
+        (
+            &[at(0, 0, What::CallDeq), at(1, 0, What::CallDeq)],
+            HistoryFault::CallWhilePending(1),
+        ),
+        (
+            &[at(0, 0, call_enq), at(1, 0, call_enq)],
+            HistoryFault::CallWhilePending(1),
+        ),
+        (
+            &[at(0, 0, What::RetEmpty)],
+            HistoryFault::ReturnWithoutCall(0),
+        ),
+        (
+            &[at(0, 0, call_enq), at(1, 1, What::RetEnq)],
+            HistoryFault::ReturnWithoutCall(1),
+        ),
+        (
+            &[at(0, 0, call_enq), at(1, 0, What::RetEmpty)],
+            HistoryFault::WrongReturn(1),
+        ),
+        (
+            &[
+                at(10, 0, call_enq),
+                at(11, 0, What::RetEnq),
+                at(12, 0, call_enq),
+                at(13, 0, What::RetEnq),
+            ],
+            HistoryFault::DuplicateValue(2),
+        ),
+        (&[at(0, 0, call_enq)], HistoryFault::Pending(0)),
+        (
+            &[
+                at(3, 5, What::CallDeq),
+                at(4, 2, What::CallDeq),
+                at(6, 2, What::RetEmpty),
+                at(8, 0, call_enq),
+            ],
+            HistoryFault::Pending(3),
+        ),
+    ];
+    for (events, fault) in cases {
+        assert!(rt; events.len() <= MAX_EVENTS);
+        assert_eq!(rt; judged(rt.alloc(), events)?.err(), Some(fault));
+    }
+    Ok(())
+}
+
+#[test]
+fn shows_operations_by_their_calls(rt: HostRuntime) -> Result<(), Fail> {
+    let cases: [(&[Event], &[Operation]); 4] = [
+        (&[], &[]),
+        (
+            &[
+                at(0, 0, What::CallEnq(7)),
+                at(1, 1, What::CallEnq(9)),
+                at(2, 0, What::RetEnq),
+                at(3, 1, What::RetEnq),
+                at(4, 0, What::CallDeq),
+                at(5, 0, What::RetDeq(9)),
+                at(6, 0, What::CallDeq),
+                at(7, 0, What::RetDeq(7)),
+            ],
+            &[
+                by(0, 0, 2, OpKind::Enq(7)),
+                by(1, 1, 3, OpKind::Enq(9)),
+                by(0, 4, 5, OpKind::Deq(9)),
+                by(0, 6, 7, OpKind::Deq(7)),
+            ],
+        ),
+        (
+            &[
+                at(0, 0, What::CallEnq(7)),
+                at(1, 1, What::CallDeq),
+                at(2, 2, What::CallDeq),
+                at(3, 1, What::RetDeq(7)),
+                at(4, 1, What::CallEnq(9)),
+                at(5, 1, What::RetEnq),
+                at(6, 0, What::RetEnq),
+                at(7, 2, What::RetDeq(9)),
+            ],
+            &[
+                by(0, 0, 6, OpKind::Enq(7)),
+                by(1, 1, 3, OpKind::Deq(7)),
+                by(2, 2, 7, OpKind::Deq(9)),
+                by(1, 4, 5, OpKind::Enq(9)),
+            ],
+        ),
+        (
+            &[
+                at(999_999_999_996, 63, What::CallEnq(u64::MAX)),
+                at(999_999_999_997, 0, What::CallDeq),
+                at(999_999_999_998, 63, What::RetNot),
+                at(999_999_999_999, 0, What::RetEmpty),
+            ],
+            &[
+                by(63, 999_999_999_996, 999_999_999_998, OpKind::Not(u64::MAX)),
+                by(0, 999_999_999_997, 999_999_999_999, OpKind::Empty),
+            ],
+        ),
+    ];
+    for (events, operations) in cases {
+        assert!(rt; events.len() <= MAX_EVENTS);
+        let history = judged(rt.alloc(), events)?.expect(&rt, "a complete history");
+        assert_eq!(rt; history.events(), events);
+        assert_eq!(rt; history.operations(), operations);
+    }
+    Ok(())
+}
+
+/// Enqueues of thread 0, each followed by a dequeue of its value by thread 63.
+fn long_run(alloc: Global, values: u32) -> Result<Vec<Event>, AllocError> {
+    let mut events = Vec::with_capacity(alloc, 4 * values as usize)?;
+    for i in 0..values {
+        let value = u64::from(i);
+        let ticket = 4 * value;
+        events.push(at(ticket, 0, What::CallEnq(value)))?;
+        events.push(at(ticket + 1, 0, What::RetEnq))?;
+        events.push(at(ticket + 2, 63, What::CallDeq))?;
+        events.push(at(ticket + 3, 63, What::RetDeq(value)))?;
+    }
+    Ok(events)
+}
+
+#[test]
+fn takes_two_hundred_thousand_events(rt: HostRuntime) -> Result<(), Fail> {
+    let events = long_run(rt.alloc(), 50_000)?;
+    assert_eq!(rt; events.len(), 200_000);
+    let history = judged(rt.alloc(), events.as_slice())?.expect(&rt, "a complete history");
+    let operations = history.operations();
+    assert_eq!(rt; operations.len(), 100_000);
+    let last = by(63, 199_998, 199_999, OpKind::Deq(49_999));
+    assert_eq!(rt; operations.last().copied(), Some(last));
+    Ok(())
+}
+
+#[test]
+fn merges_by_ticket_and_keeps_ties_in_order(rt: HostRuntime) -> Result<(), Fail> {
+    let alloc = rt.alloc();
+    let mut lists = Vec::new(alloc);
+    lists.push([at(1, 0, What::CallDeq), at(4, 0, What::RetEmpty)].to_vec(alloc)?)?;
+    lists.push([at(0, 1, What::CallDeq), at(4, 1, What::RetEmpty)].to_vec(alloc)?)?;
+    lists.push([at(1, 2, What::CallDeq)].to_vec(alloc)?)?;
+    let merged = merge(alloc, &Lists::from_vec(lists))?;
+    assert_eq!(rt;
+        merged.as_slice(),
+        [
+            at(0, 1, What::CallDeq),
+            at(1, 0, What::CallDeq),
+            at(1, 2, What::CallDeq),
+            at(4, 0, What::RetEmpty),
+            at(4, 1, What::RetEmpty),
+        ]
+        .as_slice()
+    );
+    Ok(())
+}

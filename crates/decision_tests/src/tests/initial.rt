@@ -1,0 +1,138 @@
+//! Histories of a queue that starts with some values.
+ghost use Rattle.std.specs.Prelude.{◌≤◌, length};
+
+use super::small_histories::{at, by};
+use event_records::{Event, MAX_EVENTS, MAX_INITIAL, What};
+use history_merge::{
+    History, HistoryFault, HistoryParts, OpKind, Operation, PreloadedBuilder, fill, history_from,
+};
+use std::alloc::{AllocError, Global};
+use std::test::Fail;
+
+/// What `history_from` answers to these initial values and events; want of memory ends the test.
+fn judged(
+    alloc: Global,
+    initial: &[u64],
+    events: &[Event],
+) -> Result<Result<History, HistoryFault>, AllocError>
+    requires initial { length initial.now ≤ MAX_INITIAL }
+    requires events { length events.now ≤ MAX_EVENTS }
+{
+    match history_from(alloc, initial.to_vec(alloc)?, events.to_vec(alloc)?) {
+        Err(HistoryFault::Memory) => Err(AllocError),
+        judgement => Ok(judgement),
+    }
+}
+
+/// What a history in the making that starts with these values answers to these events; want of memory ends the test.
+fn gathered(
+    alloc: Global,
+    initial: &[u64],
+    events: &[Event],
+) -> Result<Result<HistoryParts, HistoryFault>, AllocError> {
+    let mut builder = PreloadedBuilder::new(alloc, initial.to_vec(alloc)?);
+    for event in events {
+        builder.add(*event);
+    }
+    match builder.finish() {
+        Err(HistoryFault::Memory) => Err(AllocError),
+        finished => Ok(finished),
+    }
+}
+
+#[test]
+fn names_the_first_fault_of_initial_values_and_events(rt: HostRuntime) -> Result<(), Fail> {
+    let call_enq = What::CallEnq(7);
+    let cases: [(&[u64], &[Event], HistoryFault); 11] = [
+        (&[5, 5], &[], HistoryFault::InitialTwice(1)),
+        (&[4, 5, 6, 5, 4, 4], &[], HistoryFault::InitialTwice(3)),
+        (
+            &[5, 5],
+            &[at(1_000_000_000_000, 0, What::CallDeq)],
+            HistoryFault::InitialTwice(1),
+        ),
+        (
+            &[5, 5],
+            &[at(0, 0, call_enq)],
+            HistoryFault::InitialTwice(1),
+        ),
+        (
+            &[7],
+            &[at(0, 0, call_enq), at(1, 0, What::RetEnq)],
+            HistoryFault::DuplicateValue(0),
+        ),
+        (
+            &[6, 7, 8],
+            &[at(0, 0, call_enq)],
+            HistoryFault::DuplicateValue(0),
+        ),
+        (&[7], &[at(0, 64, call_enq)], HistoryFault::BadThread(0)),
+        (
+            &[7],
+            &[
+                at(1, 0, What::CallDeq),
+                at(0, 1, What::CallDeq),
+                at(2, 2, call_enq),
+            ],
+            HistoryFault::TicketOrder(1),
+        ),
+        (
+            &[7],
+            &[at(1, 0, call_enq), at(0, 0, What::RetEnq)],
+            HistoryFault::DuplicateValue(0),
+        ),
+        (
+            &[7],
+            &[at(3, 0, What::CallEnq(6)), at(4, 1, call_enq)],
+            HistoryFault::DuplicateValue(1),
+        ),
+        (&[6, 8], &[at(3, 0, call_enq)], HistoryFault::Pending(3)),
+    ];
+    for (initial, events, fault) in cases {
+        assert!(rt; initial.len() <= MAX_INITIAL);
+        assert!(rt; events.len() <= MAX_EVENTS);
+        assert_eq!(rt; judged(rt.alloc(), initial, events)?.err(), Some(fault));
+        assert_eq!(rt; gathered(rt.alloc(), initial, events)?.err(), Some(fault));
+    }
+    Ok(())
+}
+
+#[test]
+fn gives_its_parts_back(rt: HostRuntime) -> Result<(), Fail> {
+    let initial = [u64::MAX, 5, 0];
+    let events = [
+        at(3, 2, What::CallDeq),
+        at(4, 0, What::CallEnq(6)),
+        at(5, 2, What::RetDeq(u64::MAX)),
+        at(6, 0, What::RetNot),
+    ];
+    let operations = [
+        by(2, 3, 5, OpKind::Deq(u64::MAX)),
+        by(0, 4, 6, OpKind::Not(6)),
+    ];
+    let history = judged(rt.alloc(), &initial, &events)?.expect(&rt, "a complete history");
+    assert_eq!(rt; history.initial(), initial.as_slice());
+    assert_eq!(rt; history.events(), events.as_slice());
+    assert_eq!(rt; history.operations(), operations.as_slice());
+    let parts = gathered(rt.alloc(), &initial, &events)?.expect(&rt, "a complete history");
+    assert_eq!(rt; parts.initial.as_slice(), initial.as_slice());
+    assert_eq!(rt; parts.operations.as_slice(), operations.as_slice());
+    Ok(())
+}
+
+#[test]
+fn enqueues_initial_values_before_all_else(rt: HostRuntime) -> Result<(), Fail> {
+    let events = [at(0, 1, What::CallDeq), at(7, 1, What::RetDeq(5))];
+    let history = judged(rt.alloc(), &[5, 6], &events)?.expect(&rt, "a complete history");
+    let filled = fill(rt.alloc(), history.initial(), history.operations())?;
+    assert_eq!(rt;
+        filled.as_slice(),
+        [
+            by(0, 0, 1, OpKind::Enq(5)),
+            by(0, 2, 3, OpKind::Enq(6)),
+            by(1, 4, 11, OpKind::Deq(5)),
+        ]
+        .as_slice()
+    );
+    Ok(())
+}

@@ -1,0 +1,165 @@
+use super::deciding::{enqueue_of, push_cover, push_maybe};
+use super::small_histories::{
+    by, covered_by_two, dequeued_later, hidden, history_of, in_turn, matching_of, never_empty,
+    once_empty, op, overlapping, overtaken,
+};
+use empty_witness::WitnessAnswer;
+use history_merge::OpKind::{Deq, Empty, Enq};
+use history_merge::Operation;
+use order_violation::OrderPair;
+use parallel_finders::{find_order_par, find_witness_par, order_in_pieces, witness_in_pieces};
+use std::alloc::{AllocError, Global};
+use std::process::Abort;
+use std::test::Fail;
+use std::thread::Threads;
+use value_match::Matching;
+
+/// What the two searches find: the places of the pair, if there is one, and the gaps, or the empty answer and its cover.
+type Found = (Option<Vec<usize>>, Result<Vec<u64>, Vec<usize>>);
+
+/// The places of the pair: the enqueues of a and b, the dequeue of b, and that of a if there is one.
+fn places_of_pair(
+    alloc: Global,
+    pair: Option<OrderPair>,
+) -> Result<Option<Vec<usize>>, AllocError> {
+    let Some(pair) = pair else {
+        return Ok(None);
+    };
+    let mut places = Vec::new(alloc);
+    places.push(enqueue_of(pair.enq_a))?;
+    places.push(enqueue_of(pair.enq_b))?;
+    places.push(pair.deq_b.place())?;
+    push_maybe(pair.deq_a, &mut places)?;
+    Ok(Some(places))
+}
+
+/// The gaps, or the place of the empty answer and those of its cover.
+fn places_of_witness(
+    alloc: Global,
+    answer: &WitnessAnswer,
+) -> Result<Result<Vec<u64>, Vec<usize>>, AllocError> {
+    match answer {
+        WitnessAnswer::Gaps(gaps) => {
+            let mut all = Vec::new(alloc);
+            all.extend_from_slice(gaps.as_slice())?;
+            Ok(Ok(all))
+        }
+        WitnessAnswer::Covered { empty, cover } => {
+            let mut places = Vec::new(alloc);
+            places.push(empty.place())?;
+            push_cover(cover, &mut places)?;
+            Ok(Err(places))
+        }
+    }
+}
+
+/// What the searches find, cut into pieces although the operations are few.
+fn found_in_pieces<R: Threads + Sync>(
+    rt: &R,
+    alloc: Global,
+    matching: &Matching,
+    pieces: usize,
+) -> Result<Found, AllocError> {
+    let pair = order_in_pieces(rt, alloc, matching, pieces)?;
+    let answer = witness_in_pieces(rt, alloc, matching, pieces)?;
+    Ok((
+        places_of_pair(alloc, pair)?,
+        places_of_witness(alloc, &answer)?,
+    ))
+}
+
+/// Asserts what is found with 1, 2 and 64 pieces.
+fn check<R: Abort + AllocGlobal + Threads + Sync>(
+    rt: &R,
+    operations: &[Operation],
+    pair: Option<&[usize]>,
+    witness: Result<&[u64], &[usize]>,
+) -> Result<(), Fail> {
+    let alloc = rt.alloc();
+    let history = history_of(alloc, operations)?;
+    let matching = matching_of(alloc, &history)?;
+    for pieces in [1, 2, 64] {
+        let (found, answer) = found_in_pieces(rt, alloc, &matching, pieces)?;
+        match (&found, pair) {
+            (None, None) => {}
+            (Some(found), Some(pair)) => assert_eq!(rt; found.as_slice(), pair),
+            _ => panic!(rt; "one of the pairs is missing"),
+        }
+        match (&answer, witness) {
+            (Ok(gaps), Ok(expected)) => assert_eq!(rt; gaps.as_slice(), expected),
+            (Err(places), Err(expected)) => assert_eq!(rt; places.as_slice(), expected),
+            _ => panic!(rt; "only one of the windows is covered"),
+        }
+    }
+    Ok(())
+}
+
+#[test]
+fn finds_pairs_in_pieces(rt: HostRuntime) -> Result<(), Fail> {
+    // the pair of the second piece comes first
+    let two_pairs = in_turn([Enq(1), Enq(2), Enq(3), Enq(4), Deq(4), Deq(2)]);
+    check(&rt, &overlapping(), None, Ok(&[]))?;
+    check(&rt, &overtaken(), Some(&[0, 1, 2]), Ok(&[]))?;
+    check(&rt, &dequeued_later(), Some(&[0, 1, 2, 3]), Ok(&[]))?;
+    check(&rt, &hidden(), None, Ok(&[]))?;
+    check(&rt, &two_pairs, Some(&[0, 3, 4]), Ok(&[]))
+}
+
+#[test]
+fn finds_covers_in_pieces(rt: HostRuntime) -> Result<(), Fail> {
+    // of four answers the first has a gap, and of the others the third returns first
+    let (early, enq) = (by(3, 0, 1, Empty), op(2, 3, Enq(1)));
+    let (long, short) = (by(1, 4, 11, Empty), by(2, 5, 6, Empty));
+    let thrice_covered = [early, enq, long, short, by(3, 7, 10, Empty)];
+    check(&rt, &never_empty(), None, Err(&[1, 0, 3, 2, 4]))?;
+    check(&rt, &once_empty(), None, Ok(&[4]))?;
+    check(&rt, &covered_by_two(), None, Err(&[1, 0, 4, 3, 6]))?;
+    check(&rt, &thrice_covered, None, Err(&[3, 1]))
+}
+
+/// Values that are enqueued and dequeued one after another, each followed by an empty answer; one of them stays.
+fn rounds(alloc: Global, staying: u64) -> Result<Vec<Operation>, AllocError> {
+    let mut operations = Vec::new(alloc);
+    for round in 0u64..5000 {
+        let ticket = 6 * round;
+        operations.push(op(ticket, ticket + 1, Enq(round)))?;
+        if round != staying {
+            operations.push(op(ticket + 2, ticket + 3, Deq(round)))?;
+        }
+        operations.push(op(ticket + 4, ticket + 5, Empty))?;
+    }
+    Ok(operations)
+}
+
+/// What the searches find of the rounds, which is the same in pieces.
+fn found_of_rounds<R>(rt: &R, staying: u64) -> Result<Found, Fail>
+where
+    R: Abort + AllocGlobal + Threads + Sync,
+{
+    let alloc = rt.alloc();
+    let history = history_of(alloc, rounds(alloc, staying)?.as_slice())?;
+    let matching = matching_of(alloc, &history)?;
+    let pair = places_of_pair(alloc, find_order_par(rt, alloc, &matching, 64)?)?;
+    let answer = places_of_witness(alloc, &find_witness_par(rt, alloc, &matching, 64)?)?;
+    let found = (pair, answer);
+    assert!(rt; found == found_in_pieces(rt, alloc, &matching, 64)?);
+    Ok(found)
+}
+
+#[test]
+fn finds_the_same_in_any_pieces(rt: HostRuntime) -> Result<(), Fail> {
+    let (pair, answer) = found_of_rounds(&rt, 5000)?;
+    assert!(rt; pair.is_none());
+    assert_eq!(rt; answer.as_ref().map_or(0, |gaps| gaps.len()), 5000);
+    Ok(())
+}
+
+#[test]
+fn finds_one_value_in_any_pieces(rt: HostRuntime) -> Result<(), Fail> {
+    let (pair, answer) = found_of_rounds(&rt, 3000)?;
+    let places = pair.ok_or("no pair is found")?;
+    assert_eq!(rt; places.as_slice(), [9000, 9002, 9003].as_slice());
+    let covered = answer.as_ref().err().ok_or("no window is covered")?;
+    assert_eq!(rt; covered.as_slice(), [9001, 9000].as_slice());
+    Ok(())
+}

@@ -1,0 +1,297 @@
+//! Where the values of a verdict come from: an initial value by its place among these, an operation by its own.
+
+use super::deciding::first_answer;
+use super::small_histories::{by, history_behind, matching_of, op};
+use empty_witness::{GapAnswer, WitnessAnswer, find_witness};
+use history_merge::OpKind::{Deq, Empty};
+use history_merge::{OpId, OpKind, Operation};
+use order_violation::{OrderPair, find_order};
+use std::alloc::{AllocError, Global};
+use std::test::Fail;
+use value_match::Source::{Enq, Initial};
+use value_match::{CoverStep, Matching, Places, Source, Violation};
+use verdicts::{Verdict, decide};
+
+/// The violation of a history of these operations, of a queue that starts with these values.
+fn violation_of(
+    alloc: Global,
+    initial: &[u64],
+    operations: &[Operation],
+) -> Result<Option<Violation>, Fail> {
+    let history = history_behind(alloc, initial, operations)?;
+    match decide(alloc, &history)? {
+        Verdict::Yes(_) => Ok(None),
+        Verdict::No(violation) => Ok(Some(violation)),
+    }
+}
+
+fn enqueued(value: u64) -> OpKind {
+    OpKind::Enq(value)
+}
+
+fn id(place: usize) -> OpId {
+    OpId::new(place)
+}
+
+/// Two values dequeued against the order of their enqueues, by their sources and the places of their dequeues.
+type Pair = (Source, Source, OpId, Option<OpId>);
+
+fn pair_of(violation: &Option<Violation>) -> Option<Pair> {
+    match violation {
+        Some(
+            Violation::Order {
+                enq_a,
+                enq_b,
+                deq_b,
+                deq_a,
+            },
+        ) => Some((*enq_a, *enq_b, *deq_b, *deq_a)),
+        _ => None,
+    }
+}
+
+/// The source of a value dequeued twice, and the places of the dequeues.
+fn repeat_of(violation: &Option<Violation>) -> Option<(Source, OpId, OpId)> {
+    match violation {
+        Some(Violation::Repeat { enq, first, second }) => Some((*enq, *first, *second)),
+        _ => None,
+    }
+}
+
+/// The places of a dequeue of a value that was not there, and of the value's enqueue.
+fn fresh_of(violation: &Option<Violation>) -> Option<(OpId, Option<OpId>)> {
+    match violation {
+        Some(Violation::Fresh { deq, enq }) => Some((*deq, *enq)),
+        _ => None,
+    }
+}
+
+#[test]
+fn of_two_initial_values(rt: HostRuntime) -> Result<(), Fail> {
+    let found = violation_of(rt.alloc(), &[4, 5, 6], &[op(0, 1, Deq(6))])?;
+    assert_eq!(rt;
+        pair_of(&found),
+        Some((Initial(0), Initial(2), id(0), None))
+    );
+    Ok(())
+}
+
+#[test]
+fn of_an_initial_value_and_an_enqueued_one(rt: HostRuntime) -> Result<(), Fail> {
+    let operations = [op(0, 1, enqueued(7)), op(2, 3, Deq(7)), op(4, 5, Deq(5))];
+    let found = violation_of(rt.alloc(), &[5], &operations)?;
+    assert_eq!(rt;
+        pair_of(&found),
+        Some((Initial(0), Enq(id(0)), id(1), Some(id(2))))
+    );
+    Ok(())
+}
+
+#[test]
+fn of_enqueued_values_behind_initial_ones(rt: HostRuntime) -> Result<(), Fail> {
+    let operations = [
+        op(0, 1, Deq(5)),
+        op(2, 3, enqueued(7)),
+        op(4, 5, enqueued(8)),
+        op(6, 7, Deq(8)),
+    ];
+    let found = violation_of(rt.alloc(), &[5], &operations)?;
+    assert_eq!(rt;
+        pair_of(&found),
+        Some((Enq(id(1)), Enq(id(2)), id(3), None))
+    );
+    Ok(())
+}
+
+#[test]
+fn of_a_value_dequeued_twice(rt: HostRuntime) -> Result<(), Fail> {
+    let operations = [op(0, 1, Deq(6)), op(2, 3, Deq(6))];
+    let found = violation_of(rt.alloc(), &[5, 6], &operations)?;
+    assert_eq!(rt; repeat_of(&found), Some((Initial(1), id(0), id(1))));
+    Ok(())
+}
+
+#[test]
+fn of_a_value_that_was_not_there(rt: HostRuntime) -> Result<(), Fail> {
+    let operations = [op(0, 1, Deq(7)), op(2, 3, enqueued(7))];
+    let found = violation_of(rt.alloc(), &[5, 6], &operations)?;
+    assert_eq!(rt; fresh_of(&found), Some((id(0), Some(id(1)))));
+    Ok(())
+}
+
+/// The place of an empty answer, and the steps of its cover.
+fn cover_of(
+    alloc: Global,
+    violation: &Option<Violation>,
+) -> Result<Option<(OpId, Vec<CoverStep>)>, AllocError> {
+    match violation {
+        Some(Violation::Witness { empty, cover }) => {
+            Ok(Some((*empty, cover.as_slice().to_vec(alloc)?)))
+        }
+        _ => Ok(None),
+    }
+}
+
+#[test]
+fn of_a_cover_by_an_initial_value_and_the_next(rt: HostRuntime) -> Result<(), Fail> {
+    let operations = [by(1, 0, 5, Empty), op(1, 2, enqueued(7)), op(3, 4, Deq(5))];
+    let found = violation_of(rt.alloc(), &[5], &operations)?;
+    let Some((empty, steps)) = cover_of(rt.alloc(), &found)? else {
+        return Err(Fail::from("no cover"));
+    };
+    let first = CoverStep {
+        source: Initial(0),
+        dequeue: Some(id(2)),
+    };
+    let next = CoverStep {
+        source: Enq(id(1)),
+        dequeue: None,
+    };
+    assert_eq!(rt; empty, id(0));
+    assert_eq!(rt; steps.as_slice(), [first, next].as_slice());
+    Ok(())
+}
+
+#[test]
+fn an_order_lists_operations_alone(rt: HostRuntime) -> Result<(), Fail> {
+    // The last operation enqueues what the second one, called before it, dequeues.
+    let operations = [op(0, 1, Deq(5)), by(1, 2, 5, Deq(7)), op(3, 4, enqueued(7))];
+    let history = history_behind(rt.alloc(), &[5], &operations)?;
+    let Verdict::Yes(order) = decide(rt.alloc(), &history)? else {
+        return Err(Fail::from("a no"));
+    };
+    assert_eq!(rt; order.as_slice(), [id(0), id(2), id(1)].as_slice());
+    Ok(())
+}
+
+/// The pair that is found where this value comes first out of a queue of 5 and 6.
+fn pair_found(alloc: Global, dequeued: u64) -> Result<Option<OrderPair>, Fail> {
+    let history = history_behind(alloc, &[5, 6], &[op(0, 1, Deq(dequeued))])?;
+    Ok(find_order(alloc, &matching_of(alloc, &history)?)?)
+}
+
+#[test]
+fn a_pair_names_initial_values(rt: HostRuntime) -> Result<(), Fail> {
+    let pair = OrderPair {
+        enq_a: Initial(0),
+        enq_b: Initial(1),
+        deq_b: id(0),
+        deq_a: None,
+    };
+    assert_eq!(rt; pair_found(rt.alloc(), 6)?, Some(pair));
+    assert_eq!(rt; pair_found(rt.alloc(), 5)?, None);
+    Ok(())
+}
+
+/// The value 5 is dequeued; and then come an empty answer and a refused enqueue.
+fn left_empty() -> [Operation; 3] {
+    [op(0, 1, Deq(5)), op(2, 3, Empty), op(4, 5, OpKind::Not(8))]
+}
+
+#[test]
+fn a_matching_shows_the_history(rt: HostRuntime) -> Result<(), Fail> {
+    let history = history_behind(rt.alloc(), &[5], &left_empty())?;
+    let matching = matching_of(rt.alloc(), &history)?;
+    assert_eq!(rt; matching.initial(), [5].as_slice());
+    assert_eq!(rt; matching.operations(), left_empty().as_slice());
+    Ok(())
+}
+
+#[test]
+fn a_matching_shows_the_filled_history(rt: HostRuntime) -> Result<(), Fail> {
+    let history = history_behind(rt.alloc(), &[5], &left_empty())?;
+    let matching = matching_of(rt.alloc(), &history)?;
+    let filled = matching.filled();
+    let first = filled.operations().first().copied();
+    assert_eq!(rt; first, Some(op(0, 1, enqueued(5))));
+    assert_eq!(rt; filled.values().len(), 1);
+    assert_eq!(rt; filled.empties(), [id(2)].as_slice());
+    Ok(())
+}
+
+#[test]
+fn a_matching_names_empty_answers_and_refused_enqueues(rt: HostRuntime) -> Result<(), Fail> {
+    let history = history_behind(rt.alloc(), &[5], &left_empty())?;
+    let matching = matching_of(rt.alloc(), &history)?;
+    assert_eq!(rt; only_of(&matching.empties()), Some(id(1)));
+    assert_eq!(rt; only_of(&matching.refused()), Some(id(2)));
+    Ok(())
+}
+
+/// The one place in the list, where there is one.
+fn only_of(places: &Places) -> Option<OpId> {
+    (places.len() == 1).then(|| places.get(0))
+}
+
+#[test]
+fn enqueues_of_initial_values_have_tickets_below_zero(rt: HostRuntime) -> Result<(), Fail> {
+    let history = history_behind(rt.alloc(), &[5, 6], &[op(0, 1, Deq(5))])?;
+    let matching = matching_of(rt.alloc(), &history)?;
+    for (clock, ticket) in [(0, -2), (1, -2), (2, -1), (3, -1), (4, 0), (5, 1)] {
+        assert_eq!(rt; matching.ticket(clock), ticket);
+    }
+    Ok(())
+}
+
+/// The gap that is found for the first empty answer, or the sources of the cover of its window.
+fn gap_or_sources(alloc: Global, matching: &Matching) -> Result<(Option<u64>, Vec<Source>), Fail> {
+    match first_answer(alloc, matching)?.ok_or("no empty answer")? {
+        GapAnswer::Free(gap) => Ok((Some(gap), Vec::new(alloc))),
+        GapAnswer::Covered(cover) => {
+            let sources = cover.as_slice().iter().map(|step| step.source);
+            Ok((None, sources.collect(alloc)?))
+        }
+    }
+}
+
+#[test]
+fn a_gap_is_told_by_tickets_of_the_history(rt: HostRuntime) -> Result<(), Fail> {
+    let alloc = rt.alloc();
+    let history = history_behind(
+        alloc,
+        &[5, 6],
+        &[op(0, 1, Deq(5)), by(1, 2, 5, Deq(6)), op(3, 4, Empty)],
+    )?;
+    let (gap, _) = gap_or_sources(alloc, &matching_of(alloc, &history)?)?;
+    assert_eq!(rt; gap, Some(3));
+    let history = history_behind(alloc, &[5, 6], &[op(0, 1, Deq(5)), op(2, 3, Empty)])?;
+    let (gap, sources) = gap_or_sources(alloc, &matching_of(alloc, &history)?)?;
+    assert_eq!(rt; gap, None);
+    assert_eq!(rt; sources.as_slice(), [Initial(1)].as_slice());
+    Ok(())
+}
+
+#[test]
+fn free_gaps_are_told_by_tickets_of_the_history(rt: HostRuntime) -> Result<(), Fail> {
+    let alloc = rt.alloc();
+    let history = history_behind(
+        alloc,
+        &[5],
+        &[op(0, 1, Deq(5)), op(2, 3, Empty), op(4, 5, enqueued(7))],
+    )?;
+    let matching = matching_of(alloc, &history)?;
+    let gaps = match find_witness(alloc, &matching)? {
+        WitnessAnswer::Gaps(gaps) => gaps,
+        WitnessAnswer::Covered { .. } => return Err(Fail::from("a covered window")),
+    };
+    assert_eq!(rt; gaps.as_slice(), [2].as_slice());
+    Ok(())
+}
+
+#[test]
+fn a_covered_answer_is_told_by_its_place_in_the_history(rt: HostRuntime) -> Result<(), Fail> {
+    let alloc = rt.alloc();
+    let history = history_behind(alloc, &[5], &[op(0, 1, enqueued(7)), op(2, 3, Empty)])?;
+    match find_witness(alloc, &matching_of(alloc, &history)?)? {
+        WitnessAnswer::Gaps(_) => Err(Fail::from("no covered window")),
+        WitnessAnswer::Covered { empty, cover } => {
+            let step = CoverStep {
+                source: Initial(0),
+                dequeue: None,
+            };
+            assert_eq!(rt; empty, id(1));
+            assert_eq!(rt; cover.as_slice(), [step].as_slice());
+            Ok(())
+        }
+    }
+}

@@ -1,0 +1,111 @@
+// What a queue is asked, also where nothing of it is recorded.
+use super::workers::{lone_worker, operate};
+use event_records::{AnsweredDeq, AnsweredEnq, AskDeq, AskEnq, Kind};
+use queue_interface::TestQueue;
+use std::alloc::Global;
+use std::process::Abort;
+use std::sync::atomic::{AtomicBool, AtomicU64, Ordering};
+use std::test::Fail;
+use std::thread::Threads;
+use stress_run::{RunFault, WorkerFault, run};
+use workloads::Plan;
+
+// A queue for one thread. It counts its questions, and sees where one isn't the next of the thread.
+#[derive(Drop)]
+struct CountingQueue {
+    asked: AtomicU64,
+    out_of_turn: AtomicBool,
+}
+
+impl CountingQueue {
+    fn new() -> CountingQueue {
+        CountingQueue {
+            asked: AtomicU64::new(0),
+            out_of_turn: AtomicBool::new(false),
+        }
+    }
+
+    // How many questions were asked, or none where one was asked out of turn.
+    fn asked(&self) -> Option<u64> {
+        if self.out_of_turn.load(Ordering::SeqCst) {
+            None
+        } else {
+            Some(self.asked.load(Ordering::SeqCst))
+        }
+    }
+
+    fn count(&self, number: u64) {
+        if self.asked.fetch_add(1, Ordering::SeqCst) != number {
+            self.out_of_turn.store(true, Ordering::SeqCst);
+        }
+    }
+}
+
+impl TestQueue for CountingQueue {
+    ghost use Rattle.queue_interface.specs.Answers.{AnswersInKind, TakesOrRefuses};
+
+    ghost may = { λ _. AnswersInKind };
+
+    ghost may_preload = { λ _. TakesOrRefuses };
+
+    fn enqueue(&self, ask: AskEnq) -> AnsweredEnq {
+        self.count(ask.number());
+        ask.taken()
+    }
+
+    fn dequeue(&self, ask: AskDeq) -> AnsweredDeq {
+        self.count(ask.number());
+        ask.empty()
+    }
+
+    fn preload(&self, _value: u64) -> bool {
+        true
+    }
+}
+
+// Whether the queue is asked once where the second operation of a worker, of this kind, finds no room for its call.
+fn is_asked_once(rt: &impl Abort, alloc: Global, kind: Kind) -> Result<bool, Fail> {
+    let (tickets, mut worker, _drain) = lone_worker(alloc)?;
+    let queue = CountingQueue::new();
+    assert_eq!(rt; operate(&queue, &tickets, &mut worker, Kind::Enq), Ok(()));
+    let stalled = Err(WorkerFault::Stalled);
+    assert_eq!(rt; operate(&queue, &tickets, &mut worker, kind), stalled);
+    assert_eq!(rt; operate(&queue, &tickets, &mut worker, kind), stalled);
+    Ok(queue.asked() == Some(1))
+}
+
+#[test]
+fn a_queue_is_not_asked_before_the_call_is_pushed(rt: HostRuntime) -> Result<(), Fail> {
+    assert!(rt; is_asked_once(&rt, rt.alloc(), Kind::Enq)?);
+    assert!(rt; is_asked_once(&rt, rt.alloc(), Kind::Deq)?);
+    Ok(())
+}
+
+// How many questions a run of one worker's 20,000 operations asks, and why it fails.
+fn run_counted<R: Threads + Sync>(
+    rt: &R,
+    alloc: Global,
+    ring: usize,
+    tries: u32,
+) -> Result<(Option<u64>, Option<RunFault>), Fail> {
+    let plan = Plan::from_seed(alloc, 1, 1, 20_000, 50)?;
+    let queue = CountingQueue::new();
+    let ended = run(rt, alloc, &queue, &plan, ring, tries);
+    Ok((queue.asked(), ended.err()))
+}
+
+#[test]
+fn a_run_asks_what_it_records(rt: HostRuntime) -> Result<(), Fail> {
+    let ended = run_counted(&rt, rt.alloc(), 65_536, 1)?;
+    assert_eq!(rt; ended, (Some(20_000), None));
+    Ok(())
+}
+
+// The second of two runs would begin again with question 0.
+#[test]
+fn a_run_that_stalls_is_not_run_again(rt: HostRuntime) -> Result<(), Fail> {
+    let (asked, fault) = run_counted(&rt, rt.alloc(), 2, 1)?;
+    assert!(rt; asked.is_some());
+    assert!(rt; fault.is_none() || fault == Some(RunFault::Stalled(0)));
+    Ok(())
+}

@@ -1,0 +1,172 @@
+// What a queue holds before the first operation.
+use super::filled::{put, take};
+use super::queues::ask_first;
+use event_records::What;
+use queue_interface::{
+    ArrayBack, Doubling, GateQueue, Inventing, Lifo, LockedQueue, Losing, ScriptQueue, SegBack,
+    Shy, TestQueue, TwoLockQueue,
+};
+use recorder_core::{Answer, Done, Machine, Step, are_initial_names};
+use std::alloc::Global;
+use std::test::Fail;
+use std::thread::Threads;
+use stress_run::{Recorded, RunFault, run_from};
+use workloads::Plan;
+
+// The least name that an initial value may have: 2^38.
+const FIRST: u64 = 274_877_906_944;
+
+// The answer of an effect of thread 0's next operation, a dequeue, which then returns.
+fn dequeue(machine: &mut Machine) -> Result<Answer, Fail> {
+    machine.step(Step::AskDeq(0))?;
+    machine.step(Step::Push(0))?;
+    let done = machine.step(Step::Effect(0))?;
+    machine.step(Step::Ret(0))?;
+    machine.step(Step::Push(0))?;
+    machine.step(Step::Drain(0, 2))?;
+    match done {
+        Done::Answered(answer) => Ok(answer),
+        _ => Err("no answer".into()),
+    }
+}
+
+#[test]
+fn a_machine_begins_with_its_values(rt: HostRuntime) -> Result<(), Fail> {
+    let alloc = rt.alloc();
+    let mut machine = Machine::with_initial(alloc, 1, 2, vec![in alloc; FIRST]?)?;
+    assert_eq!(rt; dequeue(&mut machine)?, Answer::Got(FIRST));
+    assert_eq!(rt; dequeue(&mut machine)?, Answer::Empty);
+    Ok(())
+}
+
+#[test]
+fn names_of_initial_values_are_told(rt: HostRuntime) -> Result<(), Fail> {
+    let alloc = rt.alloc();
+    let cases: [(&[u64], bool); 5] = [
+        (&[], true),
+        (&[FIRST + 1, FIRST], true),
+        (&[FIRST, FIRST + 1, FIRST], false),
+        (&[FIRST, FIRST - 1], false),
+        (&[u64::MAX], true),
+    ];
+    for (values, expected) in cases {
+        assert_eq!(rt; are_initial_names(alloc, values)?, expected, "{values:?}");
+    }
+    let most: Vec<u64> = (FIRST..FIRST + 100_000).collect(alloc)?;
+    assert!(rt; are_initial_names(alloc, &most)?);
+    let more: Vec<u64> = (FIRST..=FIRST + 100_000).collect(alloc)?;
+    assert!(rt; !are_initial_names(alloc, &more)?);
+    Ok(())
+}
+
+// What two dequeues answer of a queue into which 2^38 and then 2^38 + 1 were put beforehand.
+fn preloaded(alloc: Global, queue: &dyn TestQueue) -> Result<(What, What), Fail> {
+    if !queue.preload(FIRST) || !queue.preload(FIRST + 1) {
+        return Err("no room".into());
+    }
+    Ok((take(alloc, queue)?, take(alloc, queue)?))
+}
+
+#[test]
+fn queues_that_keep_the_order_give_the_first_first(rt: HostRuntime) -> Result<(), Fail> {
+    let alloc = rt.alloc();
+    let in_order = (What::RetDeq(FIRST), What::RetDeq(FIRST + 1));
+    assert_eq!(rt; preloaded(alloc, &LockedQueue::new(alloc, rt))?, in_order);
+    assert_eq!(rt; preloaded(alloc, &TwoLockQueue::new(alloc, rt))?, in_order);
+    assert_eq!(rt; preloaded(alloc, &ArrayBack::new(alloc, rt, 2)?)?, in_order);
+    assert_eq!(rt; preloaded(alloc, &SegBack::new(alloc, rt)?)?, in_order);
+    assert_eq!(rt; preloaded(alloc, &Doubling::new(alloc, rt))?, in_order);
+    assert_eq!(rt; preloaded(alloc, &Inventing::new(alloc, rt))?, in_order);
+    assert_eq!(rt; preloaded(alloc, &Shy::new(alloc, rt))?, in_order);
+    let last_first = (What::RetDeq(FIRST + 1), What::RetDeq(FIRST));
+    assert_eq!(rt; preloaded(alloc, &Lifo::new(alloc, rt))?, last_first);
+    Ok(())
+}
+
+#[test]
+fn a_full_array_refuses_a_value(rt: HostRuntime) -> Result<(), Fail> {
+    let queue = ArrayBack::new(rt.alloc(), rt, 1)?;
+    assert!(rt; queue.preload(FIRST));
+    assert!(rt; !queue.preload(FIRST + 1));
+    assert_eq!(rt; take(rt.alloc(), &queue)?, What::RetDeq(FIRST));
+    Ok(())
+}
+
+// The fourth enqueue is lost, whatever was put in beforehand.
+#[test]
+fn no_count_has_an_initial_value(rt: HostRuntime) -> Result<(), Fail> {
+    let alloc = rt.alloc();
+    let queue = Losing::new(alloc, rt);
+    assert!(rt; queue.preload(FIRST));
+    for thread in 0..4 {
+        assert_eq!(rt; put(alloc, &queue, thread)?, What::RetEnq);
+    }
+    assert_eq!(rt; take(alloc, &queue)?, What::RetDeq(FIRST));
+    for thread in 0..3 {
+        assert_eq!(rt; take(alloc, &queue)?, What::RetDeq(thread << 32));
+    }
+    assert_eq!(rt; take(alloc, &queue)?, What::RetEmpty);
+    Ok(())
+}
+
+#[test]
+fn a_script_and_a_gate_ignore_initial_values(rt: HostRuntime) -> Result<(), Fail> {
+    let alloc = rt.alloc();
+    let script = ScriptQueue::new(Vec::new(alloc));
+    let nothing = (What::RetEmpty, What::RetEmpty);
+    assert_eq!(rt; preloaded(alloc, &script)?, nothing);
+    let gate = GateQueue::new(2, 3);
+    assert!(rt; gate.preload(FIRST));
+    ask_first(alloc, &gate, 0)?;
+    assert_eq!(rt; gate.passed(), 0);
+    Ok(())
+}
+
+// A run of one dequeue on a queue that is to hold these values first.
+fn run_one_dequeue<R: Threads + Sync>(
+    rt: &R,
+    alloc: Global,
+    queue: &dyn TestQueue,
+    initial: &[u64],
+) -> Result<Result<Recorded, RunFault>, Fail> {
+    let plan = Plan::from_text(alloc, "D\n")?;
+    Ok(run_from(rt, alloc, queue, initial, &plan, 2, 1_000_000))
+}
+
+#[test]
+fn a_run_begins_with_its_values(rt: HostRuntime) -> Result<(), Fail> {
+    let alloc = rt.alloc();
+    let values = [FIRST, FIRST + 1];
+    let queue = LockedQueue::new(alloc, rt);
+    let recorded = run_one_dequeue(&rt, alloc, &queue, &values)??;
+    assert_eq!(rt; recorded.initial(), values.as_slice());
+    let list = recorded.lists().as_slice()[0].as_slice();
+    let whats: Vec<What> = list.iter().map(|event| event.what).collect(alloc)?;
+    let want = [What::CallDeq, What::RetDeq(FIRST)];
+    assert_eq!(rt; whats.as_slice(), want.as_slice());
+    assert_eq!(rt; take(alloc, &queue)?, What::RetDeq(FIRST + 1));
+    Ok(())
+}
+
+#[test]
+fn the_value_that_a_queue_refuses_is_told(rt: HostRuntime) -> Result<(), Fail> {
+    let queue = ArrayBack::new(rt.alloc(), rt, 1)?;
+    let ended = run_one_dequeue(&rt, rt.alloc(), &queue, &[FIRST, FIRST + 1])?;
+    assert_eq!(rt; ended.err(), Some(RunFault::Preload(1)));
+    assert_eq!(rt; take(rt.alloc(), &queue)?, What::RetDeq(FIRST));
+    Ok(())
+}
+
+#[test]
+fn values_that_may_not_be_initial_are_refused(rt: HostRuntime) -> Result<(), Fail> {
+    let alloc = rt.alloc();
+    let queue = LockedQueue::new(alloc, rt);
+    let more: Vec<u64> = (FIRST..=FIRST + 100_000).collect(alloc)?;
+    let cases: [&[u64]; 3] = [&[FIRST, FIRST], &[FIRST - 1], &more];
+    for values in cases {
+        let ended = run_one_dequeue(&rt, alloc, &queue, values)?;
+        assert_eq!(rt; ended.err(), Some(RunFault::Limit));
+    }
+    assert_eq!(rt; take(alloc, &queue)?, What::RetEmpty);
+    Ok(())
+}

@@ -1,0 +1,11 @@
+mod changed;
+mod errors;
+mod help;
+mod outcomes;
+mod pictures;
+mod schedules;
+mod sinks;
+mod texts;
+mod verdict_texts;
+mod versions;
+mod words;

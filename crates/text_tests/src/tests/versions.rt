@@ -1,0 +1,281 @@
+use super::outcomes::{check_each, check_failures, known};
+use event_records::{Event, What};
+use history_merge::{HistoryParts, PreloadedBuilder, history, history_from};
+use history_text::{
+    HistoryText, MemorySource, TextFault, TextReader, Version, Watched, WriteFault, at_end,
+    gather_any, read_any, read_history, write_history, write_history_2, write_history_text,
+};
+use std::alloc::{AllocError, Global};
+use std::test::Fail;
+
+const TEXT: &[u8] = b"fifo-history 2\ninitial 3\n274877906944\n0\n18446744073709551615\n\
+    0 0 call-deq\n1 0 ret-deq 274877906944\n2 1 call-enq 7\n3 1 ret-not\nend 4\n";
+
+const OLD_TEXT: &[u8] = b"fifo-history 1\n0 0 call-enq 7\n1 0 ret-enq\nend 2\n";
+
+/// How many initial values and events a history alone in its input has, or the fault of that input. Want of memory is an error
+/// of its own.
+fn outcome(
+    alloc: Global,
+    source: MemorySource<'_>,
+) -> Result<Result<(usize, usize), TextFault>, AllocError> {
+    let mut reader = TextReader::new(source);
+    match known(read_any(alloc, &mut reader))? {
+        Ok(text) => Ok(at_end(&mut reader).map(|()| (text.initial.len(), text.events.len()))),
+        Err(fault) => Ok(Err(fault)),
+    }
+}
+
+#[test]
+fn reads_values_and_events(rt: HostRuntime) -> Result<(), Fail> {
+    let mut reader = TextReader::new(MemorySource::new(TEXT));
+    let text = read_any(rt.alloc(), &mut reader)?;
+    assert_eq!(rt; text.version, Version::Two);
+    assert_eq!(rt;
+        text.initial.as_slice(),
+        [274_877_906_944, 0, u64::MAX].as_slice()
+    );
+    let events = [
+        (0, 0, What::CallDeq),
+        (1, 0, What::RetDeq(274_877_906_944)),
+        (2, 1, What::CallEnq(7)),
+        (3, 1, What::RetNot),
+    ]
+    .map(|(ticket, thread, what)| Event {
+        ticket,
+        thread,
+        what,
+    });
+    assert_eq!(rt; text.events.as_slice(), events.as_slice());
+    assert_eq!(rt; at_end(&mut reader), Ok(()));
+    Ok(())
+}
+
+#[test]
+fn reads_the_first_version(rt: HostRuntime) -> Result<(), Fail> {
+    let mut reader = TextReader::new(MemorySource::new(OLD_TEXT));
+    let text = read_any(rt.alloc(), &mut reader)?;
+    assert_eq!(rt; text.version, Version::One);
+    assert_eq!(rt; text.initial.len(), 0);
+    assert_eq!(rt; text.events.len(), 2);
+    Ok(())
+}
+
+#[test]
+fn the_first_version_alone(rt: HostRuntime) -> Result<(), Fail> {
+    let mut reader = TextReader::new(MemorySource::new(TEXT));
+    match read_history(rt.alloc(), &mut reader) {
+        Err(TextFault::Memory) => return Err(Fail::from("want of memory")),
+        answer => assert_eq!(rt; answer.map(|events| events.len()), Err(TextFault::Header)),
+    }
+    Ok(())
+}
+
+#[test]
+fn first_faults(rt: HostRuntime) -> Result<(), Fail> {
+    let cases: [(&[u8], Result<(usize, usize), TextFault>); 34] = [
+        (b"", Err(TextFault::Cut)),
+        (b"fifo-history 2", Err(TextFault::Cut)),
+        (b"fifo-history 3\nend 0\n", Err(TextFault::Header)),
+        (b"fifo-history 12\nend 0\n", Err(TextFault::Header)),
+        (b"fifo-history 1\nend 0\n", Ok((0, 0))),
+        (
+            b"fifo-history 1\ninitial 0\nend 0\n",
+            Err(TextFault::Line(2)),
+        ),
+        (b"fifo-history 2\n", Err(TextFault::Cut)),
+        (b"fifo-history 2\ninitial 0\nend 0\n", Ok((0, 0))),
+        (b"fifo-history 2\nend 0\n", Err(TextFault::Line(2))),
+        (b"fifo-history 2\ninitial\nend 0\n", Err(TextFault::Line(2))),
+        (
+            b"fifo-history 2\ninitial 0 0\nend 0\n",
+            Err(TextFault::Line(2)),
+        ),
+        (
+            b"fifo-history 2\nInitial 0\nend 0\n",
+            Err(TextFault::Line(2)),
+        ),
+        (
+            b"fifo-history 2\ninitial \nend 0\n",
+            Err(TextFault::Number(2)),
+        ),
+        (
+            b"fifo-history 2\ninitial 00\nend 0\n",
+            Err(TextFault::Number(2)),
+        ),
+        (
+            b"fifo-history 2\ninitial 100001\n",
+            Err(TextFault::Limit(2)),
+        ),
+        (b"fifo-history 2\ninitial 100000\n", Err(TextFault::Cut)),
+        (
+            b"fifo-history 2\ninitial 1\n07\n",
+            Err(TextFault::Number(3)),
+        ),
+        (
+            b"fifo-history 2\ninitial 1\nend 0\n",
+            Err(TextFault::Line(3)),
+        ),
+        (
+            b"fifo-history 2\ninitial 1\nend\n",
+            Err(TextFault::Number(3)),
+        ),
+        (
+            b"fifo-history 2\ninitial 1\n\nend 0\n",
+            Err(TextFault::Line(3)),
+        ),
+        (
+            b"fifo-history 2\ninitial 1\n7 \nend 0\n",
+            Err(TextFault::Line(3)),
+        ),
+        (
+            b"fifo-history 2\ninitial 1\n 7\nend 0\n",
+            Err(TextFault::Line(3)),
+        ),
+        (
+            b"fifo-history 2\ninitial 1\n7\r\nend 0\n",
+            Err(TextFault::Number(3)),
+        ),
+        (
+            b"fifo-history 2\ninitial 1\n-7\nend 0\n",
+            Err(TextFault::Number(3)),
+        ),
+        (
+            b"fifo-history 2\ninitial 1\n18446744073709551616\nend 0\n",
+            Err(TextFault::Limit(3)),
+        ),
+        (b"fifo-history 2\ninitial 1\n7", Err(TextFault::Cut)),
+        (b"fifo-history 2\ninitial 2\n7\n", Err(TextFault::Cut)),
+        (
+            b"fifo-history 2\ninitial 2\n7\nend 0\n",
+            Err(TextFault::Line(4)),
+        ),
+        (
+            b"fifo-history 2\ninitial 1\n7\n9\nend 0\n",
+            Err(TextFault::Line(4)),
+        ),
+        (b"fifo-history 2\ninitial 1\n7\nend 0\n", Ok((1, 0))),
+        (b"fifo-history 2\ninitial 2\n7\n7\nend 0\n", Ok((2, 0))),
+        (
+            b"fifo-history 2\ninitial 1\n7\nend 1\n",
+            Err(TextFault::Count),
+        ),
+        (
+            b"fifo-history 2\ninitial 1\n7\nend \n",
+            Err(TextFault::Number(4)),
+        ),
+        (
+            b"fifo-history 2\ninitial 0\nend 0\nx",
+            Err(TextFault::Trailing),
+        ),
+    ];
+    check_each(&rt, rt.alloc(), &cases, outcome)
+}
+
+#[test]
+fn long_value_lines(rt: HostRuntime) -> Result<(), Fail> {
+    for (count, fault) in [(80, TextFault::Limit(3)), (81, TextFault::Line(3))] {
+        let mut text = Vec::from_slice(rt.alloc(), b"fifo-history 2\ninitial 1\n")?;
+        for _ in 0..count {
+            text.push(b'1')?;
+        }
+        text.extend_from_slice(b"\nend 0\n")?;
+        assert_eq!(rt;
+            outcome(rt.alloc(), MemorySource::new(&text))?,
+            Err(fault),
+            "{count} digits"
+        );
+    }
+    Ok(())
+}
+
+#[test]
+fn any_pieces_and_any_failure(rt: HostRuntime) -> Result<(), Fail> {
+    for most in [1, 7, TEXT.len()] {
+        let source = MemorySource::new(TEXT).in_pieces(most);
+        assert_eq!(rt;
+            outcome(rt.alloc(), source)?,
+            Ok((3, 4)),
+            "in pieces of {most}"
+        );
+        check_failures(&rt, rt.alloc(), TEXT, most, outcome)?;
+        for given in 0..TEXT.len() {
+            let ending = MemorySource::new(&TEXT[..given]).in_pieces(most);
+            assert_eq!(rt;
+                outcome(rt.alloc(), ending)?,
+                Err(TextFault::Cut),
+                "ends after {given}"
+            );
+        }
+    }
+    Ok(())
+}
+
+#[test]
+fn writes_what_it_reads(rt: HostRuntime) -> Result<(), Fail> {
+    let texts: [&[u8]; 2] = [TEXT, b"fifo-history 2\ninitial 0\nend 0\n"];
+    for text in texts {
+        let mut reader = TextReader::new(MemorySource::new(text));
+        let HistoryText {
+            version: _,
+            initial,
+            events,
+        } = read_any(rt.alloc(), &mut reader)?;
+        let initial = initial.into_vec();
+        let events = events.into_vec();
+        if initial.len() > 3 || events.len() > 4 {
+            return Err(Fail::from("more values or events than the text has"));
+        }
+        let whole = history_from(rt.alloc(), initial, events)?;
+        let mut writer = Watched::new(Vec::new(rt.alloc()));
+        write_history_2(&whole, &mut writer)?;
+        assert_eq!(rt; writer.into_inner().as_slice(), text);
+        let mut writer = Watched::new(Vec::new(rt.alloc()));
+        write_history_text(Version::Two, &whole, &mut writer)?;
+        assert_eq!(rt; writer.into_inner().as_slice(), text);
+        let mut few = [0u8; 20];
+        let mut writer = Watched::new(&mut few[..]);
+        assert_eq!(rt;
+            write_history_2(&whole, &mut writer),
+            Err(WriteFault::Write)
+        );
+        assert_eq!(rt; few.as_slice(), &text[..20]);
+    }
+    Ok(())
+}
+
+#[test]
+fn one_history_in_both_versions(rt: HostRuntime) -> Result<(), Fail> {
+    let mut reader = TextReader::new(MemorySource::new(OLD_TEXT));
+    let whole = history(rt.alloc(), read_history(rt.alloc(), &mut reader)?)?;
+    let mut first = Watched::new(Vec::new(rt.alloc()));
+    write_history(&whole, &mut first)?;
+    assert_eq!(rt; first.into_inner().as_slice(), OLD_TEXT);
+    let mut chosen = Watched::new(Vec::new(rt.alloc()));
+    write_history_text(Version::One, &whole, &mut chosen)?;
+    assert_eq!(rt; chosen.into_inner().as_slice(), OLD_TEXT);
+    let mut second = Watched::new(Vec::new(rt.alloc()));
+    write_history_2(&whole, &mut second)?;
+    assert_eq!(rt;
+        second.into_inner().as_slice(),
+        b"fifo-history 2\ninitial 0\n0 0 call-enq 7\n1 0 ret-enq\nend 2\n".as_slice()
+    );
+    Ok(())
+}
+
+#[test]
+fn gathers_values_and_events(rt: HostRuntime) -> Result<(), Fail> {
+    let mut reader = TextReader::new(MemorySource::new(TEXT));
+    let builder: PreloadedBuilder = gather_any(rt.alloc(), &mut reader)?;
+    let HistoryParts {
+        initial,
+        operations,
+    } = builder.finish()?;
+    assert_eq!(rt;
+        initial.as_slice(),
+        [274_877_906_944, 0, u64::MAX].as_slice()
+    );
+    assert_eq!(rt; operations.len(), 2);
+    assert_eq!(rt; at_end(&mut reader), Ok(()));
+    Ok(())
+}
