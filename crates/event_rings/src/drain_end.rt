@@ -19,9 +19,9 @@ const BLANK: Event = Event {
 /// The end of a thread's ring that drains events. A collector holds it.
 #[derive(Drop)]
 pub struct DrainEnd {
-    alloc: Global,
     thread: ThreadNo,
     consumer: Consumer<Event>,
+    alloc: Global,
 }
 
 impl Model for DrainEnd {

@@ -134,7 +134,8 @@ module _ (lists : List (List Event)) (fit : AreFit lists) (ring : ℕ) (initial 
     pub each : (t : ℕ) (list : List Event) → slice_get lists t ≡ Some list → IsOnTurn on n t 0 list steps
 
   no_ticket : (t : ℕ) (list : List Event) → IsOnTurn on 0 t 0 list []
-  no_ticket t list = record { still_open = refl; pushed = refl; all_drained = refl; answered = refl; rest = list; list_is = refl; later = λ i d within. omega arith }
+  no_ticket t list =
+      record { still_open = refl; pushed = refl; all_drained = refl; answered = refl; rest = list; list_is = refl; later = λ i d within. omega arith }
 
   replayed_none : IsReplayed 0
   replayed_none = record {
@@ -160,8 +161,8 @@ module _ (lists : List (List Event)) (fit : AreFit lists) (ring : ℕ) (initial 
       → slice_get lists e.thread ≡ Some from → Contains from e → e.ticket ≡ n → (e.thread ≡ t → ⊥) → IsOnTurn on n t 0 list steps
       → IsOnTurn on (suc n) t 0 list steps
   other_later n t list steps e from at at_e among same other k =
-      let rest_later = all_from_members (λ x. suc n ≤ x.ticket) k.rest later in
-      record { still_open = k.still_open; pushed = k.pushed; all_drained = k.all_drained; answered = k.answered; rest = k.rest; list_is = k.list_is; later = rest_later }
+      let l = all_from_members (λ x. suc n ≤ x.ticket) k.rest later in
+      record { still_open = k.still_open; pushed = k.pushed; all_drained = k.all_drained; answered = k.answered; rest = k.rest; list_is = k.list_is; later = l }
     where
       later : (x : Event) → Contains k.rest x → suc n ≤ x.ticket
       later x here =

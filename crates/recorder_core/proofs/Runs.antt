@@ -75,8 +75,7 @@ pub record MayPush (setting : Setting) (u : ℕ) (before : List Step) : Type 0 w
 
 -- a push that isn't refused may come
 pub may_push : (setting : Setting) (before : List Step) (u : ℕ) (starved : Bool) → IsLetPass setting before (Push u) starved → MayPush setting u before
-may_push setting before u starved none =
-    let p = four_passed _ _ _ _ _ _ _ _ _ none in
+may_push setting before u starved none = let p = four_passed _ _ _ _ _ _ _ _ _ none in
     record { known = leb-false _ _ p.0; open_still = p.1; one_held = leb-false _ _ p.2; has_room = leb-false _ _ p.3 }
 
 -- when an answer to a thread may come
@@ -88,8 +87,7 @@ pub record MayAnswer (setting : Setting) (u : ℕ) (before : List Step) : Type 0
 
 -- an effect that isn't refused may come
 pub may_effect : (setting : Setting) (before : List Step) (u : ℕ) (starved : Bool) → IsLetPass setting before (Effect u) starved → MayAnswer setting u before
-may_effect setting before u starved none =
-    let p = four_passed _ _ _ _ _ _ _ _ _ none in
+may_effect setting before u starved none = let p = four_passed _ _ _ _ _ _ _ _ _ none in
     record { known = leb-false _ _ p.0; open_still = p.1; one_pending = leb-false _ _ p.2; no_answer = ltb-false _ _ p.3 }
 
 -- an answer that isn't refused may come
@@ -122,11 +120,10 @@ may_drain setting before u k starved none = leb-false _ _ (passed _ _ _ none).0
 pub record MayClose (setting : Setting) (u : ℕ) (before : List Step) : Type 0 where
   pub known : u < setting.threads
   pub open_still : is_closed u before ≡ false
-  pub none_held : asks u before + returns u before ≤ pushes u before
   pub none_pending : asks u before ≤ returns u before
+  pub none_held : asks u before + returns u before ≤ pushes u before
 
 -- a close that isn't refused may come
 pub may_close : (setting : Setting) (before : List Step) (u : ℕ) (starved : Bool) → IsLetPass setting before (Close u) starved → MayClose setting u before
-may_close setting before u starved none =
-    let p = four_passed _ _ _ _ _ _ _ _ _ none in
+may_close setting before u starved none = let p = four_passed _ _ _ _ _ _ _ _ _ none in
     record { known = leb-false _ _ p.0; open_still = p.1; none_held = ltb-false _ _ p.2; none_pending = ltb-false _ _ p.3 }

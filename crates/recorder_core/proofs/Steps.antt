@@ -51,7 +51,7 @@ slice_get-set_other xs i j x ne = elim (cases_lt j (length xs)) [
 ]
 
 -- the thread at a place that was looked up
-pub thread_at : (items : List ThreadView) (n i : ℕ) (thread : ThreadView) → n ≡ length items → (true ≡ true → i < n) → thread ≡ get_or items i thread
+thread_at : (items : List ThreadView) (n i : ℕ) (thread : ThreadView) → n ≡ length items → (true ≡ true → i < n) → thread ≡ get_or items i thread
     → slice_get items i ≡ Some thread
 thread_at items n i thread long found is = slice_get_read items n i thread long (found refl) is
 
@@ -298,9 +298,10 @@ after_return thread ret = record thread { pending = None; held = Some ret }
 
 -- ---- the steps of a machine that holds this thread at place i, and this one afterwards
 
-module _ (old : MachineView) (u i : ℕ) (thread new : ThreadView) (same : i ≡ u) (at' : slice_get old.threads i ≡ Some thread) where
+module _ (old : MachineView) (u i n : ℕ) (thread new : ThreadView) (same : i ≡ u) (long : n ≡ length old.threads) (found : true ≡ true → i < n)
+    (item : thread ≡ get_or old.threads i thread) where
   at : slice_get old.threads u ≡ Some thread
-  at = rw same at at'
+  at = rw same at (thread_at old.threads n i thread long found item)
 
   -- an ask that nothing refuses takes the next ticket, and its call event is held
   pub ask_taken : (kind : Kind) → None ≡ find (seen thread none_other) (Closed ∷ Held ∷ PendingRefused ∷ []) → is_limited thread.asked old.asked ≡ false →
@@ -415,14 +416,15 @@ module _ (old : MachineView) (u i : ℕ) (thread new : ThreadView) (same : i ≡
 
 -- ---- refused steps
 
-module _ (old : MachineView) (u i : ℕ) (thread new : ThreadView) (same : i ≡ u) (at' : slice_get old.threads i ≡ Some thread) (kept : new ≡ thread) where
+module _ (old : MachineView) (u i n : ℕ) (thread new : ThreadView) (same : i ≡ u) (long : n ≡ length old.threads) (found : true ≡ true → i < n)
+    (item : thread ≡ get_or old.threads i thread) (kept : new ≡ thread) where
   refused_at : (step : Step) (r : StepRefused) → ((setting : Setting) (before : List Step) → AllCounted setting before → IsLeftBy setting old before
       → refusal setting before (record { step = step; starved = is_memory r }) ≡ Some r) →
       TakesStep old step (Err r) (record old { threads = set old.threads i new })
-  refused_at step r h = step_refused old _ step r (put_back old i thread new at' kept) h
+  refused_at step r h = step_refused old _ step r (put_back old i thread new (thread_at old.threads n i thread long found item) kept) h
 
   at_place : slice_get old.threads u ≡ Some thread
-  at_place = rw same at at'
+  at_place = rw same at (thread_at old.threads n i thread long found item)
 
   -- an ask that is refused changes nothing
   pub ask_refused : (kind : Kind) (r : StepRefused) → Some r ≡ find (seen thread none_other) (Closed ∷ Held ∷ PendingRefused ∷ [])

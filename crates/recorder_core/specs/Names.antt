@@ -6,15 +6,18 @@ use Rattle.recorder_core.specs.declared.step.StepRefused.TheVariants.{AnswerTake
 
 -- the name of a reason
 abbrev pub name_of : StepRefused → List ℕ
+-- of the thread, and of what it holds
 name_of NoThread = codes "NoThread"
 name_of Closed = codes "Closed"
 name_of Held = codes "Held"
 name_of NothingHeld = codes "NothingHeld"
 name_of RingFull = codes "RingFull"
+-- of its operation
 name_of Pending = codes "Pending"
 name_of NotPending = codes "NotPending"
 name_of NoAnswer = codes "NoAnswer"
 name_of AnswerTaken = codes "AnswerTaken"
 name_of WrongAnswer = codes "WrongAnswer"
+-- of limits and of memory
 name_of Limit = codes "Limit"
 name_of Memory = codes "Memory"

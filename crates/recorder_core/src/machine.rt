@@ -116,6 +116,12 @@ impl Machine {
         ensures refused { OnErr result (self.new ≡ self.old) }
         ensures threads { length self.new.threads ≡ length self.old.threads }
     {
+        self.take(step)
+    }
+
+    fn take(&mut self, step: Step) -> Result<Done, StepRefused>
+        ensures { TakesStep self.old step result self.new }
+    {
         match step {
             Step::AskEnq(thread) => self.ask(thread, Kind::Enq),
             Step::AskDeq(thread) => self.ask(thread, Kind::Deq),

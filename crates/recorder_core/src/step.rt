@@ -74,8 +74,8 @@ pub enum StepRefused {
 impl StepRefused {
     /// Its name, as it is printed.
     pub fn name(self) -> &'static str
-        ensures name { result.now ≡ name_of self }
         ensures short { length result.now ≤ 20 }
+        ensures name { result.now ≡ name_of self }
     {
         match self {
             StepRefused::NoThread => "NoThread",

@@ -10,12 +10,12 @@ use Rattle.stress_run.specs.declared.faults.RunFault.TheVariants.{Limit, Memory,
 
 -- the name of a fault, as it is printed
 abbrev pub name_of : RunFault → List ℕ
-name_of Limit = codes "Limit"
-name_of Memory = codes "Memory"
 name_of (Stalled t) = codes "Stalled"
 name_of (CloseLost t) = codes "CloseLost"
 name_of (Uncertified t) = codes "Uncertified"
 name_of (Preload place) = codes "Preload"
+name_of Limit = codes "Limit"
+name_of Memory = codes "Memory"
 
 -- the number of a fault
 abbrev pub number_of : RunFault → ℕ

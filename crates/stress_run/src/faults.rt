@@ -1,5 +1,6 @@
 // Why a run gave no history, and which of several faults is answered.
 ghost use Rattle.std.specs.Prelude.{◌≡◌, ◌≤◌, ◌⊎◌, ◌↔◌, [], length, All, Contains, IfSome, IsNone, true, false};
+ghost use Rattle.stress_run.specs.declared.faults.RunFault.TheVariants as made;
 ghost use Rattle.stress_run.specs.Faults.{number_of, place_of, name_of, place_in, IsNotAfter};
 
 use collector::CollectError;
@@ -35,16 +36,16 @@ pub enum RunFault {
 impl RunFault {
     /// Its name, as it is printed before its thread or place.
     pub fn name(self) -> &'static str
-        ensures name { result.now ≡ name_of self }
         ensures short { length result.now ≤ 20 }
+        ensures name { result.now ≡ name_of self }
     {
         match self {
-            RunFault::Limit => "Limit",
-            RunFault::Memory => "Memory",
             RunFault::Stalled(_) => "Stalled",
             RunFault::CloseLost(_) => "CloseLost",
             RunFault::Uncertified(_) => "Uncertified",
             RunFault::Preload(_) => "Preload",
+            RunFault::Limit => "Limit",
+            RunFault::Memory => "Memory",
         }
     }
 
@@ -93,10 +94,7 @@ impl RunFault {
 }
 
 impl From<AllocError> for RunFault {
-    ghost use Rattle.std.specs.Prelude.{◌≡◌};
-    ghost use Rattle.stress_run.specs.declared.faults.RunFault.TheVariants.{Memory};
-
-    ghost from_gives = { λ _ fault. fault ≡ Memory };
+    ghost from_gives = { λ _ fault. fault ≡ made.Memory };
 
     fn from(_: AllocError) -> RunFault {
         RunFault::Memory

@@ -35,8 +35,8 @@ impl Model for Worker {
     ghost Value = { WorkerView };
 
     ghost view = { λ w. record {
-      pass = w.pass;
       thread = w.ring.thread;
+      pass = w.pass;
       asked = w.namer.asked;
       ring = w.ring.ring;
       capacity = w.ring.capacity;

@@ -2,6 +2,7 @@
 ghost use Rattle.std.specs.Prelude.{◌≡◌, ◌≢◌, ℕ, ◌≤◌, ◌↔◌, List, count_by, IfOk, IfErr, IsTrue, MatchOption, MatchResult};
 ghost use Rattle.std.specs.List.{list_all, slice_split};
 ghost use Rattle.event_records.specs.declared.kind.Kind.{Kind};
+ghost use Rattle.workloads.specs.declared.texts.PlanFault.TheVariants as made;
 ghost use Rattle.workloads.specs.Plans.{IsPlan};
 ghost use Rattle.workloads.specs.Texts.{letter, text_of, IsCut, HasLines, HasStray, IsPlanText, IsFaultOf};
 ghost use Rattle.workloads.specs.Inner.Texts.{ends_line, is_short_line};
@@ -36,10 +37,7 @@ pub enum PlanFault {
 }
 
 impl From<AllocError> for PlanFault {
-    ghost use Rattle.std.specs.Prelude.{◌≡◌};
-    ghost use Rattle.workloads.specs.declared.texts.PlanFault.TheVariants.{Memory};
-
-    ghost from_gives = { λ _ fault. fault ≡ Memory };
+    ghost from_gives = { λ _ fault. fault ≡ made.Memory };
 
     fn from(_: AllocError) -> PlanFault {
         PlanFault::Memory

@@ -1,23 +1,22 @@
 use Rattle.std.proofs.Common.{◌≤◌, length, refl, sym, ◌∙◌, arith}
 use Rattle.std.proofs.lemmas.Result.{err_from_is_err_and}
-use Rattle.recorder_core.proofs.Steps.{thread_at, ask_taken, ask_refused, ask_limited, ask_unknown, past_end, reachable_on}
+use Rattle.recorder_core.proofs.Steps.{ask_taken, ask_refused, ask_limited, ask_unknown, past_end, reachable_on}
 use Rattle.recorder_core.proofs.Totals.{is_small}
 use Rattle.recorder_core.proofs.machine.Machine.ask.Goals as goal
 
 pub returns : goal.returns
 returns c =
-    let at = thread_at c.self.inside.threads.items _ _ c.in-Some.thread.now c.self.inside.threads.ok.0 c.in-Some.ensures.variant.0 c.in-Some.ensures.value in
     let few = rw c.asked.ensures at (sym c.is_limited.ensures ∙ c.if-is_limited.false) in
     rw (c.take_ticket-call.ensures.ticket, c.take_ticket-call.ensures.taken, ← c.self.view_is)
-    (ask_taken _ c.args.number c.from.result c.in-Some.thread.now c.begin.new.self c.from.ensures at c.args.kind c.in_ok-idle.ensures few
+    (ask_taken _ c.args.number c.from.result _ c.in-Some.thread.now c.begin.new.self c.from.ensures
+    c.self.inside.threads.ok.0 c.in-Some.ensures.variant.0 c.in-Some.ensures.value c.args.kind c.in_ok-idle.ensures few
     (rw (c.call_with.ensures, c.request_of-request.ensures, c.asked-2.ensures, c.take_ticket-call.ensures.ticket) at c.begin.ensures))
 
 pub invariant_of-self-2 : goal.invariant_of-self-2
 invariant_of-self-2 c =
-    let at = thread_at c.self.inside.threads.items _ _ c.in-Some.thread.now c.self.inside.threads.ok.0 c.in-Some.ensures.variant.0 c.in-Some.ensures.value in
     let few = rw c.asked.ensures at (sym c.is_limited.ensures ∙ c.if-is_limited.false) in
-    rw (c.take_ticket-call.ensures.taken) (reachable_on _ _ _ _ (ask_taken _ c.args.number c.from.result c.in-Some.thread.now c.begin.new.self
-    c.from.ensures at c.args.kind c.in_ok-idle.ensures few (rw (
+    rw (c.take_ticket-call.ensures.taken) (reachable_on _ _ _ _ (ask_taken _ c.args.number c.from.result _ c.in-Some.thread.now c.begin.new.self c.from.ensures
+    c.self.inside.threads.ok.0 c.in-Some.ensures.variant.0 c.in-Some.ensures.value c.args.kind c.in_ok-idle.ensures few (rw (
       c.call_with.ensures,
       c.request_of-request.ensures,
       c.asked-2.ensures,
@@ -27,16 +26,15 @@ invariant_of-self-2 c =
 pub returns-in_err-idle : goal.returns-in_err-idle
 returns-in_err-idle c =
     let p = err_from_is_err_and c.from_residual.result c.from_residual.ensures.1 in
-    let at = thread_at c.self.inside.threads.items _ _ c.in-Some.thread.now c.self.inside.threads.ok.0 c.in-Some.ensures.variant.0 c.in-Some.ensures.value in
-    rw (p.1, p.2, ← c.self.view_is) (ask_refused _ c.args.number c.from.result c.in-Some.thread.now c.in-Some.thread.now c.from.ensures at refl
-    c.args.kind c.in_err-idle.field-0.0 c.in_err-idle.ensures)
+    rw (p.1, p.2, ← c.self.view_is) (ask_refused _ c.args.number c.from.result _ c.in-Some.thread.now c.in-Some.thread.now c.from.ensures
+    c.self.inside.threads.ok.0 c.in-Some.ensures.variant.0 c.in-Some.ensures.value refl c.args.kind c.in_err-idle.field-0.0
+    c.in_err-idle.ensures)
 
 pub returns-then-is_limited : goal.returns-then-is_limited
 returns-then-is_limited c =
-    let at = thread_at c.self.inside.threads.items _ _ c.in-Some.thread.now c.self.inside.threads.ok.0 c.in-Some.ensures.variant.0 c.in-Some.ensures.value in
     let many = rw c.asked.ensures at (sym c.is_limited.ensures ∙ c.if-is_limited.true) in
-    rw (← c.self.view_is) (ask_limited _ c.args.number c.from.result c.in-Some.thread.now c.in-Some.thread.now c.from.ensures at refl c.args.kind
-    c.in_ok-idle.ensures many)
+    rw (← c.self.view_is) (ask_limited _ c.args.number c.from.result _ c.in-Some.thread.now c.in-Some.thread.now c.from.ensures
+    c.self.inside.threads.ok.0 c.in-Some.ensures.variant.0 c.in-Some.ensures.value refl c.args.kind c.in_ok-idle.ensures many)
 
 pub take_ticket-call-requires : goal.take_ticket-call-requires
 take_ticket-call-requires c =
