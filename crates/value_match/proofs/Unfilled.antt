@@ -24,6 +24,11 @@ use Rattle.value_match.specs.Unfilling.{place_behind, unfilled_place, unfilled_s
 use Rattle.value_match.proofs.FilledLines.{earlier, earlier_later, earlier_none, filled_at, filled_earlier, one_later}
 use Rattle.value_match.proofs.CoverLives.{AreLives, covers_are_lives}
 
+-- steps are the same where the first has the same source and the same dequeue, and the others are the same
+same_steps : (step : CoverStep) (s : Source) (d : Option ℕ) (steps told : List CoverStep) → s ≡ step.source → d ≡ step.dequeue → told ≡ steps
+    → record { source = s; dequeue = d } ∷ told ≡ step ∷ steps
+same_steps step s d steps told sources dequeues rest i = record { source = sources i; dequeue = dequeues i } ∷ rest i
+
 -- ---- told again, a violation of a history is the same
 
 module _ (k : ℕ) where
@@ -46,10 +51,7 @@ module _ (k : ℕ) where
   pub cover_told : (steps : List CoverStep) → map (unfilled_step k) (map (filled_step k) steps) ≡ steps
   cover_told [] = refl
   cover_told (step ∷ steps) =
-      let sources = source_told step.source in
-      let dequeues = maybe_told step.dequeue in
-      let rest = cover_told steps in
-      λ i. record { source = sources i; dequeue = dequeues i } ∷ rest i
+      same_steps step _ _ steps _ (source_told step.source) (maybe_told step.dequeue) (cover_told steps)
 
   told_again : (v : Violation) → unfilled_violation k (filled_violation k v) ≡ v
   told_again (violation.Fresh deq enq) = ap₂ violation.Fresh (place_told deq) (maybe_told enq)
@@ -300,8 +302,4 @@ source_with_none (source.Initial p) = refl
 -- the steps of a cover stay as they are
 pub cover_with_none : (steps : List CoverStep) → map (unfilled_step 0) steps ≡ steps
 cover_with_none [] = refl
-cover_with_none (step ∷ steps) =
-    let sources = source_with_none step.source in
-    let dequeues = maybe_with_none step.dequeue in
-    let rest = cover_with_none steps in
-    λ i. record { source = sources i; dequeue = dequeues i } ∷ rest i
+cover_with_none (step ∷ steps) = same_steps step _ _ steps _ (source_with_none step.source) (maybe_with_none step.dequeue) (cover_with_none steps)

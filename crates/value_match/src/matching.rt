@@ -166,6 +166,13 @@ impl<'a> Matching<'a> {
         }
     }
 
+    /// The matching of the filled history.
+    pub fn filled(&self) -> &FilledMatching<'a>
+        ensures { result.now ≡ filled_operations self.now }
+    {
+        &self.matched
+    }
+
     /// What the queue held first, front first.
     pub fn initial(&self) -> &[u64]
         ensures initial { result.now ≡ self.now.initial }
@@ -207,13 +214,6 @@ impl<'a> Matching<'a> {
         } else {
             clock as i64 - 2 * initial_count
         }
-    }
-
-    /// The matching of the filled history.
-    pub fn filled(&self) -> &FilledMatching<'a>
-        ensures { result.now ≡ filled_operations self.now }
-    {
-        &self.matched
     }
 }
 

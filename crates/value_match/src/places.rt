@@ -46,10 +46,6 @@ impl<'a> Places<'a> {
         requires { place < length self.now }
         ensures { result ≡ slice_index_or self.now place result }
     {
-        let filled = self.filled;
-        if place >= filled.len() {
-            unreachable!("there are as many places as in the filled history");
-        }
-        unfilled_place(self.initial_count, filled[place])
+        unfilled_place(self.initial_count, self.filled[place])
     }
 }

@@ -5,7 +5,5 @@ use Rattle.value_match.proofs.matching.Matching.refused.Goals as goal
 
 pub returns : goal.returns
 returns c =
-    let initial = c.self.inside.initial.now in
-    let operations = c.self.inside.operations.now in
     let holds = subst (λ all. HoldsPlaces all is_refused c.refused.result.now) c.self.invariant.0 c.refused.ensures in
-    rw (← c.self.view_is, c.new.ensures) (refused_told initial operations c.refused.result.now holds)
+    rw (← c.self.view_is, c.new.ensures) (refused_told c.self.inside.initial.now c.self.inside.operations.now c.refused.result.now holds)
