@@ -10,7 +10,6 @@ use crate::answer::{GapAnswer, Gaps, WitnessAnswer};
 use crate::cover::cover_of;
 use crate::gaps::least_free_gap;
 use crate::spans::{Span, spans_of};
-use crate::unfilling::{unfilled_gap_answer, unfilled_witness_answer};
 use history_merge::{OpId, Operation};
 use std::alloc::{AllocError, Global};
 use value_match::{FilledMatching, Matching};
@@ -43,16 +42,12 @@ pub fn gap_for(alloc: Global, matching: &Matching, empty: OpId) -> Result<GapAns
     let initial_count = matching.initial().len();
     prove!(empty.place() < matching.operations().len());
     let place = OpId::new(initial_count + empty.place());
-    let answer = gap_in_filled(alloc, matching.filled(), place)?;
-    unfilled_gap_answer(alloc, initial_count, answer)
+    let answer = gap_at(alloc, matching.filled(), place)?;
+    answer.unfilled(alloc, initial_count)
 }
 
 /// The same of a filled history.
-fn gap_in_filled(
-    alloc: Global,
-    matching: &FilledMatching,
-    empty: OpId,
-) -> Result<GapAnswer, AllocError>
+fn gap_at(alloc: Global, matching: &FilledMatching, empty: OpId) -> Result<GapAnswer, AllocError>
     requires { IsEmptyAnswerAt matching.now empty }
     ensures { IfOk result (λ answer. IsGapAnswer matching.now empty answer) }
 {
@@ -90,7 +85,7 @@ pub fn witness_of(
     ensures { IfOk result (IsWitnessAnswerFrom matching.now.initial matching.now.operations) }
 {
     let answer = witness_in_filled(alloc, matching.filled(), windows)?;
-    unfilled_witness_answer(alloc, matching.initial().len(), answer)
+    answer.unfilled(alloc, matching.initial().len())
 }
 
 /// The same by the places and clocks of the filled history.

@@ -6,42 +6,38 @@ use crate::answer::{GapAnswer, Gaps, WitnessAnswer};
 use std::alloc::{AllocError, Global};
 use value_match::{unfilled_cover, unfilled_place};
 
-/// The answer for one window.
-pub fn unfilled_gap_answer(
-    alloc: Global,
-    initial_count: usize,
-    answer: GapAnswer,
-) -> Result<GapAnswer, AllocError>
-    ensures { IfOk result (λ told. told ≡ unfilled_gap_answer initial_count answer) }
-{
-    match answer {
-        GapAnswer::Free(gap) => Ok(GapAnswer::Free(unfilled_gap(initial_count, gap))),
-        GapAnswer::Covered(cover) => {
-            let told = unfilled_cover(alloc, initial_count, cover)?;
-            Ok(GapAnswer::Covered(told))
+impl GapAnswer {
+    /// The answer for one window.
+    pub(crate) fn unfilled(self, alloc: Global, initial_count: usize) -> Result<Self, AllocError>
+        ensures { IfOk result (λ told. told ≡ unfilled_gap_answer initial_count self) }
+    {
+        match self {
+            GapAnswer::Free(gap) => Ok(GapAnswer::Free(unfilled_gap(initial_count, gap))),
+            GapAnswer::Covered(cover) => {
+                let told = unfilled_cover(alloc, initial_count, cover)?;
+                Ok(GapAnswer::Covered(told))
+            }
         }
     }
 }
 
-/// The answer for all windows.
-pub fn unfilled_witness_answer(
-    alloc: Global,
-    initial_count: usize,
-    answer: WitnessAnswer,
-) -> Result<WitnessAnswer, AllocError>
-    ensures { IfOk result (λ told. told ≡ unfilled_witness_answer initial_count answer) }
-{
-    match answer {
-        WitnessAnswer::Gaps(gaps) => {
-            let told = unfilled_gaps(alloc, initial_count, gaps)?;
-            Ok(WitnessAnswer::Gaps(told))
-        }
-        WitnessAnswer::Covered { empty, cover } => {
-            let told = unfilled_cover(alloc, initial_count, cover)?;
-            Ok(WitnessAnswer::Covered {
-                empty: unfilled_place(initial_count, empty),
-                cover: told,
-            })
+impl WitnessAnswer {
+    /// The answer for all windows.
+    pub(crate) fn unfilled(self, alloc: Global, initial_count: usize) -> Result<Self, AllocError>
+        ensures { IfOk result (λ told. told ≡ unfilled_witness_answer initial_count self) }
+    {
+        match self {
+            WitnessAnswer::Gaps(gaps) => {
+                let told = unfilled_gaps(alloc, initial_count, gaps)?;
+                Ok(WitnessAnswer::Gaps(told))
+            }
+            WitnessAnswer::Covered { empty, cover } => {
+                let told = unfilled_cover(alloc, initial_count, cover)?;
+                Ok(WitnessAnswer::Covered {
+                    empty: unfilled_place(initial_count, empty),
+                    cover: told,
+                })
+            }
         }
     }
 }

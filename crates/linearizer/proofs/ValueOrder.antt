@@ -48,14 +48,7 @@ choice_of x xs =
     let of : (life : Life) → (dequeue_return b.0 < leaves_from a.0 → life ≡ b.0) → (leaves_from a.0 ≤ dequeue_return b.0 → life ≡ a.0)
     → (life : Life) × IsChoice (x ∷ xs) life = λ life takes_dequeued takes_entered. (
       life,
-      record {
-        first_entered = a.0;
-        first_dequeued = b.0;
-        enters_first = a.1;
-        dequeued_first = b.1;
-        takes_dequeued = takes_dequeued;
-        takes_entered = takes_entered;
-      },
+      record { first_entered = a.0; enters_first = a.1; first_dequeued = b.0; dequeued_first = b.1; takes_dequeued = takes_dequeued; takes_entered = takes_entered },
     ) in
     elim cases [
       | inl less ↦ of b.0 (λ _. refl) (λ more. absurd (omega arith))

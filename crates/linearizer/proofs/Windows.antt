@@ -68,6 +68,17 @@ pub greatest_of_first : (lives : List Life) (i j : ℕ) (y : Life) → j ≤ i �
     → leaves_from y ≤ greatest_leaves_from (take (i + 1) lives)
 greatest_of_first lives i j y le at = greatest_at_least 0 lives (i + 1) j y (omega arith) at
 
+-- of two values in their order the first may stand before the other, or they are one
+before_or_same : (operations : List Operation) (lives : List Life) (i j : ℕ) (x y : Life) → IsClear operations → NoOrderViolation operations
+    → IsValueOrder operations lives
+    → i ≤ j → slice_get lives i ≡ Some x → slice_get lives j ≡ Some y → MayStandBefore x y ⊎ (x ≡ y)
+before_or_same operations lives i j x y clear none order le at_x at_y =
+    let places : (i < j) ⊎ (j ≡ i) = grind arith in
+    elim places [
+      | inl below ↦ inl (pairs_at MayStandBefore lives i j x y (each_may_stand_before operations lives clear none order) below at_x at_y)
+      | inr same ↦ inr (one_at lives j x y (subst (λ k. slice_get lives k ≡ Some x) (sym same) at_x) at_y)
+    ]
+
 called_before_entered : (operations : List Operation) (lives : List Life) (i j : ℕ) (x y : Life) → IsClear operations → NoOrderViolation operations
     → IsValueOrder operations lives
     → i ≤ j → slice_get lives i ≡ Some x → slice_get lives j ≡ Some y → enqueue_call x < entered_by y
@@ -75,13 +86,9 @@ called_before_entered operations lives i j x y clear none order le at_x at_y =
     let is_x = is_life operations lives order x (contains_at lives i x at_x) in
     let is_y = is_life operations lives order y (contains_at lives j y at_y) in
     let differs = enters_at_no_call operations y x clear is_y is_x in
-    let places : (i < j) ⊎ (j ≡ i) = grind arith in
-    elim places [
-      | inl below ↦
-          let may = pairs_at MayStandBefore lives i j x y (each_may_stand_before operations lives clear none order) below at_x at_y in
-          above (enqueue_call x) (entered_by y) may.0 differs
-      | inr same ↦
-          let one : x ≡ y = one_at lives j x y (subst (λ k. slice_get lives k ≡ Some x) (sym same) at_x) at_y in
+    elim (before_or_same operations lives i j x y clear none order le at_x at_y) [
+      | inl may ↦ above (enqueue_call x) (entered_by y) may.0 differs
+      | inr one ↦
           let calls : enqueue_call x ≡ enqueue_call y = ap enqueue_call one in
           let after = (times_of_life operations y clear is_y).enters_after_call in
           above (enqueue_call x) (entered_by y) (λ less. omega arith) differs
@@ -108,14 +115,10 @@ left_before_returned operations lives i j x y clear none order le at_x at_y retu
     let is_x = is_life operations lives order x (contains_at lives i x at_x) in
     let is_y = is_life operations lives order y (contains_at lives j y at_y) in
     let differs : ¬ (dequeue_return x ≡ leaves_from y) = λ same. let never = returns_at_no_leave operations x y clear is_x is_y same in omega arith in
-    let places : (j < i) ⊎ (i ≡ j) = grind arith in
-    elim places [
-      | inl below ↦
-          let may = pairs_at MayStandBefore lives j i y x (each_may_stand_before operations lives clear none order) below at_y at_x in
-          above (leaves_from y) (dequeue_return x) may.1 differs
-      | inr same ↦
-          let one : x ≡ y = one_at lives j x y (subst (λ k. slice_get lives k ≡ Some x) same at_x) at_y in
-          let returns : dequeue_return x ≡ dequeue_return y = ap dequeue_return one in
+    elim (before_or_same operations lives j i y x clear none order le at_y at_x) [
+      | inl may ↦ above (leaves_from y) (dequeue_return x) may.1 differs
+      | inr one ↦
+          let returns : dequeue_return x ≡ dequeue_return y = ap dequeue_return (sym one) in
           elim (times_of_life operations y clear is_y).leaves_before_return [ inl left ↦ omega arith | inr never ↦ absurd (omega arith) ]
     ]
 

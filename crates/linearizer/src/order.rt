@@ -31,7 +31,7 @@ pub fn linearize(alloc: Global, matching: &Matching, gaps: &[u64]) -> Result<Vec
     }
     let clocks = filled_gaps(alloc, initial_count, gaps)?;
     let places = order_in_filled(alloc, matching.filled(), clocks.as_slice())?;
-    unfilled_order(alloc, initial_count, places.as_slice())
+    unfilled(alloc, initial_count, places.as_slice())
 }
 
 /// The same of a filled history.
@@ -61,11 +61,7 @@ fn filled_gaps(alloc: Global, initial_count: usize, gaps: &[u64]) -> Result<Vec<
 }
 
 /// The places of an order without the enqueues of the initial values.
-fn unfilled_order(
-    alloc: Global,
-    initial_count: usize,
-    places: &[OpId],
-) -> Result<Vec<OpId>, AllocError>
+fn unfilled(alloc: Global, initial_count: usize, places: &[OpId]) -> Result<Vec<OpId>, AllocError>
     ensures { IfOk result (λ told. told.items ≡ filter_map (place_behind initial_count) places.now) }
 {
     places

@@ -3,6 +3,7 @@ use Rattle.std.specs.Prelude.{ℕ, Option, None, Some, List, length, option_map}
 use Rattle.history_merge.specs.declared.operation.Operation.{Operation}
 use Rattle.history_merge.specs.Initial.{filled}
 use Rattle.history_merge.specs.Operations.{IsAt}
+use Rattle.value_match.specs.declared.violation.Source.{Source}
 use Rattle.value_match.specs.Lives.{IsMaybeAt}
 use Rattle.value_match.specs.Filling.{behind, filled_source}
 use Rattle.value_match.specs.Outcome.{IsSource}
@@ -27,14 +28,18 @@ abbrev pub IsOrderAnswer : List Operation → Option OrderPair → Type 0
 IsOrderAnswer operations None = NoOrderViolation operations
 IsOrderAnswer operations (Some pair) = IsChosenPair operations pair
 
+-- the pair with its sources and the places of its dequeues told otherwise
+abbrev pub told_pair : (Source → Source) → (ℕ → ℕ) → OrderPair → OrderPair
+told_pair source place pair = record {
+  enq_a = source pair.enq_a;
+  enq_b = source pair.enq_b;
+  deq_b = place pair.deq_b;
+  deq_a = option_map place pair.deq_a;
+}
+
 -- the pair by the places of the filled history
 abbrev pub filled_pair : ℕ → OrderPair → OrderPair
-filled_pair initial_count pair = record {
-  enq_a = filled_source initial_count pair.enq_a;
-  enq_b = filled_source initial_count pair.enq_b;
-  deq_b = behind initial_count pair.deq_b;
-  deq_a = option_map (behind initial_count) pair.deq_a;
-}
+filled_pair initial_count = told_pair (filled_source initial_count) (behind initial_count)
 
 -- the chosen pair of a history, or none: as it is in its filled history
 abbrev pub IsOrderAnswerFrom : List ℕ → List Operation → Option OrderPair → Type 0

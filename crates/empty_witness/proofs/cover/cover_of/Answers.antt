@@ -1,9 +1,10 @@
 use Rattle.std.proofs.Common.{◌<◌, arith, sym, subst}
 use Rattle.value_match.specs.Lives.{dequeue_call}
-use Rattle.value_match.specs.Longest.{EntersBefore, FindsLongest}
+use Rattle.value_match.specs.Longest.{EntersBefore, FindsLongest, IsLongestOf}
 use Rattle.empty_witness.specs.Inner.Covered.{NamesChosenCover}
 use Rattle.empty_witness.proofs.Walks.{no_steps_yet, next_is_found, found_longest, frontier_rises, one_more_step, cover_is_whole}
 use Rattle.empty_witness.proofs.cover.cover_of.Goals as goal
+use Rattle.empty_witness.proofs.cover.cover_of.Goals.{After-unwrap-value}
 
 pub loop-frontier-init : goal.loop-frontier-init
 loop-frontier-init c =
@@ -17,26 +18,28 @@ unwrap-value-requires c =
     next_is_found c.args.matching.now c.values.result c.args.answer.now c.values.ensures.clear c.values.ensures.values c.requires.is_empty c.requires.covered
     c.loop-frontier.steps.items c.loop-frontier.frontier c.longest_before.result c.loop-frontier.invariant c.loop-frontier-test.true finds
 
+-- the value of this turn
+longest : (c : After-unwrap-value) → IsLongestOf (EntersBefore c.loop-frontier.frontier) c.values.result c.unwrap-value.result
+longest c =
+    let finds = subst (λ values. FindsLongest (EntersBefore c.loop-frontier.frontier) values c.longest_before.result) c.in_ok-table.ensures
+    c.longest_before.ensures in
+    found_longest c.values.result c.loop-frontier.frontier c.longest_before.result c.unwrap-value.result finds c.unwrap-value.ensures
+
 pub loop-frontier-smaller : goal.loop-frontier-smaller
 loop-frontier-smaller c =
     let value = c.unwrap-value.result in
-    let finds = subst (λ values. FindsLongest (EntersBefore c.loop-frontier.frontier) values c.longest_before.result) c.in_ok-table.ensures
-    c.longest_before.ensures in
-    let longest = found_longest c.values.result c.loop-frontier.frontier c.longest_before.result value finds c.unwrap-value.ensures in
     let rises : c.loop-frontier.frontier < dequeue_call value.life =
     frontier_rises c.args.matching.now c.values.result c.args.answer.now c.values.ensures.clear c.values.ensures.values c.requires.is_empty c.requires.covered
-    c.loop-frontier.steps.items c.loop-frontier.frontier value c.loop-frontier.invariant c.loop-frontier-test.true longest in
+    c.loop-frontier.steps.items c.loop-frontier.frontier value c.loop-frontier.invariant c.loop-frontier-test.true
+    (longest (goal.at.loop-frontier-smaller c).After-unwrap-value) in
     omega (arith, c.dequeue_call-frontier.ensures)
 
 pub loop-frontier-preserved : goal.loop-frontier-preserved
 loop-frontier-preserved c =
-    let value = c.unwrap-value.result in
-    let finds = subst (λ values. FindsLongest (EntersBefore c.loop-frontier.frontier) values c.longest_before.result) c.in_ok-table.ensures
-    c.longest_before.ensures in
-    let longest = found_longest c.values.result c.loop-frontier.frontier c.longest_before.result value finds c.unwrap-value.ensures in
     rw (c.in_ok-push.ensures.items, c.dequeue_call-frontier.ensures)
     (one_more_step c.args.matching.now c.values.result c.args.answer.now c.values.ensures.clear c.values.ensures.values c.requires.is_empty c.requires.covered
-    c.loop-frontier.steps.items c.loop-frontier.frontier value c.loop-frontier.invariant c.loop-frontier-test.true longest)
+    c.loop-frontier.steps.items c.loop-frontier.frontier c.unwrap-value.result c.loop-frontier.invariant c.loop-frontier-test.true
+    (longest (goal.at.loop-frontier-preserved c).After-unwrap-value))
 
 pub returns : goal.returns
 returns c =

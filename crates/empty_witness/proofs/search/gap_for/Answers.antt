@@ -35,8 +35,8 @@ is_behind c =
     rw c.filled.ensures
     (subst (IsEmptyAnswerAt (filled_operations matching)) (is_place c) (empty_behind matching.initial matching.operations c.args.empty c.requires))
 
-pub gap_in_filled-requires : goal.gap_in_filled-requires
-gap_in_filled-requires c = is_behind c
+pub gap_at-requires : goal.gap_at-requires
+gap_at-requires c = is_behind c
 
 -- the answer, told
 told : (c : After-filled) (answer : GapAnswer) (result : Result GapAnswer AllocError) → IsGapAnswer c.filled.result.now c.new-place.result answer
@@ -53,4 +53,4 @@ told c answer result is same =
     same
 
 pub returns : goal.returns
-returns c = told (goal.at.returns c).After-filled c.in_ok-answer.answer c.unfilled_gap_answer.result c.in_ok-answer.ensures c.unfilled_gap_answer.ensures
+returns c = told (goal.at.returns c).After-filled c.in_ok-answer.answer c.unfilled.result c.in_ok-answer.ensures c.unfilled.ensures

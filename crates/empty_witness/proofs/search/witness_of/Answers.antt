@@ -13,6 +13,6 @@ returns c =
     let answer = c.in_ok-answer.answer in
     let is = subst (λ (all : List Operation). IsWitnessAnswer all answer) c.filled.ensures c.in_ok-answer.ensures in
     let many = ap (λ (i : List ℕ). length i) c.initial.ensures.initial in
-    IfOk-weaker c.unfilled_witness_answer.result _ (IsWitnessAnswerFrom initial operations)
+    IfOk-weaker c.unfilled.result _ (IsWitnessAnswerFrom initial operations)
     (λ told same. witness_told initial operations answer told is (same ∙ ap (λ (n : ℕ). unfilled_witness_answer n answer) many))
-    c.unfilled_witness_answer.ensures
+    c.unfilled.ensures

@@ -49,8 +49,8 @@ order_in_filled-requires-2-clause-least_free_gaps c =
 
 pub returns : goal.returns
 returns c =
-    IfOk-weaker c.unfilled_order.result (λ told. told.items ≡ filter_map (place_behind (length c.initial-initial_count.result.now)) c.as_slice-2.result.now)
+    IfOk-weaker c.unfilled.result (λ told. told.items ≡ filter_map (place_behind (length c.initial-initial_count.result.now)) c.as_slice-2.result.now)
     (λ told. AreChosenAndLegalFrom c.args.matching.now.initial c.args.matching.now.operations told.items)
     (λ told is. rw (is, c.as_slice-2.ensures.value, count ((goal.at.returns c).After-initial-initial_count))
     (order_told _ _ _ (subst (λ os. AreChosenAndLegal os c.in_ok-places.places.items) c.filled-2.ensures c.in_ok-places.ensures)))
-    c.unfilled_order.ensures
+    c.unfilled.ensures

@@ -23,15 +23,15 @@ below c = omega (arith, c.requires.within c.loop-place.place c.in-Some.source (f
 pub index-requires : goal.index-requires
 index-requires c = let inside = below (goal.at.index-requires c).In-Some in omega arith
 
+pub index_mut-requires : goal.index_mut-requires
+index_mut-requires c = let inside = below (goal.at.index_mut-requires c).In-Some in omega arith
+
 pub returns-then-is_some : goal.returns-then-is_some
 returns-then-is_some c =
     let of_source = (goal.at.returns-then-is_some c).In-Some in
     let held = slot_held c.loop-place.takers.items c.in-Some.source c.index.result.now (below of_source) c.index.ensures
     (ap is_some (sym c.get-in-loop-place.ensures) ∙ sym c.is_some.ensures ∙ c.if-is_some.true) in
     taken_twice _ _ c.loop-place.place held.0 c.in-Some.source c.loop-place.invariant (from of_source) held.1
-
-pub index_mut-requires : goal.index_mut-requires
-index_mut-requires c = let inside = below (goal.at.index_mut-requires c).In-Some in omega arith
 
 pub loop-place-preserved : goal.loop-place-preserved
 loop-place-preserved c =

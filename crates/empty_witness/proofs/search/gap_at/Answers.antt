@@ -1,6 +1,6 @@
 use Rattle.std.proofs.Common.{sym, subst}
 use Rattle.empty_witness.specs.Spans.{AreSpansOf}
-use Rattle.empty_witness.proofs.search.gap_in_filled.Goals as goal
+use Rattle.empty_witness.proofs.search.gap_at.Goals as goal
 
 pub returns-in-Some : goal.returns-in-Some
 returns-in-Some c =
