@@ -46,9 +46,9 @@ choice_of x xs =
     let b = least_by dequeue_return x xs in
     let cases : (dequeue_return b.0 < leaves_from a.0) ⊎ (leaves_from a.0 ≤ dequeue_return b.0) = grind arith in
     let of : (life : Life) → (dequeue_return b.0 < leaves_from a.0 → life ≡ b.0) → (leaves_from a.0 ≤ dequeue_return b.0 → life ≡ a.0)
-    → (life : Life) × IsChoice (x ∷ xs) life = λ life takes_dequeued takes_entered. (
+    → (life : Life) × IsChoice (x ∷ xs) life = λ life by_exit by_entry. (
       life,
-      record { first_entered = a.0; enters_first = a.1; first_dequeued = b.0; dequeued_first = b.1; takes_dequeued = takes_dequeued; takes_entered = takes_entered },
+      record { first_entered = a.0; enters_first = a.1; first_dequeued = b.0; dequeued_first = b.1; takes_dequeued = by_exit; takes_entered = by_entry },
     ) in
     elim cases [
       | inl less ↦ of b.0 (λ _. refl) (λ more. absurd (omega arith))

@@ -1,7 +1,7 @@
 ghost use Rattle.std.specs.Prelude.{◌≤◌, IfOk};
 ghost use Rattle.empty_witness.specs.Answers.{IsWitnessAnswerFrom};
-ghost use Rattle.empty_witness.specs.Spans.{AreSpansOf};
 ghost use Rattle.parallel_finders.specs.declared.TheConstants.{MAX_PIECES};
+ghost use Rattle.empty_witness.specs.Spans.{AreSpansOf};
 
 use crate::MIN_ITEMS;
 use crate::sorting::sort_stays;
