@@ -20,23 +20,18 @@ use history_text::{MemorySource, TextSink, TextSource, Watched};
 use std::alloc::AllocError;
 use std::process::Abort;
 use std::str;
+use std::test::Fail;
 use std::thread::Threads;
 
-/// The status of a run of the program that writes to this sink, to which nothing was written before.
-fn run_on<'a, R, S, W>(
-    rt: &R,
-    words: &'a [&'a str],
-    source: S,
-    writer: &mut W,
-    shelf: &[Shelved<'a>],
-) -> u8
+/// The status of a run of the program without queues that writes to this sink, to which nothing was written before.
+fn run_on<'a, R, S, W>(rt: &R, words: &'a [&'a str], source: S, writer: &mut W) -> u8
 where
     R: AllocGlobal + Threads + Sync,
     S: TextSource + Drop,
     W: TextSink,
     requires { W.has_refused writer.old ≡ false }
 {
-    run_command(rt, words, source, writer, shelf)
+    run_command(rt, words, source, writer, &[])
 }
 
 /// What a run of the program writes, and its status. Want of memory is an error of its own.
@@ -76,7 +71,7 @@ fn assert_answers<R: AllocGlobal + Threads + Sync + Abort>(
     command: &str,
     cases: &[(&str, &str)],
     status: u8,
-) -> Result<(), AllocError> {
+) -> Result<(), Fail> {
     for (input, text) in cases {
         assert_answer(rt, command, input, text, status)?;
     }
@@ -88,7 +83,7 @@ fn assert_each<R: AllocGlobal + Threads + Sync + Abort>(
     rt: &R,
     command: &str,
     cases: &[(&str, &str, u8)],
-) -> Result<(), AllocError> {
+) -> Result<(), Fail> {
     for (input, text, status) in cases {
         assert_answer(rt, command, input, text, *status)?;
     }

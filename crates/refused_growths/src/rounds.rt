@@ -16,9 +16,10 @@ fn two_calls(alloc: Global, thread: ThreadNo) -> Result<(Noted, Noted), AllocErr
 {
     let (tickets, mut pass) = Tickets::new(alloc, 2)?;
     let mut namer = Namer::new(thread);
-    let (_, first) = namer.ask_enq(pass.draw(&tickets));
-    let (_, second) = namer.ask_enq(pass.draw(&tickets));
-    Ok((first, second))
+    Ok((
+        namer.ask_enq(pass.draw(&tickets)).1,
+        namer.ask_enq(pass.draw(&tickets)).1,
+    ))
 }
 
 /// The call of thread 0's n-th operation, at ticket n.

@@ -1,5 +1,6 @@
 mod changed;
 mod errors;
+mod first_faults;
 mod help;
 mod outcomes;
 mod pictures;

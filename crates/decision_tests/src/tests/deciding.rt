@@ -118,14 +118,13 @@ fn finds_overtaken_values(rt: HostRuntime) -> Result<(), Fail> {
 
 #[test]
 fn finds_free_gaps(rt: HostRuntime) -> Result<(), Fail> {
-    let alloc = rt.alloc();
-    let history = history_of(alloc, &once_empty())?;
-    let once_empty = matching_of(alloc, &history)?;
-    match find_witness(alloc, &once_empty)? {
+    let history = history_of(rt.alloc(), &once_empty())?;
+    let once_empty = matching_of(rt.alloc(), &history)?;
+    match find_witness(rt.alloc(), &once_empty)? {
         WitnessAnswer::Gaps(gaps) => assert_eq!(rt; gaps.as_slice(), [4].as_slice()),
         WitnessAnswer::Covered { .. } => panic!(rt; "the window is not covered"),
     }
-    match first_answer(alloc, &once_empty)?.ok_or("no answer is empty")? {
+    match first_answer(rt.alloc(), &once_empty)?.ok_or("no answer is empty")? {
         GapAnswer::Free(gap) => assert_eq!(rt; gap, 4),
         GapAnswer::Covered(_) => panic!(rt; "the window is not covered"),
     }

@@ -1,6 +1,6 @@
 ghost use Rattle.std.specs.Prelude.{◌≤◌, length};
 
-use super::small_histories::{at, by};
+use super::small_histories::{at, by, hidden, overlapping};
 use event_records::{Event, Lists, MAX_EVENTS, What};
 use history_merge::{History, HistoryFault, OpKind, Operation, history, merge};
 use std::alloc::{AllocError, Global};
@@ -96,12 +96,7 @@ fn shows_operations_by_their_calls(rt: HostRuntime) -> Result<(), Fail> {
                 at(6, 0, What::CallDeq),
                 at(7, 0, What::RetDeq(7)),
             ],
-            &[
-                by(0, 0, 2, OpKind::Enq(7)),
-                by(1, 1, 3, OpKind::Enq(9)),
-                by(0, 4, 5, OpKind::Deq(9)),
-                by(0, 6, 7, OpKind::Deq(7)),
-            ],
+            &overlapping(),
         ),
         (
             &[
@@ -114,12 +109,7 @@ fn shows_operations_by_their_calls(rt: HostRuntime) -> Result<(), Fail> {
                 at(6, 0, What::RetEnq),
                 at(7, 2, What::RetDeq(9)),
             ],
-            &[
-                by(0, 0, 6, OpKind::Enq(7)),
-                by(1, 1, 3, OpKind::Deq(7)),
-                by(2, 2, 7, OpKind::Deq(9)),
-                by(1, 4, 5, OpKind::Enq(9)),
-            ],
+            &hidden(),
         ),
         (
             &[

@@ -42,8 +42,7 @@ pub const ORDERS: [(&str, &str); 10] = [
 
 #[test]
 fn legal_orders(rt: HostRuntime) -> Result<(), Fail> {
-    assert_answers(&rt, "check", &ORDERS, 0)?;
-    Ok(())
+    assert_answers(&rt, "check", &ORDERS, 0)
 }
 
 pub const VIOLATIONS: [(&str, &str); 4] = [
@@ -93,14 +92,12 @@ pub const OVERTAKEN_OR_NEVER_EMPTY: [(&str, &str); 5] = [
 
 #[test]
 fn violations(rt: HostRuntime) -> Result<(), Fail> {
-    assert_answers(&rt, "check", &VIOLATIONS, 1)?;
-    Ok(())
+    assert_answers(&rt, "check", &VIOLATIONS, 1)
 }
 
 #[test]
 fn violations_of_the_order_and_of_empty_answers(rt: HostRuntime) -> Result<(), Fail> {
-    assert_answers(&rt, "check", &OVERTAKEN_OR_NEVER_EMPTY, 1)?;
-    Ok(())
+    assert_answers(&rt, "check", &OVERTAKEN_OR_NEVER_EMPTY, 1)
 }
 
 const REFUSALS: [(&str, &str); 19] = [
@@ -166,8 +163,7 @@ const REFUSALS: [(&str, &str); 19] = [
 
 #[test]
 fn refusals(rt: HostRuntime) -> Result<(), Fail> {
-    assert_answers(&rt, "check", &REFUSALS, 2)?;
-    Ok(())
+    assert_answers(&rt, "check", &REFUSALS, 2)
 }
 
 /// What a reader gives before it fails, what is written of it, and the status.

@@ -98,15 +98,6 @@ fn a_history_alone_is_drawn_in_any_pieces(rt: HostRuntime) -> Result<(), Fail> {
 /// Inputs, what is written of them, and the status.
 const OTHERS: [(&str, &str, u8); 9] = [
     ("", "REFUSED Cut\n", 2),
-    // The history is cut short, or the verdict.
-    (
-        "fifo-history 1\n0 0 call-enq 7\n1 0 ret-enq\n",
-        "REFUSED Cut\n",
-        2,
-    ),
-    ("fifo-history 1\nend 0", "REFUSED Cut\n", 2),
-    ("fifo-history 1\nend 0\nY", "REFUSED Cut\n", 2),
-    ("fifo-history 1\nend 0\n\n", "REFUSED Line 3\n", 2),
     (
         "fifo-history 1\nend 0\nfifo-history 1\nend 0\n",
         "REFUSED Line 3\n",
@@ -128,6 +119,15 @@ const OTHERS: [(&str, &str, u8); 9] = [
         "INVALID\n",
         1,
     ),
+    // The history is cut short, or the verdict.
+    (
+        "fifo-history 1\n0 0 call-enq 7\n1 0 ret-enq\n",
+        "REFUSED Cut\n",
+        2,
+    ),
+    ("fifo-history 1\nend 0", "REFUSED Cut\n", 2),
+    ("fifo-history 1\nend 0\nY", "REFUSED Cut\n", 2),
+    ("fifo-history 1\nend 0\n\n", "REFUSED Line 3\n", 2),
 ];
 
 #[test]

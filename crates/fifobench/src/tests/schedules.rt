@@ -104,8 +104,7 @@ NO VFresh
 
 #[test]
 fn schedules_are_played(rt: HostRuntime) -> Result<(), Fail> {
-    assert_each(&rt, "sim", &SCHEDULES)?;
-    Ok(())
+    assert_each(&rt, "sim", &SCHEDULES)
 }
 
 #[test]
@@ -120,7 +119,6 @@ fn fronts_of_a_schedule_are_cut(rt: HostRuntime) -> Result<(), Fail> {
 }
 
 const REFUSALS: [(&str, &str); 8] = [
-    ("", "REFUSED Cut\n"),
     (
         "fifo-schedule 2\nthreads 1 ring 2\nend 0\n",
         "REFUSED Header\n",
@@ -149,10 +147,10 @@ const REFUSALS: [(&str, &str); 8] = [
         "fifo-schedule 1\nthreads 1 ring 2\nclose 0\nend 1\n\n",
         "REFUSED Trailing\n",
     ),
+    ("", "REFUSED Cut\n"),
 ];
 
 #[test]
 fn faulty_schedules_are_refused(rt: HostRuntime) -> Result<(), Fail> {
-    assert_answers(&rt, "sim", &REFUSALS, 2)?;
-    Ok(())
+    assert_answers(&rt, "sim", &REFUSALS, 2)
 }

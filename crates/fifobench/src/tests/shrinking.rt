@@ -5,30 +5,10 @@ use std::test::Fail;
 const HISTORIES: [(&str, &str, u8); 4] = [
     // A value overtakes another one; a third has no part in it.
     (
-        "fifo-history 1
-0 0 call-enq 7
-1 0 ret-enq
-2 0 call-enq 9
-3 0 ret-enq
-4 0 call-deq
-5 0 ret-deq 9
-6 0 call-enq 5
-7 0 ret-enq
-end 8
-",
-        "fifo-history 1
-0 0 call-enq 7
-1 0 ret-enq
-2 0 call-enq 9
-3 0 ret-enq
-4 0 call-deq
-5 0 ret-deq 9
-end 6
-NO VOrd
-0 1 0 enq 7
-2 3 0 enq 9
-4 5 0 deq 9
-",
+        "fifo-history 1\n0 0 call-enq 7\n1 0 ret-enq\n2 0 call-enq 9\n3 0 ret-enq\n4 0 call-deq\n5 0 ret-deq 9\n\
+        6 0 call-enq 5\n7 0 ret-enq\nend 8\n",
+        "fifo-history 1\n0 0 call-enq 7\n1 0 ret-enq\n2 0 call-enq 9\n3 0 ret-enq\n4 0 call-deq\n5 0 ret-deq 9\nend 6\n\
+        NO VOrd\n0 1 0 enq 7\n2 3 0 enq 9\n4 5 0 deq 9\n",
         1,
     ),
     // Two of three values cover an empty answer.
@@ -87,6 +67,5 @@ NO VWit
 
 #[test]
 fn histories_are_shrunk(rt: HostRuntime) -> Result<(), Fail> {
-    assert_each(&rt, "shrink", &HISTORIES)?;
-    Ok(())
+    assert_each(&rt, "shrink", &HISTORIES)
 }

@@ -214,33 +214,41 @@ macro_rules! shelve_sound {
     };
 }
 
-// A queue keeps what a run leaves in it, so each queue is run once.
-#[test]
-fn sound_queues_get_a_yes(rt: HostRuntime) -> Result<(), Fail> {
-    let mut shelf: Vec<Shelved> = Vec::new(rt.alloc());
-    shelve_sound!(rt, shelf);
-    for line in [
-        "fifobench stress --queue locked --threads 4 --ops 1000",
-        "fifobench stress --queue two-lock --threads 4 --ops 1000",
-        "fifobench stress --queue array --threads 4 --ops 1000",
-        "fifobench stress --queue seg --threads 4 --ops 1000",
-    ] {
-        assert_eq!(rt; assert_valid(&rt, &shelf, line)?, 0, "{line}");
+/// Runs of four workers.
+const WIDE: [&str; 4] = [
+    "fifobench stress --queue locked --threads 4 --ops 1000",
+    "fifobench stress --queue two-lock --threads 4 --ops 1000",
+    "fifobench stress --queue array --threads 4 --ops 1000",
+    "fifobench stress --queue seg --threads 4 --ops 1000",
+];
+
+/// Runs over small rings.
+const NARROW: [&str; 4] = [
+    "fifobench stress --queue locked --threads 2 --ops 1000 --ring 2",
+    "fifobench stress --queue two-lock --threads 2 --ops 1000 --ring 2",
+    "fifobench stress --queue array --threads 2 --ops 1000 --ring 2",
+    "fifobench stress --queue seg --threads 2 --ops 1000 --ring 2",
+];
+
+/// Asserts that the runs of these lines get a yes, which `verify` takes.
+fn assert_sound<'a, R: AllocGlobal + Threads + Sync + Abort>(
+    rt: &R,
+    shelf: &[Shelved<'a>],
+    lines: [&'a str; 4],
+) -> Result<(), AllocError> {
+    for line in lines {
+        assert_eq!(rt; assert_valid(rt, shelf, line)?, 0, "{line}");
     }
     Ok(())
 }
 
+// A queue keeps what a run leaves in it, so each queue is run once.
 #[test]
-fn sound_queues_over_small_rings_get_a_yes(rt: HostRuntime) -> Result<(), Fail> {
-    let mut shelf: Vec<Shelved> = Vec::new(rt.alloc());
-    shelve_sound!(rt, shelf);
-    for line in [
-        "fifobench stress --queue locked --threads 2 --ops 1000 --ring 2",
-        "fifobench stress --queue two-lock --threads 2 --ops 1000 --ring 2",
-        "fifobench stress --queue array --threads 2 --ops 1000 --ring 2",
-        "fifobench stress --queue seg --threads 2 --ops 1000 --ring 2",
-    ] {
-        assert_eq!(rt; assert_valid(&rt, &shelf, line)?, 0, "{line}");
+fn sound_queues_get_a_yes_also_over_small_rings(rt: HostRuntime) -> Result<(), Fail> {
+    for lines in [WIDE, NARROW] {
+        let mut shelf: Vec<Shelved> = Vec::new(rt.alloc());
+        shelve_sound!(rt, shelf);
+        assert_sound(&rt, &shelf, lines)?;
     }
     Ok(())
 }

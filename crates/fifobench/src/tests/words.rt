@@ -37,7 +37,7 @@ fn words_are_read_as_text(rt: HostRuntime) -> Result<(), Fail> {
     let words: [&[u8]; 3] = [b"fifobench", b"\xc3\xa9", b""];
     match words_of(&(Given { words: &words }, rt.alloc())) {
         Err(StartFault::Memory) => return Err(Fail::from("want of memory")),
-        Err(fault) => assert_eq!(rt; fault, StartFault::Memory),
+        Err(fault) => assert!(rt; false, "{fault:?}"),
         Ok(read) => {
             assert_eq!(rt; read.len(), 3);
             assert_eq!(rt; read[1].as_str(), "\u{e9}");

@@ -56,7 +56,7 @@ fn assert_refusals<'a, R: AllocGlobal + Threads + Sync + Abort>(
             flushes: 0,
         };
         let source = MemorySource::new(input.as_bytes());
-        let answer = run_on(rt, words, source, &mut Watched::new(&mut writer), &[]);
+        let answer = run_on(rt, words, source, &mut Watched::new(&mut writer));
         if number <= calls {
             assert_eq!(rt; (answer, writer.calls), (3, number), "{words:?}");
         } else {
@@ -136,7 +136,7 @@ fn stress_and_help_read_nothing(rt: HostRuntime) -> Result<(), Fail> {
     ] {
         let reads = AtomicUsize::new(0);
         let mut writer = Watched::new(Vec::new(rt.alloc()));
-        let status = run_on(&rt, words, Counted { reads: &reads }, &mut writer, &[]);
+        let status = run_on(&rt, words, Counted { reads: &reads }, &mut writer);
         assert!(rt; status != 3);
         assert_eq!(rt; reads.load(Ordering::SeqCst), 0);
     }

@@ -53,13 +53,13 @@ impl TestQueue for CountingQueue {
         ask.taken()
     }
 
+    fn preload(&self, _value: u64) -> bool {
+        true
+    }
+
     fn dequeue(&self, ask: AskDeq) -> AnsweredDeq {
         self.count(ask.number());
         ask.empty()
-    }
-
-    fn preload(&self, _value: u64) -> bool {
-        true
     }
 }
 
@@ -67,10 +67,10 @@ impl TestQueue for CountingQueue {
 fn is_asked_once(rt: &impl Abort, alloc: Global, kind: Kind) -> Result<bool, Fail> {
     let (tickets, mut worker, _drain) = lone_worker(alloc)?;
     let queue = CountingQueue::new();
-    assert_eq!(rt; operate(&queue, &tickets, &mut worker, Kind::Enq), Ok(()));
+    assert_eq!(rt; operate(&mut worker, &tickets, &queue, Kind::Enq), Ok(()));
     let stalled = Err(WorkerFault::Stalled);
-    assert_eq!(rt; operate(&queue, &tickets, &mut worker, kind), stalled);
-    assert_eq!(rt; operate(&queue, &tickets, &mut worker, kind), stalled);
+    assert_eq!(rt; operate(&mut worker, &tickets, &queue, kind), stalled);
+    assert_eq!(rt; operate(&mut worker, &tickets, &queue, kind), stalled);
     Ok(queue.asked() == Some(1))
 }
 

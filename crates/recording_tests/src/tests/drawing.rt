@@ -34,17 +34,6 @@ fn split_and_join(tickets: &Tickets, mut pass: Pass, count: u64) -> Pass
 }
 
 #[test]
-fn tickets_rise(rt: HostRuntime) -> Result<(), Fail> {
-    let (tickets, mut pass) = Tickets::new(rt.alloc(), 3)?;
-    let first = pass.draw(&tickets).ticket();
-    let second = pass.draw(&tickets).ticket();
-    assert!(rt; first == 0 && second == 1);
-    assert!(rt; pass.left() == 1 && pass.share() == 3);
-    assert!(rt; tickets.close(pass) == 2);
-    Ok(())
-}
-
-#[test]
 fn two_threads_draw_each_number_once(rt: HostRuntime) -> Result<(), Fail> {
     let (tickets, pass) = Tickets::new(rt.alloc(), 2000)?;
     let (first, second) = pass.split(&tickets, 1000);
@@ -56,6 +45,17 @@ fn two_threads_draw_each_number_once(rt: HostRuntime) -> Result<(), Fail> {
     let pass = first.join(&tickets, second);
     assert!(rt; pass.share() == 2000 && pass.left() == 0);
     assert!(rt; tickets.close(pass) == 2000);
+    Ok(())
+}
+
+#[test]
+fn tickets_rise(rt: HostRuntime) -> Result<(), Fail> {
+    let (tickets, mut pass) = Tickets::new(rt.alloc(), 3)?;
+    let first = pass.draw(&tickets).ticket();
+    let second = pass.draw(&tickets).ticket();
+    assert!(rt; first == 0 && second == 1);
+    assert!(rt; pass.left() == 1 && pass.share() == 3);
+    assert!(rt; tickets.close(pass) == 2);
     Ok(())
 }
 

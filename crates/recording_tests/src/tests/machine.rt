@@ -85,11 +85,11 @@ fn each_refusal_of_each_step(rt: HostRuntime) -> Result<(), Fail> {
     let unknown = [
         (Step::AskEnq(2), Err(StepRefused::NoThread)),
         (Step::AskDeq(2), Err(StepRefused::NoThread)),
+        (Step::Drain(2, 1), Err(StepRefused::NoThread)),
         (Step::Push(2), Err(StepRefused::NoThread)),
         (Step::Effect(2), Err(StepRefused::NoThread)),
         (Step::Say(2, Answer::Taken), Err(StepRefused::NoThread)),
         (Step::Ret(2), Err(StepRefused::NoThread)),
-        (Step::Drain(2, 1), Err(StepRefused::NoThread)),
         (Step::Close(2), Err(StepRefused::NoThread)),
     ];
     let closed = [

@@ -36,28 +36,14 @@ pub(crate) fn ask_first(alloc: Global, queue: &dyn TestQueue, thread: u8) -> Res
 }
 
 #[test]
-fn a_fifo_keeps_the_order(rt: HostRuntime) -> Result<(), Fail> {
-    let out = taken_out::<Fifo>(
-        rt.alloc(),
-        &[Some(5), Some(6), None, Some(7), None, None, None],
-    )?;
-    assert_eq!(rt;
-        out.as_slice(),
-        [Some(5), Some(6), Some(7), None].as_slice()
-    );
-    Ok(())
-}
-
-#[test]
-fn a_stack_gives_the_last_first(rt: HostRuntime) -> Result<(), Fail> {
-    let out = taken_out::<Stack>(
-        rt.alloc(),
-        &[Some(5), Some(6), None, Some(7), None, None, None],
-    )?;
-    assert_eq!(rt;
-        out.as_slice(),
-        [Some(6), Some(7), Some(5), None].as_slice()
-    );
+fn a_fifo_keeps_the_order_and_a_stack_gives_the_last_first(rt: HostRuntime) -> Result<(), Fail> {
+    let calls = [Some(5), Some(6), None, Some(7), None, None, None];
+    let in_order = taken_out::<Fifo>(rt.alloc(), &calls)?;
+    let want = [Some(5), Some(6), Some(7), None];
+    assert_eq!(rt; in_order.as_slice(), want.as_slice());
+    let last_first = taken_out::<Stack>(rt.alloc(), &calls)?;
+    let want = [Some(6), Some(7), Some(5), None];
+    assert_eq!(rt; last_first.as_slice(), want.as_slice());
     Ok(())
 }
 

@@ -35,8 +35,8 @@ fn a_pushed_event_is_drained(rt: HostRuntime) -> Result<(), Fail> {
 #[test]
 fn a_full_ring_hands_the_event_back(rt: HostRuntime) -> Result<(), Fail> {
     let thread = ThreadNo::new(0).ok_or("thread")?;
-    let (mut push, mut drain) = ring(rt.alloc(), thread, 2)?;
     let (first, second, third) = three_calls(rt.alloc(), thread)?;
+    let (mut push, mut drain) = ring(rt.alloc(), thread, 2)?;
     assert!(rt; push.push(first).is_ok());
     assert!(rt; push.push(second).is_ok());
     let back = push.push(third).err().ok_or("full")?;

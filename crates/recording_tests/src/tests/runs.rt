@@ -1,3 +1,4 @@
+use event_records::What::{CallDeq, CallEnq, RetDeq, RetEmpty, RetEnq, RetNot};
 use event_records::{Event, Lists, MAX_WORKERS, NAMES_OF_A_THREAD, What, alternates};
 use history_merge::merge;
 use queue_interface::{Entry, GateQueue, ScriptQueue};
@@ -33,22 +34,15 @@ fn each_list_is_its_workers(rt: HostRuntime) -> Result<(), Fail> {
     let recorded = run_scripted(&rt, alloc)?;
     let lists = recorded.lists().as_slice();
     assert_eq!(rt; lists.len(), 2);
-    let first = [
-        What::CallEnq(0),
-        What::RetEnq,
-        What::CallDeq,
-        What::RetDeq(0),
-        What::CallDeq,
-        What::RetEmpty,
-    ];
+    let first = [CallEnq(0), RetEnq, CallDeq, RetDeq(0), CallDeq, RetEmpty];
     assert_eq!(rt; whats(alloc, &lists[0])?.as_slice(), first.as_slice());
     let second = [
-        What::CallDeq,
-        What::RetEmpty,
-        What::CallEnq(4_294_967_297),
-        What::RetEnq,
-        What::CallEnq(4_294_967_298),
-        What::RetNot,
+        CallDeq,
+        RetEmpty,
+        CallEnq(4_294_967_297),
+        RetEnq,
+        CallEnq(4_294_967_298),
+        RetNot,
     ];
     assert_eq!(rt; whats(alloc, &lists[1])?.as_slice(), second.as_slice());
     Ok(())

@@ -25,14 +25,14 @@ pub(crate) fn lone_worker(alloc: Global) -> Result<(Tickets, Worker, DrainEnd), 
 
 // One operation, which draws two tickets at most whatever it answers.
 pub(crate) fn operate(
-    queue: &dyn TestQueue,
-    tickets: &Tickets,
     worker: &mut Worker,
+    tickets: &Tickets,
+    queue: &dyn TestQueue,
     kind: Kind,
 ) -> Result<(), WorkerFault>
-    requires key { worker.old.pass.key ≡ tickets.now.key }
     requires left { 2 ≤ worker.old.pass.left }
     requires room { worker.old.asked < NAMES_OF_A_THREAD }
+    requires key { worker.old.pass.key ≡ tickets.now.key }
     ensures key { worker.new.pass.key ≡ worker.old.pass.key }
     ensures left { worker.old.pass.left ≤ worker.new.pass.left + 2 }
     ensures asked { worker.new.asked ≤ worker.old.asked + 1 }
@@ -47,11 +47,11 @@ pub(crate) fn operate(
 fn tickets_drawn(rt: &impl Abort, alloc: Global, one_more: bool) -> Result<u64, Fail> {
     let (tickets, mut worker, _drain) = lone_worker(alloc)?;
     let queue = ScriptQueue::new(Vec::new(alloc));
-    assert_eq!(rt; operate(&queue, &tickets, &mut worker, Kind::Enq), Ok(()));
+    assert_eq!(rt; operate(&mut worker, &tickets, &queue, Kind::Enq), Ok(()));
     let stalled = Err(WorkerFault::Stalled);
-    assert_eq!(rt; operate(&queue, &tickets, &mut worker, Kind::Deq), stalled);
+    assert_eq!(rt; operate(&mut worker, &tickets, &queue, Kind::Deq), stalled);
     if one_more {
-        assert_eq!(rt; operate(&queue, &tickets, &mut worker, Kind::Deq), stalled);
+        assert_eq!(rt; operate(&mut worker, &tickets, &queue, Kind::Deq), stalled);
     }
     assert!(rt; worker.is_stopped());
     let (_token, pass) = worker.close().ok().ok_or("closed")?;

@@ -1,288 +1,72 @@
 use clap::error::ErrorKind;
 use command_words::task_in;
-use std::process::Abort;
 use std::test::Fail;
 
-/// Asserts the whole text of a help.
-fn assert_help<R: AllocGlobal + Abort>(rt: &R, words: &[&str], text: &str) -> Result<(), Fail> {
+/// The help, or the version, that these words ask for.
+fn shown<R: AllocGlobal>(rt: &R, words: &[&str]) -> Result<String, Fail> {
     match task_in(rt.alloc(), words) {
-        Ok(_) => assert!(rt; false, "no help of {words:?}"),
-        Err(error) if error.kind() == ErrorKind::OutOfMemory => {
-            return Err(Fail::from("want of memory"));
-        }
-        Err(error) => {
-            let shown = format!(in rt.alloc(); "{error}")?;
-            assert_eq!(rt; shown.as_str(), text, "{words:?}");
-        }
+        Ok(_) => Err(Fail::from("no help")),
+        Err(error) if error.kind() == ErrorKind::OutOfMemory => Err(Fail::from("want of memory")),
+        Err(error) => Ok(format!(in rt.alloc(); "{error}")?),
+    }
+}
+
+/// Commands, and how the first line of each help ends. `extras/compare` compares the whole texts with those in `extras/help`.
+const HELPS: [(&str, &str); 7] = [
+    ("check", "prints whether it is linearizable"),
+    ("shrink", "prints what shows its violation, and no more"),
+    ("verify", "prints whether the verdict is evidence"),
+    ("draw", "from standard input and draws them"),
+    ("convert", "prints it as a text of version 2"),
+    ("sim", "judges what it recorded"),
+    ("stress", "prints the history and its verdict"),
+];
+
+#[test]
+fn a_help_tells_of_its_command(rt: HostRuntime) -> Result<(), Fail> {
+    for (name, ending) in HELPS {
+        let help = shown(&rt, &["fifobench", "help", name])?;
+        let about = format!(in rt.alloc(); "{ending}\n\nUsage: fifobench {name}")?;
+        assert!(rt;
+            help.contains(about.as_str()) && help.ends_with('\n'),
+            "{name}"
+        );
+        let asked = shown(&rt, &["fifobench", name, "--help"])?;
+        assert_eq!(rt; asked.as_str(), help.as_str(), "{name}");
     }
     Ok(())
 }
 
-const PROGRAM: &str = "Records and judges histories of a concurrent FIFO queue
-
-Usage: fifobench <COMMAND>
-
-Commands:
-  check    Reads a history from standard input and prints whether it is linearizable
-  shrink   Reads a history from standard input and prints what shows its violation, and no more
-  verify   Reads a history and a verdict from standard input and prints whether the verdict is evidence
-  draw     Reads a history, and a verdict if one follows, from standard input and draws them
-  convert  Reads a history from standard input and prints it as a text of version 2
-  sim      Reads a schedule from standard input, steps the recorder through it, and judges what it recorded
-  stress   Runs workers on a queue, records what they did, and prints the history and its verdict
-  help     Print this message or the help of the given subcommand(s)
-
-Options:
-  -h, --help     Print help
-  -V, --version  Print version
-";
-
-const CHECK: &str = r"Reads a history from standard input and prints whether it is linearizable
-
-Usage: fifobench check
-
-Options:
-  -h, --help  Print help
-
-Input: the text of a history (docs/FORMATS.md). It begins with the line `fifo-history 1` and ends with
-the line `end N`, where N is the number of events. Between them stands a line for each event, by
-rising ticket; threads are 0 to 63:
-  TICKET THREAD call-enq VALUE   the thread calls to enqueue the value
-  TICKET THREAD ret-enq          that call is answered: the value is in the queue
-  TICKET THREAD ret-not          or: it is not
-  TICKET THREAD call-deq         the thread calls to dequeue
-  TICKET THREAD ret-deq VALUE    that call is answered with the value
-  TICKET THREAD ret-empty        or: the queue is empty
-The queue is empty before the first event. Where it holds K values first, the text begins with the lines
-`fifo-history 2` and `initial K` and a line for each of these values, the front one first.
-
-Output: `YES` and all operations in a legal order of the queue, or `NO`, the kind of violation and
-the operations that show it: VFresh, a value that was not there; VRepeat, a value dequeued twice;
-VOrd, two values dequeued against the order of their enqueues; VWit, an empty answer although the
-queue was never empty meanwhile. A line has the tickets of an operation's call and return, its
-thread, and what it did; `init VALUE` stands for a value that the queue held first.
-
-Status: 0 yes, 1 no, 2 the input is refused (a line `REFUSED ..` says why), 3 a read, a write or
-memory failed (a line `FAULT ..`). Lines count from 1 and events from 0: event i stands in line i + 2,
-and behind K initial values in line i + K + 3. A text that goes on behind its line `end N` is
-`REFUSED Trailing`: of what `stress` writes, take the history alone by `sed '/^end /q'`.
-
-Example:
-  $ printf 'fifo-history 1\n0 0 call-deq\n1 0 ret-deq 7\nend 2\n' | fifobench check
-  NO VFresh
-  0 1 0 deq 7
-";
-
-const SHRINK: &str =
-    r"Reads a history from standard input and prints what shows its violation, and no more
-
-Usage: fifobench shrink
-
-Options:
-  -h, --help  Print help
-
-Input: the text of a history, as for `check`, from its first line to the line `end N`.
-
-Output: where the history is not linearizable, the text of the shrunk history, of the version of the
-input, and then its verdict; else the verdict alone, as `check` prints it.
-
-Status: 0 yes, 1 no, 2 the input is refused (a line `REFUSED ..` says why), 3 a read, a write or
-memory failed (a line `FAULT ..`). A text that goes on behind its line `end N` is `REFUSED Trailing`:
-of what `stress` writes, take the history alone by `sed '/^end /q'`.
-
-Example:
-  $ printf 'fifo-history 1\n0 0 call-enq 5\n1 0 ret-enq\n2 0 call-deq\n3 0 ret-deq 7\nend 4\n' | fifobench shrink
-  fifo-history 1
-  2 0 call-deq
-  3 0 ret-deq 7
-  end 2
-  NO VFresh
-  2 3 0 deq 7
-";
-
-const VERIFY: &str =
-    r"Reads a history and a verdict from standard input and prints whether the verdict is evidence
-
-Usage: fifobench verify
-
-Options:
-  -h, --help  Print help
-
-Input: the text of a history, as for `check`, from its first line to the line `end N`, directly
-followed by the text of a verdict, from the line `YES` or `NO ..` on, as `stress` and `shrink` print
-them.
-
-Output: `VALID` where the verdict's operations are evidence for it in that history, else `INVALID`.
-
-Status: 0 valid, 1 invalid, 2 the input is refused (a line `REFUSED ..` says why), 3 a read, a write
-or memory failed (a line `FAULT ..`). Lines count from 1 through both texts.
-
-Example:
-  $ printf 'fifo-history 1\n0 0 call-deq\n1 0 ret-deq 7\nend 2\nNO VFresh\n0 1 0 deq 7\n' | fifobench verify
-  VALID
-";
-
-const DRAW: &str =
-    r"Reads a history, and a verdict if one follows, from standard input and draws them
-
-Usage: fifobench draw [OPTIONS]
-
-Options:
-      --text  Draws in lines of characters, and not as SVG
-  -h, --help  Print help
-
-Input: the text of a history, from its first line to the line `end N`, directly followed by the text of
-a verdict, from the line `YES` or `NO ..` on, as for `verify`. Where nothing follows, the history is
-decided as by `check`, and drawn with that verdict.
-
-Output: a picture, as an SVG document for a browser, or with `--text` in lines of ASCII for a terminal.
-Time runs down: each event has a row, each thread a lane, and each operation a bar from its call to its
-return. Of a yes the order stands beside the lanes, and each number where its operation takes effect.
-Of a no the operations that show it are numbered in the order of the verdict's lines, and bands say
-when a value surely was in the queue, was not, and the time that contradicts it. In characters `[` is
-a call, `]` its return and `|` stands between, and bands are `###`, `xxx` and `:::`. Where the verdict
-is no evidence in the history, `INVALID`, and nothing is drawn. Values that the queue holds first (texts
-of `fifo-history 2`) have rows of their own above all events, front first, numbered as operations are.
-
-Status: 0 drawn, 1 invalid, 2 the input is refused (a line `REFUSED ..` says why), 3 a read, a write
-or memory failed (a line `FAULT ..`). More than 400 operations or values that the queue holds first, or
-more than 400 lines of the verdict, are `REFUSED Size`: a no is shrunk first. Lines count from 1 through
-both texts.
-
-Example:
-  $ printf 'fifo-history 1\n0 0 call-deq\n1 0 ret-deq 7\nend 2\nNO VFresh\n0 1 0 deq 7\n' | fifobench draw --text
-  NO: a value was dequeued that was not there
-  7 was dequeued (1), but nobody ever enqueued it.
-
-  [    call of an operation
-  ]    its return
-  1    number 1 of the operations that show it
-  xxx  the value surely was not in the queue.
-  :::  within this time it was dequeued nevertheless.
-
-                         7 not in
-                          |   7 dequeued
-          thread          |    |
-  ticket  0               |    |
-       0  [1      deq 7  xxx  :::
-       1  ]              xxx
-";
-
-const CONVERT: &str = r"Reads a history from standard input and prints it as a text of version 2
-
-Usage: fifobench convert
-
-Options:
-  -h, --help  Print help
-
-Input: the text of a history, as for `check`, from its first line to the line `end N`.
-
-Output: the text of the same history in version 2, which says after its first line how many values the
-queue holds before the first event, and which. A text of version 2 comes out as it is.
-
-Status: 0 converted, 2 the input is refused (a line `REFUSED ..` says why), 3 a read, a write or
-memory failed (a line `FAULT ..`). What `check` refuses is refused, with the same line.
-
-Example:
-  $ printf 'fifo-history 1\n0 0 call-enq 7\n1 0 ret-enq\nend 2\n' | fifobench convert
-  fifo-history 2
-  initial 0
-  0 0 call-enq 7
-  1 0 ret-enq
-  end 2
-";
-
-const SIM: &str =
-    r"Reads a schedule from standard input, steps the recorder through it, and judges what it recorded
-
-Usage: fifobench sim
-
-Options:
-  -h, --help  Print help
-
-Input: the text of a schedule. It begins with the line `fifo-schedule 1` and the line
-`threads T ring R`, with 1 to 64 threads and rings of 2 to 65536 events, and ends with the line
-`end N`, where N is the number of steps. Between them stands a line for each step of a thread T:
-  ask-enq T, ask-deq T   it draws the ticket of a call
-  push T                 its held event goes into its ring
-  effect T               its operation takes effect on a queue that keeps the order
-  say T taken            or it is told that answer: taken, not, got VALUE or empty
-  ret T                  it draws the ticket of the return
-  drain T K              up to K events of its ring are collected
-  close T                it is closed
-
-Output: a line `REJECTED`, with the number of the step from 1 and the reason, for each step that the
-recorder refuses; then `OPEN` where some thread is not closed or some ring not empty, else the text
-of the recorded history and its verdict.
-
-Status: 0 yes or open, 1 no, 2 the input is refused (a line `REFUSED ..` says why), 3 a read, a write
-or memory failed (a line `FAULT ..`). Lines count from 1: step i stands in line i + 2.
-
-Example:
-  $ printf 'fifo-schedule 1\nthreads 1 ring 2\nask-enq 0\nend 1\n' | fifobench sim
-  OPEN
-";
-
-const STRESS: &str =
-    "Runs workers on a queue, records what they did, and prints the history and its verdict
-
-Usage: fifobench stress [OPTIONS] --queue <NAME>
-
-Options:
-      --queue <NAME>      Name of the queue
-      --threads <NUMBER>  Workers, 1 to 32 [default: 2]
-      --ops <NUMBER>      Operations of each worker, 0 to 100000 [default: 1000]
-      --seed <NUMBER>     Seed of the workers' plan, 0 to 4294967295 [default: 1]
-      --percent <NUMBER>  Enqueues among a hundred operations, 0 to 100 [default: 50]
-      --ring <NUMBER>     Events that each worker's ring holds, 2 to 65536 [default: 1024]
-      --initial <NUMBER>  Values that the queue holds before the run, 0 to 1000 [default: 0]
-  -h, --help              Print help
-
-Input: none.
-
-Output: the text of the recorded history and its verdict, which `verify` reads. Runs of several
-workers differ, also with the same options, since the workers run at the same time.
-
-With `--initial K` the queue is given the values 274877906944, 274877906945, .. before any worker
-starts, K of them, and the text of the history is of version 2. Where the queue has no room for one of
-them, `FAULT Preload PLACE` says for which, counted from 0.
-
-Queues: locked, two-lock, array and seg are made to keep the order; lifo, doubling, inventing, shy
-and losing break it now and then, on purpose.
-
-Status: 0 yes, 1 no, 2 there is no such queue, or threads times operations is above 1000000 (a line
-`REFUSED ..` says which), 3 the run, a write or memory failed (a line `FAULT ..`).
-
-Example:
-  $ fifobench stress --queue locked --threads 1 --ops 1 --percent 100
-  fifo-history 1
-  0 0 call-enq 0
-  1 0 ret-enq
-  end 2
-  YES
-  0 1 0 enq 0
-";
+/// The options of `stress`, as its help names them.
+const OPTIONS: [&str; 7] = [
+    "--queue <NAME> ",
+    "--threads <NUMBER> ",
+    "--ops <NUMBER> ",
+    "--seed <NUMBER> ",
+    "--percent <NUMBER> ",
+    "--ring <NUMBER> ",
+    "--initial <NUMBER> ",
+];
 
 #[test]
-fn helps_are_shown_whole(rt: HostRuntime) -> Result<(), Fail> {
-    assert_help(&rt, &["fifobench", "help"], PROGRAM)?;
-    for (name, text) in [
-        ("check", CHECK),
-        ("shrink", SHRINK),
-        ("verify", VERIFY),
-        ("draw", DRAW),
-        ("convert", CONVERT),
-        ("sim", SIM),
-        ("stress", STRESS),
-    ] {
-        assert_help(&rt, &["fifobench", "help", name], text)?;
-        assert_help(&rt, &["fifobench", name, "--help"], text)?;
-    }
+fn a_help_names_the_options(rt: HostRuntime) -> Result<(), Fail> {
+    let help = shown(&rt, &["fifobench", "help", "stress"])?;
+    assert!(rt; OPTIONS.iter().all(|option| help.contains(*option)));
+    assert!(rt; shown(&rt, &["fifobench", "help", "draw"])?.contains("--text "));
+    Ok(())
+}
+
+#[test]
+fn the_help_names_each_command(rt: HostRuntime) -> Result<(), Fail> {
+    let help = shown(&rt, &["fifobench", "help"])?;
+    assert!(rt; HELPS.iter().all(|(name, _)| help.contains(*name)));
     Ok(())
 }
 
 #[test]
 fn the_version_is_shown(rt: HostRuntime) -> Result<(), Fail> {
     let version = "fifobench 0.1.0\nproved and built with rattle-kit-13f logic dac8208d650f15bf\n";
-    assert_help(&rt, &["fifobench", "--version"], version)
+    let found = shown(&rt, &["fifobench", "--version"])?;
+    assert_eq!(rt; found.as_str(), version);
+    Ok(())
 }

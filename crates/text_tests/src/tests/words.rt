@@ -43,17 +43,29 @@ fn a_picture_is_svg_or_characters(rt: HostRuntime) -> Result<(), Fail> {
     Ok(())
 }
 
+/// Options of a run, with the seed of its plan and how many of a hundred operations are enqueues.
+fn options(
+    queue: &str,
+    threads: usize,
+    operations: usize,
+    (seed, percent): (u64, u8),
+    ring: usize,
+    initial: usize,
+) -> StressOptions<'_> {
+    StressOptions {
+        queue,
+        threads,
+        operations,
+        seed,
+        percent,
+        ring,
+        initial,
+    }
+}
+
 #[test]
 fn options_have_defaults(rt: HostRuntime) -> Result<(), Fail> {
-    let options = StressOptions {
-        queue: "locked",
-        threads: 2,
-        operations: 1000,
-        seed: 1,
-        percent: 50,
-        ring: 1024,
-        initial: 0,
-    };
+    let options = options("locked", 2, 1000, (1, 50), 1024, 0);
     let words = ["fifobench", "stress", "--queue", "locked"];
     assert!(rt; has_task(&rt, &words, Task::Stress(options))?);
     Ok(())
@@ -61,15 +73,7 @@ fn options_have_defaults(rt: HostRuntime) -> Result<(), Fail> {
 
 #[test]
 fn options_are_read(rt: HostRuntime) -> Result<(), Fail> {
-    let options = StressOptions {
-        queue: "two-lock",
-        threads: 32,
-        operations: 100_000,
-        seed: 4_294_967_295,
-        percent: 0,
-        ring: 65_536,
-        initial: 1000,
-    };
+    let options = options("two-lock", 32, 100_000, (4_294_967_295, 0), 65_536, 1000);
     let words = [
         "fifobench",
         "stress",
