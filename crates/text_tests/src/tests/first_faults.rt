@@ -43,12 +43,16 @@ fn front(kind: Kind) -> &'static str {
     }
 }
 
+/// Four events, and a count of three.
 const MISCOUNTED: &str = "0 0 call-enq 7\n1 0 ret-enq\n2 0 call-deq\n3 0 ret-deq 7\nend 3\n";
 
+/// A value of 2^64.
 const TOO_GREAT_A_VALUE: &str = "0 0 call-enq 18446744073709551616\nend 1\n";
 
+/// A thread with a sign.
 const WITH_A_SIGN: &str = "0 0 ret-enq\n1 0 call-deq\n2 -1 call-deq\nend 3\n";
 
+/// An initial value of 2^64.
 const TOO_GREAT_AN_INITIAL_VALUE: &str = "initial 1\n18446744073709551616\nend 0\n";
 
 /// Texts, and what is told of each: how many events, values, operations or steps are read, or the first fault with its line.
