@@ -113,8 +113,8 @@ module _ (from to : List Operation) (f g : Operation → Operation)
   }
   breach_carried (order enq_a enq_b deq_b deq_a) is = record {
     a = is.a;
-    b = is.b;
     enqueues_a = did enq_a (Enq is.a) is.enqueues_a;
+    b = is.b;
     enqueues_b = did enq_b (Enq is.b) is.enqueues_b;
     dequeues_b = did deq_b (Deq is.b) is.dequeues_b;
     enqueued_first = precedes enq_a enq_b is.enqueued_first;

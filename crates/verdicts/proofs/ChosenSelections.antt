@@ -19,6 +19,7 @@ use Rattle.value_match.proofs.Lists.{one_deeper}
 use Rattle.empty_witness.proofs.Covers.{violation_covers, chosen_cover_is_shortest}
 use Rattle.verdicts.specs.Selection.{selects, IsShortestCover}
 use Rattle.verdicts.proofs.CoverGaps.{chosen_are_lives}
+use Rattle.verdicts.proofs.SameLists.{one_beside}
 use Rattle.verdicts.proofs.KeptTickets.{selected_are_complete}
 use Rattle.verdicts.proofs.NamedLines.{SelectsLines, lines_are_selected}
 use Rattle.verdicts.proofs.Selections.{breach_in_whole, did_in_whole, life_in_whole, life_in_selected, line_of_life}
@@ -38,17 +39,15 @@ one_source operations (source.Initial p) x y at_x at_y = absurd at_x
 
 one_cover : (operations : List Operation) (steps : List CoverStep) (xs ys : List Life) → NamesCover operations steps xs
     → NamesCover operations steps ys → xs ≡ ys
-one_cover operations [] [] [] names_x names_y = refl
-one_cover operations [] [] (y ∷ ys) names_x names_y = absurd names_y
-one_cover operations [] (x ∷ xs) ys names_x names_y = absurd names_x
-one_cover operations (step ∷ steps) [] ys names_x names_y = absurd names_x
-one_cover operations (step ∷ steps) (x ∷ xs) [] names_x names_y = absurd names_y
-one_cover operations (step ∷ steps) (x ∷ xs) (y ∷ ys) names_x names_y =
-    let enqueues = one_source operations step.source (enqueue_of x) (enqueue_of y) names_x.0.0 names_y.0.0 in
-    let dequeues = one_maybe_at operations step.dequeue (dequeue_of x) (dequeue_of y) names_x.0.1 names_y.0.1 in
-    let lives : x ≡ y = λ i. record { enqueue = enqueues i; dequeue = dequeues i } in
-    let rest = one_cover operations steps xs ys names_x.1 names_y.1 in
-    cc
+one_cover operations = one_beside (λ step life. IsSource operations step.source (enqueue_of life)
+    × IsMaybeAt operations step.dequeue (dequeue_of life)) one_life
+  where
+    one_life : (step : CoverStep) (x y : Life) → IsSource operations step.source (enqueue_of x) × IsMaybeAt operations step.dequeue (dequeue_of x)
+        → IsSource operations step.source (enqueue_of y) × IsMaybeAt operations step.dequeue (dequeue_of y) → x ≡ y
+    one_life step x y names_x names_y =
+        let enqueues = one_source operations step.source (enqueue_of x) (enqueue_of y) names_x.0 names_y.0 in
+        let dequeues = one_maybe_at operations step.dequeue (dequeue_of x) (dequeue_of y) names_x.1 names_y.1 in
+        λ i. record { enqueue = enqueues i; dequeue = dequeues i }
 
 -- places name one violation
 pub names_one : (operations : List Operation) (named : Violation) (x y : Breach) → Names operations named x → Names operations named y → x ≡ y

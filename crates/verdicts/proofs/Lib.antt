@@ -4,7 +4,7 @@
 -- NoneTold: with no initial values what is told is what is found.
 -- Lookups, ClaimedBreaches, ClaimedCovers, ClaimedOrders: when the lines of a claim are evidence.
 -- NamedLines, NamedPlaces, TrueClaims, FewLines: what a verdict claims, and that this is true.
--- SameLists, Selections, ChosenSelections, CoverGaps: what stays of the violations in a selection of the operations.
+-- SameLists, CollectedSets, Selections, ChosenSelections, CoverGaps: what stays of the violations in a selection of the operations.
 -- Minimal: nothing can be left out of the selection by the violation's lines.
 -- Carried, Retiming, FilledSelections: a selection of a filled history is the filled history of a selection, at other tickets.
 -- ShownLines, ViolationPlaces, LinesTell: the lines of a violation as they are shown, and what they tell.
@@ -26,6 +26,7 @@ pub mod ClaimedOrders
 pub mod SameLists
 pub mod KeptEvents
 pub mod KeptTickets
+pub mod CollectedSets
 pub mod Selections
 pub mod CoverGaps
 pub mod Carried

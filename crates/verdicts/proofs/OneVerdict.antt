@@ -44,6 +44,7 @@ use Rattle.value_match.specs.Filling.{behind, filled_gap, filled_step, filled_vi
 use Rattle.verdicts.specs.Verdicts.{IsChosenFrom}
 use Rattle.verdicts.specs.Laws.{VerdictIsOne, MatchedIsOne, PairIsOne, GapIsOne, WitnessIsOne}
 use Rattle.verdicts.proofs.Chosen.{one_chosen_breach, one_order, one_cover, one_witness}
+use Rattle.verdicts.proofs.SameLists.{one_beside}
 use Rattle.verdicts.proofs.Excludes.{breach_excludes_order}
 use Rattle.value_match.proofs.Unfilled.{one_when_filled}
 
@@ -326,13 +327,8 @@ gap_is_one initial operations place x y clear at_x at_y =
 
 one_list_of_gaps : (operations answers : List Operation) (cs ds : List ℕ) → AllZip (λ o c. IsLeastFreeGap operations o c) answers cs
     → AllZip (λ o c. IsLeastFreeGap operations o c) answers ds → cs ≡ ds
-one_list_of_gaps operations [] [] [] x y = refl
-one_list_of_gaps operations [] [] (d ∷ ds) x y = absurd y
-one_list_of_gaps operations [] (c ∷ cs) ds x y = absurd x
-one_list_of_gaps operations (o ∷ answers) [] ds x y = absurd x
-one_list_of_gaps operations (o ∷ answers) (c ∷ cs) [] x y = absurd y
-one_list_of_gaps operations (o ∷ answers) (c ∷ cs) (d ∷ ds) x y =
-    ap₂ (λ (n : ℕ) (ns : List ℕ). n ∷ ns) (one_least_gap operations o c d x.0 y.0) (one_list_of_gaps operations answers cs ds x.1 y.1)
+one_list_of_gaps operations answers cs ds x y =
+    one_beside (λ o c. IsLeastFreeGap operations o c) (one_least_gap operations) answers cs ds x y
 
 -- where each empty answer has a free gap, none is covered
 none_covered : (operations : List Operation) (gaps : List ℕ) (o : Operation)

@@ -1,6 +1,7 @@
--- Lists of which the keys rise, with the same elements, are one list.
-use Rattle.std.proofs.Common.{◌≡◌, ℕ, zero, suc, ◌<◌, ◌⊎◌, ◌↔◌, List, [], ◌∷◌, get_or, refl, sym, ap, subst, inl, inr, arith}
+-- Lists of which the keys rise, with the same elements, are one list; so are lists of what stands beside the same elements.
+use Rattle.std.proofs.Common.{◌≡◌, ℕ, zero, suc, ◌<◌, ◌⊎◌, ◌↔◌, List, [], ◌∷◌, get_or, refl, sym, ap, ap₂, subst, inl, inr, arith}
 use Rattle.std.specs.Prelude.{AllPairs, Contains, IsPermutation}
+use Rattle.std.specs.List.{AllZip}
 use Rattle.std.specs.List.Sorted.{IsNonDecreasingBy}
 use Rattle.std.proofs.lemmas.Bool.{cases_order}
 use Rattle.std.proofs.lemmas.List.Sorted.{Contains-permutation, IsPermutation-sym, IsPermutation-trans}
@@ -71,3 +72,14 @@ sorted_tells {X} key xs ys sorted rises moved in_order = (
   λ same. subst (λ zs. IsPermutation zs ys) same (IsPermutation-sym ys sorted moved),
   λ whole. sorted_is_same key xs sorted rises (IsPermutation-trans xs ys sorted whole moved) in_order,
 )
+
+-- where only one thing can stand beside each element of a list, one list stands beside it
+pub one_beside : {X Y : Type 0} (R : X → Y → Type 0) → ((x : X) (y z : Y) → R x y → R x z → y ≡ z) → (xs : List X) (ys zs : List Y)
+    → AllZip R xs ys → AllZip R xs zs → ys ≡ zs
+one_beside R one [] [] [] first second = refl
+one_beside R one [] [] (z ∷ zs) first second = absurd second
+one_beside R one [] (y ∷ ys) zs first second = absurd first
+one_beside R one (x ∷ xs) [] zs first second = absurd first
+one_beside R one (x ∷ xs) (y ∷ ys) [] first second = absurd second
+one_beside {X} {Y} R one (x ∷ xs) (y ∷ ys) (z ∷ zs) first second =
+    ap₂ (λ (w : Y) (ws : List Y). w ∷ ws) (one x y z first.0 second.0) (one_beside R one xs ys zs first.1 second.1)

@@ -29,7 +29,7 @@ IsPlaceWithin initial operations (place.Initial p) = p < length initial
 abbrev pub IsWithin : List ℕ → List Operation → Verdict → Type 0
 IsWithin initial operations verdict = All (IsPlaceWithin initial operations) (places_of verdict)
 
--- the kind of a violation
+-- the kind of a violation that names places
 abbrev pub violation_kind : Violation → ViolationKind
 violation_kind (Fresh deq enq) = VFresh
 violation_kind (Repeat enq first second) = VRepeat

@@ -71,11 +71,12 @@ fn shows_repeat(operations: &Filled, lines: &[ClaimLine]) -> bool
     let [enq, first, second] = lines else {
         return false;
     };
-    let (Some(enq), Some(first), Some(second)) = (
+    let shown = (
         operations.shown_by(*enq),
         operations.shown_by(*first),
         operations.shown_by(*second),
-    ) else {
+    );
+    let (Some(enq), Some(first), Some(second)) = shown else {
         return false;
     };
     is_repeat(operations, enq, first, second)

@@ -62,7 +62,7 @@ pub fn decide_par<R: Threads + Sync>(
     history: &History,
     pieces: usize,
 ) -> Result<Verdict, AllocError>
-    requires { (1 ≤ pieces) × (pieces ≤ MAX_PIECES) }
+    requires pieces { (1 ≤ pieces) × (pieces ≤ MAX_PIECES) }
     ensures chosen { IfOk result (λ verdict. IsVerdictFrom history.now.initial (operations_of history.now.events) verdict) }
     ensures evidence { IfOk result (λ verdict. IsEvidenceFrom history.now.initial (operations_of history.now.events) verdict) }
     ensures exact { IfOk result (λ verdict. IsExactFrom history.now.initial (operations_of history.now.events) verdict) }

@@ -40,15 +40,11 @@ pub fn shrink(
     let selection = Selection::named_by(alloc, lines.as_slice())?;
     let initial = selection.initial(alloc, history.initial())?;
     let events = selection.events(alloc, history.operations(), history.events())?;
-    whole_history(alloc, initial, events)
+    history_of(alloc, initial, events)
 }
 
 /// The history of initial values and events that are known to be those of a complete one.
-fn whole_history(
-    alloc: Global,
-    initial: Vec<u64>,
-    events: Vec<Event>,
-) -> Result<History, AllocError>
+fn history_of(alloc: Global, initial: Vec<u64>, events: Vec<Event>) -> Result<History, AllocError>
     requires few_initial { vec_len initial ≤ MAX_INITIAL }
     requires few_events { vec_len events ≤ MAX_EVENTS }
     requires complete { IsCompleteFrom initial.items events.items }

@@ -11,13 +11,13 @@ use Rattle.verdicts.proofs.shrinking.shrink.Goals as goal
 use Rattle.value_match.specs.Filling.{filled_violation}
 use Rattle.verdicts.specs.Verdicts.{filled_of}
 
-pub whole_history-requires-clause-few_initial : goal.whole_history-requires-clause-few_initial
-whole_history-requires-clause-few_initial c =
+pub history_of-requires-clause-few_initial : goal.history_of-requires-clause-few_initial
+history_of-requires-clause-few_initial c =
     let shorter = no_longer (contains nat_cmp c.in_ok-selection.selection.values) c.initial.result.now in
     omega (arith, ap length c.in_ok-initial.ensures, ap length c.initial.ensures.initial, c.initial.ensures.few)
 
-pub whole_history-requires-clause-few_events : goal.whole_history-requires-clause-few_events
-whole_history-requires-clause-few_events c =
+pub history_of-requires-clause-few_events : goal.history_of-requires-clause-few_events
+history_of-requires-clause-few_events c =
     let selection = c.in_ok-selection.selection in
     let are = are_selected c.args.history.now (contains nat_cmp selection.values) (contains nat_cmp selection.calls) c.in_ok-initial.initial.items
     c.initial.result.now c.in_ok-events.events.items c.events.result.now c.operations.result.now c.initial.ensures.initial
@@ -26,8 +26,8 @@ whole_history-requires-clause-few_events c =
     c.in_ok-events.events.items c.events.ensures.few are in
     omega arith
 
-pub whole_history-requires-clause-complete : goal.whole_history-requires-clause-complete
-whole_history-requires-clause-complete c =
+pub history_of-requires-clause-complete : goal.history_of-requires-clause-complete
+history_of-requires-clause-complete c =
     let selection = c.in_ok-selection.selection in
     are_complete c.args.history.now (contains nat_cmp selection.values) (contains nat_cmp selection.calls) c.in_ok-initial.initial.items
     c.in_ok-events.events.items c.initial.ensures.complete
@@ -49,10 +49,10 @@ returns c =
     subst (λ lines. SelectsNamed lines values calls) (c.as_slice.ensures.value ∙ c.in_ok-lines.ensures) c.in_ok-selection.ensures in
     let are = are_selected whole values calls initial c.initial.result.now events c.events.result.now c.operations.result.now c.initial.ensures.initial
     c.operations.ensures.operations c.events.ensures.events c.in_ok-initial.ensures c.in_ok-events.ensures in
-    let small = c.whole_history.result in
+    let small = c.history_of.result in
     let shrunk = IfOk-weaker small (λ s. (s.initial ≡ initial) × (s.events ≡ events)) (IsShrunk whole violation)
     (λ s same. are_shrunk whole violation values calls s is_whole c.requires named
-    (record { has_values = same.0 ∙ are.has_values; has_tickets = same.1 ∙ are.has_tickets })) c.whole_history.ensures in
+    (record { has_values = same.0 ∙ are.has_values; has_tickets = same.1 ∙ are.has_tickets })) c.history_of.ensures in
     record {
       kept = IfOk-weaker small (IsShrunk whole violation) _ (λ s is. is.kept) shrunk;
       same_violation = IfOk-weaker small (IsShrunk whole violation) _ (λ s is. is.same_violation) shrunk;
