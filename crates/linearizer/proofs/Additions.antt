@@ -60,12 +60,13 @@ named operations (o ∷ listed) (q ∷ places) (suc k) p are at = later (named o
     later : IsNamed operations listed k p → IsNamed operations (o ∷ listed) (suc k) p
     later is = record { o = is.o; is_listed = is.is_listed; at = is.at }
 
-call_read : (operations read : List Operation) (p : ℕ) (o d : Operation) → IsAt operations p o → read ≡ operations → (get_or read p d).call ≡ o.call
-call_read operations read p o d at reads = ap (λ xs. (get_or xs p d).call) reads ∙ ap (λ x. x.call) (get_or_from_slice_get operations p o d at)
-
 -- where a place that is named is in range
 pub named_within : (operations read listed : List Operation) (k p : ℕ) → IsNamed operations listed k p → read ≡ operations → p < length read
 named_within operations read listed k p is reads = rw reads (slice_get_within operations p is.o is.at)
+
+-- and the operation stands there in a list that is the same
+pub named_at : (operations read listed : List Operation) (k p : ℕ) (is : IsNamed operations listed k p) → read ≡ operations → IsAt read p is.o
+named_at operations read listed k p is reads = subst (λ os. IsAt os p is.o) (sym reads) is.at
 
 passes_at : {X : Type 0} (p : X → Bool) (xs : List X) (k : ℕ) (x : X) → slice_get (filter p xs) k ≡ Some x → p x ≡ true
 passes_at p xs k x at =
@@ -86,13 +87,13 @@ stands_refused operations lives o (Enq v) is = cc
 stands_refused operations lives o (Deq v) is = cc
 stands_refused operations lives o Empty is = cc
 
--- an empty answer at its least free gap, and a refused enqueue at its call, by the ticket read
-pub adds_empty : (operations read : List Operation) (k p gap : ℕ) (d : Operation) (old new : List Placed) (placed : Placed)
+-- an empty answer at its least free gap, and a refused enqueue at its call
+pub adds_empty : (operations : List Operation) (k p gap call : ℕ) (old new : List Placed) (placed : Placed)
     (is : IsNamed operations (filter is_empty_answer operations) k p)
-    → Adds operations (take k (filter is_empty_answer operations)) old new → read ≡ operations → IsLeastFreeGap operations is.o gap → placed.operation ≡ p
-    → position_of placed.position ≡ record { gap = gap; class = idle_answers; rank = (get_or read p d).call }
+    → Adds operations (take k (filter is_empty_answer operations)) old new → IsLeastFreeGap operations is.o gap → placed.operation ≡ p → call ≡ is.o.call
+    → position_of placed.position ≡ record { gap = gap; class = idle_answers; rank = call }
     → Adds operations (take (k + 1) (filter is_empty_answer operations)) old (new ++ placed ∷ [])
-adds_empty operations read k p gap d old new placed is adds reads free names stands =
+adds_empty operations k p gap call old new placed is adds free names calls stands =
     adds_more operations (filter is_empty_answer operations) k is.o old new placed adds is.is_listed
     (λ lives. (
       subst (λ q. IsAt operations q is.o) (sym names) is.at,
@@ -101,15 +102,15 @@ adds_empty operations read k p gap d old new placed is adds reads free names sta
     ))
   where
     here : position_of placed.position ≡ idle_position is.o gap
-    here = stands ∙ ap (λ c. record { gap = gap; class = idle_answers; rank = c }) (call_read operations read p is.o d is.at reads)
+    here = stands ∙ ap (λ c. record { gap = gap; class = idle_answers; rank = c }) calls
 
 -- one refused enqueue more
-pub adds_refused : (operations read : List Operation) (k p : ℕ) (d : Operation) (old new : List Placed) (placed : Placed)
-    → IsNamed operations (filter is_refused operations) k p
-    → Adds operations (take k (filter is_refused operations)) old new → read ≡ operations → placed.operation ≡ p
-    → position_of placed.position ≡ record { gap = (get_or read p d).call; class = idle_answers; rank = (get_or read p d).call }
+pub adds_refused : (operations : List Operation) (k p call : ℕ) (old new : List Placed) (placed : Placed)
+    (is : IsNamed operations (filter is_refused operations) k p)
+    → Adds operations (take k (filter is_refused operations)) old new → placed.operation ≡ p → call ≡ is.o.call
+    → position_of placed.position ≡ record { gap = call; class = idle_answers; rank = call }
     → Adds operations (take (k + 1) (filter is_refused operations)) old (new ++ placed ∷ [])
-adds_refused operations read k p d old new placed is adds reads names stands =
+adds_refused operations k p call old new placed is adds names calls stands =
     adds_more operations (filter is_refused operations) k is.o old new placed adds is.is_listed
     (λ lives. (
       subst (λ q. IsAt operations q is.o) (sym names) is.at,
@@ -118,7 +119,7 @@ adds_refused operations read k p d old new placed is adds reads names stands =
     ))
   where
     here : position_of placed.position ≡ idle_position is.o is.o.call
-    here = stands ∙ ap (λ c. record { gap = c; class = idle_answers; rank = c }) (call_read operations read p is.o d is.at reads)
+    here = stands ∙ ap (λ c. record { gap = c; class = idle_answers; rank = c }) calls
 
 -- the gap beside an answer, and how many there are of both
 pub gap_beside : (operations listed : List Operation) (gaps : List ℕ) (k gap d : ℕ) (o : Operation)

@@ -1,5 +1,6 @@
-ghost use Rattle.std.specs.Prelude.{◌≡◌, ◌↔◌, ℕ, [], IfOk, IsTrue, List, MatchOption, OnOk, false, filter, length};
+ghost use Rattle.std.specs.Prelude.{◌≡◌, ◌↔◌, ◌<◌, ℕ, [], IfOk, IsTrue, List, MatchOption, OnOk, false, filter, length};
 ghost use Rattle.history_merge.specs.declared.operation.Operation.{Operation};
+ghost use Rattle.history_merge.specs.Operations.{IsAt};
 ghost use Rattle.value_match.specs.declared.life.Life.{Life};
 ghost use Rattle.value_match.specs.Lives.{AreLeastFreeGaps, is_empty_answer, is_refused};
 ghost use Rattle.value_match.specs.Violations.{IsClear};
@@ -9,7 +10,7 @@ ghost use Rattle.linearizer.specs.Inner.Merging.{IsDequeueFrom, IsEnqueueFrom, I
 
 use crate::choice::ordered_places;
 use crate::position::{Placed, Position};
-use history_merge::OpId;
+use history_merge::{OpId, Operation};
 use std::alloc::{AllocError, Global};
 use value_match::{FilledMatching, NEVER};
 
@@ -197,6 +198,7 @@ pub(crate) fn idles_of(
 }
 
 /// Adds the empty answers.
+#[tactic(auto, using(crate::proofs::Additions::adds_none))]
 fn place_empties(
     placed: &mut Vec<Placed>,
     matching: &FilledMatching,
@@ -207,20 +209,29 @@ fn place_empties(
 {
     let operations = matching.operations();
     for (id, gap) in matching.empties().iter().zip(gaps) {
-        let call = operations[id.place()].call;
+        let call = call_at(operations, id.place());
         placed.push(Placed::idle(*id, *gap, call))?;
     }
     Ok(())
 }
 
 /// Adds the refused enqueues.
+#[tactic(auto, using(crate::proofs::Additions::adds_none))]
 fn place_refused(placed: &mut Vec<Placed>, matching: &FilledMatching) -> Result<(), AllocError>
     ensures { OnOk result (Adds matching.now (filter is_refused matching.now) placed.old.items placed.new.items) }
 {
     let operations = matching.operations();
     for id in matching.refused() {
-        let call = operations[id.place()].call;
+        let call = call_at(operations, id.place());
         placed.push(Placed::idle(*id, call, call))?;
     }
     Ok(())
+}
+
+/// The ticket of the call of the operation at this place.
+fn call_at(operations: &[Operation], place: usize) -> u64
+    requires { place < length operations.now }
+    ensures { (o : Operation) → IsAt operations.now place o → result ≡ o.call }
+{
+    operations[place].call
 }

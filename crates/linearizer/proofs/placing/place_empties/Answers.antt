@@ -4,7 +4,7 @@ use Rattle.std.proofs.lemmas.List.{length_push}
 use Rattle.std.proofs.lemmas.Option.{slice_get_read}
 use Rattle.std.proofs.lemmas.Slice.Zip.{zip_end, zip_turn}
 use Rattle.value_match.specs.Lives.{is_empty_answer}
-use Rattle.linearizer.proofs.Additions.{IsNamed, adds_all, adds_empty, adds_none, gap_beside, named, named_within}
+use Rattle.linearizer.proofs.Additions.{IsNamed, adds_all, adds_empty, gap_beside, named, named_at, named_within}
 use Rattle.linearizer.proofs.placing.place_empties.Goals as goal
 use Rattle.linearizer.proofs.placing.place_empties.Goals.{After-place}
 
@@ -19,25 +19,16 @@ turn : (c : After-place) → IsNamed c.args.matching.now (filter is_empty_answer
 turn c = named _ _ c.empties.result.now _ _ c.empties.ensures
     (slice_get_read _ _ _ _ refl (pair c).0 ((pair c).2 c.in-Some.id.now) ∙ ap Some (sym c.place.ensures))
 
-within : (c : After-place) → c.place.result < length c.operations-operations.result.now
-within c = named_within _ _ _ _ _ (turn c) c.operations-operations.ensures.operations
-
-pub loop-id-init : goal.loop-id-init
-loop-id-init c = adds_none _ _
-
-pub offset_bounds-operations-place : goal.offset_bounds-operations-place
-offset_bounds-operations-place c = let inside = within c in search rules
-
-pub bounds-operations-place : goal.bounds-operations-place
-bounds-operations-place c = within c
+pub call_at-call-requires : goal.call_at-call-requires
+call_at-call-requires c = named_within _ _ _ _ _ (turn (goal.at.call_at-call-requires c).After-place) c.operations-operations.ensures.operations
 
 pub loop-id-preserved : goal.loop-id-preserved
 loop-id-preserved c =
     let of_place = (goal.at.loop-id-preserved c).After-place in
     let free = gap_beside _ _ c.args.gaps.now _ c.in-Some.gap.now 0 _ c.requires (turn of_place).is_listed ((pair of_place).3 0) in
+    let calls = c.call_at-call.ensures (turn of_place).o (named_at _ _ _ _ _ (turn of_place) c.operations-operations.ensures.operations) in
     rw (length_push c.loop-id.yielded (c.in-Some.id, c.in-Some.gap), c.in_ok-push.ensures.items)
-    (adds_empty _ _ _ _ _ _ _ _ _ (turn of_place) c.loop-id.invariant c.operations-operations.ensures.operations free
-    (c.idle.ensures.operation ∙ sym c.place.ensures) c.idle.ensures.position)
+    (adds_empty _ _ _ _ _ _ _ _ (turn of_place) c.loop-id.invariant free (c.idle.ensures.operation ∙ sym c.place.ensures) calls c.idle.ensures.position)
 
 pub returns : goal.returns
 returns c =
