@@ -1,12 +1,11 @@
 -- A vector whose slice is sorted, and one that is found sorted.
 use Rattle.std.proofs.Common.{◌≡◌, ℕ, zero, suc, ◌+◌, ◌<◌, ◌≤◌, Bool, true, false, List, [], ◌∷◌, ◌++◌, length, get_or, take, drop, Some, sym, ap, Bor, arith}
 use denote.Param.Members.{Mut}
-use Rattle.std.specs.Fn.{Called, ComputesKey}
+use Rattle.std.specs.Fn.{ComputesKey}
 use Rattle.std.specs.Ordering.{is_le, is_some_and, nat_cmp}
 use Rattle.std.specs.List.{IsAllAdjacentAnswer}
 use Rattle.std.specs.Prelude.{IsPermutation}
 use Rattle.std.specs.List.Sorted.{IsNonDecreasingBy}
-use Rattle.std.proofs.lemmas.Fn.{always_returns_same}
 use Rattle.std.proofs.lemmas.List.{append-nil, drop_all, take_all}
 use Rattle.std.proofs.lemmas.List.Sorted.{IsNonDecreasingBy-from_all_adjacent, IsPermutation-trans, non_decreasing_from_is_sorted}
 use Rattle.value_match.proofs.Lists.{moved_in_place}
@@ -36,7 +35,6 @@ tested a b answer = non_decreasing_from_is_sorted (a ∷ b ∷ []) true at 0 1 0
 -- a list that is found sorted rises
 pub rises_if_sorted : {X F : Type 0} (n : X → ℕ) {g : Mut F (Bor X × Unit {0}) ℕ} {f : F} (xs : List X) (found : Bool)
     → ((key : X → ℕ) → ComputesKey g key f → IsAllAdjacentAnswer (λ x y b. b ≡ is_some_and is_le (Some (nat_cmp (key x) (key y)))) xs found)
-    → ((a : Bor X × Unit {0}) (r : ℕ) (f' : F) → Called g f a r f' → (r ≡ n a.0.now) × (f' ≡ f)) → found ≡ true → IsNonDecreasingBy n xs
-rises_if_sorted n {g} {f} xs true cases calls is = IsNonDecreasingBy-from_all_adjacent n xs
-    (λ k d below. tested _ _ (cases n (always_returns_same g (λ a r. r ≡ n a.0.now) f calls) k d below))
-rises_if_sorted n {g} {f} xs false cases calls is = cc
+    → ComputesKey g n f → found ≡ true → IsNonDecreasingBy n xs
+rises_if_sorted n xs true cases computes is = IsNonDecreasingBy-from_all_adjacent n xs (λ k d below. tested _ _ (cases n computes k d below))
+rises_if_sorted n xs false cases computes is = cc

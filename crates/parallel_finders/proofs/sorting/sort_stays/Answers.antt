@@ -1,26 +1,7 @@
-use Rattle.std.proofs.Common.{rules, sym, subst, arith}
-use Rattle.std.specs.List.Sorted.{IsNonDecreasingBy}
-use Rattle.std.proofs.lemmas.List.Sorted.{IsNonDecreasingBy-from_sort_by_key}
-use Rattle.parallel_finders.proofs.InPlace.{in_place, moved_twice, rises_if_sorted}
+use Rattle.std.proofs.Common.{◌≡◌, rules}
+use Rattle.std.proofs.lemmas.Fn.{always_returns_same}
 use Rattle.parallel_finders.proofs.sorting.sort_stays.Goals as goal
 
-pub returns-then-not-is_sorted_by_key-clause-permutation : goal.returns-then-not-is_sorted_by_key-clause-permutation
-returns-then-not-is_sorted_by_key-clause-permutation g c =
-    let settled = c.settle.new.elements in
-    let sorted = c.par_sort_unstable_by_key in
-    moved_twice c.args.stays.now.items settled.items c.as_mut_slice.result.now sorted.new.s settled.len c.settle.ensures c.as_mut_slice.ensures.value
-    (omega (arith, settled.ok.0)) sorted.ensures.len sorted.ensures.permutation
-
-pub returns-then-not-is_sorted_by_key-clause-rises : goal.returns-then-not-is_sorted_by_key-clause-rises
-returns-then-not-is_sorted_by_key-clause-rises g c =
-    let settled = c.settle.new.elements in
-    let sorted = c.par_sort_unstable_by_key in
-    subst (IsNonDecreasingBy (λ e. e.start)) (sym (in_place settled.items c.as_mut_slice.result.now sorted.new.s settled.len
-    c.as_mut_slice.ensures.value (omega (arith, settled.ok.0)) sorted.ensures.len))
-    (IsNonDecreasingBy-from_sort_by_key (λ e. e.start) _ sorted.ensures.sorted (λ e r q k. search rules))
-
-pub returns-else-not-is_sorted_by_key-clause-rises : goal.returns-else-not-is_sorted_by_key-clause-rises
-returns-else-not-is_sorted_by_key-clause-rises g c =
-    subst (IsNonDecreasingBy (λ e. e.start)) c.deref.ensures.value
-    (rises_if_sorted (λ e. e.start) c.deref.result.now c.is_sorted_by_key.result c.is_sorted_by_key.ensures.cases
-    (λ e r q k. search rules) c.if-not-is_sorted_by_key.false)
+pub returns-clause-rises : goal.returns-clause-rises
+returns-clause-rises g c =
+    c.sort_by_number.ensures.rises (λ e. e.start) (always_returns_same _ (λ a r. r ≡ a.0.now.start) _ (λ e r q k. search rules))

@@ -1,0 +1,26 @@
+use Rattle.std.proofs.Common.{sym, subst, arith}
+use Rattle.std.specs.List.Sorted.{IsNonDecreasingBy}
+use Rattle.std.proofs.lemmas.List.Sorted.{IsNonDecreasingBy-from_sort}
+use Rattle.parallel_finders.proofs.InPlace.{in_place, moved_twice, rises_if_sorted}
+use Rattle.parallel_finders.proofs.sorting.sort_by_number.Goals as goal
+
+pub returns-then-not-is_sorted_by_key-clause-permutation : goal.returns-then-not-is_sorted_by_key-clause-permutation
+returns-then-not-is_sorted_by_key-clause-permutation g c =
+    let settled = c.settle.new.elements in
+    let sorted = c.par_sort_unstable_by_key in
+    moved_twice c.args.items.now.items settled.items c.as_mut_slice.result.now sorted.new.s settled.len c.settle.ensures c.as_mut_slice.ensures.value
+    (omega (arith, settled.ok.0)) sorted.ensures.len sorted.ensures.permutation
+
+pub returns-then-not-is_sorted_by_key-clause-rises : goal.returns-then-not-is_sorted_by_key-clause-rises
+returns-then-not-is_sorted_by_key-clause-rises g c = λ n computes.
+    let settled = c.settle.new.elements in
+    let sorted = c.par_sort_unstable_by_key in
+    subst (IsNonDecreasingBy n) (sym (in_place settled.items c.as_mut_slice.result.now sorted.new.s settled.len
+    c.as_mut_slice.ensures.value (omega (arith, settled.ok.0)) sorted.ensures.len))
+    (IsNonDecreasingBy-from_sort n _ (sorted.ensures.sorted n computes))
+
+pub returns-else-not-is_sorted_by_key-clause-rises : goal.returns-else-not-is_sorted_by_key-clause-rises
+returns-else-not-is_sorted_by_key-clause-rises g c = λ n computes.
+    subst (IsNonDecreasingBy n) c.deref.ensures.value
+    (rises_if_sorted n c.deref.result.now c.is_sorted_by_key.result c.is_sorted_by_key.ensures.cases computes
+    c.if-not-is_sorted_by_key.false)
