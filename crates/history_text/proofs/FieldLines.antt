@@ -48,6 +48,11 @@ line_faulty read n old new bytes (Ok said) taken part e = tt
 line_faulty read n old new bytes (Err fault) taken part e =
     at_line (λ end front. line_at_front read n end front ≡ Err fault) old new bytes taken part (λ end rest. rw (← e) refl)
 
+-- the same of the next line, which has then been counted
+pub next_line_faulty : {A : Type 0} (read : ℕ → List (List ℕ) → Result A TextFault) (n m : ℕ) (old new : Option Ahead) (bytes : List ℕ)
+    (r : Result A TextFault) → m ≡ n → Takes old new (line bytes) × IsPartOfLine bytes → r ≡ read m (fields_of bytes) → IfErr r (HasLineFault read n old)
+next_line_faulty read n m old new bytes r same taken e = line_faulty read n old new bytes r taken.0 taken.1 (rw same at e)
+
 -- the line of some fields is taken
 pub fields_taken : (old new : Option Ahead) (bytes : List ℕ) (fields : List (List ℕ)) → Takes old new (line bytes) → fields_of bytes ≡ fields
     → Takes old new (line (spaced fields))

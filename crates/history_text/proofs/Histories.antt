@@ -1,19 +1,18 @@
 -- What is taken of a history, and its first fault.
-use Rattle.std.proofs.Common.{◌≡◌, ℕ, ◌+◌, refl, Option, Some, None, inl, inr, subst}
+use Rattle.std.proofs.Common.{◌≡◌, ℕ, ◌+◌, refl, Option, Some, inl, inr, subst}
 use Rattle.text_lines.specs.declared.fault.TextFault.{TextFault}
-use Rattle.text_lines.specs.Lines.{line}
+use Rattle.text_lines.specs.Lines.{line, front_of, header_fault}
 use Rattle.history_text.specs.Items.{ItemFault, NoRoom}
 use Rattle.history_text.specs.Histories.{header, event_format, IsHistoryTextFault, NoRoomFor}
 use Rattle.text_lines.specs.Input.{Ahead, Takes}
 use Rattle.history_text.specs.Reading.{HasHistoryTextFault}
 use Rattle.history_text.specs.Inner.Taking.{HasHeaderFault, HasItemsFault, IsOfInput}
-use Rattle.history_text.proofs.FirstFaults.{first_is, later_fault}
+use Rattle.history_text.proofs.FirstFaults.{is_first, later_fault}
 
 -- the first line has the fault
-pub header_is_first : (lines : ℕ) (old : Option Ahead) (fault : TextFault) → IsOfInput fault → HasHeaderFault header old fault
-    → HasHistoryTextFault lines old fault
-header_is_first lines None fault of_input h = first_is (IsHistoryTextFault lines) NoRoomFor None fault of_input tt
-header_is_first lines (Some a) fault of_input h = first_is (IsHistoryTextFault lines) NoRoomFor (Some a) fault of_input (inl h)
+pub header_is_first : (k : ℕ) (old : Option Ahead) (fault : TextFault) → IsOfInput fault → HasHeaderFault header old fault → HasHistoryTextFault k old fault
+header_is_first k old fault of_input h =
+    is_first (λ e b f. header_fault header e (front_of b) ≡ Some f) (IsHistoryTextFault k) NoRoomFor old fault of_input (λ e b. inl) h
 
 -- a later line has it
 pub event_is_first : (lines n : ℕ) (old mid : Option Ahead) (fault : TextFault) → n ≡ lines + 2 → Takes old mid (line header)

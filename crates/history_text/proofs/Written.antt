@@ -1,13 +1,17 @@
 -- What is written of a history, and that it has a text.
 use Rattle.std.proofs.Common.{◌≡◌, ℕ, ◌≤◌, List, [], ◌++◌, length, Option, subst, append_assoc}
 use Rattle.std.specs.List.{All}
+use Rattle.std.specs.Prelude.{OnOk, OnErr}
+use Rattle.std.specs.declared.result.Result.{Result}
+use Rattle.std.specs.Io.KnownBytes.{Appends}
+use Rattle.std.proofs.lemmas.Result.{on_ok_weaker, on_err_weaker}
 use Rattle.std.proofs.lemmas.List.Elements.{recursion_from_All}
 use Rattle.event_records.specs.declared.event.Event.{Event}
 use Rattle.event_records.specs.declared.limits.TheConstants.{MAX_EVENTS}
 use Rattle.history_merge.specs.Complete.{IsCompleteHistory}
 use Rattle.history_text.specs.Histories.{HasEventLine, HasHistoryText, HasValueInRange}
 use Rattle.text_lines.specs.Writing.{AppendsFront, Puts}
-use Rattle.text_lines.proofs.Appending.{front_first, front_next, front_of_kept, Puts-nil, Puts-append, Puts-last}
+use Rattle.text_lines.proofs.Appending.{front_first, front_next, front_of_kept, Puts-nil, Puts-append, Puts-last, puts_all, puts_front}
 
 -- ---- three texts in turn
 
@@ -42,3 +46,15 @@ complete_has_text events complete values few = record {
   });
   few = few;
 }
+
+-- ---- what is kept back goes out last
+
+-- all of it, where that succeeds
+pub all_out : {T E : Type 0} (r : Result T E) (a b c : Option (List ℕ)) (kept text : List ℕ) → Puts a b [] kept text → OnOk r (Appends b c kept)
+    → OnOk r (Appends a c text)
+all_out r a b c kept text put = on_ok_weaker r (puts_all a b c kept text put)
+
+-- a front of it, where that fails
+pub front_out : {T E : Type 0} (r : Result T E) (a b c : Option (List ℕ)) (kept text : List ℕ) → Puts a b [] kept text → OnErr r (AppendsFront b c kept)
+    → OnErr r (AppendsFront a c text)
+front_out r a b c kept text put = on_err_weaker r (puts_front a b c kept text put)

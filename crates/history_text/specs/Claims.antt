@@ -24,10 +24,10 @@ use Rattle.history_text.specs.Verdicts.{operation_fields, claim_line_fields, kin
 
 -- a value of 64 bits, where there is one
 abbrev pub IsKindInRange : OpKind → Type 0
+IsKindInRange Empty = Unit {0}
 IsKindInRange (Enq v) = v ≤ greatest_value
 IsKindInRange (Deq v) = v ≤ greatest_value
 IsKindInRange (Not v) = v ≤ greatest_value
-IsKindInRange Empty = Unit {0}
 
 -- which operations have a line
 pub record HasOperationLine (o : Operation) : Type 0 where

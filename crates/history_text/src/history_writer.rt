@@ -10,6 +10,7 @@ ghost use Rattle.history_text.specs.Histories.{what_fields, event_line, history_
 ghost use Rattle.history_text.specs.Versions.{value_format, lines_before_events, text_by, history_text_2, text_of, said_in, HasText};
 ghost use Rattle.text_lines.specs.Writing.{AppendsFront, Puts, IsWritten, IsRefused};
 
+use crate::lines::{Lines, put_each};
 use crate::version::Version;
 use event_records::{Event, What};
 use history_merge::History;
@@ -37,94 +38,46 @@ fn push_what(kept: &mut Kept, what: What)
     }
 }
 
-fn push_event(kept: &mut Kept, event: &Event)
-    requires { length kept.old + 96 ≤ 4096 }
-    ensures line { kept.new ≡ kept.old ++ event_line event.now }
-    ensures fits { HasValueInRange event.now.what }
-{
-    kept.push_field(event.ticket);
-    kept.push_field(u64::from(event.thread));
-    push_what(kept, event.what);
-    kept.push(b"\n");
-}
+/// The lines of events.
+#[derive(Clone, Copy)]
+struct EventLines;
 
-fn put_event<W: TextSink>(writer: &mut W, kept: &mut Kept, event: &Event) -> Result<(), WriteFault>
-    ensures ok { OnOk result (Puts (W.contents writer.old) (W.contents writer.new) kept.old kept.new (event_line event.now)) }
-    ensures err { OnErr result (AppendsFront (W.contents writer.old) (W.contents writer.new) kept.old) }
-    ensures refused { W.has_refused writer.new ≡ (W.has_refused writer.old || is_err result) }
-    ensures written { OnOk result (IsWritten W.goes writer.old writer.new) }
-    ensures stopped { OnErr result (IsRefused W.goes writer.old writer.new) }
-    ensures fits { OnOk result (HasValueInRange event.now.what) }
-{
-    make_room(writer, kept)?;
-    push_event(kept, event);
-    Ok(())
-}
+impl Lines<Event> for EventLines {
+    ghost line = { λ _. event_line };
 
-fn put_events<W: TextSink>(
-    writer: &mut W,
-    kept: &mut Kept,
-    events: &[Event],
-) -> Result<(), WriteFault>
-    ensures ok { OnOk result (Puts (W.contents writer.old) (W.contents writer.new) kept.old kept.new (flat_map event_line events.now)) }
-    ensures err { OnErr result (AppendsFront (W.contents writer.old) (W.contents writer.new) (kept.old ++ flat_map event_line events.now)) }
-    ensures refused { W.has_refused writer.new ≡ (W.has_refused writer.old || is_err result) }
-    ensures written { OnOk result (IsWritten W.goes writer.old writer.new) }
-    ensures stopped { OnErr result (IsRefused W.goes writer.old writer.new) }
-    ensures fits { OnOk result (All (λ e. HasValueInRange e.what) events.now) }
-{
-    for event in events {
-        put_event(writer, kept, event)?;
+    ghost Fits = { λ _ event. HasValueInRange event.what };
+
+    #[inline(always)]
+    fn push(&self, event: &Event, kept: &mut Kept) {
+        kept.push_field(event.ticket);
+        kept.push_field(u64::from(event.thread));
+        push_what(kept, event.what);
+        kept.push(b"\n");
     }
-    Ok(())
 }
 
-fn push_value(kept: &mut Kept, value: u64)
-    requires { length kept.old + 96 ≤ 4096 }
-    ensures line { kept.new ≡ kept.old ++ line_of value_format value }
-    ensures fits { value ≤ greatest_value }
-{
-    kept.push_number(value);
-    kept.push(b"\n");
-}
+/// The lines of initial values.
+#[derive(Clone, Copy)]
+struct ValueLines;
 
-fn put_value<W: TextSink>(writer: &mut W, kept: &mut Kept, value: u64) -> Result<(), WriteFault>
-    ensures ok { OnOk result (Puts (W.contents writer.old) (W.contents writer.new) kept.old kept.new (line_of value_format value)) }
-    ensures err { OnErr result (AppendsFront (W.contents writer.old) (W.contents writer.new) kept.old) }
-    ensures refused { W.has_refused writer.new ≡ (W.has_refused writer.old || is_err result) }
-    ensures written { OnOk result (IsWritten W.goes writer.old writer.new) }
-    ensures stopped { OnErr result (IsRefused W.goes writer.old writer.new) }
-    ensures fits { OnOk result (value ≤ greatest_value) }
-{
-    make_room(writer, kept)?;
-    push_value(kept, value);
-    Ok(())
-}
+impl Lines<u64> for ValueLines {
+    ghost line = { λ _. line_of value_format };
 
-fn put_values<W: TextSink>(
-    writer: &mut W,
-    kept: &mut Kept,
-    values: &[u64],
-) -> Result<(), WriteFault>
-    ensures ok { OnOk result (Puts (W.contents writer.old) (W.contents writer.new) kept.old kept.new (lines_of value_format values.now)) }
-    ensures err { OnErr result (AppendsFront (W.contents writer.old) (W.contents writer.new) (kept.old ++ lines_of value_format values.now)) }
-    ensures refused { W.has_refused writer.new ≡ (W.has_refused writer.old || is_err result) }
-    ensures written { OnOk result (IsWritten W.goes writer.old writer.new) }
-    ensures stopped { OnErr result (IsRefused W.goes writer.old writer.new) }
-    ensures fits { OnOk result (All (λ v. v ≤ greatest_value) values.now) }
-{
-    for value in values {
-        put_value(writer, kept, *value)?;
+    ghost Fits = { λ _ value. value ≤ greatest_value };
+
+    #[inline(always)]
+    fn push(&self, value: &u64, kept: &mut Kept) {
+        kept.push_number(*value);
+        kept.push(b"\n");
     }
-    Ok(())
 }
 
 /// The lines before the events, of which a last part may be kept back.
 fn put_before_events<W: TextSink>(
     version: Version,
     initial: &[u64],
-    writer: &mut W,
     kept: &mut Kept,
+    writer: &mut W,
 ) -> Result<(), WriteFault>
     requires { kept.old ≡ [] }
     ensures ok { OnOk result (Puts (W.contents writer.old) (W.contents writer.new) [] kept.new (lines_before_events version initial.now)) }
@@ -143,13 +96,13 @@ fn put_before_events<W: TextSink>(
             kept.push(b"fifo-history 2\ninitial ");
             kept.push_number(initial.len() as u64);
             kept.push(b"\n");
-            put_values(writer, kept, initial)
+            put_each(&ValueLines, initial, kept, writer)
         }
     }
 }
 
 /// The last line, after so many events.
-fn put_end<W: TextSink>(writer: &mut W, kept: &mut Kept, count: usize) -> Result<(), WriteFault>
+fn put_end<W: TextSink>(count: usize, kept: &mut Kept, writer: &mut W) -> Result<(), WriteFault>
     ensures ok { OnOk result (Puts (W.contents writer.old) (W.contents writer.new) kept.old kept.new (end_line count)) }
     ensures err { OnErr result (AppendsFront (W.contents writer.old) (W.contents writer.new) kept.old) }
     ensures refused { W.has_refused writer.new ≡ (W.has_refused writer.old || is_err result) }
@@ -168,8 +121,8 @@ fn put_text<W: TextSink>(
     version: Version,
     initial: &[u64],
     events: &[Event],
-    writer: &mut W,
     kept: &mut Kept,
+    writer: &mut W,
 ) -> Result<(), WriteFault>
     requires { kept.old ≡ [] }
     ensures ok { OnOk result (Puts (W.contents writer.old) (W.contents writer.new) [] kept.new (text_by version initial.now events.now)) }
@@ -180,9 +133,9 @@ fn put_text<W: TextSink>(
     ensures values_fit { version ≡ Two → OnOk result (All (λ v. v ≤ greatest_value) initial.now) }
     ensures events_fit { OnOk result (All (λ e. HasValueInRange e.what) events.now) }
 {
-    put_before_events(version, initial, writer, kept)?;
-    put_events(writer, kept, events)?;
-    put_end(writer, kept, events.len())
+    put_before_events(version, initial, kept, writer)?;
+    put_each(&EventLines, events, kept, writer)?;
+    put_end(events.len(), kept, writer)
 }
 
 /// Writes the text of these values and events. In version 1 the values are left out.
@@ -192,16 +145,16 @@ fn write_text<W: TextSink>(
     events: &[Event],
     writer: &mut W,
 ) -> Result<(), WriteFault>
+    ensures values_fit { version ≡ Two → OnOk result (All (λ v. v ≤ greatest_value) initial.now) }
     ensures ok { OnOk result (Appends (W.contents writer.old) (W.contents writer.new) (text_by version initial.now events.now)) }
     ensures err { OnErr result (AppendsFront (W.contents writer.old) (W.contents writer.new) (text_by version initial.now events.now)) }
     ensures refused { W.has_refused writer.new ≡ (W.has_refused writer.old || is_err result) }
     ensures written { OnOk result (IsWritten W.goes writer.old writer.new) }
     ensures stopped { OnErr result (IsRefused W.goes writer.old writer.new) }
-    ensures values_fit { version ≡ Two → OnOk result (All (λ v. v ≤ greatest_value) initial.now) }
     ensures events_fit { OnOk result (All (λ e. HasValueInRange e.what) events.now) }
 {
     let mut kept = Kept::new();
-    put_text(version, initial, events, writer, &mut kept)?;
+    put_text(version, initial, events, &mut kept, writer)?;
     write_piece(writer, kept.as_slice())
 }
 

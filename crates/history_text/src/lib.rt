@@ -11,6 +11,7 @@ mod event_line;
 mod history_writer;
 mod item;
 mod laws;
+mod lines;
 mod operation_line;
 mod reader;
 mod schedule;

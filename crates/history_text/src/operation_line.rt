@@ -144,7 +144,9 @@ impl Item for Operation {
 impl Item for ClaimLine {
     ghost format = { claim_line_format };
 
-    ghost few = { lit≤ tt };
+    fn from_line(line: u64, bytes: &[u8]) -> Result<ClaimLine, TextFault> {
+        claim_line_in(line, bytes)
+    }
 
     fn most() -> usize {
         MAX_CLAIM_LINES as usize
@@ -154,7 +156,5 @@ impl Item for ClaimLine {
         false
     }
 
-    fn from_line(line: u64, bytes: &[u8]) -> Result<ClaimLine, TextFault> {
-        claim_line_in(line, bytes)
-    }
+    ghost few = { lit≤ tt };
 }

@@ -90,14 +90,14 @@ fn step_in(line: u64, bytes: &[u8]) -> Result<Step, TextFault>
 impl Item for Step {
     ghost format = { step_format };
 
+    fn is_counted() -> bool {
+        true
+    }
+
     ghost few = { lit≤ tt };
 
     fn most() -> usize {
         MAX_STEPS
-    }
-
-    fn is_counted() -> bool {
-        true
     }
 
     fn from_line(line: u64, bytes: &[u8]) -> Result<Step, TextFault> {

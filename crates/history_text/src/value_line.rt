@@ -84,6 +84,15 @@ fn value_front(bytes: &[u8]) -> Option<(u64, &[u8])>
 impl Item for u64 {
     ghost format = { value_format };
 
+    fn from_line(line: u64, bytes: &[u8]) -> Result<u64, TextFault> {
+        value_in(line, bytes)
+    }
+
+    #[inline(always)]
+    fn at_front(bytes: &[u8]) -> Option<(u64, &[u8])> {
+        value_front(bytes)
+    }
+
     ghost few = { lit≤ tt };
 
     fn most() -> usize {
@@ -92,14 +101,5 @@ impl Item for u64 {
 
     fn is_counted() -> bool {
         false
-    }
-
-    fn from_line(line: u64, bytes: &[u8]) -> Result<u64, TextFault> {
-        value_in(line, bytes)
-    }
-
-    #[inline(always)]
-    fn at_front(bytes: &[u8]) -> Option<(u64, &[u8])> {
-        value_front(bytes)
     }
 }

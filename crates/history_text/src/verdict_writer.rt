@@ -7,13 +7,14 @@ ghost use Rattle.history_merge.specs.Operations.{operations_of};
 ghost use Rattle.text_lines.specs.Lines.{line, spaced};
 ghost use Rattle.history_text.specs.Verdicts.{kind_fields, kind_name, operation_line, claim_line, verdict_text, IsWithin};
 ghost use Rattle.history_text.specs.Verdicts.{maybe_place, places_of_violation, places_of_step, violation_kind, claim_of};
-ghost use Rattle.history_text.specs.Inner.Verdicts.{operation_text, lines_text};
+ghost use Rattle.history_text.specs.Inner.Verdicts.{operation_text, line_text, lines_text};
 ghost use Rattle.verdicts.specs.declared.verifying.ClaimLine.TheVariants.{Op};
 ghost use Rattle.verdicts.specs.declared.shown.LinePlace.TheVariants as place;
 ghost use Rattle.text_lines.specs.Writing.{AppendsFront, Puts, IsWritten, IsRefused};
 
+use crate::lines::{Lines, put_each};
 use history_merge::{History, OpId, OpKind, Operation};
-use text_lines::{Kept, TextSink, WriteFault, make_room, write_piece};
+use text_lines::{Kept, TextSink, WriteFault, write_piece};
 use value_match::{CoverStep, Violation};
 use verdicts::{ClaimLine, LinePlace, Verdict};
 
@@ -67,29 +68,6 @@ fn push_line(kept: &mut Kept, shown: &ClaimLine)
     }
 }
 
-/// A line, if there is one.
-#[inline(always)]
-fn put_line<W: TextSink>(
-    writer: &mut W,
-    kept: &mut Kept,
-    shown: Option<ClaimLine>,
-) -> Result<(), WriteFault>
-    ensures ok { OnOk result (Puts (W.contents writer.old) (W.contents writer.new) kept.old kept.new (flat_map claim_line (option_to_list shown))) }
-    ensures err { OnErr result (AppendsFront (W.contents writer.old) (W.contents writer.new) kept.old) }
-    ensures refused { W.has_refused writer.new ≡ (W.has_refused writer.old || is_err result) }
-    ensures written { OnOk result (IsWritten W.goes writer.old writer.new) }
-    ensures stopped { OnErr result (IsRefused W.goes writer.old writer.new) }
-{
-    match shown {
-        None => return Ok(()),
-        Some(shown) => {
-            make_room(writer, kept)?;
-            push_line(kept, &shown);
-            return Ok(());
-        }
-    }
-}
-
 /// The line of the operation at the place.
 fn order_line_at(operations: &[Operation], place: OpId) -> Option<ClaimLine>
     ensures { result ≡ option_map Op (slice_get operations.now place) }
@@ -97,134 +75,129 @@ fn order_line_at(operations: &[Operation], place: OpId) -> Option<ClaimLine>
     operations.get(place.place()).copied().map(ClaimLine::Op)
 }
 
-/// The lines of the operations at these places.
-fn put_order<W: TextSink>(
-    writer: &mut W,
-    kept: &mut Kept,
-    operations: &[Operation],
-    places: &[OpId],
-) -> Result<(), WriteFault>
-    ensures ok { OnOk result (Puts (W.contents writer.old) (W.contents writer.new) kept.old kept.new (flat_map (operation_text operations.now) places.now)) }
-    ensures err { OnErr result (AppendsFront (W.contents writer.old) (W.contents writer.new)
-        (kept.old ++ flat_map (operation_text operations.now) places.now)) }
-    ensures refused { W.has_refused writer.new ≡ (W.has_refused writer.old || is_err result) }
-    ensures written { OnOk result (IsWritten W.goes writer.old writer.new) }
-    ensures stopped { OnErr result (IsRefused W.goes writer.old writer.new) }
+/// A line, if there is one.
+#[inline(always)]
+fn push_if_shown(kept: &mut Kept, shown: Option<ClaimLine>)
+    requires { length kept.old + 96 ≤ 4096 }
+    ensures { kept.new ≡ kept.old ++ flat_map claim_line (option_to_list shown) }
 {
-    for id in places {
-        put_line(writer, kept, order_line_at(operations, *id))?;
+    if let Some(shown) = shown {
+        push_line(kept, &shown);
     }
-    Ok(())
 }
 
-/// The lines at these places.
-fn put_places<W: TextSink>(
-    writer: &mut W,
-    kept: &mut Kept,
-    initial: &[u64],
-    operations: &[Operation],
-    places: &[LinePlace],
-) -> Result<(), WriteFault>
-    ensures ok { OnOk result (Puts (W.contents writer.old) (W.contents writer.new) kept.old kept.new (lines_text initial.now operations.now places.now)) }
-    ensures err { OnErr result (AppendsFront (W.contents writer.old) (W.contents writer.new) (kept.old ++ lines_text initial.now operations.now places.now)) }
-    ensures refused { W.has_refused writer.new ≡ (W.has_refused writer.old || is_err result) }
-    ensures written { OnOk result (IsWritten W.goes writer.old writer.new) }
-    ensures stopped { OnErr result (IsRefused W.goes writer.old writer.new) }
-{
-    for place in places {
-        put_line(writer, kept, place.line(initial, operations))?;
+/// The lines at places of these initial values and operations.
+#[derive(Clone, Copy)]
+struct PlaceLines<'a> {
+    initial: &'a [u64],
+    operations: &'a [Operation],
+}
+
+impl<'a> Lines<OpId> for PlaceLines<'a> {
+    ghost line = { λ all id. operation_text all.operations.now id };
+
+    ghost Fits = { λ _ _. Unit {0} };
+
+    #[inline(always)]
+    fn push(&self, id: &OpId, kept: &mut Kept) {
+        push_if_shown(kept, order_line_at(self.operations, *id));
     }
-    Ok(())
+}
+
+impl<'a> Lines<LinePlace> for PlaceLines<'a> {
+    ghost line = { λ all place. line_text all.initial.now all.operations.now place };
+
+    ghost Fits = { λ _ _. Unit {0} };
+
+    #[inline(always)]
+    fn push(&self, place: &LinePlace, kept: &mut Kept) {
+        push_if_shown(kept, place.line(self.initial, self.operations));
+    }
 }
 
 fn put_maybe<W: TextSink>(
-    writer: &mut W,
-    kept: &mut Kept,
-    initial: &[u64],
-    operations: &[Operation],
+    lines: &PlaceLines,
     place: Option<OpId>,
+    kept: &mut Kept,
+    writer: &mut W,
 ) -> Result<(), WriteFault>
     ensures ok { OnOk result (Puts (W.contents writer.old) (W.contents writer.new) kept.old kept.new
-        (lines_text initial.now operations.now (maybe_place place))) }
+        (lines_text lines.now.initial.now lines.now.operations.now (maybe_place place))) }
     ensures err { OnErr result (AppendsFront (W.contents writer.old) (W.contents writer.new)
-        (kept.old ++ lines_text initial.now operations.now (maybe_place place))) }
+        (kept.old ++ lines_text lines.now.initial.now lines.now.operations.now (maybe_place place))) }
     ensures refused { W.has_refused writer.new ≡ (W.has_refused writer.old || is_err result) }
     ensures written { OnOk result (IsWritten W.goes writer.old writer.new) }
     ensures stopped { OnErr result (IsRefused W.goes writer.old writer.new) }
 {
     match place {
-        Some(place) => put_places(writer, kept, initial, operations, &[LinePlace::Op(place)]),
+        Some(place) => put_each(lines, &[LinePlace::Op(place)], kept, writer),
         None => Ok(()),
     }
 }
 
 /// The lines of the operations at the first places, and then of the last one if there is one.
 fn put_with_last<W: TextSink>(
-    writer: &mut W,
-    kept: &mut Kept,
-    initial: &[u64],
-    operations: &[Operation],
+    lines: &PlaceLines,
     first: &[LinePlace],
     last: Option<OpId>,
+    kept: &mut Kept,
+    writer: &mut W,
 ) -> Result<(), WriteFault>
     ensures ok { OnOk result (Puts (W.contents writer.old) (W.contents writer.new) kept.old kept.new
-        (lines_text initial.now operations.now (first.now ++ maybe_place last))) }
+        (lines_text lines.now.initial.now lines.now.operations.now (first.now ++ maybe_place last))) }
     ensures err { OnErr result (AppendsFront (W.contents writer.old) (W.contents writer.new)
-        (kept.old ++ lines_text initial.now operations.now (first.now ++ maybe_place last))) }
+        (kept.old ++ lines_text lines.now.initial.now lines.now.operations.now (first.now ++ maybe_place last))) }
     ensures refused { W.has_refused writer.new ≡ (W.has_refused writer.old || is_err result) }
     ensures written { OnOk result (IsWritten W.goes writer.old writer.new) }
     ensures stopped { OnErr result (IsRefused W.goes writer.old writer.new) }
 {
-    put_places(writer, kept, initial, operations, first)?;
-    put_maybe(writer, kept, initial, operations, last)
+    put_each(lines, first, kept, writer)?;
+    put_maybe(lines, last, kept, writer)
 }
 
 fn put_cover<W: TextSink>(
-    writer: &mut W,
-    kept: &mut Kept,
-    initial: &[u64],
-    operations: &[Operation],
+    lines: &PlaceLines,
     steps: &[CoverStep],
+    kept: &mut Kept,
+    writer: &mut W,
 ) -> Result<(), WriteFault>
     ensures ok { OnOk result (Puts (W.contents writer.old) (W.contents writer.new) kept.old kept.new
-        (lines_text initial.now operations.now (flat_map places_of_step steps.now))) }
+        (lines_text lines.now.initial.now lines.now.operations.now (flat_map places_of_step steps.now))) }
     ensures err { OnErr result (AppendsFront (W.contents writer.old) (W.contents writer.new)
-        (kept.old ++ lines_text initial.now operations.now (flat_map places_of_step steps.now))) }
+        (kept.old ++ lines_text lines.now.initial.now lines.now.operations.now (flat_map places_of_step steps.now))) }
     ensures refused { W.has_refused writer.new ≡ (W.has_refused writer.old || is_err result) }
     ensures written { OnOk result (IsWritten W.goes writer.old writer.new) }
     ensures stopped { OnErr result (IsRefused W.goes writer.old writer.new) }
 {
     for step in steps {
         put_with_last(
-            writer,
-            kept,
-            initial,
-            operations,
+            lines,
             &[LinePlace::from(step.source)],
             step.dequeue,
+            kept,
+            writer,
         )?;
     }
     Ok(())
 }
 
 fn put_witness<W: TextSink>(
-    writer: &mut W,
-    kept: &mut Kept,
-    initial: &[u64],
-    operations: &[Operation],
+    lines: &PlaceLines,
     empty: OpId,
     cover: &[CoverStep],
+    kept: &mut Kept,
+    writer: &mut W,
 ) -> Result<(), WriteFault>
     ensures ok { OnOk result (Puts (W.contents writer.old) (W.contents writer.new) kept.old kept.new
-        (lines_text initial.now operations.now (place.Op empty ∷ flat_map places_of_step cover.now))) }
+        (lines_text lines.now.initial.now lines.now.operations.now (place.Op empty ∷ flat_map places_of_step cover.now))) }
     ensures err { OnErr result (AppendsFront (W.contents writer.old) (W.contents writer.new)
-        (kept.old ++ lines_text initial.now operations.now (place.Op empty ∷ flat_map places_of_step cover.now))) }
+        (kept.old ++ lines_text lines.now.initial.now lines.now.operations.now (place.Op empty ∷ flat_map places_of_step cover.now))) }
     ensures refused { W.has_refused writer.new ≡ (W.has_refused writer.old || is_err result) }
     ensures written { OnOk result (IsWritten W.goes writer.old writer.new) }
     ensures stopped { OnErr result (IsRefused W.goes writer.old writer.new) }
 {
-    put_places(writer, kept, initial, operations, &[LinePlace::Op(empty)])?;
-    put_cover(writer, kept, initial, operations, cover)
+    put_each(lines, &[LinePlace::Op(empty)], kept, writer)?;
+    put_cover(lines, cover, kept, writer)
 }
 
 /// The first line of a no.
@@ -241,70 +214,60 @@ fn violation_line(violation: &Violation) -> &'static [u8]
 }
 
 fn put_violation<W: TextSink>(
-    writer: &mut W,
-    kept: &mut Kept,
-    initial: &[u64],
-    operations: &[Operation],
+    lines: &PlaceLines,
     violation: &Violation,
+    kept: &mut Kept,
+    writer: &mut W,
 ) -> Result<(), WriteFault>
     ensures ok { OnOk result (Puts (W.contents writer.old) (W.contents writer.new) kept.old kept.new
-        (lines_text initial.now operations.now (places_of_violation violation.now))) }
+        (lines_text lines.now.initial.now lines.now.operations.now (places_of_violation violation.now))) }
     ensures err { OnErr result (AppendsFront (W.contents writer.old) (W.contents writer.new)
-        (kept.old ++ lines_text initial.now operations.now (places_of_violation violation.now))) }
+        (kept.old ++ lines_text lines.now.initial.now lines.now.operations.now (places_of_violation violation.now))) }
     ensures refused { W.has_refused writer.new ≡ (W.has_refused writer.old || is_err result) }
     ensures written { OnOk result (IsWritten W.goes writer.old writer.new) }
     ensures stopped { OnErr result (IsRefused W.goes writer.old writer.new) }
 {
     match violation {
-        Violation::Fresh { deq, enq } => put_with_last(
-            writer,
-            kept,
-            initial,
-            operations,
-            &[LinePlace::Op(*deq)],
-            *enq,
-        ),
-        Violation::Repeat { enq, first, second } => put_places(
-            writer,
-            kept,
-            initial,
-            operations,
-            &[
+        Violation::Fresh { deq, enq } => {
+            put_with_last(lines, &[LinePlace::Op(*deq)], *enq, kept, writer)
+        }
+        Violation::Repeat { enq, first, second } => {
+            let shown = [
                 LinePlace::from(*enq),
                 LinePlace::Op(*first),
                 LinePlace::Op(*second),
-            ],
-        ),
+            ];
+            put_each(lines, &shown, kept, writer)
+        }
         Violation::Order {
             enq_a,
             enq_b,
             deq_b,
             deq_a,
         } => put_with_last(
-            writer,
-            kept,
-            initial,
-            operations,
+            lines,
             &[
                 LinePlace::from(*enq_a),
                 LinePlace::from(*enq_b),
                 LinePlace::Op(*deq_b),
             ],
             *deq_a,
+            kept,
+            writer,
         ),
         Violation::Witness { empty, cover } => {
-            put_witness(writer, kept, initial, operations, *empty, cover.as_slice())
+            put_witness(lines, *empty, cover.as_slice(), kept, writer)
         }
     }
 }
 
 /// The whole text, of which a last part may be kept back.
 fn put_verdict<W: TextSink>(
-    writer: &mut W,
-    kept: &mut Kept,
     initial: &[u64],
     operations: &[Operation],
     verdict: &Verdict,
+    kept: &mut Kept,
+    writer: &mut W,
 ) -> Result<(), WriteFault>
     requires { kept.old ≡ [] }
     ensures ok { OnOk result (Puts (W.contents writer.old) (W.contents writer.new) [] kept.new
@@ -314,14 +277,18 @@ fn put_verdict<W: TextSink>(
     ensures written { OnOk result (IsWritten W.goes writer.old writer.new) }
     ensures stopped { OnErr result (IsRefused W.goes writer.old writer.new) }
 {
+    let lines = PlaceLines {
+        initial,
+        operations,
+    };
     match verdict {
         Verdict::Yes(order) => {
             kept.push(b"YES\n");
-            put_order(writer, kept, operations, order.as_slice())
+            put_each(&lines, order.as_slice(), kept, writer)
         }
         Verdict::No(violation) => {
             kept.push(violation_line(violation));
-            put_violation(writer, kept, initial, operations, violation)
+            put_violation(&lines, violation, kept, writer)
         }
     }
 }
@@ -366,6 +333,6 @@ pub fn write_verdict_on<W: TextSink>(
     ensures stopped { OnErr result (IsRefused W.goes writer.old writer.new) }
 {
     let mut kept = Kept::new();
-    put_verdict(writer, &mut kept, initial, operations, verdict)?;
+    put_verdict(initial, operations, verdict, &mut kept, writer)?;
     write_piece(writer, kept.as_slice())
 }

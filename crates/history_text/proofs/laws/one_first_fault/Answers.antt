@@ -5,9 +5,5 @@ use Rattle.history_text.proofs.OneVerdict as verdict
 use Rattle.history_text.proofs.laws.one_first_fault.Goals as goal
 
 pub returns : goal.returns
-returns c = record {
-  history = history.one_first_fault;
-  either = either.one_first_fault;
-  schedule = schedule.one_first_fault;
-  verdict = verdict.one_first_fault;
-}
+returns c =
+    record { history = history.one_first_fault; either = either.one_first_fault; schedule = schedule.one_first_fault; verdict = verdict.one_first_fault }

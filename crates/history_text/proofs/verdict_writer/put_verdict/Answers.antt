@@ -14,15 +14,15 @@ pub returns-in-Yes-clause-ok : goal.returns-in-Yes-clause-ok
 returns-in-Yes-clause-ok g c =
     let first : c.push.new.self ≡ line (codes "YES") = rw (c.push.ensures.bytes, c.requires) refl in
     rw (c.in-Yes.is, order_is c.args.operations.now c.in-Yes.order)
-    (on_ok_weaker c.put_order.result (Puts-first _ _ _ _ (line (codes "YES")) _ first) (rw c.as_slice.ensures at c.put_order.ensures.ok))
+    (on_ok_weaker c.put_each.result (Puts-first _ _ _ _ (line (codes "YES")) _ first) (rw c.as_slice.ensures at c.put_each.ensures.ok))
 
 pub returns-in-Yes-clause-err : goal.returns-in-Yes-clause-err
 returns-in-Yes-clause-err g c =
     let first : c.push.new.self ≡ line (codes "YES") = rw (c.push.ensures.bytes, c.requires) refl in
     let rest = flat_map (operation_text c.args.operations.now) c.in-Yes.order in
     rw (c.in-Yes.is, order_is c.args.operations.now c.in-Yes.order)
-    (on_err_weaker c.put_order.result (λ stopped. subst (λ (k : List ℕ). AppendsFront (g.W.TextSink.contents c.args.writer.now)
-    (g.W.TextSink.contents c.put_order.new.writer) (k ++ rest)) first stopped) (rw c.as_slice.ensures at c.put_order.ensures.err))
+    (on_err_weaker c.put_each.result (λ stopped. subst (λ (k : List ℕ). AppendsFront (g.W.TextSink.contents c.args.writer.now)
+    (g.W.TextSink.contents c.put_each.new.writer) (k ++ rest)) first stopped) (rw c.as_slice.ensures at c.put_each.ensures.err))
 
 pub returns-in-No-clause-ok : goal.returns-in-No-clause-ok
 returns-in-No-clause-ok g c =

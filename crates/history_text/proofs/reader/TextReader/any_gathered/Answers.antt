@@ -7,9 +7,8 @@ use Rattle.history_text.proofs.reader.TextReader.any_gathered.Goals as goal
 pub returns-in_err-collect_items-clause-fault : goal.returns-in_err-collect_items-clause-fault
 returns-in_err-collect_items-clause-fault g c =
     let p = err_from_is_err_and c.from_residual-in_err-collect_items.result c.from_residual-in_err-collect_items.ensures.1 in
-    let first = c.in_ok-_version in
-    rw (p.1, p.2) (event_is_first first._version first.initial.items c.args.self.now.lines _ _ _ c.in_err-collect_items.field-0.0
-    (omega (arith, first.ensures.lines)) first.ensures.values.0 first.ensures.values.1 c.in_err-collect_items.ensures.fault)
+    rw (p.1, p.2) (event_is_first c.in_ok-_version._version c.in_ok-_version.initial.items c.args.self.now.lines _ _ _ c.in_err-collect_items.field-0.0
+    (omega (arith, c.in_ok-_version.ensures.lines)) c.in_ok-_version.ensures.values.0 c.in_ok-_version.ensures.values.1 c.in_err-collect_items.ensures.fault)
 
 pub returns-clause-text : goal.returns-clause-text
 returns-clause-text g c =

@@ -6,6 +6,5 @@ use Rattle.history_text.proofs.reader.TextReader.any_history.Goals as goal
 pub returns-in_err-events-clause-fault : goal.returns-in_err-events-clause-fault
 returns-in_err-events-clause-fault g c =
     let p = err_from_is_err_and c.from_residual-in_err-events.result c.from_residual-in_err-events.ensures.1 in
-    let first = c.in_ok-version in
-    rw (p.1, p.2) (event_is_first first.version first.initial.items c.args.self.now.lines _ _ _ c.in_err-events.field-0.0
-    (omega (arith, first.ensures.lines)) first.ensures.values.0 first.ensures.values.1 c.in_err-events.ensures.fault)
+    rw (p.1, p.2) (event_is_first c.in_ok-version.version c.in_ok-version.initial.items c.args.self.now.lines _ _ _ c.in_err-events.field-0.0
+    (omega (arith, c.in_ok-version.ensures.lines)) c.in_ok-version.ensures.values.0 c.in_ok-version.ensures.values.1 c.in_err-events.ensures.fault)

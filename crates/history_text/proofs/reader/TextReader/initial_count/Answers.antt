@@ -1,9 +1,9 @@
-use Rattle.std.proofs.Common.{◌≡◌, ◌+◌, ◌≤◌, ap, ◌∙◌}
+use Rattle.std.proofs.Common.{◌≤◌, ap, ◌∙◌}
 use Rattle.event_records.specs.declared.limits.TheConstants.{MAX_INITIAL}
 use Rattle.text_lines.specs.Lines.{fields_of}
 use Rattle.history_text.specs.Reading.{Input}
 use Rattle.history_text.specs.Versions.{count_in, count_fields}
-use Rattle.history_text.proofs.FieldLines.{said_taken, line_faulty}
+use Rattle.history_text.proofs.FieldLines.{said_taken, next_line_faulty}
 use Rattle.history_text.proofs.ValueLines.{count_ok}
 use Rattle.history_text.proofs.reader.TextReader.initial_count.Goals as goal
 
@@ -14,7 +14,5 @@ returns-clause-ok g c =
 
 pub returns-clause-fault : goal.returns-clause-fault
 returns-clause-fault g c =
-    let taken = c.in_ok-line.ensures.ok in
-    let n : c.self.inside.lines ≡ c.args.self.now.lines + 1 = ap (λ (i : Input). i.lines) c.self.view_is ∙ c.in_ok-line.ensures.lines in
-    rw (← n) (line_faulty count_in c.self.inside.lines _ _ c.in_ok-line.line c.count_in.result taken.0 taken.1
-    (rw c.as_slice.ensures at c.count_in.ensures.value))
+    next_line_faulty count_in _ c.self.inside.lines _ _ c.in_ok-line.line c.count_in.result
+    (ap (λ (i : Input). i.lines) c.self.view_is ∙ c.in_ok-line.ensures.lines) c.in_ok-line.ensures.ok (rw c.as_slice.ensures at c.count_in.ensures.value)

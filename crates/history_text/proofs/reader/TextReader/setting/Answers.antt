@@ -1,7 +1,7 @@
-use Rattle.std.proofs.Common.{◌≡◌, ◌+◌, ap, ◌∙◌}
+use Rattle.std.proofs.Common.{ap, ◌∙◌}
 use Rattle.history_text.specs.Reading.{Input}
 use Rattle.history_text.specs.Schedules.{setting_in, setting_fields, IsSetting}
-use Rattle.history_text.proofs.FieldLines.{said_taken, line_faulty}
+use Rattle.history_text.proofs.FieldLines.{said_taken, next_line_faulty}
 use Rattle.history_text.proofs.Settings.{setting_said}
 use Rattle.history_text.proofs.reader.TextReader.setting.Goals as goal
 
@@ -12,7 +12,5 @@ returns-clause-ok g c =
 
 pub returns-clause-fault : goal.returns-clause-fault
 returns-clause-fault g c =
-    let taken = c.in_ok-line.ensures.ok in
-    let n : c.self.inside.lines ≡ c.args.self.now.lines + 1 = ap (λ (i : Input). i.lines) c.self.view_is ∙ c.in_ok-line.ensures.lines in
-    rw (← n) (line_faulty setting_in c.self.inside.lines _ _ c.in_ok-line.line c.setting_in.result taken.0 taken.1
-    (rw c.as_slice.ensures at c.setting_in.ensures.value))
+    next_line_faulty setting_in _ c.self.inside.lines _ _ c.in_ok-line.line c.setting_in.result
+    (ap (λ (i : Input). i.lines) c.self.view_is ∙ c.in_ok-line.ensures.lines) c.in_ok-line.ensures.ok (rw c.as_slice.ensures at c.setting_in.ensures.value)

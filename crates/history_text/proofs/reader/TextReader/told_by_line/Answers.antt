@@ -1,6 +1,6 @@
-use Rattle.std.proofs.Common.{◌≡◌, ◌+◌, ap, ◌∙◌}
+use Rattle.std.proofs.Common.{ap, ◌∙◌}
 use Rattle.history_text.specs.Reading.{Input}
-use Rattle.history_text.proofs.FieldLines.{told_taken, line_faulty}
+use Rattle.history_text.proofs.FieldLines.{told_taken, next_line_faulty}
 use Rattle.history_text.proofs.reader.TextReader.told_by_line.Goals as goal
 
 pub returns-clause-ok : goal.returns-clause-ok
@@ -9,7 +9,5 @@ returns-clause-ok g c =
 
 pub returns-clause-fault : goal.returns-clause-fault
 returns-clause-fault g c =
-    let taken = c.in_ok-line.ensures.ok in
-    let n : c.self.inside.lines ≡ c.args.self.now.lines + 1 = ap (λ (i : Input). i.lines) c.self.view_is ∙ c.in_ok-line.ensures.lines in
-    rw (← n) (line_faulty g.T.Item.format.read c.self.inside.lines _ _ c.in_ok-line.line c.from_line.result taken.0 taken.1
-    (rw c.as_slice.ensures at c.from_line.ensures.value))
+    next_line_faulty g.T.Item.format.read _ c.self.inside.lines _ _ c.in_ok-line.line c.from_line.result
+    (ap (λ (i : Input). i.lines) c.self.view_is ∙ c.in_ok-line.ensures.lines) c.in_ok-line.ensures.ok (rw c.as_slice.ensures at c.from_line.ensures.value)
