@@ -94,5 +94,5 @@ pub fn write_fault<W: TextSink>(fault: Fault, writer: &mut W) -> Result<(), Writ
 {
     let mut kept = Kept::new();
     push_fault(fault, &mut kept);
-    write_piece(writer, kept.as_slice())
+    write_piece(kept.as_slice(), writer)
 }

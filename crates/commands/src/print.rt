@@ -35,9 +35,9 @@ pub fn write_outcome<W: TextSink>(outcome: &Outcome, writer: &mut W) -> Result<(
             return write_played(rejections, history, verdict, writer);
         }
         Ok(Found::Converted(history)) => return write_history_2(history, writer),
-        Ok(Found::Verified(true)) => return write_piece(writer, b"VALID\n"),
-        Ok(Found::Verified(false)) => return write_piece(writer, b"INVALID\n"),
-        Ok(Found::Drawn(picture)) => return write_piece(writer, picture.as_slice()),
+        Ok(Found::Verified(true)) => return write_piece(b"VALID\n", writer),
+        Ok(Found::Verified(false)) => return write_piece(b"INVALID\n", writer),
+        Ok(Found::Drawn(picture)) => return write_piece(picture.as_slice(), writer),
         Err(fault) => return write_fault(*fault, writer),
     }
 }
@@ -90,7 +90,7 @@ pub fn print_text<W: TextSink>(text: &[u8], status: u8, writer: &mut W) -> u8
     ensures asked { WritesAndFlushes W.goes (W.has_refused writer.new) writer.old writer.new }
     ensures passed_on { W.has_refused writer.new ≡ false → W.holds_back writer.new ≡ false }
 {
-    if write_piece(writer, text).is_err() {
+    if write_piece(text, writer).is_err() {
         return 3;
     }
     if writer.flush().is_err() {

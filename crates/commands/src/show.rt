@@ -50,7 +50,7 @@ pub fn write_left_open<W: TextSink>(
     ensures stopped { OnErr result (IsRefused W.goes writer.old writer.new) }
 {
     write_rejections(rejections.as_slice(), writer)?;
-    write_piece(writer, b"OPEN\n")
+    write_piece(b"OPEN\n", writer)
 }
 
 /// Writes refused steps, then a history and the verdict on it.
@@ -86,7 +86,7 @@ fn write_rejections<W: TextSink>(rejections: &[Rejection], writer: &mut W) -> Re
     for rejection in rejections {
         kept.clear();
         push_rejection(*rejection, &mut kept);
-        write_piece(writer, kept.as_slice())?;
+        write_piece(kept.as_slice(), writer)?;
     }
     Ok(())
 }

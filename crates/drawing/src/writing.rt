@@ -27,5 +27,5 @@ pub fn write_terminal_picture<W: TextSink>(
     ensures memory { OnErr result (writer.new ≡ writer.old) }
 {
     let text = terminal_picture(alloc, history, claimed)?;
-    Ok(write_piece(writer, text.as_slice()))
+    Ok(write_piece(text.as_slice(), writer))
 }

@@ -109,7 +109,7 @@ fn put_end<W: TextSink>(count: usize, kept: &mut Kept, writer: &mut W) -> Result
     ensures written { OnOk result (IsWritten W.goes writer.old writer.new) }
     ensures stopped { OnErr result (IsRefused W.goes writer.old writer.new) }
 {
-    make_room(writer, kept)?;
+    make_room(kept, writer)?;
     kept.push(b"end ");
     kept.push_number(count as u64);
     kept.push(b"\n");
@@ -155,7 +155,7 @@ fn write_text<W: TextSink>(
 {
     let mut kept = Kept::new();
     put_text(version, initial, events, &mut kept, writer)?;
-    write_piece(writer, kept.as_slice())
+    write_piece(kept.as_slice(), writer)
 }
 
 /// Writes the text of a history of a queue that is empty first, in version 1. It takes no memory, and its time is linear in

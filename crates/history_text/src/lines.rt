@@ -35,7 +35,7 @@ fn put_one<T, L: Lines<T>, W: TextSink>(
     ensures stopped { OnErr result (IsRefused W.goes writer.old writer.new) }
     ensures fits { OnOk result (L.Fits lines.now item.now) }
 {
-    make_room(writer, kept)?;
+    make_room(kept, writer)?;
     lines.push(item, kept);
     Ok(())
 }

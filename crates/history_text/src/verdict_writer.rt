@@ -334,5 +334,5 @@ pub fn write_verdict_on<W: TextSink>(
 {
     let mut kept = Kept::new();
     put_verdict(initial, operations, verdict, &mut kept, writer)?;
-    write_piece(writer, kept.as_slice())
+    write_piece(kept.as_slice(), writer)
 }

@@ -39,7 +39,7 @@ impl InPlace<KEPT_LEN> {
 }
 
 /// Makes room for one more line among what is kept back, and writes that where there is none.
-pub fn make_room<W: TextSink>(writer: &mut W, kept: &mut Kept) -> Result<(), WriteFault>
+pub fn make_room<W: TextSink>(kept: &mut Kept, writer: &mut W) -> Result<(), WriteFault>
     ensures ok { OnOk result (Puts (W.contents writer.old) (W.contents writer.new) kept.old kept.new []) }
     ensures err { OnErr result (AppendsFront (W.contents writer.old) (W.contents writer.new) kept.old) }
     ensures room { OnOk result (length kept.new + 96 ≤ 4096) }
@@ -50,7 +50,7 @@ pub fn make_room<W: TextSink>(writer: &mut W, kept: &mut Kept) -> Result<(), Wri
     if kept.len() + LINE_ROOM <= KEPT_LEN {
         return Ok(());
     }
-    write_piece(writer, kept.as_slice())?;
+    write_piece(kept.as_slice(), writer)?;
     kept.clear();
     Ok(())
 }

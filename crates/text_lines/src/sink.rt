@@ -89,7 +89,7 @@ impl<W: Write> TextSink for Watched<W> {
 }
 
 /// Writes all of the bytes, in as many calls as the writer needs, or fails after a front of them. The writer isn't flushed.
-pub fn write_piece<W: TextSink>(writer: &mut W, piece: &[u8]) -> Result<(), WriteFault>
+pub fn write_piece<W: TextSink>(piece: &[u8], writer: &mut W) -> Result<(), WriteFault>
     ensures ok { OnOk result (Appends (W.contents writer.old) (W.contents writer.new) piece.now) }
     ensures err { OnErr result (AppendsFront (W.contents writer.old) (W.contents writer.new) piece.now) }
     ensures refused { W.has_refused writer.new ≡ (W.has_refused writer.old || is_err result) }

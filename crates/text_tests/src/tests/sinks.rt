@@ -91,7 +91,7 @@ fn a_refused_piece_is_not_written_on(rt: HostRuntime) {
         ([Err(ErrorKind::Other), Ok(3)], 1),
     ] {
         let mut told = Told::new(&answers);
-        let written = write_piece(&mut Watched::new(&mut told), b"abc");
+        let written = write_piece(b"abc", &mut Watched::new(&mut told));
         assert_eq!(rt; written, Err(WriteFault::Write));
         assert_eq!(rt; (told.calls, told.flushes), (calls, 0));
     }
@@ -101,12 +101,12 @@ fn a_refused_piece_is_not_written_on(rt: HostRuntime) {
 fn bytes_are_kept_back_until_the_flush(rt: HostRuntime) {
     let mut told = Told::new(&[]);
     let mut sink = Buffered::new(Watched::new(&mut told));
-    assert_eq!(rt; write_piece(&mut sink, b"abc"), Ok(()));
-    assert_eq!(rt; write_piece(&mut sink, b"defg"), Ok(()));
+    assert_eq!(rt; write_piece(b"abc", &mut sink), Ok(()));
+    assert_eq!(rt; write_piece(b"defg", &mut sink), Ok(()));
     drop(sink);
     assert_eq!(rt; told.calls, 0);
     let mut sink = Buffered::new(Watched::new(&mut told));
-    assert_eq!(rt; write_piece(&mut sink, b"abc"), Ok(()));
+    assert_eq!(rt; write_piece(b"abc", &mut sink), Ok(()));
     assert_eq!(rt; sink.flush(), Ok(()));
     drop(sink);
     assert_eq!(rt; (told.calls, told.flushes), (2, 1));
@@ -117,7 +117,7 @@ fn many_bytes_go_on_in_large_pieces(rt: HostRuntime) -> Result<(), Fail> {
     let mut bytes = Vec::new(rt.alloc());
     let mut sink = Buffered::new(Watched::new(&mut bytes));
     for _ in 0..1000 {
-        assert_eq!(rt; write_piece(&mut sink, b"0123456789"), Ok(()));
+        assert_eq!(rt; write_piece(b"0123456789", &mut sink), Ok(()));
     }
     assert_eq!(rt; sink.flush(), Ok(()));
     drop(sink);
@@ -130,7 +130,7 @@ fn many_bytes_go_on_in_large_pieces(rt: HostRuntime) -> Result<(), Fail> {
     );
     let mut told = Told::new(&[]);
     let mut sink = Buffered::new(Watched::new(&mut told));
-    assert_eq!(rt; write_piece(&mut sink, bytes.as_slice()), Ok(()));
+    assert_eq!(rt; write_piece(bytes.as_slice(), &mut sink), Ok(()));
     drop(sink);
     assert_eq!(rt; told.calls, 2);
     Ok(())
@@ -140,7 +140,7 @@ fn many_bytes_go_on_in_large_pieces(rt: HostRuntime) -> Result<(), Fail> {
 fn a_refused_sink_is_asked_no_more(rt: HostRuntime) {
     let mut told = Told::new(&[Ok(2), Err(ErrorKind::Other)]);
     let mut sink = Buffered::new(Watched::new(&mut told));
-    assert_eq!(rt; write_piece(&mut sink, b"abc"), Ok(()));
+    assert_eq!(rt; write_piece(b"abc", &mut sink), Ok(()));
     assert_eq!(rt; sink.flush(), Err(WriteFault::Write));
     drop(sink);
     assert_eq!(rt; (told.calls, told.flushes), (2, 0));
