@@ -1,6 +1,5 @@
 mod changed;
 mod errors;
-mod first_faults;
 mod help;
 mod outcomes;
 mod pictures;

@@ -1,15 +1,17 @@
 ghost use Rattle.std.specs.Prelude.{◌<◌};
 
-use super::first_faults::Kind::{Settings, Steps};
-use super::first_faults::{Kind, check_each};
-use super::outcomes::{Outcome, known};
+use super::outcomes::{check_each, known};
 use history_text::{MemorySource, Schedule, TextFault, TextReader, at_end, read_schedule};
 use recorder_core::{Answer, Step};
-use std::alloc::Global;
+use std::alloc::{AllocError, Global};
+use std::process::Abort;
 use std::test::Fail;
 
 /// How many steps a schedule alone in its input has, or the fault of that input. Want of memory is an error of its own.
-fn outcome(alloc: Global, source: MemorySource<'_>) -> Outcome<usize> {
+fn outcome(
+    alloc: Global,
+    source: MemorySource<'_>,
+) -> Result<Result<usize, TextFault>, AllocError> {
     let mut reader = TextReader::new(source);
     match known(read_schedule(alloc, &mut reader))? {
         Ok(schedule) => Ok(at_end(&mut reader).map(|()| schedule.steps.as_slice().len())),
@@ -59,9 +61,87 @@ fn reads_each_step(rt: HostRuntime) -> Result<(), Fail> {
     Ok(())
 }
 
+/// Checks what inputs give that begin with the first line of a schedule.
+fn judged(
+    rt: &impl Abort,
+    alloc: Global,
+    cases: &[(&[u8], Result<usize, TextFault>)],
+) -> Result<(), Fail> {
+    for (rest, expected) in cases {
+        let mut text = Vec::from_slice(alloc, b"fifo-schedule 1\n")?;
+        text.extend_from_slice(rest)?;
+        assert_eq!(rt;
+            outcome(alloc, MemorySource::new(&text))?,
+            *expected,
+            "{rest:?}"
+        );
+    }
+    Ok(())
+}
+
 #[test]
-fn first_faults(rt: HostRuntime) -> Result<(), Fail> {
-    check_each(&rt, rt.alloc(), (Kind::Schedule, 5), outcome)?;
-    check_each(&rt, rt.alloc(), (Settings, 16), outcome)?;
-    check_each(&rt, rt.alloc(), (Steps, 16), outcome)
+fn first_lines(rt: HostRuntime) -> Result<(), Fail> {
+    let cases: [(&[u8], Result<usize, TextFault>); 5] = [
+        (b"", Err(TextFault::Cut)),
+        (b"fifo-schedule", Err(TextFault::Cut)),
+        (b"fifo-schedule 2\n", Err(TextFault::Header)),
+        (b"fifo-history 1\nend 0\n", Err(TextFault::Header)),
+        (b"fifo-schedule 1\n", Err(TextFault::Cut)),
+    ];
+    check_each(&rt, rt.alloc(), &cases, outcome)
+}
+
+#[test]
+fn settings(rt: HostRuntime) -> Result<(), Fail> {
+    judged(
+        &rt,
+        rt.alloc(),
+        &[
+            (b"threads 1 ring 2\nend 0\n", Ok(0)),
+            (b"threads 1 ring 2\nend 0\n\n", Err(TextFault::Trailing)),
+            (b"threads 1 ring 2\nend 1\n", Err(TextFault::Count)),
+            (b"threads 1 ring 2\n", Err(TextFault::Cut)),
+            (b"threads 1 ring", Err(TextFault::Cut)),
+            (b"thread 1 ring 2\nend 0\n", Err(TextFault::Line(2))),
+            (b"threads 1 rings 2\nend 0\n", Err(TextFault::Line(2))),
+            (b"threads 1 ring\nend 0\n", Err(TextFault::Line(2))),
+            (b"threads 1 ring 2 3\nend 0\n", Err(TextFault::Line(2))),
+            (b"end 0\n", Err(TextFault::Line(2))),
+            (b"threads 01 ring 1\nend 0\n", Err(TextFault::Number(2))),
+            (b"threads 0 ring x\nend 0\n", Err(TextFault::Limit(2))),
+            (b"threads 65 ring 2\nend 0\n", Err(TextFault::Limit(2))),
+            (b"threads 1 ring x\nend 0\n", Err(TextFault::Number(2))),
+            (b"threads 1 ring 1\nend 0\n", Err(TextFault::Limit(2))),
+            (b"threads 1 ring 65537\nend 0\n", Err(TextFault::Limit(2))),
+        ],
+    )
+}
+
+#[test]
+fn faults_of_steps(rt: HostRuntime) -> Result<(), Fail> {
+    let cases: [(&[u8], TextFault); 16] = [
+        (b"push\n", TextFault::Line(4)),
+        (b"push 0 0\n", TextFault::Line(4)),
+        (b"pull 0\n", TextFault::Line(4)),
+        (b"say 0\n", TextFault::Line(4)),
+        (b"say 0 got\n", TextFault::Line(4)),
+        (b"say 0 taken 5\n", TextFault::Line(4)),
+        (b"say 64 full\n", TextFault::Line(4)),
+        (b"say 0 got 5 5\n", TextFault::Line(4)),
+        (b"drain 0\n", TextFault::Line(4)),
+        (b"end\n", TextFault::Line(4)),
+        (b"end x\n", TextFault::Number(4)),
+        (b"push -1\n", TextFault::Number(4)),
+        (b"drain 64 x\n", TextFault::Limit(4)),
+        (b"drain 0 65537\n", TextFault::Limit(4)),
+        (b"say 0 got 18446744073709551616\n", TextFault::Limit(4)),
+        (b"close 64\n", TextFault::Limit(4)),
+    ];
+    for (step, fault) in cases {
+        let mut text = Vec::from_slice(rt.alloc(), b"threads 1 ring 2\npush 0\n")?;
+        text.extend_from_slice(step)?;
+        text.extend_from_slice(b"end 2\n")?;
+        judged(&rt, rt.alloc(), &[(text.as_slice(), Err(fault))])?;
+    }
+    Ok(())
 }

@@ -1,4 +1,4 @@
-ghost use Rattle.std.specs.Prelude.{◌≤◌, ◌<◌, IfOk, Some};
+ghost use Rattle.std.specs.Prelude.{◌≤◌, IfOk, Some};
 
 use history_text::{
     Buffered, MemorySource, ReadFailed, TextFault, TextReader, TextSink, TextSource, Watched,
@@ -65,17 +65,31 @@ const ANSWERS: [Result<usize, ErrorKind>; 4] = [
 ];
 
 #[test]
-fn each_write_flush_and_read_is_one_call(rt: HostRuntime) {
+fn each_write_is_one_write(rt: HostRuntime) {
     for answer in ANSWERS {
         let answers = [answer];
         let mut told = Told::new(&answers);
         let written = TextSink::write(&mut Watched::new(&mut told), b"abc");
         assert_eq!(rt; written, answer.map_err(|_| WriteFault::Write));
         assert_eq!(rt; (told.calls, told.flushes), (1, 0));
+    }
+}
+
+#[test]
+fn each_flush_is_one_flush(rt: HostRuntime) {
+    for answer in ANSWERS {
+        let answers = [answer];
         let mut told = Told::new(&answers);
         let flushed = TextSink::flush(&mut Watched::new(&mut told));
         assert_eq!(rt; flushed, answer.map(|_| ()).map_err(|_| WriteFault::Write));
         assert_eq!(rt; (told.calls, told.flushes), (1, 1));
+    }
+}
+
+#[test]
+fn each_read_is_one_read(rt: HostRuntime) {
+    for answer in ANSWERS {
+        let answers = [answer];
         let mut told = Told::new(&answers);
         let read = TextSource::read(&mut Watched::new(&mut told), &mut [0; 3]);
         assert_eq!(rt; read, answer.map_err(|_| ReadFailed));
@@ -153,16 +167,6 @@ struct Counted<'a> {
     reads: usize,
 }
 
-/// A source of this text in pieces of so many bytes that counts its reads.
-fn counting(text: &[u8], most: usize) -> Counted<'_>
-    requires { 0 < most }
-{
-    Counted {
-        source: MemorySource::new(text).in_pieces(most),
-        reads: 0,
-    }
-}
-
 impl TextSource for Counted<'_> {
     ghost ahead = { λ s. Some s.source.ahead };
 
@@ -172,14 +176,13 @@ impl TextSource for Counted<'_> {
     }
 }
 
-const SCHEDULE: &[u8] = b"fifo-schedule 1\nthreads 1 ring 2\nclose 0\nend 1\n";
-
 const HISTORY: &[u8] = b"fifo-history 1\n0 0 call-enq 7\n1 0 ret-enq\nend 2\n";
 
 #[test]
 fn reading_a_history_stops_at_its_last_line(rt: HostRuntime) -> Result<(), Fail> {
     for most in [1, HISTORY.len()] {
-        let mut counted = counting(HISTORY, most);
+        let source = MemorySource::new(HISTORY).in_pieces(most);
+        let mut counted = Counted { source, reads: 0 };
         let mut reader = TextReader::new(&mut counted);
         assert_eq!(rt; read_history(rt.alloc(), &mut reader)?.len(), 2);
         drop(reader);
@@ -204,11 +207,13 @@ fn a_source_that_ended_is_asked_no_more(rt: HostRuntime) {
 
 #[test]
 fn reading_a_schedule_stops_at_its_last_line(rt: HostRuntime) -> Result<(), Fail> {
-    for most in [1, SCHEDULE.len()] {
-        let mut counted = counting(SCHEDULE, most);
+    let text = b"fifo-schedule 1\nthreads 1 ring 2\nclose 0\nend 1\n".as_slice();
+    for most in [1, text.len()] {
+        let source = MemorySource::new(text).in_pieces(most);
+        let mut counted = Counted { source, reads: 0 };
         let schedule = read_schedule(rt.alloc(), &mut TextReader::new(&mut counted))?;
         assert_eq!(rt; schedule.steps.as_slice().len(), 1);
-        assert_eq!(rt; counted.reads, SCHEDULE.len() / most);
+        assert_eq!(rt; counted.reads, text.len() / most);
     }
     Ok(())
 }
@@ -217,7 +222,8 @@ fn reading_a_schedule_stops_at_its_last_line(rt: HostRuntime) -> Result<(), Fail
 fn reading_a_verdict_asks_once_at_the_end(rt: HostRuntime) -> Result<(), Fail> {
     let text = b"YES\n0 1 0 enq 7\n".as_slice();
     for most in [1, text.len()] {
-        let mut counted = counting(text, most);
+        let source = MemorySource::new(text).in_pieces(most);
+        let mut counted = Counted { source, reads: 0 };
         drop(read_verdict(rt.alloc(), &mut TextReader::new(&mut counted))?);
         assert_eq!(rt; counted.reads, text.len() / most + 1);
     }
@@ -244,7 +250,8 @@ fn looking_for_the_end_takes_nothing(rt: HostRuntime) -> Result<(), Fail> {
 #[test]
 fn looking_for_the_end_asks_where_nothing_is_left(rt: HostRuntime) -> Result<(), Fail> {
     for most in [1, HISTORY.len()] {
-        let mut counted = counting(HISTORY, most);
+        let source = MemorySource::new(HISTORY).in_pieces(most);
+        let mut counted = Counted { source, reads: 0 };
         let mut reader = TextReader::new(&mut counted);
         assert_eq!(rt; is_at_end(&mut reader), Ok(false));
         assert_eq!(rt; read_history(rt.alloc(), &mut reader)?.len(), 2);

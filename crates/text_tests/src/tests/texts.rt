@@ -3,8 +3,7 @@ ghost use Rattle.history_merge.specs.Operations.{operations_of};
 ghost use Rattle.history_text.specs.Verdicts.{IsWithin, places_of};
 ghost use Rattle.verdicts.specs.declared.shown.LinePlace.TheVariants.{Op};
 
-use super::first_faults::{Kind, check_each};
-use super::outcomes::{Outcome, check, check_failures, event, known, with_digits};
+use super::outcomes::{check_each, check_failures, known};
 use event_records::{Event, What};
 use history_merge::{History, OpId, history, history_from};
 use history_text::{
@@ -17,12 +16,30 @@ use value_match::{Cover, CoverStep, Source, Violation};
 use verdicts::{Order, Verdict};
 
 /// How many events a history alone in its input has, or the fault of that input. Want of memory is an error of its own.
-fn outcome(alloc: Global, source: MemorySource<'_>) -> Outcome<usize> {
+fn outcome(
+    alloc: Global,
+    source: MemorySource<'_>,
+) -> Result<Result<usize, TextFault>, AllocError> {
     let mut reader = TextReader::new(source);
     match known(read_history(alloc, &mut reader))? {
         Ok(events) => Ok(at_end(&mut reader).map(|()| events.len())),
         Err(fault) => Ok(Err(fault)),
     }
+}
+
+/// So many digits, with something before and after them.
+fn with_digits(
+    alloc: Global,
+    front: &[u8],
+    count: usize,
+    back: &[u8],
+) -> Result<Vec<u8>, AllocError> {
+    let mut text = Vec::from_slice(alloc, front)?;
+    for _ in 0..count {
+        text.push(b'1')?;
+    }
+    text.extend_from_slice(back)?;
+    Ok(text)
 }
 
 const TEXT: &[u8] = b"fifo-history 1\n0 0 call-enq 7\n1 0 ret-enq\n2 1 call-deq\n3 1 ret-deq 7\n\
@@ -42,7 +59,11 @@ fn reads_each_word(rt: HostRuntime) -> Result<(), Fail> {
         (6, 63, What::CallEnq(u64::MAX)),
         (999_999_999_999, 63, What::RetNot),
     ]
-    .map(event);
+    .map(|(ticket, thread, what)| Event {
+        ticket,
+        thread,
+        what,
+    });
     assert_eq!(rt; events.as_slice(), expected.as_slice());
     assert_eq!(rt; at_end(&mut reader), Ok(()));
     Ok(())
@@ -50,26 +71,128 @@ fn reads_each_word(rt: HostRuntime) -> Result<(), Fail> {
 
 #[test]
 fn first_faults(rt: HostRuntime) -> Result<(), Fail> {
-    check_each(&rt, rt.alloc(), (Kind::History, 5), outcome)?;
-    check_each(&rt, rt.alloc(), (Kind::Events, 31), outcome)
+    let cases: [(&[u8], Result<usize, TextFault>); 36] = [
+        (b"", Err(TextFault::Cut)),
+        (b"fifo-history 1\nend 0\n", Ok(0)),
+        (b"fifo-history 3\nend 0\n", Err(TextFault::Header)),
+        (b"fifo-history 1\r\nend 0\n", Err(TextFault::Header)),
+        (b"fifo-history 1 \nend 0\n", Err(TextFault::Header)),
+        (b"fifo-histo", Err(TextFault::Cut)),
+        (b"fifo-history 1\n", Err(TextFault::Cut)),
+        (b"fifo-history 1\nend 0", Err(TextFault::Cut)),
+        (
+            b"fifo-history 1\n0 0 call-enq 7\n1 0 ret-enq\n",
+            Err(TextFault::Cut),
+        ),
+        (
+            b"fifo-history 1\n0 0 call-enq 7\n1 0 ret-enq\n2 0 call-deq\n3 0 ret-deq 7\nend 3\n",
+            Err(TextFault::Count),
+        ),
+        (b"fifo-history 1\nend 1\n", Err(TextFault::Count)),
+        (
+            b"fifo-history 1\nend 99999999999999999999999\n",
+            Err(TextFault::Count),
+        ),
+        (b"fifo-history 1\nend 0\n\n", Err(TextFault::Trailing)),
+        (b"fifo-history 1\nend \n", Err(TextFault::Number(2))),
+        (b"fifo-history 1\nend 00\n", Err(TextFault::Number(2))),
+        (b"fifo-history 1\nend 0 0\n", Err(TextFault::Number(2))),
+        (b"fifo-history 1\nend 0\r\n", Err(TextFault::Number(2))),
+        (b"fifo-history 1\nend\n", Err(TextFault::Line(2))),
+        (b"fifo-history 1\n\nend 0\n", Err(TextFault::Line(2))),
+        (
+            b"fifo-history 1\n0 0 call-enq 07\nend 1\n",
+            Err(TextFault::Number(2)),
+        ),
+        (
+            b"fifo-history 1\n0 0 call-enq\nend 1\n",
+            Err(TextFault::Line(2)),
+        ),
+        (
+            b"fifo-history 1\n0 0 ret-enq 7\nend 1\n",
+            Err(TextFault::Line(2)),
+        ),
+        (
+            b"fifo-history 1\n0 0 call-enq 7 7\nend 1\n",
+            Err(TextFault::Line(2)),
+        ),
+        (
+            b"fifo-history 1\n0 0 ret-enq\r\nend 1\n",
+            Err(TextFault::Line(2)),
+        ),
+        (
+            b"fifo-history 1\n0 0 ret\0enq\nend 1\n",
+            Err(TextFault::Line(2)),
+        ),
+        (
+            b"fifo-history 1\n\0 0 ret-enq\nend 1\n",
+            Err(TextFault::Number(2)),
+        ),
+        (
+            b"fifo-history 1\n0  0 ret-enq\nend 1\n",
+            Err(TextFault::Line(2)),
+        ),
+        (
+            b"fifo-history 1\n0  ret-enq\nend 1\n",
+            Err(TextFault::Number(2)),
+        ),
+        (
+            b"fifo-history 1\n0 0 call-enq \nend 1\n",
+            Err(TextFault::Number(2)),
+        ),
+        (
+            b"fifo-history 1\n1000000000000 0 ret-enq\nend 1\n",
+            Err(TextFault::Limit(2)),
+        ),
+        (
+            b"fifo-history 1\n0 64 ret-enq\nend 1\n",
+            Err(TextFault::Limit(2)),
+        ),
+        (
+            b"fifo-history 1\n0 0 call-enq 18446744073709551616\nend 1\n",
+            Err(TextFault::Limit(2)),
+        ),
+        (
+            b"fifo-history 1\n07 64 ret-enq\nend 1\n",
+            Err(TextFault::Number(2)),
+        ),
+        (
+            b"fifo-history 1\n0 64 call-enq 07\nend 1\n",
+            Err(TextFault::Limit(2)),
+        ),
+        (
+            b"fifo-history 1\n07 0 ret\nend 1\n",
+            Err(TextFault::Line(2)),
+        ),
+        (
+            b"fifo-history 1\n0 0 ret-enq\n1 0 call-deq\n2 -1 call-deq\nend 3\n",
+            Err(TextFault::Number(4)),
+        ),
+    ];
+    check_each(&rt, rt.alloc(), &cases, outcome)
 }
 
 #[test]
 fn long_lines(rt: HostRuntime) -> Result<(), Fail> {
-    let header = "fifo-history 1\n";
-    let event = " 0 ret-enq\nend 1\n";
-    for (front, count, back, told) in [
-        (header, 70, event, "Limit 2"),
-        (header, 71, event, "Line 2"),
-        (header, 70, " 0 ret-enq", "Cut"),
-        (header, 71, " 0 ret-enq", "Line 2"),
-        ("", 80, "\nend 0\n", "Header"),
-        ("", 80, "", "Cut"),
-        ("", 81, "", "Header"),
-    ] {
+    let header = b"fifo-history 1\n".as_slice();
+    let event = b" 0 ret-enq\nend 1\n".as_slice();
+    let cut_event = b" 0 ret-enq".as_slice();
+    let cases: [(&[u8], usize, &[u8], TextFault); 7] = [
+        (header, 70, event, TextFault::Limit(2)),
+        (header, 71, event, TextFault::Line(2)),
+        (header, 70, cut_event, TextFault::Cut),
+        (header, 71, cut_event, TextFault::Line(2)),
+        (b"", 80, b"\nend 0\n", TextFault::Header),
+        (b"", 80, b"", TextFault::Cut),
+        (b"", 81, b"", TextFault::Header),
+    ];
+    for (front, count, back, fault) in cases {
         let text = with_digits(rt.alloc(), front, count, back)?;
-        let found = outcome(rt.alloc(), MemorySource::new(text.as_bytes()))?;
-        check(&rt, rt.alloc(), &text, found, told)?;
+        assert_eq!(rt;
+            outcome(rt.alloc(), MemorySource::new(&text))?,
+            Err(fault),
+            "{count} digits, then {back:?}"
+        );
     }
     Ok(())
 }
@@ -174,33 +297,30 @@ fn writes_what_it_reads(rt: HostRuntime) -> Result<(), Fail> {
     Ok(())
 }
 
-/// Values that overlap, and are dequeued in the other order.
-const OVERLAPPING: &[u8] =
-    b"fifo-history 1\n0 0 call-enq 7\n1 1 call-enq 9\n2 0 ret-enq\n3 1 ret-enq\n\
-    4 0 call-deq\n5 0 ret-deq 9\n6 0 call-deq\n7 0 ret-deq 7\nend 8\n";
-
-/// The text of `second_first` on it.
-const SECOND_FIRST: &[u8] = b"YES\n1 3 1 enq 9\n0 2 0 enq 7\n4 5 0 deq 9\n6 7 0 deq 7\n";
-
-/// A queue that was never empty, and answered so.
-const COVERED: &[u8] =
-    b"fifo-history 1\n0 0 call-enq 7\n1 0 ret-enq\n2 1 call-deq\n3 0 call-enq 9\n4 0 ret-enq\n\
-    5 0 call-deq\n6 0 ret-deq 7\n9 1 ret-empty\n10 0 call-deq\n11 0 ret-deq 9\nend 10\n";
-
-/// The text of `covered_by_two` on it.
-const COVERED_BY_TWO: &[u8] =
-    b"NO VWit\n2 9 1 empty\n0 1 0 enq 7\n5 6 0 deq 7\n3 4 0 enq 9\n10 11 0 deq 9\n";
-
 #[test]
 fn writes_verdicts(rt: HostRuntime) -> Result<(), Fail> {
-    let overlapping = history_of(rt.alloc(), OVERLAPPING)?;
+    let overlapping = history_of(
+        rt.alloc(),
+        b"fifo-history 1\n0 0 call-enq 7\n1 1 call-enq 9\n2 0 ret-enq\n3 1 ret-enq\n\
+        4 0 call-deq\n5 0 ret-deq 9\n6 0 call-deq\n7 0 ret-deq 7\nend 8\n",
+    )?;
     assert_eq!(rt; overlapping.operations().len(), 4);
     let text = written(rt.alloc(), &overlapping, &second_first(rt.alloc())?)?;
-    assert_eq!(rt; text.as_slice(), SECOND_FIRST);
-    let covered = history_of(rt.alloc(), COVERED)?;
+    assert_eq!(rt;
+        text.as_slice(),
+        b"YES\n1 3 1 enq 9\n0 2 0 enq 7\n4 5 0 deq 9\n6 7 0 deq 7\n".as_slice()
+    );
+    let covered = history_of(
+        rt.alloc(),
+        b"fifo-history 1\n0 0 call-enq 7\n1 0 ret-enq\n2 1 call-deq\n3 0 call-enq 9\n4 0 ret-enq\n\
+        5 0 call-deq\n6 0 ret-deq 7\n9 1 ret-empty\n10 0 call-deq\n11 0 ret-deq 9\nend 10\n",
+    )?;
     assert_eq!(rt; covered.operations().len(), 5);
     let text = written(rt.alloc(), &covered, &covered_by_two(rt.alloc())?)?;
-    assert_eq!(rt; text.as_slice(), COVERED_BY_TWO);
+    assert_eq!(rt;
+        text.as_slice(),
+        b"NO VWit\n2 9 1 empty\n0 1 0 enq 7\n5 6 0 deq 7\n3 4 0 enq 9\n10 11 0 deq 9\n".as_slice()
+    );
     Ok(())
 }
 

@@ -1,24 +1,20 @@
-use super::first_faults::Kind::{Behind, Verdict};
-use super::first_faults::check_each;
-use super::outcomes::{Outcome, check_failures, known};
+use super::outcomes::{check_each, check_failures, known};
 use history_merge::{OpKind, Operation};
 use history_text::{MemorySource, TextFault, TextReader, read_history, read_verdict};
-use std::alloc::Global;
+use std::alloc::{AllocError, Global};
 use std::test::Fail;
-use verdicts::ViolationKind::{VFresh, VOrd, VRepeat, VWit};
 use verdicts::{ClaimLine, Claimed, ViolationKind};
 
-/// How many operations a verdict lists.
-fn listed(claimed: Claimed) -> usize {
-    match claimed {
-        Claimed::Yes(lines) => lines.as_slice().len(),
-        Claimed::No(_, lines) => lines.as_slice().len(),
+/// How many operations the verdict of an input lists, or the fault. Want of memory is an error of its own.
+fn outcome(
+    alloc: Global,
+    source: MemorySource<'_>,
+) -> Result<Result<usize, TextFault>, AllocError> {
+    match known(read_verdict(alloc, &mut TextReader::new(source)))? {
+        Ok(Claimed::Yes(lines)) => Ok(Ok(lines.as_slice().len())),
+        Ok(Claimed::No(_, lines)) => Ok(Ok(lines.as_slice().len())),
+        Err(fault) => Ok(Err(fault)),
     }
-}
-
-/// How many operations the verdict of an input lists, or the fault.
-fn outcome(alloc: Global, source: MemorySource<'_>) -> Outcome<usize> {
-    Ok(known(read_verdict(alloc, &mut TextReader::new(source)))?.map(listed))
 }
 
 const YES: &[u8] =
@@ -51,10 +47,10 @@ fn reads_each_operation(rt: HostRuntime) -> Result<(), Fail> {
 #[test]
 fn reads_each_kind(rt: HostRuntime) -> Result<(), Fail> {
     let cases: [(&[u8], ViolationKind); 4] = [
-        (b"NO VFresh\n2 3 0 deq 7\n", VFresh),
-        (b"NO VRepeat\n2 3 0 deq 7\n", VRepeat),
-        (b"NO VOrd\n2 3 0 deq 7\n", VOrd),
-        (b"NO VWit\n2 3 0 deq 7\n", VWit),
+        (b"NO VFresh\n2 3 0 deq 7\n", ViolationKind::VFresh),
+        (b"NO VRepeat\n2 3 0 deq 7\n", ViolationKind::VRepeat),
+        (b"NO VOrd\n2 3 0 deq 7\n", ViolationKind::VOrd),
+        (b"NO VWit\n2 3 0 deq 7\n", ViolationKind::VWit),
     ];
     for (text, expected) in cases {
         match read_verdict(rt.alloc(), &mut TextReader::new(MemorySource::new(text)))? {
@@ -91,7 +87,41 @@ fn reads_initial_values(rt: HostRuntime) -> Result<(), Fail> {
 
 #[test]
 fn first_faults(rt: HostRuntime) -> Result<(), Fail> {
-    check_each(&rt, rt.alloc(), (Verdict, 29), outcome)
+    let cases: [(&[u8], Result<usize, TextFault>); 29] = [
+        (b"", Err(TextFault::Cut)),
+        (b"YES", Err(TextFault::Cut)),
+        (b"YES\n", Ok(0)),
+        (b"NO VWit\n", Ok(0)),
+        (b"MAYBE\n", Err(TextFault::Line(1))),
+        (b"NO\n", Err(TextFault::Line(1))),
+        (b"NO VFresh \n", Err(TextFault::Line(1))),
+        (b"\n", Err(TextFault::Line(1))),
+        (b"YES\n0 1 0 enq 7", Err(TextFault::Cut)),
+        (b"YES\n0 1 0 enq\n", Err(TextFault::Line(2))),
+        (b"YES\n0 1 0 empty 7\n", Err(TextFault::Line(2))),
+        (b"YES\n0 1 0 deq 7 7\n", Err(TextFault::Line(2))),
+        (b"YES\n0 1 0 empty\nend 1\n", Err(TextFault::Line(3))),
+        (b"YES\n0 1 0 empty\n\n", Err(TextFault::Line(3))),
+        (b"YES\n0 01 0 enq 7\n", Err(TextFault::Number(2))),
+        (b"YES\n0 1 64 enq x\n", Err(TextFault::Limit(2))),
+        (b"YES\n0 1 0 not -1\n", Err(TextFault::Number(2))),
+        (b"YES\n1000000000000 x 0 enq 7\n", Err(TextFault::Limit(2))),
+        (b"YES\n0 1000000000000 0 empty\n", Err(TextFault::Limit(2))),
+        (b"NO VOrd\ninit 5\ninit 6\n0 1 0 deq 6\n", Ok(3)),
+        (b"NO VOrd\ninit\n", Err(TextFault::Line(2))),
+        (b"NO VOrd\ninit 5 6\n", Err(TextFault::Line(2))),
+        (b"NO VOrd\ninit 5 0 enq 7\n", Err(TextFault::Line(2))),
+        (b"NO VOrd\ninit \n", Err(TextFault::Number(2))),
+        (b"NO VOrd\ninit 07\n", Err(TextFault::Number(2))),
+        (
+            b"NO VOrd\ninit 18446744073709551616\n",
+            Err(TextFault::Limit(2)),
+        ),
+        (b"NO VOrd\n0 1 0 init 5\n", Err(TextFault::Line(2))),
+        (b"YES\ninit 5\n", Err(TextFault::Line(2))),
+        (b"YES\ninit 5 0 enq 7\n", Err(TextFault::Line(2))),
+    ];
+    check_each(&rt, rt.alloc(), &cases, outcome)
 }
 
 #[test]
@@ -108,15 +138,32 @@ fn long_lines_and_failures(rt: HostRuntime) -> Result<(), Fail> {
 }
 
 /// How many operations the verdict lists that comes after a history, or its fault.
-fn after_history(alloc: Global, source: MemorySource<'_>) -> Outcome<usize> {
-    let mut reader = TextReader::new(source);
-    match known(read_history(alloc, &mut reader))? {
-        Ok(_) => Ok(known(read_verdict(alloc, &mut reader))?.map(listed)),
+fn after_history(alloc: Global, text: &[u8]) -> Result<Result<usize, TextFault>, Fail> {
+    let mut reader = TextReader::new(MemorySource::new(text));
+    read_history(alloc, &mut reader)?;
+    match read_verdict(alloc, &mut reader) {
+        Ok(Claimed::Yes(lines)) => Ok(Ok(lines.as_slice().len())),
+        Ok(Claimed::No(..)) => Err(Fail::from("a no")),
+        Err(TextFault::Memory) => Err(Fail::from("want of memory")),
         Err(fault) => Ok(Err(fault)),
     }
 }
 
 #[test]
 fn lines_count_on_after_a_history(rt: HostRuntime) -> Result<(), Fail> {
-    check_each(&rt, rt.alloc(), (Behind, 4), after_history)
+    let cases: [(&[u8], Result<usize, TextFault>); 4] = [
+        (b"YES\n0 1 0 enq 7\n", Ok(1)),
+        (b"YES\n", Ok(0)),
+        (b"", Err(TextFault::Cut)),
+        (b"MAYBE\n", Err(TextFault::Line(5))),
+    ];
+    for (verdict, expected) in cases {
+        let mut text = Vec::from_slice(
+            rt.alloc(),
+            b"fifo-history 1\n0 0 call-enq 7\n1 0 ret-enq\nend 2\n",
+        )?;
+        text.extend_from_slice(verdict)?;
+        assert_eq!(rt; after_history(rt.alloc(), &text)?, expected, "{verdict:?}");
+    }
+    Ok(())
 }

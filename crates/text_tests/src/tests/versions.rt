@@ -1,11 +1,6 @@
-ghost use Rattle.std.specs.Prelude.{◌≡◌, []};
-ghost use Rattle.history_text.specs.declared.version.Version.TheVariants.{One};
-
-use super::first_faults::Kind::{Either, Values};
-use super::first_faults::check_each;
-use super::outcomes::{Outcome, check, check_failures, event, known, with_digits};
-use event_records::What;
-use history_merge::{History, HistoryParts, PreloadedBuilder, history, history_from};
+use super::outcomes::{check_each, check_failures, known};
+use event_records::{Event, What};
+use history_merge::{HistoryParts, PreloadedBuilder, history, history_from};
 use history_text::{
     HistoryText, MemorySource, TextFault, TextReader, Version, Watched, WriteFault, at_end,
     gather_any, read_any, read_history, write_history, write_history_2, write_history_text,
@@ -20,7 +15,10 @@ const OLD_TEXT: &[u8] = b"fifo-history 1\n0 0 call-enq 7\n1 0 ret-enq\nend 2\n";
 
 /// How many initial values and events a history alone in its input has, or the fault of that input. Want of memory is an error
 /// of its own.
-fn outcome(alloc: Global, source: MemorySource<'_>) -> Outcome<(usize, usize)> {
+fn outcome(
+    alloc: Global,
+    source: MemorySource<'_>,
+) -> Result<Result<(usize, usize), TextFault>, AllocError> {
     let mut reader = TextReader::new(source);
     match known(read_any(alloc, &mut reader))? {
         Ok(text) => Ok(at_end(&mut reader).map(|()| (text.initial.len(), text.events.len()))),
@@ -43,7 +41,11 @@ fn reads_values_and_events(rt: HostRuntime) -> Result<(), Fail> {
         (2, 1, What::CallEnq(7)),
         (3, 1, What::RetNot),
     ]
-    .map(event);
+    .map(|(ticket, thread, what)| Event {
+        ticket,
+        thread,
+        what,
+    });
     assert_eq!(rt; text.events.as_slice(), events.as_slice());
     assert_eq!(rt; at_end(&mut reader), Ok(()));
     Ok(())
@@ -70,6 +72,124 @@ fn the_first_version_alone(rt: HostRuntime) -> Result<(), Fail> {
 }
 
 #[test]
+fn first_faults(rt: HostRuntime) -> Result<(), Fail> {
+    let cases: [(&[u8], Result<(usize, usize), TextFault>); 34] = [
+        (b"", Err(TextFault::Cut)),
+        (b"fifo-history 2", Err(TextFault::Cut)),
+        (b"fifo-history 3\nend 0\n", Err(TextFault::Header)),
+        (b"fifo-history 12\nend 0\n", Err(TextFault::Header)),
+        (b"fifo-history 1\nend 0\n", Ok((0, 0))),
+        (
+            b"fifo-history 1\ninitial 0\nend 0\n",
+            Err(TextFault::Line(2)),
+        ),
+        (b"fifo-history 2\n", Err(TextFault::Cut)),
+        (b"fifo-history 2\ninitial 0\nend 0\n", Ok((0, 0))),
+        (b"fifo-history 2\nend 0\n", Err(TextFault::Line(2))),
+        (b"fifo-history 2\ninitial\nend 0\n", Err(TextFault::Line(2))),
+        (
+            b"fifo-history 2\ninitial 0 0\nend 0\n",
+            Err(TextFault::Line(2)),
+        ),
+        (
+            b"fifo-history 2\nInitial 0\nend 0\n",
+            Err(TextFault::Line(2)),
+        ),
+        (
+            b"fifo-history 2\ninitial \nend 0\n",
+            Err(TextFault::Number(2)),
+        ),
+        (
+            b"fifo-history 2\ninitial 00\nend 0\n",
+            Err(TextFault::Number(2)),
+        ),
+        (
+            b"fifo-history 2\ninitial 100001\n",
+            Err(TextFault::Limit(2)),
+        ),
+        (b"fifo-history 2\ninitial 100000\n", Err(TextFault::Cut)),
+        (
+            b"fifo-history 2\ninitial 1\n07\n",
+            Err(TextFault::Number(3)),
+        ),
+        (
+            b"fifo-history 2\ninitial 1\nend 0\n",
+            Err(TextFault::Line(3)),
+        ),
+        (
+            b"fifo-history 2\ninitial 1\nend\n",
+            Err(TextFault::Number(3)),
+        ),
+        (
+            b"fifo-history 2\ninitial 1\n\nend 0\n",
+            Err(TextFault::Line(3)),
+        ),
+        (
+            b"fifo-history 2\ninitial 1\n7 \nend 0\n",
+            Err(TextFault::Line(3)),
+        ),
+        (
+            b"fifo-history 2\ninitial 1\n 7\nend 0\n",
+            Err(TextFault::Line(3)),
+        ),
+        (
+            b"fifo-history 2\ninitial 1\n7\r\nend 0\n",
+            Err(TextFault::Number(3)),
+        ),
+        (
+            b"fifo-history 2\ninitial 1\n-7\nend 0\n",
+            Err(TextFault::Number(3)),
+        ),
+        (
+            b"fifo-history 2\ninitial 1\n18446744073709551616\nend 0\n",
+            Err(TextFault::Limit(3)),
+        ),
+        (b"fifo-history 2\ninitial 1\n7", Err(TextFault::Cut)),
+        (b"fifo-history 2\ninitial 2\n7\n", Err(TextFault::Cut)),
+        (
+            b"fifo-history 2\ninitial 2\n7\nend 0\n",
+            Err(TextFault::Line(4)),
+        ),
+        (
+            b"fifo-history 2\ninitial 1\n7\n9\nend 0\n",
+            Err(TextFault::Line(4)),
+        ),
+        (b"fifo-history 2\ninitial 1\n7\nend 0\n", Ok((1, 0))),
+        (b"fifo-history 2\ninitial 2\n7\n7\nend 0\n", Ok((2, 0))),
+        (
+            b"fifo-history 2\ninitial 1\n7\nend 1\n",
+            Err(TextFault::Count),
+        ),
+        (
+            b"fifo-history 2\ninitial 1\n7\nend \n",
+            Err(TextFault::Number(4)),
+        ),
+        (
+            b"fifo-history 2\ninitial 0\nend 0\nx",
+            Err(TextFault::Trailing),
+        ),
+    ];
+    check_each(&rt, rt.alloc(), &cases, outcome)
+}
+
+#[test]
+fn long_value_lines(rt: HostRuntime) -> Result<(), Fail> {
+    for (count, fault) in [(80, TextFault::Limit(3)), (81, TextFault::Line(3))] {
+        let mut text = Vec::from_slice(rt.alloc(), b"fifo-history 2\ninitial 1\n")?;
+        for _ in 0..count {
+            text.push(b'1')?;
+        }
+        text.extend_from_slice(b"\nend 0\n")?;
+        assert_eq!(rt;
+            outcome(rt.alloc(), MemorySource::new(&text))?,
+            Err(fault),
+            "{count} digits"
+        );
+    }
+    Ok(())
+}
+
+#[test]
 fn any_pieces_and_any_failure(rt: HostRuntime) -> Result<(), Fail> {
     for most in [1, 7, TEXT.len()] {
         let source = MemorySource::new(TEXT).in_pieces(most);
@@ -91,15 +211,6 @@ fn any_pieces_and_any_failure(rt: HostRuntime) -> Result<(), Fail> {
     Ok(())
 }
 
-/// The text of a history in this version.
-fn text_in(alloc: Global, version: Version, whole: &History) -> Result<Vec<u8>, Fail>
-    requires { version ≡ One → whole.now.initial ≡ [] }
-{
-    let mut writer = Watched::new(Vec::new(alloc));
-    write_history_text(version, whole, &mut writer)?;
-    Ok(writer.into_inner())
-}
-
 #[test]
 fn writes_what_it_reads(rt: HostRuntime) -> Result<(), Fail> {
     let texts: [&[u8]; 2] = [TEXT, b"fifo-history 2\ninitial 0\nend 0\n"];
@@ -119,12 +230,15 @@ fn writes_what_it_reads(rt: HostRuntime) -> Result<(), Fail> {
         let mut writer = Watched::new(Vec::new(rt.alloc()));
         write_history_2(&whole, &mut writer)?;
         assert_eq!(rt; writer.into_inner().as_slice(), text);
-        let again = text_in(rt.alloc(), Version::Two, &whole)?;
-        assert_eq!(rt; again.as_slice(), text);
+        let mut writer = Watched::new(Vec::new(rt.alloc()));
+        write_history_text(Version::Two, &whole, &mut writer)?;
+        assert_eq!(rt; writer.into_inner().as_slice(), text);
         let mut few = [0u8; 20];
         let mut writer = Watched::new(&mut few[..]);
-        let refused = write_history_2(&whole, &mut writer);
-        assert_eq!(rt; refused, Err(WriteFault::Write));
+        assert_eq!(rt;
+            write_history_2(&whole, &mut writer),
+            Err(WriteFault::Write)
+        );
         assert_eq!(rt; few.as_slice(), &text[..20]);
     }
     Ok(())
@@ -137,8 +251,9 @@ fn one_history_in_both_versions(rt: HostRuntime) -> Result<(), Fail> {
     let mut first = Watched::new(Vec::new(rt.alloc()));
     write_history(&whole, &mut first)?;
     assert_eq!(rt; first.into_inner().as_slice(), OLD_TEXT);
-    let chosen = text_in(rt.alloc(), Version::One, &whole)?;
-    assert_eq!(rt; chosen.as_slice(), OLD_TEXT);
+    let mut chosen = Watched::new(Vec::new(rt.alloc()));
+    write_history_text(Version::One, &whole, &mut chosen)?;
+    assert_eq!(rt; chosen.into_inner().as_slice(), OLD_TEXT);
     let mut second = Watched::new(Vec::new(rt.alloc()));
     write_history_2(&whole, &mut second)?;
     assert_eq!(rt;
@@ -163,25 +278,4 @@ fn gathers_values_and_events(rt: HostRuntime) -> Result<(), Fail> {
     assert_eq!(rt; operations.len(), 2);
     assert_eq!(rt; at_end(&mut reader), Ok(()));
     Ok(())
-}
-
-#[test]
-fn long_value_lines(rt: HostRuntime) -> Result<(), Fail> {
-    for (count, told) in [(80, "Limit 3"), (81, "Line 3")] {
-        let text = with_digits(
-            rt.alloc(),
-            "fifo-history 2\ninitial 1\n",
-            count,
-            "\nend 0\n",
-        )?;
-        let found = outcome(rt.alloc(), MemorySource::new(text.as_bytes()))?;
-        check(&rt, rt.alloc(), &text, found, told)?;
-    }
-    Ok(())
-}
-
-#[test]
-fn first_faults(rt: HostRuntime) -> Result<(), Fail> {
-    check_each(&rt, rt.alloc(), (Either, 6), outcome)?;
-    check_each(&rt, rt.alloc(), (Values, 28), outcome)
 }
