@@ -1,26 +1,19 @@
+//! What the built program can't show on files: the cases that it can stand in extras/answers.
 ghost use Rattle.std.specs.Prelude.{◌≡◌, false};
 
-mod checks;
-mod converting;
 mod drawn_histories;
-mod initial;
+mod failed_reads;
 mod lying;
 mod one_byte;
-mod pictures;
+mod plain;
 mod recorded;
-mod schedules;
-mod shrinking;
 mod stressing;
-mod verifying;
 mod words;
 mod writing;
 
 use commands::{Shelved, run_command};
 use history_text::{MemorySource, TextSink, TextSource, Watched};
 use std::alloc::AllocError;
-use std::process::Abort;
-use std::str;
-use std::test::Fail;
 use std::thread::Threads;
 
 /// The status of a run of the program without queues that writes to this sink, to which nothing was written before.
@@ -50,42 +43,15 @@ fn run<'a, R: AllocGlobal + Threads + Sync, S: TextSource + Drop>(
     Ok((written, status))
 }
 
-/// Asserts that a command answers the input with this text and this status.
-fn assert_answer<R: AllocGlobal + Threads + Sync + Abort>(
+/// Whether a run of the program writes this text and ends with this status.
+fn answers<'a, R: AllocGlobal + Threads + Sync, S: TextSource + Drop>(
     rt: &R,
-    command: &str,
-    input: &str,
+    words: &'a [&'a str],
+    source: S,
+    shelf: &[Shelved<'a>],
     text: &str,
     status: u8,
-) -> Result<(), AllocError> {
-    let words = ["fifobench", command];
-    let answer = run(rt, &words, MemorySource::new(input.as_bytes()), &[])?;
-    assert_eq!(rt; str::from_utf8(&answer.0), Ok(text), "{command} of {input}");
-    assert_eq!(rt; answer.1, status, "{command} of {input}");
-    Ok(())
-}
-
-/// Asserts that a command answers each input with its text, and all of them with this status.
-fn assert_answers<R: AllocGlobal + Threads + Sync + Abort>(
-    rt: &R,
-    command: &str,
-    cases: &[(&str, &str)],
-    status: u8,
-) -> Result<(), Fail> {
-    for (input, text) in cases {
-        assert_answer(rt, command, input, text, status)?;
-    }
-    Ok(())
-}
-
-/// Asserts that a command answers each input with its text and its status.
-fn assert_each<R: AllocGlobal + Threads + Sync + Abort>(
-    rt: &R,
-    command: &str,
-    cases: &[(&str, &str, u8)],
-) -> Result<(), Fail> {
-    for (input, text, status) in cases {
-        assert_answer(rt, command, input, text, *status)?;
-    }
-    Ok(())
+) -> Result<bool, AllocError> {
+    let (written, ended) = run(rt, words, source, shelf)?;
+    Ok(ended == status && written.as_slice() == text.as_bytes())
 }
