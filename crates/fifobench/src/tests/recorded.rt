@@ -6,7 +6,6 @@ use history_text::{MemorySource, Watched, write_history};
 use queue_interface::{LockedQueue, TestQueue};
 use std::alloc::{AllocError, Global};
 use std::process::Abort;
-use std::str;
 use std::test::Fail;
 use std::thread::Threads;
 use stress_run::{Recorded, RunFault};
@@ -27,6 +26,21 @@ fn checked<R: AllocGlobal + Threads + Sync>(
     Ok(run(rt, &["fifobench", "check"], source, &[])?)
 }
 
+/// How many events a run of this plan had, what `check` writes of them, and the status.
+fn judged<R: AllocGlobal + Threads + Sync>(
+    rt: &R,
+    queue: &dyn TestQueue,
+    plan: &str,
+    ring: usize,
+    tries: u32,
+) -> Result<(u64, Vec<u8>, u8), Fail> {
+    let alloc = rt.alloc();
+    let plan = Plan::from_text(alloc, plan)?;
+    let recorded = stress_run::run(rt, alloc, queue, &plan, ring, tries)?;
+    let (written, status) = checked(rt, &recorded)?;
+    Ok((recorded.total(), written, status))
+}
+
 /// Asserts what `check` writes of a run of this plan.
 fn assert_verdict<R: AllocGlobal + Threads + Sync + Abort>(
     rt: &R,
@@ -34,11 +48,8 @@ fn assert_verdict<R: AllocGlobal + Threads + Sync + Abort>(
     plan: &str,
     text: &str,
 ) -> Result<(), Fail> {
-    let alloc = rt.alloc();
-    let plan = Plan::from_text(alloc, plan)?;
-    let recorded = stress_run::run(rt, alloc, queue, &plan, 64, 1_000_000)?;
-    let answer = checked(rt, &recorded)?;
-    assert_eq!(rt; str::from_utf8(&answer.0), Ok(text));
+    let (_, written, _) = judged(rt, queue, plan, 64, 1_000_000)?;
+    assert!(rt; written.as_slice() == text.as_bytes(), "{plan}");
     Ok(())
 }
 
@@ -93,13 +104,10 @@ fn four_rows(alloc: Global) -> Result<String, AllocError> {
 // Rings of two have room for a small part of the 40,000 events: they are drained while the workers run.
 #[test]
 fn a_sound_queue_over_small_rings_is_not_reported(rt: HostRuntime) -> Result<(), Fail> {
-    let alloc = rt.alloc();
-    let plan = Plan::from_text(alloc, four_rows(alloc)?.as_str())?;
-    let queue = LockedQueue::new(alloc, rt);
-    let recorded = stress_run::run(&rt, alloc, &queue, &plan, 2, 10_000_000)?;
-    assert_eq!(rt; recorded.total(), 40_000);
-    let (written, status) = checked(&rt, &recorded)?;
-    assert!(rt; status == 0 && written.starts_with(b"YES\n"));
+    let plan = four_rows(rt.alloc())?;
+    let queue = LockedQueue::new(rt.alloc(), rt);
+    let (total, written, status) = judged(&rt, &queue, &plan, 2, 10_000_000)?;
+    assert!(rt; total == 40_000 && status == 0 && written.starts_with(b"YES\n"));
     Ok(())
 }
 
