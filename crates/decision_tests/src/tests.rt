@@ -1,11 +1,9 @@
 mod claiming;
-mod deciding;
 mod histories;
 mod initial;
-mod initial_verdicts;
 mod matching;
 mod pieces;
-mod shrinking;
+mod places;
+mod searching;
 mod small_histories;
 mod told_sources;
-mod verifying;

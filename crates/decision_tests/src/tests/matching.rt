@@ -1,4 +1,4 @@
-use super::deciding::enqueue_of;
+use super::places::enqueue_of;
 use super::small_histories::{by, history_of, in_turn, matching_of, op};
 use history_merge::OpKind::{Deq, Empty, Enq, Not};
 use history_merge::{OpId, Operation};

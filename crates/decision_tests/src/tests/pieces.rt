@@ -1,4 +1,4 @@
-use super::deciding::{enqueue_of, push_cover, push_maybe};
+use super::places::{enqueue_of, push_cover, push_maybe};
 use super::small_histories::{
     by, covered_by_two, dequeued_later, hidden, history_of, in_turn, matching_of, never_empty,
     once_empty, op, overlapping, overtaken,

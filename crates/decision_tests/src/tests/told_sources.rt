@@ -1,6 +1,6 @@
 //! Where the values of a verdict come from: an initial value by its place among these, an operation by its own.
 
-use super::deciding::first_answer;
+use super::places::first_answer;
 use super::small_histories::{by, history_behind, matching_of, op};
 use empty_witness::{GapAnswer, WitnessAnswer, find_witness};
 use history_merge::OpKind::{Deq, Empty};
