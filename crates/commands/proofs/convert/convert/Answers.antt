@@ -1,8 +1,8 @@
-use Rattle.std.proofs.Common.{inl}
+use Rattle.std.proofs.Common.{inl, inr, refl}
 use Rattle.std.proofs.lemmas.Result.{err_from_is_err_and}
 use Rattle.commands.specs.Inputs.{IsHistoryOf, IsFaultOfHistoryInput}
 use Rattle.commands.specs.Judging.{IsFaulty, Converts, said_by}
-use Rattle.commands.proofs.Findings.{answers_more}
+use Rattle.commands.proofs.Findings.{answers_more, of_value}
 use Rattle.commands.proofs.convert.convert.Goals as goal
 
 pub returns-in_err-_version-clause-found : goal.returns-in_err-_version-clause-found
@@ -10,3 +10,7 @@ returns-in_err-_version-clause-found g c =
     let p = err_from_is_err_and c.from_residual.result c.from_residual.ensures.1 in
     rw (p.1, p.2) (answers_more IsHistoryOf IsFaultOfHistoryInput (λ text. IsFaulty (said_by text)) Converts (g.S.TextSource.ahead c.args.reader) _
     (λ text faulty. inl faulty) c.in_err-_version.ensures.fault)
+
+pub returns-clause-found : goal.returns-clause-found
+returns-clause-found g c = of_value IsHistoryOf IsFaultOfHistoryInput Converts (g.S.TextSource.ahead c.args.reader) _ _ c.in_ok-_version.ensures.history
+    (inl (inr (record { complete = c.in_ok-_version.ensures.complete; is = refl })))
