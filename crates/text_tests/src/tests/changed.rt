@@ -1,5 +1,7 @@
+use super::outcomes::{check_fronts, known};
+use super::{schedules, texts};
 use event_records::{Event, MAX_THREAD, MAX_TICKET, What};
-use history_text::{MemorySource, TextFault, TextReader, at_end, read_history, read_schedule};
+use history_text::{MemorySource, TextFault, TextReader, at_end, read_history};
 use std::alloc::{AllocError, Global};
 use std::process::Abort;
 use std::test::Fail;
@@ -19,8 +21,8 @@ const GREATEST: &str = "fifo-history 1\n999999999998 63 call-enq 184467440737095
     999999999999 63 ret-enq\nend 2\n";
 
 /// A schedule of one thread that enqueues and dequeues.
-const SCHEDULE: &str =
-    "fifo-schedule 1\nthreads 1 ring 2\nask-enq 0\npush 0\neffect 0\nret 0\npush 0\ndrain 0 2\nend 6\n";
+const SCHEDULE: &[u8] =
+    b"fifo-schedule 1\nthreads 1 ring 2\nask-enq 0\npush 0\neffect 0\nret 0\npush 0\ndrain 0 2\nend 6\n";
 
 /// A number without leading zeros, up to the greatest.
 fn plain_number(field: &str, greatest: u64) -> Option<u64> {
@@ -34,88 +36,111 @@ fn plain_number(field: &str, greatest: u64) -> Option<u64> {
     (number <= greatest).then_some(number)
 }
 
+/// What an event is, by the words behind its ticket and thread, read plainly.
+fn plain_what(words: &str) -> Option<What> {
+    match words {
+        "ret-enq" => Some(What::RetEnq),
+        "ret-not" => Some(What::RetNot),
+        "call-deq" => Some(What::CallDeq),
+        "ret-empty" => Some(What::RetEmpty),
+        _ => {
+            let (word, value) = words.split_once(' ')?;
+            let value = plain_number(value, u64::MAX)?;
+            match word {
+                "call-enq" => Some(What::CallEnq(value)),
+                "ret-deq" => Some(What::RetDeq(value)),
+                _ => None,
+            }
+        }
+    }
+}
+
 /// The event of a line, read plainly.
 fn plain_event(line: &str) -> Option<Event> {
-    let mut fields = line.split(' ');
-    let ticket = plain_number(fields.next()?, MAX_TICKET)?;
-    let thread = plain_number(fields.next()?, u64::from(MAX_THREAD))?;
-    let what = match (fields.next()?, fields.next()) {
-        ("call-enq", Some(value)) => What::CallEnq(plain_number(value, u64::MAX)?),
-        ("ret-enq", None) => What::RetEnq,
-        ("ret-not", None) => What::RetNot,
-        ("call-deq", None) => What::CallDeq,
-        ("ret-deq", Some(value)) => What::RetDeq(plain_number(value, u64::MAX)?),
-        ("ret-empty", None) => What::RetEmpty,
-        _ => return None,
-    };
-    if fields.next().is_some() {
-        return None;
-    }
+    let (ticket, rest) = line.split_once(' ')?;
+    let (thread, words) = rest.split_once(' ')?;
+    let thread = plain_number(thread, u64::from(MAX_THREAD))?;
     Some(Event {
-        ticket,
+        ticket: plain_number(ticket, MAX_TICKET)?,
         thread: u8::try_from(thread).ok()?,
-        what,
+        what: plain_what(words)?,
     })
 }
 
 /// The events of a text, read plainly, if it is one.
-fn plain_history(alloc: Global, text: &str) -> Result<Option<Vec<Event>>, AllocError> {
-    let mut events = Vec::new(alloc);
-    let mut lines = text.split('\n');
+fn plain_history(alloc: Global, text: &[u8]) -> Result<Option<Vec<Event>>, AllocError> {
+    let parts = str::from_utf8(text)
+        .ok()
+        .and_then(|text| text.split_once("\nend "));
+    let Some((events_text, count)) = parts else {
+        return Ok(None);
+    };
+    let mut lines = events_text.split('\n');
     if lines.next() != Some("fifo-history 1") {
         return Ok(None);
     }
-    for line in lines.by_ref() {
-        if let Some(count) = line.strip_prefix("end ") {
-            let is_last = lines.next() == Some("") && lines.next().is_none();
-            let is_right = plain_number(count, u64::MAX) == Some(events.len() as u64);
-            return Ok((is_last && is_right).then_some(events));
-        }
+    let mut events = Vec::new(alloc);
+    for line in lines {
         match plain_event(line) {
             Some(event) => events.push(event)?,
             None => return Ok(None),
         }
     }
-    Ok(None)
+    let count = count
+        .strip_suffix('\n')
+        .and_then(|count| plain_number(count, u64::MAX));
+    Ok((count == Some(events.len() as u64)).then_some(events))
+}
+
+/// The line of an event, printed plainly.
+fn plain_line(alloc: Global, event: &Event) -> Result<String, AllocError> {
+    let Event { ticket, thread, .. } = event;
+    let (word, value) = match event.what {
+        What::CallEnq(value) => ("call-enq", Some(value)),
+        What::RetEnq => ("ret-enq", None),
+        What::RetNot => ("ret-not", None),
+        What::CallDeq => ("call-deq", None),
+        What::RetDeq(value) => ("ret-deq", Some(value)),
+        What::RetEmpty => ("ret-empty", None),
+    };
+    match value {
+        Some(value) => format!(in alloc; "{ticket} {thread} {word} {value}\n"),
+        None => format!(in alloc; "{ticket} {thread} {word}\n"),
+    }
 }
 
 /// The text of the events, printed plainly.
 fn plain_text(alloc: Global, events: &[Event]) -> Result<String, AllocError> {
     let mut text = String::from_str(alloc, "fifo-history 1\n")?;
     for event in events {
-        let what = match event.what {
-            What::CallEnq(value) => format!(in alloc; "call-enq {value}")?,
-            What::RetEnq => String::from_str(alloc, "ret-enq")?,
-            What::RetNot => String::from_str(alloc, "ret-not")?,
-            What::CallDeq => String::from_str(alloc, "call-deq")?,
-            What::RetDeq(value) => format!(in alloc; "ret-deq {value}")?,
-            What::RetEmpty => String::from_str(alloc, "ret-empty")?,
-        };
-        let line = format!(in alloc; "{} {} {what}\n", event.ticket, event.thread)?;
+        let line = plain_line(alloc, event)?;
         text.push_str(&line)?;
     }
-    text.push_str(&format!(in alloc; "end {}\n", events.len())?)?;
+    let last = format!(in alloc; "end {}\n", events.len())?;
+    text.push_str(&last)?;
     Ok(text)
 }
 
-/// The events of the one history in this input, or its fault. Want of memory is an error of its own.
-fn read(alloc: Global, text: &[u8]) -> Result<Result<Vec<Event>, TextFault>, AllocError> {
+/// The events of the one history in this input, if it is one. Want of memory is an error of its own.
+fn read(alloc: Global, text: &[u8]) -> Result<Option<Vec<Event>>, AllocError> {
     let mut reader = TextReader::new(MemorySource::new(text));
-    match read_history(alloc, &mut reader) {
-        Ok(events) => Ok(at_end(&mut reader).map(|()| events)),
-        Err(TextFault::Memory) => Err(AllocError),
-        Err(fault) => Ok(Err(fault)),
+    match known(read_history(alloc, &mut reader))? {
+        Ok(events) => Ok(at_end(&mut reader).is_ok().then_some(events)),
+        Err(_) => Ok(None),
     }
 }
 
 #[test]
 fn every_front_of_a_history_is_cut(rt: HostRuntime) -> Result<(), Fail> {
     for text in [OVERLAPPING, NEVER_EMPTY, GREATEST] {
-        let text = text.as_bytes();
-        for length in 0..text.len() {
-            let found = read(rt.alloc(), &text[..length])?;
-            assert_eq!(rt; found.err(), Some(TextFault::Cut), "{length} bytes");
-        }
+        check_fronts(
+            &rt,
+            rt.alloc(),
+            text.as_bytes(),
+            usize::MAX,
+            TextFault::Cut,
+            texts::outcome,
+        )?;
     }
     Ok(())
 }
@@ -130,42 +155,32 @@ fn what_was_read_before_a_failure_is_judged(rt: HostRuntime) -> Result<(), Fail>
         (&[b'x'; 81], TextFault::Header),
     ];
     for (text, fault) in cases {
-        let mut reader = TextReader::new(MemorySource::failing(text));
-        let found = match read_history(rt.alloc(), &mut reader) {
-            Err(TextFault::Memory) => return Err(Fail::from("want of memory")),
-            Ok(_) => at_end(&mut reader).err(),
-            Err(fault) => Some(fault),
-        };
-        assert_eq!(rt; found, Some(fault), "{text:?}");
+        let found = texts::outcome(rt.alloc(), MemorySource::failing(text))?;
+        assert_eq!(rt; found, Err(fault), "{text:?}");
     }
     Ok(())
 }
 
 #[test]
 fn every_front_of_a_schedule_is_cut(rt: HostRuntime) -> Result<(), Fail> {
-    let text = SCHEDULE.as_bytes();
-    for length in 0..text.len() {
-        let mut reader = TextReader::new(MemorySource::new(&text[..length]));
-        match read_schedule(rt.alloc(), &mut reader) {
-            Err(TextFault::Memory) => return Err(Fail::from("want of memory")),
-            found => assert_eq!(rt; found.err(), Some(TextFault::Cut), "{length} bytes"),
-        }
-    }
-    Ok(())
+    check_fronts(
+        &rt,
+        rt.alloc(),
+        SCHEDULE,
+        usize::MAX,
+        TextFault::Cut,
+        schedules::outcome,
+    )
 }
 
 /// Asserts that this reader takes a text exactly where the plain one does, with the same events, and that these print as it.
 fn assert_read_plainly<R: AllocGlobal + Abort>(rt: &R, text: &[u8]) -> Result<(), Fail> {
-    let plain = match str::from_utf8(text) {
-        Ok(told) => plain_history(rt.alloc(), told)?,
-        Err(_) => None,
-    };
+    let plain = plain_history(rt.alloc(), text)?;
     if let Some(events) = &plain {
         let printed = plain_text(rt.alloc(), events)?;
-        assert_eq!(rt; printed.as_bytes(), text);
+        assert!(rt; printed.as_bytes() == text, "{text:?}");
     }
-    let found = read(rt.alloc(), text)?;
-    assert_eq!(rt; found.ok(), plain, "{text:?}");
+    assert!(rt; read(rt.alloc(), text)? == plain, "{text:?}");
     Ok(())
 }
 

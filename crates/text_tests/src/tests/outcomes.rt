@@ -39,12 +39,14 @@ where
     Ok(())
 }
 
-/// Checks that each front of a text gives `Read` where the source fails behind it, in pieces of so many bytes.
-pub fn check_failures<T, F>(
+/// Checks that each front of a text gives this fault, in pieces of so many bytes. The source fails behind the front if the fault
+/// is `Read`, and ends there otherwise.
+pub fn check_fronts<T, F>(
     rt: &impl Abort,
     alloc: Global,
     text: &[u8],
     most: usize,
+    fault: TextFault,
     outcome: F,
 ) -> Result<(), Fail>
 where
@@ -54,10 +56,14 @@ where
     requires outcome { F.IsAlwaysCallable outcome }
 {
     for given in 0..text.len() {
-        let source = MemorySource::failing(&text[..given]).in_pieces(most);
+        let front = &text[..given];
+        let source = match fault {
+            TextFault::Read => MemorySource::failing(front),
+            _ => MemorySource::new(front),
+        };
         assert_eq!(rt;
-            outcome(alloc, source)?,
-            Err(TextFault::Read),
+            outcome(alloc, source.in_pieces(most))?,
+            Err(fault),
             "after {given}"
         );
     }

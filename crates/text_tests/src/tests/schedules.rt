@@ -8,7 +8,7 @@ use std::process::Abort;
 use std::test::Fail;
 
 /// How many steps a schedule alone in its input has, or the fault of that input. Want of memory is an error of its own.
-fn outcome(
+pub fn outcome(
     alloc: Global,
     source: MemorySource<'_>,
 ) -> Result<Result<usize, TextFault>, AllocError> {

@@ -1,4 +1,4 @@
-use super::outcomes::{check_each, check_failures, known};
+use super::outcomes::{check_each, check_fronts, known};
 use history_merge::{OpKind, Operation};
 use history_text::{MemorySource, TextFault, TextReader, read_history, read_verdict};
 use std::alloc::{AllocError, Global};
@@ -55,8 +55,7 @@ fn reads_each_kind(rt: HostRuntime) -> Result<(), Fail> {
     for (text, expected) in cases {
         match read_verdict(rt.alloc(), &mut TextReader::new(MemorySource::new(text)))? {
             Claimed::No(kind, lines) => {
-                assert_eq!(rt; kind, expected);
-                assert_eq!(rt; lines.as_slice().len(), 1);
+                assert_eq!(rt; (kind, lines.as_slice().len()), (expected, 1));
             }
             Claimed::Yes(_) => return Err(Fail::from("a yes")),
         }
@@ -134,7 +133,7 @@ fn long_lines_and_failures(rt: HostRuntime) -> Result<(), Fail> {
         outcome(rt.alloc(), MemorySource::new(&long))?,
         Err(TextFault::Line(1))
     );
-    check_failures(&rt, rt.alloc(), YES, 1, outcome)
+    check_fronts(&rt, rt.alloc(), YES, 1, TextFault::Read, outcome)
 }
 
 /// How many operations the verdict lists that comes after a history, or its fault.

@@ -1,4 +1,5 @@
-use super::outcomes::{check_each, check_failures, known};
+use super::outcomes::{check_each, check_fronts, known};
+use super::texts;
 use event_records::{Event, What};
 use history_merge::{HistoryParts, PreloadedBuilder, history, history_from};
 use history_text::{
@@ -55,19 +56,15 @@ fn reads_values_and_events(rt: HostRuntime) -> Result<(), Fail> {
 fn reads_the_first_version(rt: HostRuntime) -> Result<(), Fail> {
     let mut reader = TextReader::new(MemorySource::new(OLD_TEXT));
     let text = read_any(rt.alloc(), &mut reader)?;
-    assert_eq!(rt; text.version, Version::One);
-    assert_eq!(rt; text.initial.len(), 0);
-    assert_eq!(rt; text.events.len(), 2);
+    let counts = (text.initial.len(), text.events.len());
+    assert_eq!(rt; (text.version, counts), (Version::One, (0, 2)));
     Ok(())
 }
 
 #[test]
 fn the_first_version_alone(rt: HostRuntime) -> Result<(), Fail> {
-    let mut reader = TextReader::new(MemorySource::new(TEXT));
-    match read_history(rt.alloc(), &mut reader) {
-        Err(TextFault::Memory) => return Err(Fail::from("want of memory")),
-        answer => assert_eq!(rt; answer.map(|events| events.len()), Err(TextFault::Header)),
-    }
+    let found = texts::outcome(rt.alloc(), MemorySource::new(TEXT))?;
+    assert_eq!(rt; found, Err(TextFault::Header));
     Ok(())
 }
 
@@ -198,15 +195,8 @@ fn any_pieces_and_any_failure(rt: HostRuntime) -> Result<(), Fail> {
             Ok((3, 4)),
             "in pieces of {most}"
         );
-        check_failures(&rt, rt.alloc(), TEXT, most, outcome)?;
-        for given in 0..TEXT.len() {
-            let ending = MemorySource::new(&TEXT[..given]).in_pieces(most);
-            assert_eq!(rt;
-                outcome(rt.alloc(), ending)?,
-                Err(TextFault::Cut),
-                "ends after {given}"
-            );
-        }
+        check_fronts(&rt, rt.alloc(), TEXT, most, TextFault::Read, outcome)?;
+        check_fronts(&rt, rt.alloc(), TEXT, most, TextFault::Cut, outcome)?;
     }
     Ok(())
 }
@@ -244,22 +234,20 @@ fn writes_what_it_reads(rt: HostRuntime) -> Result<(), Fail> {
     Ok(())
 }
 
+/// A history in its first version, twice, and in its second.
+const THREE_TEXTS: &[u8] = b"fifo-history 1\n0 0 call-enq 7\n1 0 ret-enq\nend 2\n\
+    fifo-history 1\n0 0 call-enq 7\n1 0 ret-enq\nend 2\n\
+    fifo-history 2\ninitial 0\n0 0 call-enq 7\n1 0 ret-enq\nend 2\n";
+
 #[test]
 fn one_history_in_both_versions(rt: HostRuntime) -> Result<(), Fail> {
     let mut reader = TextReader::new(MemorySource::new(OLD_TEXT));
     let whole = history(rt.alloc(), read_history(rt.alloc(), &mut reader)?)?;
-    let mut first = Watched::new(Vec::new(rt.alloc()));
-    write_history(&whole, &mut first)?;
-    assert_eq!(rt; first.into_inner().as_slice(), OLD_TEXT);
-    let mut chosen = Watched::new(Vec::new(rt.alloc()));
-    write_history_text(Version::One, &whole, &mut chosen)?;
-    assert_eq!(rt; chosen.into_inner().as_slice(), OLD_TEXT);
-    let mut second = Watched::new(Vec::new(rt.alloc()));
-    write_history_2(&whole, &mut second)?;
-    assert_eq!(rt;
-        second.into_inner().as_slice(),
-        b"fifo-history 2\ninitial 0\n0 0 call-enq 7\n1 0 ret-enq\nend 2\n".as_slice()
-    );
+    let mut writer = Watched::new(Vec::new(rt.alloc()));
+    write_history(&whole, &mut writer)?;
+    write_history_text(Version::One, &whole, &mut writer)?;
+    write_history_2(&whole, &mut writer)?;
+    assert_eq!(rt; writer.into_inner().as_slice(), THREE_TEXTS);
     Ok(())
 }
 
@@ -271,11 +259,7 @@ fn gathers_values_and_events(rt: HostRuntime) -> Result<(), Fail> {
         initial,
         operations,
     } = builder.finish()?;
-    assert_eq!(rt;
-        initial.as_slice(),
-        [274_877_906_944, 0, u64::MAX].as_slice()
-    );
-    assert_eq!(rt; operations.len(), 2);
-    assert_eq!(rt; at_end(&mut reader), Ok(()));
+    assert_eq!(rt; (operations.len(), at_end(&mut reader)), (2, Ok(())));
+    assert!(rt; initial.as_slice() == [274_877_906_944, 0, u64::MAX].as_slice());
     Ok(())
 }
