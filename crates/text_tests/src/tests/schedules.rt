@@ -50,31 +50,28 @@ fn reads_each_step(rt: HostRuntime) -> Result<(), Fail> {
     ];
     for most in [1, 4096] {
         let schedule = schedule_of(rt.alloc(), most)?;
-        assert_eq!(rt; schedule.threads, 64);
-        assert_eq!(rt; schedule.ring, 65_536);
         assert_eq!(rt;
-            schedule.steps.as_slice(),
-            expected.as_slice(),
+            (schedule.threads, schedule.ring, schedule.steps.as_slice()),
+            (64, 65_536, expected.as_slice()),
             "in pieces of {most}"
         );
     }
     Ok(())
 }
 
-/// Checks what inputs give that begin with the first line of a schedule.
+/// Checks what inputs give that begin and end so.
 fn judged(
     rt: &impl Abort,
     alloc: Global,
+    (front, back): (&[u8], &[u8]),
     cases: &[(&[u8], Result<usize, TextFault>)],
 ) -> Result<(), Fail> {
-    for (rest, expected) in cases {
-        let mut text = Vec::from_slice(alloc, b"fifo-schedule 1\n")?;
-        text.extend_from_slice(rest)?;
-        assert_eq!(rt;
-            outcome(alloc, MemorySource::new(&text))?,
-            *expected,
-            "{rest:?}"
-        );
+    for (middle, expected) in cases {
+        let mut text = Vec::from_slice(alloc, front)?;
+        text.extend_from_slice(middle)?;
+        text.extend_from_slice(back)?;
+        let found = outcome(alloc, MemorySource::new(&text))?;
+        assert!(rt; found == *expected, "{middle:?}");
     }
     Ok(())
 }
@@ -96,6 +93,7 @@ fn settings(rt: HostRuntime) -> Result<(), Fail> {
     judged(
         &rt,
         rt.alloc(),
+        (b"fifo-schedule 1\n", b""),
         &[
             (b"threads 1 ring 2\nend 0\n", Ok(0)),
             (b"threads 1 ring 2\nend 0\n\n", Err(TextFault::Trailing)),
@@ -119,29 +117,27 @@ fn settings(rt: HostRuntime) -> Result<(), Fail> {
 
 #[test]
 fn faults_of_steps(rt: HostRuntime) -> Result<(), Fail> {
-    let cases: [(&[u8], TextFault); 16] = [
-        (b"push\n", TextFault::Line(4)),
-        (b"push 0 0\n", TextFault::Line(4)),
-        (b"pull 0\n", TextFault::Line(4)),
-        (b"say 0\n", TextFault::Line(4)),
-        (b"say 0 got\n", TextFault::Line(4)),
-        (b"say 0 taken 5\n", TextFault::Line(4)),
-        (b"say 64 full\n", TextFault::Line(4)),
-        (b"say 0 got 5 5\n", TextFault::Line(4)),
-        (b"drain 0\n", TextFault::Line(4)),
-        (b"end\n", TextFault::Line(4)),
-        (b"end x\n", TextFault::Number(4)),
-        (b"push -1\n", TextFault::Number(4)),
-        (b"drain 64 x\n", TextFault::Limit(4)),
-        (b"drain 0 65537\n", TextFault::Limit(4)),
-        (b"say 0 got 18446744073709551616\n", TextFault::Limit(4)),
-        (b"close 64\n", TextFault::Limit(4)),
+    let cases: [(&[u8], Result<usize, TextFault>); 16] = [
+        (b"push\n", Err(TextFault::Line(4))),
+        (b"push 0 0\n", Err(TextFault::Line(4))),
+        (b"pull 0\n", Err(TextFault::Line(4))),
+        (b"say 0\n", Err(TextFault::Line(4))),
+        (b"say 0 got\n", Err(TextFault::Line(4))),
+        (b"say 0 taken 5\n", Err(TextFault::Line(4))),
+        (b"say 64 full\n", Err(TextFault::Line(4))),
+        (b"say 0 got 5 5\n", Err(TextFault::Line(4))),
+        (b"drain 0\n", Err(TextFault::Line(4))),
+        (b"end\n", Err(TextFault::Line(4))),
+        (b"end x\n", Err(TextFault::Number(4))),
+        (b"push -1\n", Err(TextFault::Number(4))),
+        (b"drain 64 x\n", Err(TextFault::Limit(4))),
+        (b"drain 0 65537\n", Err(TextFault::Limit(4))),
+        (
+            b"say 0 got 18446744073709551616\n",
+            Err(TextFault::Limit(4)),
+        ),
+        (b"close 64\n", Err(TextFault::Limit(4))),
     ];
-    for (step, fault) in cases {
-        let mut text = Vec::from_slice(rt.alloc(), b"threads 1 ring 2\npush 0\n")?;
-        text.extend_from_slice(step)?;
-        text.extend_from_slice(b"end 2\n")?;
-        judged(&rt, rt.alloc(), &[(text.as_slice(), Err(fault))])?;
-    }
-    Ok(())
+    let front = b"fifo-schedule 1\nthreads 1 ring 2\npush 0\n";
+    judged(&rt, rt.alloc(), (front, b"end 2\n"), &cases)
 }
