@@ -70,8 +70,8 @@ fn each_write_is_one_write(rt: HostRuntime) {
         let answers = [answer];
         let mut told = Told::new(&answers);
         let written = TextSink::write(&mut Watched::new(&mut told), b"abc");
-        assert_eq!(rt; written, answer.map_err(|_| WriteFault::Write));
-        assert_eq!(rt; (told.calls, told.flushes), (1, 0));
+        let expected = answer.map_err(|_| WriteFault::Write);
+        assert_eq!(rt; (written, told.calls, told.flushes), (expected, 1, 0));
     }
 }
 
@@ -92,8 +92,7 @@ fn each_read_is_one_read(rt: HostRuntime) {
         let answers = [answer];
         let mut told = Told::new(&answers);
         let read = TextSource::read(&mut Watched::new(&mut told), &mut [0; 3]);
-        assert_eq!(rt; read, answer.map_err(|_| ReadFailed));
-        assert_eq!(rt; told.calls, 1);
+        assert_eq!(rt; (read, told.calls), (answer.map_err(|_| ReadFailed), 1));
     }
 }
 
