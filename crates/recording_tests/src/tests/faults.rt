@@ -34,18 +34,12 @@ fn the_least_fault_is_answered(rt: HostRuntime) -> Result<(), Fail> {
 
 #[test]
 fn a_fault_tells_its_thread_or_place(rt: HostRuntime) -> Result<(), Fail> {
-    let alloc = rt.alloc();
-    assert_eq!(rt;
-        format!(in alloc; "{}", RunFault::Memory)?.as_str(),
-        "Memory"
-    );
-    assert_eq!(rt;
-        format!(in alloc; "{}", RunFault::Stalled(3))?.as_str(),
-        "Stalled 3"
-    );
-    assert_eq!(rt;
-        format!(in alloc; "{}", RunFault::Preload(7))?.as_str(),
-        "Preload 7"
-    );
+    for (fault, text) in [
+        (RunFault::Memory, "Memory"),
+        (RunFault::Stalled(3), "Stalled 3"),
+        (RunFault::Preload(7), "Preload 7"),
+    ] {
+        assert_eq!(rt; format!(in rt.alloc(); "{fault}")?.as_str(), text);
+    }
     Ok(())
 }

@@ -77,8 +77,7 @@ fn a_full_array_takes_exactly_its_capacity(rt: HostRuntime) -> Result<(), Fail> 
 fn an_unbounded_queue_loses_nothing(rt: HostRuntime) -> Result<(), Fail> {
     let alloc = rt.alloc();
     let queue = SegBack::new(alloc, rt)?;
-    assert!(rt; takes(alloc, &queue, 64)?);
-    assert!(rt; gives(alloc, &queue, 64)?);
+    assert!(rt; takes(alloc, &queue, 64)? && gives(alloc, &queue, 64)?);
     Ok(())
 }
 

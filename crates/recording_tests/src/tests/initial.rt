@@ -1,6 +1,7 @@
 // What a queue holds before the first operation.
 use super::filled::{put, take};
 use super::queues::ask_first;
+use super::runs::are_events_of;
 use event_records::What;
 use queue_interface::{
     ArrayBack, Doubling, GateQueue, Inventing, Lifo, LockedQueue, Losing, ScriptQueue, SegBack,
@@ -67,17 +68,21 @@ fn preloaded(alloc: Global, queue: &dyn TestQueue) -> Result<(What, What), Fail>
     Ok((take(alloc, queue)?, take(alloc, queue)?))
 }
 
+// Whether the values come out of a queue in their order.
+fn keeps_the_order(alloc: Global, queue: &dyn TestQueue) -> Result<bool, Fail> {
+    Ok(preloaded(alloc, queue)? == (What::RetDeq(FIRST), What::RetDeq(FIRST + 1)))
+}
+
 #[test]
 fn queues_that_keep_the_order_give_the_first_first(rt: HostRuntime) -> Result<(), Fail> {
     let alloc = rt.alloc();
-    let in_order = (What::RetDeq(FIRST), What::RetDeq(FIRST + 1));
-    assert_eq!(rt; preloaded(alloc, &LockedQueue::new(alloc, rt))?, in_order);
-    assert_eq!(rt; preloaded(alloc, &TwoLockQueue::new(alloc, rt))?, in_order);
-    assert_eq!(rt; preloaded(alloc, &ArrayBack::new(alloc, rt, 2)?)?, in_order);
-    assert_eq!(rt; preloaded(alloc, &SegBack::new(alloc, rt)?)?, in_order);
-    assert_eq!(rt; preloaded(alloc, &Doubling::new(alloc, rt))?, in_order);
-    assert_eq!(rt; preloaded(alloc, &Inventing::new(alloc, rt))?, in_order);
-    assert_eq!(rt; preloaded(alloc, &Shy::new(alloc, rt))?, in_order);
+    assert!(rt; keeps_the_order(alloc, &LockedQueue::new(alloc, rt))?);
+    assert!(rt; keeps_the_order(alloc, &TwoLockQueue::new(alloc, rt))?);
+    assert!(rt; keeps_the_order(alloc, &ArrayBack::new(alloc, rt, 2)?)?);
+    assert!(rt; keeps_the_order(alloc, &SegBack::new(alloc, rt)?)?);
+    assert!(rt; keeps_the_order(alloc, &Doubling::new(alloc, rt))?);
+    assert!(rt; keeps_the_order(alloc, &Inventing::new(alloc, rt))?);
+    assert!(rt; keeps_the_order(alloc, &Shy::new(alloc, rt))?);
     let last_first = (What::RetDeq(FIRST + 1), What::RetDeq(FIRST));
     assert_eq!(rt; preloaded(alloc, &Lifo::new(alloc, rt))?, last_first);
     Ok(())
@@ -140,10 +145,8 @@ fn a_run_begins_with_its_values(rt: HostRuntime) -> Result<(), Fail> {
     let queue = LockedQueue::new(alloc, rt);
     let recorded = run_one_dequeue(&rt, alloc, &queue, &values)??;
     assert_eq!(rt; recorded.initial(), values.as_slice());
-    let list = recorded.lists().as_slice()[0].as_slice();
-    let whats: Vec<What> = list.iter().map(|event| event.what).collect(alloc)?;
-    let want = [What::CallDeq, What::RetDeq(FIRST)];
-    assert_eq!(rt; whats.as_slice(), want.as_slice());
+    let first = [What::CallDeq, What::RetDeq(FIRST)];
+    assert!(rt; are_events_of(alloc, &recorded, 0, &first)?);
     assert_eq!(rt; take(alloc, &queue)?, What::RetDeq(FIRST + 1));
     Ok(())
 }

@@ -30,10 +30,9 @@ fn written(alloc: Global, plan: &Plan) -> Result<String, AllocError> {
 fn texts_are_read(rt: HostRuntime) -> Result<(), Fail> {
     for (text, workers, operations) in [("EDE\nD\n", 2, 4), ("\n", 1, 0), ("E\n\nDD\n", 3, 3)] {
         let plan = Plan::from_text(rt.alloc(), text)?;
-        assert_eq!(rt; plan.rows().len(), workers, "workers of {text:?}");
-        assert_eq!(rt; plan.operations(), operations, "operations of {text:?}");
         let again = written(rt.alloc(), &plan)?;
-        assert_eq!(rt; again.as_str(), text);
+        let found = (plan.rows().len(), plan.operations(), again.as_str());
+        assert_eq!(rt; found, (workers, operations, text));
     }
     Ok(())
 }

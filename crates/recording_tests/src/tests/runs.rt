@@ -13,6 +13,19 @@ fn whats(alloc: Global, list: &[Event]) -> Result<Vec<What>, AllocError> {
     list.iter().map(|event| event.what).collect(alloc)
 }
 
+// Whether the events of a worker are these.
+pub(crate) fn are_events_of(
+    alloc: Global,
+    recorded: &Recorded,
+    worker: usize,
+    want: &[What],
+) -> Result<bool, AllocError> {
+    match recorded.lists().as_slice().get(worker) {
+        Some(list) => Ok(whats(alloc, list)?.as_slice() == want),
+        None => Ok(false),
+    }
+}
+
 // The tickets of all lists, by rising number.
 fn all_tickets(alloc: Global, lists: &Lists) -> Result<Vec<u64>, AllocError> {
     let merged = merge(alloc, lists)?;
@@ -32,10 +45,9 @@ fn run_scripted<R: Threads + Sync>(rt: &R, alloc: Global) -> Result<Recorded, Fa
 fn each_list_is_its_workers(rt: HostRuntime) -> Result<(), Fail> {
     let alloc = rt.alloc();
     let recorded = run_scripted(&rt, alloc)?;
-    let lists = recorded.lists().as_slice();
-    assert_eq!(rt; lists.len(), 2);
+    assert_eq!(rt; recorded.lists().as_slice().len(), 2);
     let first = [CallEnq(0), RetEnq, CallDeq, RetDeq(0), CallDeq, RetEmpty];
-    assert_eq!(rt; whats(alloc, &lists[0])?.as_slice(), first.as_slice());
+    assert!(rt; are_events_of(alloc, &recorded, 0, &first)?);
     let second = [
         CallDeq,
         RetEmpty,
@@ -44,7 +56,7 @@ fn each_list_is_its_workers(rt: HostRuntime) -> Result<(), Fail> {
         CallEnq(4_294_967_298),
         RetNot,
     ];
-    assert_eq!(rt; whats(alloc, &lists[1])?.as_slice(), second.as_slice());
+    assert!(rt; are_events_of(alloc, &recorded, 1, &second)?);
     Ok(())
 }
 
@@ -130,20 +142,26 @@ fn thirty_two_workers_are_recorded(rt: HostRuntime) -> Result<(), Fail> {
     )?;
     let queue = a_value_of_each(alloc)?;
     let recorded = run(&rt, alloc, &queue, &plan, 2, 1_000_000)?;
-    assert_eq!(rt; recorded.total(), 64);
-    assert_eq!(rt; recorded.lists().as_slice().len(), 32);
+    assert_eq!(rt;
+        (recorded.total(), recorded.lists().as_slice().len()),
+        (64, 32)
+    );
     for (worker, list) in recorded.lists().as_slice().iter().enumerate() {
         assert!(rt; is_first_enqueue(worker, list.as_slice()));
     }
-    let history = recorded.history(alloc)?;
-    let tickets: Vec<u64> = history
-        .events()
-        .iter()
-        .map(|event| event.ticket)
-        .collect(alloc)?;
     let numbers: Vec<u64> = (0..64).collect(alloc)?;
-    assert_eq!(rt; tickets.as_slice(), numbers.as_slice());
+    assert_eq!(rt;
+        tickets_of(alloc, &recorded)?.as_slice(),
+        numbers.as_slice()
+    );
     Ok(())
+}
+
+// The tickets of the history of a run.
+fn tickets_of(alloc: Global, recorded: &Recorded) -> Result<Vec<u64>, Fail> {
+    let history = recorded.history(alloc)?;
+    let tickets = history.events().iter().map(|event| event.ticket);
+    Ok(tickets.collect(alloc)?)
 }
 
 #[test]

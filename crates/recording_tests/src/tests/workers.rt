@@ -47,13 +47,13 @@ pub(crate) fn operate(
 fn tickets_drawn(rt: &impl Abort, alloc: Global, one_more: bool) -> Result<u64, Fail> {
     let (tickets, mut worker, _drain) = lone_worker(alloc)?;
     let queue = ScriptQueue::new(Vec::new(alloc));
-    assert_eq!(rt; operate(&mut worker, &tickets, &queue, Kind::Enq), Ok(()));
+    let first = operate(&mut worker, &tickets, &queue, Kind::Enq);
     let stalled = Err(WorkerFault::Stalled);
-    assert_eq!(rt; operate(&mut worker, &tickets, &queue, Kind::Deq), stalled);
-    if one_more {
-        assert_eq!(rt; operate(&mut worker, &tickets, &queue, Kind::Deq), stalled);
+    let mut last = operate(&mut worker, &tickets, &queue, Kind::Deq);
+    if one_more && last == stalled {
+        last = operate(&mut worker, &tickets, &queue, Kind::Deq);
     }
-    assert!(rt; worker.is_stopped());
+    assert_eq!(rt; (first, last, worker.is_stopped()), (Ok(()), stalled, true));
     let (_token, pass) = worker.close().ok().ok_or("closed")?;
     Ok(pass.share() - pass.left())
 }
