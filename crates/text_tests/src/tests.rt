@@ -1,6 +1,5 @@
 mod changed;
 mod errors;
-mod help;
 mod outcomes;
 mod pictures;
 mod schedules;
