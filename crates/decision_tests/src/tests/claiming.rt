@@ -1,6 +1,11 @@
+ghost use Rattle.std.specs.Prelude.{◌≤◌};
+ghost use Rattle.parallel_finders.specs.declared.TheConstants.{MAX_PIECES};
+
 use super::small_histories::{by, claim_of, history_of, in_turn, op, overlapping};
 use history_merge::OpKind::{Deq, Empty, Enq, Not};
 use history_merge::{History, Operation};
+use parallel_finders::MAX_PIECES;
+use std::alloc::{AllocError, Global};
 use std::process::Abort;
 use std::test::Fail;
 use std::thread::Threads;
@@ -18,22 +23,37 @@ fn are_same(one: &Claimed, other: &Claimed) -> bool {
     }
 }
 
+/// What the verdict on a history claims.
+fn claimed_of(alloc: Global, history: &History) -> Result<Claimed, AllocError> {
+    let verdict = decide(alloc, history)?;
+    claim(alloc, history, &verdict)
+}
+
+/// The same where it is searched for in this many pieces.
+fn claimed_in<R: AllocGlobal + Threads + Sync>(
+    rt: &R,
+    history: &History,
+    pieces: usize,
+) -> Result<Claimed, AllocError>
+    requires { (1 ≤ pieces) × (pieces ≤ MAX_PIECES) }
+{
+    let verdict = decide_par(rt, rt.alloc(), history, pieces)?;
+    claim(rt.alloc(), history, &verdict)
+}
+
 /// Asserts what the verdict on a history claims, which is verified. Searches in pieces claim the same.
 pub fn expect_claim<R>(rt: &R, history: &History, expected: &Claimed) -> Result<(), Fail>
 where
     R: Abort + AllocGlobal + Threads + Sync,
 {
-    let alloc = rt.alloc();
-    let verdict = decide(alloc, history)?;
-    let claimed = claim(alloc, history, &verdict)?;
+    let claimed = claimed_of(rt.alloc(), history)?;
     assert!(rt;
         are_same(&claimed, expected),
         "{claimed:?} is not {expected:?}"
     );
-    assert!(rt; verify(alloc, history, &claimed)?);
+    assert!(rt; verify(rt.alloc(), history, expected)?);
     for pieces in [1, 2, 3, 64] {
-        let verdict = decide_par(rt, alloc, history, pieces)?;
-        assert!(rt; are_same(&claimed, &claim(alloc, history, &verdict)?));
+        assert!(rt; are_same(&claimed_in(rt, history, pieces)?, expected));
     }
     Ok(())
 }

@@ -159,24 +159,30 @@ fn takes_two_hundred_thousand_events(rt: HostRuntime) -> Result<(), Fail> {
     Ok(())
 }
 
+/// The events of two threads that take turns and of one that is called once, by ticket.
+fn merged(alloc: Global) -> Result<Vec<Event>, AllocError> {
+    let mut lists = Vec::new(alloc);
+    for (thread, ticket) in [(0, 1), (1, 0)] {
+        let events = [
+            at(ticket, thread, What::CallDeq),
+            at(4, thread, What::RetEmpty),
+        ];
+        lists.push(events.to_vec(alloc)?)?;
+    }
+    lists.push([at(1, 2, What::CallDeq)].to_vec(alloc)?)?;
+    merge(alloc, &Lists::from_vec(lists))
+}
+
 #[test]
 fn merges_by_ticket_and_keeps_ties_in_order(rt: HostRuntime) -> Result<(), Fail> {
-    let alloc = rt.alloc();
-    let mut lists = Vec::new(alloc);
-    lists.push([at(1, 0, What::CallDeq), at(4, 0, What::RetEmpty)].to_vec(alloc)?)?;
-    lists.push([at(0, 1, What::CallDeq), at(4, 1, What::RetEmpty)].to_vec(alloc)?)?;
-    lists.push([at(1, 2, What::CallDeq)].to_vec(alloc)?)?;
-    let merged = merge(alloc, &Lists::from_vec(lists))?;
-    assert_eq!(rt;
-        merged.as_slice(),
-        [
-            at(0, 1, What::CallDeq),
-            at(1, 0, What::CallDeq),
-            at(1, 2, What::CallDeq),
-            at(4, 0, What::RetEmpty),
-            at(4, 1, What::RetEmpty),
-        ]
-        .as_slice()
-    );
+    let expected = [
+        at(0, 1, What::CallDeq),
+        at(1, 0, What::CallDeq),
+        at(1, 2, What::CallDeq),
+        at(4, 0, What::RetEmpty),
+        at(4, 1, What::RetEmpty),
+    ];
+    let merged = merged(rt.alloc())?;
+    assert_eq!(rt; merged.as_slice(), expected.as_slice());
     Ok(())
 }

@@ -97,26 +97,52 @@ fn names_the_first_fault_of_initial_values_and_events(rt: HostRuntime) -> Result
     Ok(())
 }
 
-#[test]
-fn gives_its_parts_back(rt: HostRuntime) -> Result<(), Fail> {
-    let initial = [u64::MAX, 5, 0];
+/// What a history shows of itself: its initial values, its events and its operations.
+fn shown(
+    alloc: Global,
+    history: &History,
+) -> Result<(Vec<u64>, Vec<Event>, Vec<Operation>), AllocError> {
+    let initial = history.initial().to_vec(alloc)?;
+    let events = history.events().to_vec(alloc)?;
+    Ok((initial, events, history.operations().to_vec(alloc)?))
+}
+
+/// Three initial values, and the events of two operations.
+fn overlapping_two() -> ([u64; 3], [Event; 4]) {
     let events = [
         at(3, 2, What::CallDeq),
         at(4, 0, What::CallEnq(6)),
         at(5, 2, What::RetDeq(u64::MAX)),
         at(6, 0, What::RetNot),
     ];
-    let operations = [
+    ([u64::MAX, 5, 0], events)
+}
+
+/// Their operations.
+fn operations_of_two() -> [Operation; 2] {
+    [
         by(2, 3, 5, OpKind::Deq(u64::MAX)),
         by(0, 4, 6, OpKind::Not(6)),
-    ];
-    let history = judged(rt.alloc(), &initial, &events)?.expect(&rt, "a complete history");
-    assert_eq!(rt; history.initial(), initial.as_slice());
-    assert_eq!(rt; history.events(), events.as_slice());
-    assert_eq!(rt; history.operations(), operations.as_slice());
-    let parts = gathered(rt.alloc(), &initial, &events)?.expect(&rt, "a complete history");
-    assert_eq!(rt; parts.initial.as_slice(), initial.as_slice());
-    assert_eq!(rt; parts.operations.as_slice(), operations.as_slice());
+    ]
+}
+
+#[test]
+fn shows_its_parts(rt: HostRuntime) -> Result<(), Fail> {
+    let (values, given) = overlapping_two();
+    let history = judged(rt.alloc(), &values, &given)?.expect(&rt, "a complete history");
+    let (initial, events, operations) = shown(rt.alloc(), &history)?;
+    assert_eq!(rt; initial.as_slice(), values.as_slice());
+    assert_eq!(rt; events.as_slice(), given.as_slice());
+    assert_eq!(rt; operations.as_slice(), operations_of_two().as_slice());
+    Ok(())
+}
+
+#[test]
+fn gives_its_parts_back(rt: HostRuntime) -> Result<(), Fail> {
+    let (values, given) = overlapping_two();
+    let parts = gathered(rt.alloc(), &values, &given)?.expect(&rt, "a complete history");
+    assert_eq!(rt; parts.initial.as_slice(), values.as_slice());
+    assert_eq!(rt; parts.operations.as_slice(), operations_of_two().as_slice());
     Ok(())
 }
 

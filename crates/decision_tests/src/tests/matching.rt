@@ -2,9 +2,10 @@ use super::places::enqueue_of;
 use super::small_histories::{by, history_of, in_turn, matching_of, op};
 use history_merge::OpKind::{Deq, Empty, Enq, Not};
 use history_merge::{OpId, Operation};
+use std::alloc::{AllocError, Global};
 use std::process::Abort;
 use std::test::Fail;
-use value_match::{Life, LongestTable, Matched, MatchedValue, Violation, match_values};
+use value_match::{Life, LongestTable, Matched, MatchedValue, Values, Violation, match_values};
 
 /// The places that a violation of the first two kinds names.
 fn places(matched: &Matched) -> Option<[Option<OpId>; 3]> {
@@ -69,40 +70,107 @@ fn names_the_first_two_dequeues_of_a_value(rt: HostRuntime) -> Result<(), Fail> 
     check_places(&rt, &both_twice, [1, 3, 4].map(Some))
 }
 
+/// Whether these are the accepted values.
+fn are(values: &Values, expected: &[MatchedValue]) -> bool {
+    if values.len() != expected.len() {
+        return false;
+    }
+    for place in 0..expected.len() {
+        if values.get(place) != expected[place] {
+            return false;
+        }
+    }
+    true
+}
+
+/// Whether these are the accepted values of the operations.
+fn accepts(
+    alloc: Global,
+    operations: &[Operation],
+    expected: &[MatchedValue],
+) -> Result<bool, Fail> {
+    let history = history_of(alloc, operations)?;
+    let matching = matching_of(alloc, &history)?;
+    Ok(are(&matching.filled().values(), expected))
+}
+
+/// The places of the empty answers of these operations, and those of the refused enqueues.
+fn others(alloc: Global, operations: &[Operation]) -> Result<[Vec<OpId>; 2], Fail> {
+    let history = history_of(alloc, operations)?;
+    let matching = matching_of(alloc, &history)?;
+    let empties = matching.filled().empties().to_vec(alloc)?;
+    Ok([empties, matching.filled().refused().to_vec(alloc)?])
+}
+
+/// A value of these operations, with their places.
+fn value_of(enqueue: (usize, Operation), dequeue: Option<(usize, Operation)>) -> MatchedValue {
+    MatchedValue {
+        life: Life {
+            enqueue: enqueue.1,
+            dequeue: dequeue.map(|(_, operation)| operation),
+        },
+        enqueue: OpId::new(enqueue.0),
+        dequeue: dequeue.map(|(place, _)| OpId::new(place)),
+    }
+}
+
 #[test]
 fn matches_a_history_without_such_violations(rt: HostRuntime) -> Result<(), Fail> {
     let (enq_7, deq_7) = (by(0, 0, 4, Enq(7)), by(1, 1, 3, Deq(7)));
-    let enq_9 = by(2, 2, 5, Enq(9));
-    let (refused, empty) = (by(0, 6, 8, Not(8)), by(1, 7, 9, Empty));
-    let history = history_of(rt.alloc(), &[enq_7, deq_7, enq_9, refused, empty])?;
-    let matching = matching_of(rt.alloc(), &history)?;
+    let (enq_9, refused) = (by(2, 2, 5, Enq(9)), by(0, 6, 8, Not(8)));
+    let operations = [enq_7, deq_7, enq_9, refused, by(1, 7, 9, Empty)];
     let values = [
-        MatchedValue {
-            life: Life {
-                enqueue: enq_7,
-                dequeue: Some(deq_7),
-            },
-            enqueue: OpId::new(0),
-            dequeue: Some(OpId::new(1)),
-        },
-        MatchedValue {
-            life: Life {
-                enqueue: enq_9,
-                dequeue: None,
-            },
-            enqueue: OpId::new(2),
-            dequeue: None,
-        },
+        value_of((0, enq_7), Some((1, deq_7))),
+        value_of((2, enq_9), None),
     ];
-    let accepted = matching.filled().values();
-    assert_eq!(rt; accepted.len(), 2);
-    for place in 0..2 {
-        assert_eq!(rt; accepted.get(place), values[place]);
-    }
-    assert_eq!(rt; matching.filled().empties(), [OpId::new(4)].as_slice());
-    assert_eq!(rt; matching.filled().refused(), [OpId::new(3)].as_slice());
-    assert_eq!(rt; matching.operations().len(), 5);
+    assert!(rt; accepts(rt.alloc(), &operations, &values)?);
+    let [empties, refused] = others(rt.alloc(), &operations)?;
+    assert_eq!(rt; empties.as_slice(), [OpId::new(4)].as_slice());
+    assert_eq!(rt; refused.as_slice(), [OpId::new(3)].as_slice());
     Ok(())
+}
+
+/// The call of the enqueue of the value that stays longest, of those whose enqueues returned before the limit.
+fn longest_call(table: &LongestTable, limit: u64) -> Option<u64> {
+    match table.longest_before(limit) {
+        Some(longest) => Some(longest.life.enqueue_call()),
+        None => None,
+    }
+}
+
+/// The same for each limit.
+fn longest_calls(
+    alloc: Global,
+    table: &LongestTable,
+    limits: &[u64],
+) -> Result<Vec<Option<u64>>, AllocError> {
+    let mut calls = Vec::new(alloc);
+    for limit in limits {
+        calls.push(longest_call(table, *limit))?;
+    }
+    Ok(calls)
+}
+
+/// The same of these accepted values, behind how many there are.
+fn longest_of(
+    alloc: Global,
+    values: Values<'_>,
+    limits: &[u64],
+) -> Result<(usize, Vec<Option<u64>>), AllocError> {
+    let table = LongestTable::new(alloc, values)?;
+    let calls = longest_calls(alloc, &table, limits)?;
+    Ok((table.values().len(), calls))
+}
+
+/// The same of the accepted values of these operations.
+fn longest_among(
+    alloc: Global,
+    operations: &[Operation],
+    limits: &[u64],
+) -> Result<(usize, Vec<Option<u64>>), Fail> {
+    let history = history_of(alloc, operations)?;
+    let matching = matching_of(alloc, &history)?;
+    Ok(longest_of(alloc, matching.filled().values(), limits)?)
 }
 
 #[test]
@@ -110,24 +178,11 @@ fn finds_the_longest_of_the_values_before_a_ticket(rt: HostRuntime) -> Result<()
     let (enq_1, enq_2) = (op(0, 2, Enq(1)), by(1, 1, 4, Enq(2)));
     let (enq_3, enq_4) = (op(5, 8, Enq(3)), by(1, 6, 10, Enq(4)));
     let (deq_1, deq_2) = (op(20, 21, Deq(1)), op(30, 31, Deq(2)));
-    let history = history_of(rt.alloc(), &[enq_1, enq_2, enq_3, enq_4, deq_1, deq_2])?;
-    let matching = matching_of(rt.alloc(), &history)?;
-    let table = LongestTable::new(rt.alloc(), matching.filled().values())?;
-    // Up to each limit, the call of the longest value's enqueue.
-    let cases = [
-        (0, None),
-        (2, None),
-        (3, Some(0)),
-        (4, Some(0)),
-        (5, Some(1)),
-        (8, Some(1)),
-        (9, Some(5)),
-        (11, Some(5)),
-    ];
-    for (limit, call) in cases {
-        let longest = table.longest_before(limit);
-        assert_eq!(rt; longest.map(|value| value.life.enqueue_call()), call);
-    }
-    assert_eq!(rt; table.values().len(), 4);
+    let operations = [enq_1, enq_2, enq_3, enq_4, deq_1, deq_2];
+    let (values, calls) = longest_among(rt.alloc(), &operations, &[0, 2, 3, 4, 5, 8, 9, 11])?;
+    let [first, second, third] = [0, 1, 5].map(Some);
+    let expected = [None, None, first, first, second, second, third, third];
+    assert_eq!(rt; values, 4);
+    assert_eq!(rt; calls.as_slice(), expected.as_slice());
     Ok(())
 }

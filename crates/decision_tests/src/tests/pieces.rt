@@ -1,12 +1,10 @@
-use super::places::{enqueue_of, push_cover, push_maybe};
+use super::places::{Windows, places_of_pair, places_of_witness};
 use super::small_histories::{
     by, covered_by_two, dequeued_later, hidden, history_of, in_turn, matching_of, never_empty,
     once_empty, op, overlapping, overtaken,
 };
-use empty_witness::WitnessAnswer;
 use history_merge::OpKind::{Deq, Empty, Enq};
 use history_merge::Operation;
-use order_violation::OrderPair;
 use parallel_finders::{find_order_par, find_witness_par, order_in_pieces, witness_in_pieces};
 use std::alloc::{AllocError, Global};
 use std::process::Abort;
@@ -14,44 +12,8 @@ use std::test::Fail;
 use std::thread::Threads;
 use value_match::Matching;
 
-/// What the two searches find: the places of the pair, if there is one, and the gaps, or the empty answer and its cover.
-type Found = (Option<Vec<usize>>, Result<Vec<u64>, Vec<usize>>);
-
-/// The places of the pair: the enqueues of a and b, the dequeue of b, and that of a if there is one.
-fn places_of_pair(
-    alloc: Global,
-    pair: Option<OrderPair>,
-) -> Result<Option<Vec<usize>>, AllocError> {
-    let Some(pair) = pair else {
-        return Ok(None);
-    };
-    let mut places = Vec::new(alloc);
-    places.push(enqueue_of(pair.enq_a))?;
-    places.push(enqueue_of(pair.enq_b))?;
-    places.push(pair.deq_b.place())?;
-    push_maybe(pair.deq_a, &mut places)?;
-    Ok(Some(places))
-}
-
-/// The gaps, or the place of the empty answer and those of its cover.
-fn places_of_witness(
-    alloc: Global,
-    answer: &WitnessAnswer,
-) -> Result<Result<Vec<u64>, Vec<usize>>, AllocError> {
-    match answer {
-        WitnessAnswer::Gaps(gaps) => {
-            let mut all = Vec::new(alloc);
-            all.extend_from_slice(gaps.as_slice())?;
-            Ok(Ok(all))
-        }
-        WitnessAnswer::Covered { empty, cover } => {
-            let mut places = Vec::new(alloc);
-            places.push(empty.place())?;
-            push_cover(cover, &mut places)?;
-            Ok(Err(places))
-        }
-    }
-}
+/// What the two searches find: the places of the pair, if there is one, and the windows.
+type Found = (Option<Vec<usize>>, Windows);
 
 /// What the searches find, cut into pieces although the operations are few.
 fn found_in_pieces<R: Threads + Sync>(
@@ -68,28 +30,44 @@ fn found_in_pieces<R: Threads + Sync>(
     ))
 }
 
+/// What the searches find of these operations, cut into pieces.
+fn found_of<R: AllocGlobal + Threads + Sync>(
+    rt: &R,
+    operations: &[Operation],
+    pieces: usize,
+) -> Result<Found, Fail> {
+    let alloc = rt.alloc();
+    let history = history_of(alloc, operations)?;
+    let matching = matching_of(alloc, &history)?;
+    Ok(found_in_pieces(rt, alloc, &matching, pieces)?)
+}
+
+/// What is to be found.
+fn expected(
+    alloc: Global,
+    pair: Option<&[usize]>,
+    windows: Result<&[u64], &[usize]>,
+) -> Result<Found, AllocError> {
+    let pair = match pair {
+        None => None,
+        Some(places) => Some(places.to_vec(alloc)?),
+    };
+    match windows {
+        Ok(gaps) => Ok((pair, Ok(gaps.to_vec(alloc)?))),
+        Err(covered) => Ok((pair, Err(covered.to_vec(alloc)?))),
+    }
+}
+
 /// Asserts what is found with 1, 2 and 64 pieces.
 fn check<R: Abort + AllocGlobal + Threads + Sync>(
     rt: &R,
     operations: &[Operation],
     pair: Option<&[usize]>,
-    witness: Result<&[u64], &[usize]>,
+    windows: Result<&[u64], &[usize]>,
 ) -> Result<(), Fail> {
-    let alloc = rt.alloc();
-    let history = history_of(alloc, operations)?;
-    let matching = matching_of(alloc, &history)?;
+    let expected = expected(rt.alloc(), pair, windows)?;
     for pieces in [1, 2, 64] {
-        let (found, answer) = found_in_pieces(rt, alloc, &matching, pieces)?;
-        match (&found, pair) {
-            (None, None) => {}
-            (Some(found), Some(pair)) => assert_eq!(rt; found.as_slice(), pair),
-            _ => panic!(rt; "one of the pairs is missing"),
-        }
-        match (&answer, witness) {
-            (Ok(gaps), Ok(expected)) => assert_eq!(rt; gaps.as_slice(), expected),
-            (Err(places), Err(expected)) => assert_eq!(rt; places.as_slice(), expected),
-            _ => panic!(rt; "only one of the windows is covered"),
-        }
+        assert_eq!(rt; found_of(rt, operations, pieces)?, expected);
     }
     Ok(())
 }
@@ -131,18 +109,38 @@ fn rounds(alloc: Global, staying: u64) -> Result<Vec<Operation>, AllocError> {
     Ok(operations)
 }
 
+/// What the searches find that choose for themselves whether to cut into pieces.
+fn found_par<R: Threads + Sync>(
+    rt: &R,
+    alloc: Global,
+    matching: &Matching,
+) -> Result<Found, AllocError> {
+    let pair = find_order_par(rt, alloc, matching, 64)?;
+    let answer = find_witness_par(rt, alloc, matching, 64)?;
+    Ok((
+        places_of_pair(alloc, pair)?,
+        places_of_witness(alloc, &answer)?,
+    ))
+}
+
+/// The same of these operations.
+fn found_par_of<R: AllocGlobal + Threads + Sync>(
+    rt: &R,
+    operations: &[Operation],
+) -> Result<Found, Fail> {
+    let history = history_of(rt.alloc(), operations)?;
+    let matching = matching_of(rt.alloc(), &history)?;
+    Ok(found_par(rt, rt.alloc(), &matching)?)
+}
+
 /// What the searches find of the rounds, which is the same in pieces.
 fn found_of_rounds<R>(rt: &R, staying: u64) -> Result<Found, Fail>
 where
     R: Abort + AllocGlobal + Threads + Sync,
 {
-    let alloc = rt.alloc();
-    let history = history_of(alloc, rounds(alloc, staying)?.as_slice())?;
-    let matching = matching_of(alloc, &history)?;
-    let pair = places_of_pair(alloc, find_order_par(rt, alloc, &matching, 64)?)?;
-    let answer = places_of_witness(alloc, &find_witness_par(rt, alloc, &matching, 64)?)?;
-    let found = (pair, answer);
-    assert!(rt; found == found_in_pieces(rt, alloc, &matching, 64)?);
+    let operations = rounds(rt.alloc(), staying)?;
+    let found = found_par_of(rt, &operations)?;
+    assert!(rt; found == found_of(rt, &operations, 64)?);
     Ok(found)
 }
 

@@ -188,33 +188,46 @@ fn left_empty() -> [Operation; 3] {
     [op(0, 1, Deq(5)), op(2, 3, Empty), op(4, 5, OpKind::Not(8))]
 }
 
+/// The initial values and the operations that a matching shows.
+fn parts_of(alloc: Global, matching: &Matching) -> Result<(Vec<u64>, Vec<Operation>), AllocError> {
+    let initial = matching.initial().to_vec(alloc)?;
+    Ok((initial, matching.operations().to_vec(alloc)?))
+}
+
+/// Those of the matching of the history behind 5.
+fn shown(alloc: Global) -> Result<(Vec<u64>, Vec<Operation>), Fail> {
+    let history = history_behind(alloc, &[5], &left_empty())?;
+    let matching = matching_of(alloc, &history)?;
+    Ok(parts_of(alloc, &matching)?)
+}
+
 #[test]
 fn a_matching_shows_the_history(rt: HostRuntime) -> Result<(), Fail> {
-    let history = history_behind(rt.alloc(), &[5], &left_empty())?;
-    let matching = matching_of(rt.alloc(), &history)?;
-    assert_eq!(rt; matching.initial(), [5].as_slice());
-    assert_eq!(rt; matching.operations(), left_empty().as_slice());
+    let (initial, operations) = shown(rt.alloc())?;
+    assert_eq!(rt; initial.as_slice(), [5].as_slice());
+    assert_eq!(rt; operations.as_slice(), left_empty().as_slice());
     Ok(())
+}
+
+/// The first operation of the filled history behind 5, how many values it has, and its empty answers.
+fn filled(alloc: Global) -> Result<(Option<Operation>, usize, Vec<OpId>), Fail> {
+    let history = history_behind(alloc, &[5], &left_empty())?;
+    let matching = matching_of(alloc, &history)?;
+    let filled = matching.filled();
+    let empties = filled.empties().to_vec(alloc)?;
+    Ok((
+        filled.operations().first().copied(),
+        filled.values().len(),
+        empties,
+    ))
 }
 
 #[test]
 fn a_matching_shows_the_filled_history(rt: HostRuntime) -> Result<(), Fail> {
-    let history = history_behind(rt.alloc(), &[5], &left_empty())?;
-    let matching = matching_of(rt.alloc(), &history)?;
-    let filled = matching.filled();
-    let first = filled.operations().first().copied();
+    let (first, values, empties) = filled(rt.alloc())?;
     assert_eq!(rt; first, Some(op(0, 1, enqueued(5))));
-    assert_eq!(rt; filled.values().len(), 1);
-    assert_eq!(rt; filled.empties(), [id(2)].as_slice());
-    Ok(())
-}
-
-#[test]
-fn a_matching_names_empty_answers_and_refused_enqueues(rt: HostRuntime) -> Result<(), Fail> {
-    let history = history_behind(rt.alloc(), &[5], &left_empty())?;
-    let matching = matching_of(rt.alloc(), &history)?;
-    assert_eq!(rt; only_of(&matching.empties()), Some(id(1)));
-    assert_eq!(rt; only_of(&matching.refused()), Some(id(2)));
+    assert_eq!(rt; values, 1);
+    assert_eq!(rt; empties.as_slice(), [id(2)].as_slice());
     Ok(())
 }
 
@@ -223,13 +236,35 @@ fn only_of(places: &Places) -> Option<OpId> {
     (places.len() == 1).then(|| places.get(0))
 }
 
+/// The one empty answer and the one refused enqueue that the matching of the history behind 5 names.
+fn only_named(alloc: Global) -> Result<(Option<OpId>, Option<OpId>), Fail> {
+    let history = history_behind(alloc, &[5], &left_empty())?;
+    let matching = matching_of(alloc, &history)?;
+    let empty = only_of(&matching.empties());
+    Ok((empty, only_of(&matching.refused())))
+}
+
+#[test]
+fn a_matching_names_empty_answers_and_refused_enqueues(rt: HostRuntime) -> Result<(), Fail> {
+    assert_eq!(rt; only_named(rt.alloc())?, (Some(id(1)), Some(id(2))));
+    Ok(())
+}
+
+/// The tickets at which the first six clocks stand behind two initial values.
+fn first_tickets(alloc: Global) -> Result<Vec<i64>, Fail> {
+    let history = history_behind(alloc, &[5, 6], &[op(0, 1, Deq(5))])?;
+    let matching = matching_of(alloc, &history)?;
+    let mut tickets = Vec::new(alloc);
+    for clock in 0..6 {
+        tickets.push(matching.ticket(clock))?;
+    }
+    Ok(tickets)
+}
+
 #[test]
 fn enqueues_of_initial_values_have_tickets_below_zero(rt: HostRuntime) -> Result<(), Fail> {
-    let history = history_behind(rt.alloc(), &[5, 6], &[op(0, 1, Deq(5))])?;
-    let matching = matching_of(rt.alloc(), &history)?;
-    for (clock, ticket) in [(0, -2), (1, -2), (2, -1), (3, -1), (4, 0), (5, 1)] {
-        assert_eq!(rt; matching.ticket(clock), ticket);
-    }
+    let tickets = first_tickets(rt.alloc())?;
+    assert_eq!(rt; tickets.as_slice(), [-2, -2, -1, -1, 0, 1].as_slice());
     Ok(())
 }
 
@@ -244,54 +279,68 @@ fn gap_or_sources(alloc: Global, matching: &Matching) -> Result<(Option<u64>, Ve
     }
 }
 
+/// The same of the operations behind initial values 5 and 6.
+fn gap_behind(alloc: Global, operations: &[Operation]) -> Result<(Option<u64>, Vec<Source>), Fail> {
+    let history = history_behind(alloc, &[5, 6], operations)?;
+    let matching = matching_of(alloc, &history)?;
+    gap_or_sources(alloc, &matching)
+}
+
 #[test]
 fn a_gap_is_told_by_tickets_of_the_history(rt: HostRuntime) -> Result<(), Fail> {
-    let alloc = rt.alloc();
-    let history = history_behind(
-        alloc,
-        &[5, 6],
-        &[op(0, 1, Deq(5)), by(1, 2, 5, Deq(6)), op(3, 4, Empty)],
-    )?;
-    let (gap, _) = gap_or_sources(alloc, &matching_of(alloc, &history)?)?;
+    let operations = [op(0, 1, Deq(5)), by(1, 2, 5, Deq(6)), op(3, 4, Empty)];
+    let (gap, _) = gap_behind(rt.alloc(), &operations)?;
     assert_eq!(rt; gap, Some(3));
-    let history = history_behind(alloc, &[5, 6], &[op(0, 1, Deq(5)), op(2, 3, Empty)])?;
-    let (gap, sources) = gap_or_sources(alloc, &matching_of(alloc, &history)?)?;
+    Ok(())
+}
+
+#[test]
+fn a_cover_is_told_by_sources_of_the_history(rt: HostRuntime) -> Result<(), Fail> {
+    let (gap, sources) = gap_behind(rt.alloc(), &[op(0, 1, Deq(5)), op(2, 3, Empty)])?;
     assert_eq!(rt; gap, None);
     assert_eq!(rt; sources.as_slice(), [Initial(1)].as_slice());
     Ok(())
 }
 
+/// The gaps, or the empty answer and the steps of its cover.
+type ToldWindows = Result<Vec<u64>, (OpId, Vec<CoverStep>)>;
+
+/// What is found of the windows of a matching.
+fn windows_of(alloc: Global, matching: &Matching) -> Result<ToldWindows, AllocError> {
+    match find_witness(alloc, matching)? {
+        WitnessAnswer::Gaps(gaps) => Ok(Ok(gaps.as_slice().to_vec(alloc)?)),
+        WitnessAnswer::Covered { empty, cover } => {
+            Ok(Err((empty, cover.as_slice().to_vec(alloc)?)))
+        }
+    }
+}
+
+/// The same of the operations behind an initial value 5.
+fn windows_behind(alloc: Global, operations: &[Operation]) -> Result<ToldWindows, Fail> {
+    let history = history_behind(alloc, &[5], operations)?;
+    let matching = matching_of(alloc, &history)?;
+    Ok(windows_of(alloc, &matching)?)
+}
+
 #[test]
 fn free_gaps_are_told_by_tickets_of_the_history(rt: HostRuntime) -> Result<(), Fail> {
-    let alloc = rt.alloc();
-    let history = history_behind(
-        alloc,
-        &[5],
-        &[op(0, 1, Deq(5)), op(2, 3, Empty), op(4, 5, enqueued(7))],
-    )?;
-    let matching = matching_of(alloc, &history)?;
-    let gaps = match find_witness(alloc, &matching)? {
-        WitnessAnswer::Gaps(gaps) => gaps,
-        WitnessAnswer::Covered { .. } => return Err(Fail::from("a covered window")),
-    };
+    let operations = [op(0, 1, Deq(5)), op(2, 3, Empty), op(4, 5, enqueued(7))];
+    let found = windows_behind(rt.alloc(), &operations)?;
+    let gaps = found.ok().ok_or("a covered window")?;
     assert_eq!(rt; gaps.as_slice(), [2].as_slice());
     Ok(())
 }
 
 #[test]
 fn a_covered_answer_is_told_by_its_place_in_the_history(rt: HostRuntime) -> Result<(), Fail> {
-    let alloc = rt.alloc();
-    let history = history_behind(alloc, &[5], &[op(0, 1, enqueued(7)), op(2, 3, Empty)])?;
-    match find_witness(alloc, &matching_of(alloc, &history)?)? {
-        WitnessAnswer::Gaps(_) => Err(Fail::from("no covered window")),
-        WitnessAnswer::Covered { empty, cover } => {
-            let step = CoverStep {
-                source: Initial(0),
-                dequeue: None,
-            };
-            assert_eq!(rt; empty, id(1));
-            assert_eq!(rt; cover.as_slice(), [step].as_slice());
-            Ok(())
-        }
-    }
+    let operations = [op(0, 1, enqueued(7)), op(2, 3, Empty)];
+    let found = windows_behind(rt.alloc(), &operations)?;
+    let (empty, cover) = found.err().ok_or("no covered window")?;
+    let step = CoverStep {
+        source: Initial(0),
+        dequeue: None,
+    };
+    assert_eq!(rt; empty, id(1));
+    assert_eq!(rt; cover.as_slice(), [step].as_slice());
+    Ok(())
 }
