@@ -4,6 +4,7 @@ use history_text::{
     Buffered, MemorySource, ReadFailed, TextFault, TextReader, TextSink, TextSource, Watched,
     WriteFault, at_end, is_at_end, read_history, read_schedule, read_verdict, write_piece,
 };
+use std::alloc::Global;
 use std::io;
 use std::io::{ErrorKind, Read, Write};
 use std::test::Fail;
@@ -110,30 +111,41 @@ fn a_refused_piece_is_not_written_on(rt: HostRuntime) {
     }
 }
 
-#[test]
-fn bytes_are_kept_back_until_the_flush(rt: HostRuntime) {
+/// How often a writer is called and flushed to which these pieces go through a buffer, which is flushed behind them or not.
+fn calls_of(pieces: &[&[u8]], is_flushed: bool) -> Result<(usize, usize), WriteFault> {
     let mut told = Told::new(&[]);
     let mut sink = Buffered::new(Watched::new(&mut told));
-    assert_eq!(rt; write_piece(b"abc", &mut sink), Ok(()));
-    assert_eq!(rt; write_piece(b"defg", &mut sink), Ok(()));
+    for piece in pieces {
+        write_piece(piece, &mut sink)?;
+    }
+    if is_flushed {
+        sink.flush()?;
+    }
     drop(sink);
-    assert_eq!(rt; told.calls, 0);
-    let mut sink = Buffered::new(Watched::new(&mut told));
-    assert_eq!(rt; write_piece(b"abc", &mut sink), Ok(()));
-    assert_eq!(rt; sink.flush(), Ok(()));
+    Ok((told.calls, told.flushes))
+}
+
+#[test]
+fn bytes_are_kept_back_until_the_flush(rt: HostRuntime) {
+    assert_eq!(rt; calls_of(&[b"abc", b"defg"], false), Ok((0, 0)));
+    assert_eq!(rt; calls_of(&[b"abc"], true), Ok((2, 1)));
+}
+
+/// What a buffer gives on of a thousand pieces of ten bytes.
+fn thousand_pieces(alloc: Global) -> Result<Vec<u8>, Fail> {
+    let mut bytes = Vec::new(alloc);
+    let mut sink = Buffered::new(Watched::new(&mut bytes));
+    for _ in 0..1000 {
+        write_piece(b"0123456789", &mut sink)?;
+    }
+    sink.flush()?;
     drop(sink);
-    assert_eq!(rt; (told.calls, told.flushes), (2, 1));
+    Ok(bytes)
 }
 
 #[test]
 fn many_bytes_go_on_in_large_pieces(rt: HostRuntime) -> Result<(), Fail> {
-    let mut bytes = Vec::new(rt.alloc());
-    let mut sink = Buffered::new(Watched::new(&mut bytes));
-    for _ in 0..1000 {
-        assert_eq!(rt; write_piece(b"0123456789", &mut sink), Ok(()));
-    }
-    assert_eq!(rt; sink.flush(), Ok(()));
-    drop(sink);
+    let bytes = thousand_pieces(rt.alloc())?;
     assert_eq!(rt; bytes.len(), 10_000);
     assert!(rt;
         bytes
@@ -141,11 +153,7 @@ fn many_bytes_go_on_in_large_pieces(rt: HostRuntime) -> Result<(), Fail> {
             .chunks(10)
             .all(|line| line == b"0123456789".as_slice())
     );
-    let mut told = Told::new(&[]);
-    let mut sink = Buffered::new(Watched::new(&mut told));
-    assert_eq!(rt; write_piece(bytes.as_slice(), &mut sink), Ok(()));
-    drop(sink);
-    assert_eq!(rt; told.calls, 2);
+    assert_eq!(rt; calls_of(&[bytes.as_slice()], false), Ok((2, 0)));
     Ok(())
 }
 

@@ -27,16 +27,21 @@ fn outcome(
     }
 }
 
+/// The version, the initial values and the events of a history alone in its input.
+fn parts_of(alloc: Global, text: &[u8]) -> Result<(Version, Vec<u64>, Vec<Event>), Fail> {
+    let mut reader = TextReader::new(MemorySource::new(text));
+    let text = read_any(alloc, &mut reader)?;
+    at_end(&mut reader)?;
+    Ok((
+        text.version,
+        text.initial.into_vec(),
+        text.events.into_vec(),
+    ))
+}
+
 #[test]
 fn reads_values_and_events(rt: HostRuntime) -> Result<(), Fail> {
-    let mut reader = TextReader::new(MemorySource::new(TEXT));
-    let text = read_any(rt.alloc(), &mut reader)?;
-    assert_eq!(rt; text.version, Version::Two);
-    assert_eq!(rt;
-        text.initial.as_slice(),
-        [274_877_906_944, 0, u64::MAX].as_slice()
-    );
-    let events = [
+    let expected = [
         (0, 0, What::CallDeq),
         (1, 0, What::RetDeq(274_877_906_944)),
         (2, 1, What::CallEnq(7)),
@@ -47,17 +52,23 @@ fn reads_values_and_events(rt: HostRuntime) -> Result<(), Fail> {
         thread,
         what,
     });
-    assert_eq!(rt; text.events.as_slice(), events.as_slice());
-    assert_eq!(rt; at_end(&mut reader), Ok(()));
+    let (version, initial, events) = parts_of(rt.alloc(), TEXT)?;
+    assert_eq!(rt; version, Version::Two);
+    assert_eq!(rt;
+        initial.as_slice(),
+        [274_877_906_944, 0, u64::MAX].as_slice()
+    );
+    assert_eq!(rt; events.as_slice(), expected.as_slice());
     Ok(())
 }
 
 #[test]
 fn reads_the_first_version(rt: HostRuntime) -> Result<(), Fail> {
-    let mut reader = TextReader::new(MemorySource::new(OLD_TEXT));
-    let text = read_any(rt.alloc(), &mut reader)?;
-    let counts = (text.initial.len(), text.events.len());
-    assert_eq!(rt; (text.version, counts), (Version::One, (0, 2)));
+    let (version, initial, events) = parts_of(rt.alloc(), OLD_TEXT)?;
+    assert_eq!(rt;
+        (version, initial.len(), events.len()),
+        (Version::One, 0, 2)
+    );
     Ok(())
 }
 
