@@ -55,91 +55,95 @@ fn operate_up_to_limit(machine: &mut Machine, thread: u8) -> Result<(), StepRefu
     Ok(())
 }
 
+/// An operation whose answer is told.
+const TOLD: [Case; 7] = [
+    (Step::AskDeq(0), Ok(Done::Ticket(0))),
+    (Step::Push(0), Ok(Done::Pushed)),
+    (
+        Step::Say(0, Answer::Got(5)),
+        Ok(Done::Answered(Answer::Got(5))),
+    ),
+    (Step::Ret(0), Ok(Done::Ticket(1))),
+    (Step::Push(0), Ok(Done::Pushed)),
+    (Step::Drain(0, 2), Ok(Done::Drained(2))),
+    (Step::Close(0), Ok(Done::Closed)),
+];
+
+/// Steps of a thread that the machine hasn't.
+const UNKNOWN: [Case; 8] = [
+    (Step::AskEnq(2), Err(StepRefused::NoThread)),
+    (Step::AskDeq(2), Err(StepRefused::NoThread)),
+    (Step::Drain(2, 1), Err(StepRefused::NoThread)),
+    (Step::Push(2), Err(StepRefused::NoThread)),
+    (Step::Effect(2), Err(StepRefused::NoThread)),
+    (Step::Say(2, Answer::Taken), Err(StepRefused::NoThread)),
+    (Step::Ret(2), Err(StepRefused::NoThread)),
+    (Step::Close(2), Err(StepRefused::NoThread)),
+];
+
+/// The close of thread 1 and steps behind it.
+const CLOSED: [Case; 9] = [
+    (Step::Close(1), Ok(Done::Closed)),
+    (Step::AskEnq(1), Err(StepRefused::Closed)),
+    (Step::AskDeq(1), Err(StepRefused::Closed)),
+    (Step::Push(1), Err(StepRefused::Closed)),
+    (Step::Effect(1), Err(StepRefused::Closed)),
+    (Step::Say(1, Answer::Empty), Err(StepRefused::Closed)),
+    (Step::Ret(1), Err(StepRefused::Closed)),
+    (Step::Close(1), Err(StepRefused::Closed)),
+    (Step::Drain(1, 3), Ok(Done::Drained(0))),
+];
+
+/// Steps of thread 0, each refused where it is too early or too late.
+const OPEN: [Case; 28] = [
+    (Step::Push(0), Err(StepRefused::NothingHeld)),
+    (Step::Effect(0), Err(StepRefused::NotPending)),
+    (Step::Say(0, Answer::Taken), Err(StepRefused::NotPending)),
+    (Step::Ret(0), Err(StepRefused::NotPending)),
+    (Step::AskEnq(0), Ok(Done::Ticket(0))),
+    (Step::AskEnq(0), Err(StepRefused::Held)),
+    (Step::AskDeq(0), Err(StepRefused::Held)),
+    (Step::Ret(0), Err(StepRefused::Held)),
+    (Step::Close(0), Err(StepRefused::Held)),
+    (Step::Push(0), Ok(Done::Pushed)),
+    (Step::AskEnq(0), Err(StepRefused::Pending)),
+    (Step::AskDeq(0), Err(StepRefused::Pending)),
+    (Step::Close(0), Err(StepRefused::Pending)),
+    (Step::Ret(0), Err(StepRefused::NoAnswer)),
+    (Step::Say(0, Answer::Got(1)), Err(StepRefused::WrongAnswer)),
+    (Step::Say(0, Answer::Empty), Err(StepRefused::WrongAnswer)),
+    (Step::Effect(0), Ok(Done::Answered(Answer::Taken))),
+    (Step::Effect(0), Err(StepRefused::AnswerTaken)),
+    (Step::Say(0, Answer::Not), Err(StepRefused::AnswerTaken)),
+    (Step::Ret(0), Ok(Done::Ticket(1))),
+    (Step::Push(0), Ok(Done::Pushed)),
+    (Step::AskDeq(0), Ok(Done::Ticket(2))),
+    (Step::Push(0), Err(StepRefused::RingFull)),
+    (Step::Say(0, Answer::Taken), Err(StepRefused::WrongAnswer)),
+    (Step::Say(0, Answer::Not), Err(StepRefused::WrongAnswer)),
+    (Step::Drain(0, 1), Ok(Done::Drained(1))),
+    (Step::Push(0), Ok(Done::Pushed)),
+    (Step::Effect(0), Ok(Done::Answered(Answer::Got(0)))),
+];
+
 #[test]
 fn an_answer_that_was_told(rt: HostRuntime) -> Result<(), Fail> {
     let mut machine = Machine::new(rt.alloc(), 1, 2)?;
-    let cases = [
-        (Step::AskDeq(0), Ok(Done::Ticket(0))),
-        (Step::Push(0), Ok(Done::Pushed)),
-        (
-            Step::Say(0, Answer::Got(5)),
-            Ok(Done::Answered(Answer::Got(5))),
-        ),
-        (Step::Ret(0), Ok(Done::Ticket(1))),
-        (Step::Push(0), Ok(Done::Pushed)),
-        (Step::Drain(0, 2), Ok(Done::Drained(2))),
-        (Step::Close(0), Ok(Done::Closed)),
-    ];
-    take_all(&rt, &mut machine, &cases);
+    take_all(&rt, &mut machine, &TOLD);
     assert!(rt; machine.done());
-    assert_eq!(rt;
-        machine.collected(0),
-        [event(0, What::CallDeq), event(1, What::RetDeq(5))].as_slice()
-    );
+    let expected = [event(0, What::CallDeq), event(1, What::RetDeq(5))];
+    assert_eq!(rt; machine.collected(0), expected.as_slice());
     Ok(())
 }
 
 #[test]
 fn each_refusal_of_each_step(rt: HostRuntime) -> Result<(), Fail> {
     let mut machine = Machine::new(rt.alloc(), 2, 2)?;
-    let unknown = [
-        (Step::AskEnq(2), Err(StepRefused::NoThread)),
-        (Step::AskDeq(2), Err(StepRefused::NoThread)),
-        (Step::Drain(2, 1), Err(StepRefused::NoThread)),
-        (Step::Push(2), Err(StepRefused::NoThread)),
-        (Step::Effect(2), Err(StepRefused::NoThread)),
-        (Step::Say(2, Answer::Taken), Err(StepRefused::NoThread)),
-        (Step::Ret(2), Err(StepRefused::NoThread)),
-        (Step::Close(2), Err(StepRefused::NoThread)),
-    ];
-    let closed = [
-        (Step::Close(1), Ok(Done::Closed)),
-        (Step::AskEnq(1), Err(StepRefused::Closed)),
-        (Step::AskDeq(1), Err(StepRefused::Closed)),
-        (Step::Push(1), Err(StepRefused::Closed)),
-        (Step::Effect(1), Err(StepRefused::Closed)),
-        (Step::Say(1, Answer::Empty), Err(StepRefused::Closed)),
-        (Step::Ret(1), Err(StepRefused::Closed)),
-        (Step::Close(1), Err(StepRefused::Closed)),
-        (Step::Drain(1, 3), Ok(Done::Drained(0))),
-    ];
-    let open = [
-        (Step::Push(0), Err(StepRefused::NothingHeld)),
-        (Step::Effect(0), Err(StepRefused::NotPending)),
-        (Step::Say(0, Answer::Taken), Err(StepRefused::NotPending)),
-        (Step::Ret(0), Err(StepRefused::NotPending)),
-        (Step::AskEnq(0), Ok(Done::Ticket(0))),
-        (Step::AskEnq(0), Err(StepRefused::Held)),
-        (Step::AskDeq(0), Err(StepRefused::Held)),
-        (Step::Ret(0), Err(StepRefused::Held)),
-        (Step::Close(0), Err(StepRefused::Held)),
-        (Step::Push(0), Ok(Done::Pushed)),
-        (Step::AskEnq(0), Err(StepRefused::Pending)),
-        (Step::AskDeq(0), Err(StepRefused::Pending)),
-        (Step::Close(0), Err(StepRefused::Pending)),
-        (Step::Ret(0), Err(StepRefused::NoAnswer)),
-        (Step::Say(0, Answer::Got(1)), Err(StepRefused::WrongAnswer)),
-        (Step::Say(0, Answer::Empty), Err(StepRefused::WrongAnswer)),
-        (Step::Effect(0), Ok(Done::Answered(Answer::Taken))),
-        (Step::Effect(0), Err(StepRefused::AnswerTaken)),
-        (Step::Say(0, Answer::Not), Err(StepRefused::AnswerTaken)),
-        (Step::Ret(0), Ok(Done::Ticket(1))),
-        (Step::Push(0), Ok(Done::Pushed)),
-        (Step::AskDeq(0), Ok(Done::Ticket(2))),
-        (Step::Push(0), Err(StepRefused::RingFull)),
-        (Step::Say(0, Answer::Taken), Err(StepRefused::WrongAnswer)),
-        (Step::Say(0, Answer::Not), Err(StepRefused::WrongAnswer)),
-        (Step::Drain(0, 1), Ok(Done::Drained(1))),
-        (Step::Push(0), Ok(Done::Pushed)),
-        (Step::Effect(0), Ok(Done::Answered(Answer::Got(0)))),
-    ];
-    take_all(&rt, &mut machine, &unknown);
-    take_all(&rt, &mut machine, &closed);
-    take_all(&rt, &mut machine, &open);
-    assert_eq!(rt;
-        machine.collected(0),
-        [event(0, What::CallEnq(0))].as_slice()
-    );
+    take_all(&rt, &mut machine, &UNKNOWN);
+    take_all(&rt, &mut machine, &CLOSED);
+    take_all(&rt, &mut machine, &OPEN);
+    let expected = [event(0, What::CallEnq(0))];
+    assert_eq!(rt; machine.collected(0), expected.as_slice());
     Ok(())
 }
 

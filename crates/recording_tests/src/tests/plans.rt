@@ -1,3 +1,5 @@
+ghost use Rattle.std.specs.Prelude.{◌≤◌};
+
 use rand_core::{Rng, SeedableRng};
 use rand_pcg::Pcg64;
 use std::alloc::{AllocError, Global};
@@ -77,20 +79,29 @@ fn first_words_are_the_published_ones(rt: HostRuntime) {
     }
 }
 
+// The text of the plan of one operation after this seed.
+fn seeded(alloc: Global, seed: u64, percent: u8) -> Result<String, AllocError>
+    requires { percent ≤ 100 }
+{
+    let plan = Plan::from_seed(alloc, seed, 1, 1, percent)?;
+    written(alloc, &plan)
+}
+
 // Enqueues exactly where the word's last two digits are below the percentage.
 #[test]
 fn first_words_decide_first_kinds(rt: HostRuntime) -> Result<(), Fail> {
-    for (seed, digits) in [(0, 75), (1, 99), (42, 37)] {
-        let below = Plan::from_seed(rt.alloc(), seed, 1, 1, digits)?;
-        let above = Plan::from_seed(rt.alloc(), seed, 1, 1, digits + 1)?;
+    let cases = [
+        (0, 75, "D\n"),
+        (0, 76, "E\n"),
+        (1, 99, "D\n"),
+        (1, 100, "E\n"),
+        (42, 37, "D\n"),
+        (42, 38, "E\n"),
+    ];
+    for (seed, percent, text) in cases {
         assert_eq!(rt;
-            written(rt.alloc(), &below)?.as_str(),
-            "D\n",
-            "after {seed}"
-        );
-        assert_eq!(rt;
-            written(rt.alloc(), &above)?.as_str(),
-            "E\n",
+            seeded(rt.alloc(), seed, percent)?.as_str(),
+            text,
             "after {seed}"
         );
     }

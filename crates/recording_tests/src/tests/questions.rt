@@ -45,15 +45,14 @@ fn event(ticket: u64, what: What) -> Event {
 
 #[test]
 fn values_are_named_by_thread_and_number(rt: HostRuntime) -> Result<(), Fail> {
-    assert_eq!(rt; first_values(rt.alloc(), 0)?, (0, 1));
-    assert_eq!(rt;
-        first_values(rt.alloc(), 1)?,
-        (4_294_967_296, 4_294_967_297)
-    );
-    assert_eq!(rt;
-        first_values(rt.alloc(), 63)?,
-        (270_582_939_648, 270_582_939_649)
-    );
+    let cases = [
+        (0, (0, 1)),
+        (1, (4_294_967_296, 4_294_967_297)),
+        (63, (270_582_939_648, 270_582_939_649)),
+    ];
+    for (thread, values) in cases {
+        assert_eq!(rt; first_values(rt.alloc(), thread)?, values);
+    }
     Ok(())
 }
 

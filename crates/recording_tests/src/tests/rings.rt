@@ -1,5 +1,5 @@
 use super::calls::{call, push_calls, three_calls};
-use event_records::ThreadNo;
+use event_records::{Event, ThreadNo};
 use event_rings::{FinishFault, MAX_RING, ring};
 use std::alloc::Global;
 use std::test::Fail;
@@ -32,20 +32,31 @@ fn a_pushed_event_is_drained(rt: HostRuntime) -> Result<(), Fail> {
     Ok(())
 }
 
+// What is seen of a ring of two events to which a third is pushed: the event that comes back, what is drained then, and what is
+// sealed after the event was pushed again.
+fn overfilled(alloc: Global, thread: ThreadNo) -> Result<(Event, Vec<Event>, Vec<Event>), Fail> {
+    let (first, second, third) = three_calls(alloc, thread)?;
+    let (mut push, mut drain) = ring(alloc, thread, 2)?;
+    if push.push(first).is_err() || push.push(second).is_err() {
+        return Err(Fail::from("no room"));
+    }
+    let back = push.push(third).err().ok_or("full")?;
+    let handed_back = back.event();
+    let drained = drain.drain(1)?;
+    if push.push(back).is_err() {
+        return Err(Fail::from("no room"));
+    }
+    let token = push.close().ok().ok_or("closed")?;
+    let sealed = drain.finish(token)?;
+    Ok((handed_back, drained, sealed.into_events()))
+}
+
 #[test]
 fn a_full_ring_hands_the_event_back(rt: HostRuntime) -> Result<(), Fail> {
     let thread = ThreadNo::new(0).ok_or("thread")?;
-    let (first, second, third) = three_calls(rt.alloc(), thread)?;
-    let (mut push, mut drain) = ring(rt.alloc(), thread, 2)?;
-    assert!(rt; push.push(first).is_ok());
-    assert!(rt; push.push(second).is_ok());
-    let back = push.push(third).err().ok_or("full")?;
-    assert_eq!(rt; back.event(), call(2));
-    let drained = drain.drain(1)?;
+    let (back, drained, sealed) = overfilled(rt.alloc(), thread)?;
+    assert_eq!(rt; back, call(2));
     assert_eq!(rt; drained.as_slice(), [call(0)].as_slice());
-    assert!(rt; push.push(back).is_ok());
-    let token = push.close().ok().ok_or("closed")?;
-    let sealed = drain.finish(token)?.into_events();
     assert_eq!(rt; sealed.as_slice(), [call(1), call(2)].as_slice());
     Ok(())
 }

@@ -69,38 +69,51 @@ fn seal_one(alloc: Global, collector: Collector, token: CloseToken) -> Result<Ve
     Ok(collector.seal(vec![in alloc; token]?)?.into_vec())
 }
 
-#[test]
-fn no_event_is_lost(rt: HostRuntime) -> Result<(), Fail> {
-    let alloc = rt.alloc();
+// How many events a round drains of a ring of two, and all that is sealed after a third is pushed.
+fn drained_and_sealed(alloc: Global) -> Result<(u64, Vec<Vec<Event>>), Fail> {
     let thread = ThreadNo::new(0).ok_or("thread")?;
     let (mut push, drain) = ring(alloc, thread, 2)?;
     let (first, second, third) = three_calls(alloc, thread)?;
     let mut collector = Collector::new(alloc, vec![in alloc; drain]?)?;
-    assert!(rt; push.push(first).is_ok() && push.push(second).is_ok());
-    assert_eq!(rt; drain_two(&mut collector)?, 2);
-    assert!(rt; push.push(third).is_ok());
+    if push.push(first).is_err() || push.push(second).is_err() {
+        return Err(Fail::from("no room"));
+    }
+    let drained = drain_two(&mut collector)?;
+    if push.push(third).is_err() {
+        return Err(Fail::from("no room"));
+    }
     let token = push.close().ok().ok_or("closed")?;
-    let lists = seal_one(alloc, collector, token)?;
-    assert_eq!(rt; lists.len(), 1);
+    Ok((drained, seal_one(alloc, collector, token)?))
+}
+
+#[test]
+fn no_event_is_lost(rt: HostRuntime) -> Result<(), Fail> {
+    let (drained, lists) = drained_and_sealed(rt.alloc())?;
+    assert_eq!(rt; (drained, lists.len()), (2, 1));
     assert_eq!(rt; lists[0].as_slice(), [call(0), call(1), call(2)].as_slice());
     Ok(())
 }
 
-#[test]
-fn the_greatest_rings_are_drained_and_sealed(rt: HostRuntime) -> Result<(), Fail> {
-    let alloc = rt.alloc();
+// How many events two rounds drain of a ring of the greatest size, which is filled before each, and how many are sealed in the
+// longest list after it is filled once more.
+fn greatest(alloc: Global) -> Result<(u64, u64, Option<usize>), Fail> {
     let thread = ThreadNo::new(0).ok_or("thread")?;
     let (mut push, drain) = ring(alloc, thread, MAX_RING)?;
     let mut collector = Collector::with_room(alloc, vec![in alloc; drain]?, 200_000)?;
     push_calls(alloc, &mut push, thread, MAX_RING)?;
-    assert_eq!(rt; drain_full(&mut collector)?, 65_536);
+    let first = drain_full(&mut collector)?;
     push_calls(alloc, &mut push, thread, MAX_RING)?;
-    assert_eq!(rt; drain_full(&mut collector)?, 65_536);
+    let second = drain_full(&mut collector)?;
     push_calls(alloc, &mut push, thread, MAX_RING)?;
     let token = push.close().ok().ok_or("closed")?;
     let lists = seal_one(alloc, collector, token)?;
-    let longest = lists.iter().map(|list| list.len()).max();
-    assert_eq!(rt; longest, Some(196_608));
+    Ok((first, second, lists.iter().map(|list| list.len()).max()))
+}
+
+#[test]
+fn the_greatest_rings_are_drained_and_sealed(rt: HostRuntime) -> Result<(), Fail> {
+    let found = greatest(rt.alloc())?;
+    assert_eq!(rt; found, (65_536, 65_536, Some(196_608)));
     Ok(())
 }
 

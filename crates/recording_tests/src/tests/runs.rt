@@ -133,27 +133,40 @@ fn is_first_enqueue(worker: usize, events: &[Event]) -> bool {
     }
 }
 
+// A worker each that enqueues once.
+const THIRTY_TWO: &str =
+    "E\nE\nE\nE\nE\nE\nE\nE\nE\nE\nE\nE\nE\nE\nE\nE\nE\nE\nE\nE\nE\nE\nE\nE\nE\nE\nE\nE\nE\nE\nE\nE\n";
+
+// Whether each list has the call and the return of its worker's first enqueue.
+fn are_first_enqueues(recorded: &Recorded) -> bool {
+    let lists = recorded.lists().as_slice();
+    for (worker, list) in lists.iter().enumerate() {
+        if !is_first_enqueue(worker, list.as_slice()) {
+            return false;
+        }
+    }
+    lists.len() == 32
+}
+
+// Whether the lists of a run of such workers are theirs, how many tickets it drew, and which are recorded.
+fn run_thirty_two<R>(rt: &R) -> Result<(bool, u64, Vec<u64>), Fail>
+where
+    R: AllocGlobal + Threads + Sync,
+{
+    let alloc = rt.alloc();
+    let plan = Plan::from_text(alloc, THIRTY_TWO)?;
+    let queue = a_value_of_each(alloc)?;
+    let recorded = run(rt, alloc, &queue, &plan, 2, 1_000_000)?;
+    let tickets = tickets_of(alloc, &recorded)?;
+    Ok((are_first_enqueues(&recorded), recorded.total(), tickets))
+}
+
 #[test]
 fn thirty_two_workers_are_recorded(rt: HostRuntime) -> Result<(), Fail> {
-    let alloc = rt.alloc();
-    let plan = Plan::from_text(
-        alloc,
-        "E\nE\nE\nE\nE\nE\nE\nE\nE\nE\nE\nE\nE\nE\nE\nE\nE\nE\nE\nE\nE\nE\nE\nE\nE\nE\nE\nE\nE\nE\nE\nE\n",
-    )?;
-    let queue = a_value_of_each(alloc)?;
-    let recorded = run(&rt, alloc, &queue, &plan, 2, 1_000_000)?;
-    assert_eq!(rt;
-        (recorded.total(), recorded.lists().as_slice().len()),
-        (64, 32)
-    );
-    for (worker, list) in recorded.lists().as_slice().iter().enumerate() {
-        assert!(rt; is_first_enqueue(worker, list.as_slice()));
-    }
-    let numbers: Vec<u64> = (0..64).collect(alloc)?;
-    assert_eq!(rt;
-        tickets_of(alloc, &recorded)?.as_slice(),
-        numbers.as_slice()
-    );
+    let (are_theirs, total, tickets) = run_thirty_two(&rt)?;
+    assert_eq!(rt; (are_theirs, total), (true, 64));
+    let numbers: Vec<u64> = (0..64).collect(rt.alloc())?;
+    assert_eq!(rt; tickets.as_slice(), numbers.as_slice());
     Ok(())
 }
 
