@@ -115,6 +115,24 @@ HasSources = HasSourcesBy IsSourceOf
 abbrev pub HasNear : List Operation → ℕ → List (Option ℕ) → Type 0
 HasNear = HasSourcesBy IsNearSource
 
+-- no source is needed at first
+pub sources_none : (Is : List Operation → OpKind → Option ℕ → Type 0) (operations : List Operation) → HasSourcesBy Is operations 0 []
+sources_none Is operations = record { one_each = refl; each = λ i o below at. absurd (omega (arith, below)) }
+
+-- an operation that is no dequeue has no source
+pub no_source : (operations : List Operation) (kind : OpKind) → ((v : ℕ) → ¬ (kind ≡ Deq v)) → IsSourceOf operations kind None
+no_source operations (Deq v) other = absurd (other v refl)
+no_source operations (Enq v) other = refl
+no_source operations (Not v) other = refl
+no_source operations Empty other = refl
+
+-- nor one near by
+pub no_near_source : (operations : List Operation) (kind : OpKind) → ((v : ℕ) → ¬ (kind ≡ Deq v)) → IsNearSource operations kind None
+no_near_source operations (Deq v) other = tt
+no_near_source operations (Enq v) other = refl
+no_near_source operations (Not v) other = refl
+no_near_source operations Empty other = refl
+
 -- the source of one operation more
 pub sources_push : (Is : List Operation → OpKind → Option ℕ → Type 0) (operations : List Operation) (n : ℕ) (o : Operation)
     (sources : List (Option ℕ)) (source : Option ℕ) → IsAt operations n o → Is operations o.kind source
