@@ -142,3 +142,10 @@ module _ (rest : PassView) (done : List WorkerView) (w : WorkerView) where
     stalls = still_stalls fault fault' (λ none. let was = none_of fault _ none p.closed in was.1.running) p.stalls not_later stall;
     stands = still_stands standing fault fault' p.stands stands;
   }
+
+-- what is known of all workers when none is left to close
+pub all_closed : (rest : PassView) (workers done left : List WorkerView) (standing : Option RunFault) (tokens : List TokenView) (pass : PassView)
+    (fault : Option RunFault) → workers ≡ done ++ left → left ≡ [] → IsClosing rest done standing tokens pass fault
+    → IsClosing rest workers standing tokens pass fault
+all_closed rest workers done left standing tokens pass fault are none p =
+    subst (λ ws. IsClosing rest ws standing tokens pass fault) (sym (are ∙ ap (λ l. done ++ l) none ∙ append-nil done)) p

@@ -1,8 +1,9 @@
 -- A crew with one worker more.
 use Rattle.std.proofs.Common.{◌≡◌, ℕ, suc, ◌+◌, ◌*◌, ◌-◌, ◌<◌, ◌≤◌, List, [], ◌∷◌, ◌++◌, length, map, take, drop, get_or, sum_by, ap, sym, subst, ◌∙◌}
-use Rattle.std.proofs.Common.{arith, add-one, length-append, length-take-le}
+use Rattle.std.proofs.Common.{refl, arith, add-one, length-append, length-take-le}
+use Rattle.std.proofs.Math.ListN.{drop_of_length-le}
 use Rattle.std.proofs.Math.Seq.{take-suc, drop-cons}
-use Rattle.std.proofs.lemmas.List.{map-append}
+use Rattle.std.proofs.lemmas.List.{map-append, take_all}
 use Rattle.std.proofs.lemmas.List.Sums.{sum_by-cons}
 use Rattle.atomic_table.specs.Seated.{TableId}
 use Rattle.tickets.specs.Views.{PassView, numbers_below}
@@ -20,6 +21,24 @@ pub record IsMaking (key : TableId) (sizes : SizesView) (rows : List (List Kind)
   pub crew : IsCrew key sizes (take place rows) workers
   pub ends_are : ends ≡ map end_of workers
   pub rest_is : rest ≡ record { key = key; left = 2 * sum_by length (drop place rows); drawn = [] }
+
+-- no worker is made at first
+pub made_none : (key : TableId) (sizes : SizesView) (rows : List (List Kind)) (rest : PassView) (workers : List WorkerView) (ends : List DrainView)
+    → rest ≡ record { key = key; left = 2 * sum_by length rows; drawn = [] } → workers ≡ [] → ends ≡ [] → IsMaking key sizes rows 0 rest workers ends
+made_none key sizes rows rest workers ends is none no_ends = record {
+  crew = subst (λ ws. IsCrew key sizes [] ws) (sym none) (record { threads = refl; each = tt });
+  ends_are = no_ends ∙ ap (map end_of) (sym none);
+  rest_is = is;
+}
+
+-- with a worker for each row the crew is whole, and nothing is left of the pass
+pub made_all : (key : TableId) (sizes : SizesView) (rows : List (List Kind)) (place : ℕ) (rest : PassView) (workers : List WorkerView) (ends : List DrainView)
+    → length rows ≤ place → IsMaking key sizes rows place rest workers ends
+    → IsCrew key sizes rows workers × (rest ≡ record { key = key; left = 0; drawn = [] })
+made_all key sizes rows place rest workers ends all p = (
+  subst (λ rs. IsCrew key sizes rs workers) (take_all place rows all) p.crew,
+  p.rest_is ∙ ap (λ (rs : List (List Kind)). record { key = key; left = 2 * sum_by length rs; drawn = [] }) (drop_of_length-le rows all),
+)
 
 crew_more : (key : TableId) (sizes : SizesView) (rows : List (List Kind)) (workers : List WorkerView) (row : List Kind) (w : WorkerView)
     → IsCrew key sizes rows workers → IsNew key sizes row w → w.thread ≡ length rows → IsCrew key sizes (rows ++ row ∷ []) (workers ++ w ∷ [])

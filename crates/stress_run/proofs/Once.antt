@@ -1,12 +1,13 @@
 -- One operation as a worker's whole work.
-use Rattle.std.proofs.Common.{◌≡◌, ℕ, ◌+◌, ◌<◌, ◌≤◌, [], ◌∷◌, ◌++◌, length, All, refl, ap, sym, ◌∙◌, arith, subst, append_assoc, length-append, inr}
+use Rattle.std.proofs.Common.{◌≡◌, ℕ, ◌+◌, ◌<◌, ◌≤◌, [], ◌∷◌, ◌++◌, length, All, refl, ap, sym, ◌∙◌, arith, subst, append_assoc, length-append, inl, inr}
 use Rattle.std.proofs.Common.{true, false}
 use Rattle.std.proofs.lemmas.List.Elements.{All-push, All-cons}
 use Rattle.std.proofs.lemmas.Bool.{false≢true}
 use Rattle.std.specs.List.Sorted.{IsStrictlyIncreasing}
 use Rattle.stress_run.proofs.Composed.{rising-join, All-left, All-right}
 use Rattle.tickets.specs.Views.{PassView, DrawnView, DrawsOne}
-use Rattle.std.specs.Prelude.{IsTrue}
+use Rattle.std.proofs.Common.{Result, Ok, Err}
+use Rattle.std.specs.Prelude.{IsTrue, OnErr}
 use Rattle.event_records.specs.Question.{Answered, NamerView, Question, call_event, call_what, next_question, return_event, return_what, value_name}
 use Rattle.event_records.specs.Turns.{answers}
 use Rattle.event_records.specs.declared.event.Event.{Event}
@@ -97,6 +98,40 @@ stalls_after k w u q ret p asked s filled ran d e =
       asks_one = let one = s.4 in omega (arith, one);
       idle = λ h. absurd (false≢true (sym ran ∙ h));
     }
+
+-- a stopped worker that stays as it is stalls
+pub stalls_still : (k : Kind) (w : WorkerView) → w.stopped ≡ true → w.capacity ≤ length w.sent → Stalls k w w
+stalls_still k w stopped filled = record {
+  same = record { thread = refl; ring = refl; capacity = refl; tries = refl; key = refl; share = refl };
+  stopped = stopped;
+  filled = filled;
+  sent = inl refl;
+  draws_few = omega arith;
+  asks_one = omega arith;
+  idle = λ _. refl;
+}
+
+-- an operation whose call can't be pushed stalls its worker
+pub stalls_at_call : (k : Kind) (w b u : WorkerView) (p : PassView) (ticket asked : ℕ) → b ≡ w → w.stopped ≡ false → DrawsOne b.pass ticket p
+    → asked ≡ b.asked + 1 → u ≡ record b { pass = p; asked = asked; stopped = true } → b.capacity ≤ length b.sent → Stalls k w u
+stalls_at_call k w b u p ticket asked opened ran draws counted ended filled =
+    let d = subst (λ (x : WorkerView). DrawsOne x.pass ticket p) opened draws in
+    let one = subst (λ (x : WorkerView). asked ≡ x.asked + 1) opened counted in
+    let grown = ap length d.drawn ∙ length-append w.pass.drawn (ticket ∷ []) in
+    subst (Stalls k w) (sym (ended ∙ ap (λ (x : WorkerView). record x { pass = p; asked = asked; stopped = true }) opened)) (record {
+      same = record { thread = refl; ring = refl; capacity = refl; tries = refl; key = d.key; share = omega (arith, grown, d.left) };
+      stopped = refl;
+      filled = subst (λ (x : WorkerView). x.capacity ≤ length x.sent) opened filled;
+      sent = inl refl;
+      draws_few = omega (arith, d.left);
+      asks_one = omega (arith, one);
+      idle = λ h. absurd (false≢true (sym ran ∙ h));
+    })
+
+-- what holds anyhow holds where there is an error
+pub on_err : {A E : Type 0} (r : Result A E) (P : Type 0) → P → OnErr r P
+on_err (Ok x) P p = tt
+on_err (Err e) P p = p
 
 -- a worker that drew a ticket, and sent an event
 abbrev sent_by : PassView → Event → WorkerView → WorkerView

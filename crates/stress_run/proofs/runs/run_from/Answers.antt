@@ -1,8 +1,10 @@
-use Rattle.std.proofs.Common.{ℕ, List, IfOk, refl, subst}
-use Rattle.std.proofs.lemmas.Result.{IfErr-weaker}
+use Rattle.std.proofs.Common.{◌∙◌, ℕ, List, IfOk, refl, ap, subst, rules, inl}
+use Rattle.std.proofs.lemmas.Result.{IfOk-weaker, IfErr-weaker}
 use Rattle.event_records.specs.declared.event.Event.{Event}
 use Rattle.history_merge.specs.Initial.{IsCompleteFrom}
 use Rattle.history_merge.specs.Merge.{IsMerged}
+use Rattle.recorder_core.specs.Replay.{Replays}
+use Rattle.stress_run.specs.Crew.{SizesView}
 use Rattle.stress_run.proofs.Preloads.{fault_from, names_no_value}
 use Rattle.stress_run.proofs.runs.run_from.Goals as goal
 
@@ -19,3 +21,37 @@ returns-clause-fault g c =
 pub returns-clause-refused : goal.returns-clause-refused
 returns-clause-refused g c = λ place is.
     absurd (names_no_value _ c.args.plan.now _ c.run_within.result place is c.run_within.ensures.fault)
+
+pub returns-in_default-clause-sizes : goal.returns-in_default-clause-sizes
+returns-in_default-clause-sizes g c = λ _. refl
+
+pub returns-in_default-clause-names : goal.returns-in_default-clause-names
+returns-in_default-clause-names g c = λ _. inl refl
+
+pub returns-clause-recorded : goal.returns-clause-recorded
+returns-clause-recorded g c = c.run_within.ensures.recorded
+
+pub returns-clause-initial : goal.returns-clause-initial
+returns-clause-initial g c = IfOk-weaker c.run_within.result _ _ (λ r same. same ∙ c.in_ok-held.ensures.items) c.run_within.ensures.initial
+
+pub returns-clause-lists : goal.returns-clause-lists
+returns-clause-lists g c = c.run_within.ensures.lists
+
+pub returns-clause-replays : goal.returns-clause-replays
+returns-clause-replays g c =
+    let ring = ap (λ (s : SizesView). s.ring) c.in-Some.ensures.sizes in
+    IfOk-weaker c.run_within.result _ _ (λ r h.
+    subst (λ (n : ℕ). Replays n c.args.initial.now r.lists) ring
+    (subst (λ (values : List ℕ). Replays c.in-Some.sizes.ring values r.lists) c.in_ok-held.ensures.items h)) c.run_within.ensures.replays
+
+pub returns-clause-sizes : goal.returns-clause-sizes
+returns-clause-sizes g c = λ not_within. absurd (not_within (c.in-Some.ensures.limits.0 refl))
+
+pub run_within-requires : goal.run_within-requires
+run_within-requires g c = (search rules, (search rules, (rw c.in_ok-held.ensures.items (search rules), rw c.in_ok-held.ensures.items (search rules))))
+
+pub returns-in_err-preload_all-clause-names : goal.returns-in_err-preload_all-clause-names
+returns-in_err-preload_all-clause-names g c = λ not_names. absurd (not_names (search rules))
+
+pub returns-clause-names : goal.returns-clause-names
+returns-clause-names g c = λ not_names. absurd (not_names (search rules))

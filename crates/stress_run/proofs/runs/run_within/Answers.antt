@@ -95,3 +95,17 @@ returns-in_err-tokens-clause-fault g c =
     c.in_err-tokens.field-0.0) rows
     (stands_in_run _ _ _ _ e.workers _ _ k.worked [] _ _ c.requires.sizes c.standing_fault-standing.ensures.memory closed.stands closed.stalls) in
     search rules
+
+pub make_crew-requires-clause-plan : goal.make_crew-requires-clause-plan
+make_crew-requires-clause-plan g c =
+    let r = c.rows-rows.ensures in
+    subst IsPlan (sym r.rows) r.limits
+
+pub close_all-requires-clause-rest : goal.close_all-requires-clause-rest
+close_all-requires-clause-rest g c = ap (λ (pass : PassView). pass.key) c.in_ok-rest.ensures.rest
+
+pub seal-requires-clause-granted : goal.seal-requires-clause-granted
+seal-requires-clause-granted g c = c.standing_fault-standing.ensures.granted c.in_ok-tokens.ensures.clear
+
+pub close-total-requires-clause-key : goal.close-total-requires-clause-key
+close-total-requires-clause-key g c = c.in_ok-tokens.ensures.closed.key ∙ ap (λ (pass : PassView). pass.key) c.in_ok-rest.ensures.rest

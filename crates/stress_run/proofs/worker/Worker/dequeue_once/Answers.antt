@@ -1,6 +1,10 @@
-use Rattle.std.proofs.Common.{ap, sym, ◌∙◌, refl}
+use Rattle.std.proofs.Common.{◌<◌, ap, sym, subst, ◌∙◌, refl, arith}
 use Rattle.std.proofs.lemmas.Result.{IfOk-weaker, IfErr-weaker}
-use Rattle.stress_run.proofs.Once.{works_once, stalls_once}
+use Rattle.stress_run.proofs.Once.{works_once, stalls_once, stalls_at_call, on_err}
+use Rattle.event_records.specs.Question.{NamerView, Question}
+use Rattle.event_records.specs.declared.event.Event.{Event}
+use Rattle.event_records.specs.declared.limits.TheConstants.{NAMES_OF_A_THREAD}
+use Rattle.stress_run.specs.Workers.{WorkerView}
 use Rattle.event_records.specs.declared.kind.Kind.TheVariants.{Deq}
 use Rattle.stress_run.proofs.worker.Worker.dequeue_once.Goals as goal
 
@@ -22,3 +26,36 @@ returns-clause-stalls g c =
     c.draw.ensures.drawn (asks.question, asks.noted, ap (λ x. x.asked) asks.counted) c.in_ok-record.ensures.sent c.self-2.view_is
     c.stamp-returned.ensures.drawn c.requires.running ended.1 ended.0)
     c.record-2.ensures.stopped
+
+pub draw-requires-clause-pass_key : goal.draw-requires-clause-pass_key
+draw-requires-clause-pass_key g c = ap (λ (w : WorkerView). w.pass.key) c.self.view_is ∙ c.requires.key
+
+pub draw-requires-clause-some_left : goal.draw-requires-clause-some_left
+draw-requires-clause-some_left g c = subst (λ (w : WorkerView). 0 < w.pass.left) (sym c.self.view_is) (omega (arith, c.requires.left))
+
+pub ask_deq-ask-requires : goal.ask_deq-ask-requires
+ask_deq-ask-requires g c = subst (λ (w : WorkerView). w.asked < NAMES_OF_A_THREAD) (sym c.self.view_is) c.requires.room
+
+pub invariant_of-self : goal.invariant_of-self
+invariant_of-self g c = (ap (λ (n : NamerView). n.thread) c.ask_deq-ask.ensures.counted ∙ c.self.invariant.0, c.self.invariant.1, c.self.invariant.2)
+
+pub record-requires : goal.record-requires
+record-requires g c =
+    let asks = c.ask_deq-ask.ensures in
+    ap (λ (e : Event). e.thread) asks.noted ∙ ap (λ (q : Question). q.thread) asks.question ∙ c.self.invariant.0
+
+pub stamp-returned-requires-clause-some_left : goal.stamp-returned-requires-clause-some_left
+stamp-returned-requires-clause-some_left g c =
+    let once = c.draw.ensures.drawn.left in
+    let had = ap (λ (w : WorkerView). w.pass.left) c.self.view_is in
+    let has = ap (λ (w : WorkerView). w.pass.left) (c.self-2.view_is ∙ c.in_ok-record.ensures.sent) in
+    omega (arith, c.requires.left, once, had, has)
+
+pub invariant_of-self-2 : goal.invariant_of-self-2
+invariant_of-self-2 g c = c.self-2.invariant
+
+pub returns-in_err-record-clause-stalls : goal.returns-in_err-record-clause-stalls
+returns-in_err-record-clause-stalls g c =
+    let full = c.in_err-record.ensures.stopped in
+    on_err c.from_residual.result _ (stalls_at_call Deq _ _ _ _ _ _ c.self.view_is c.requires.running c.draw.ensures.drawn
+    (ap (λ (n : NamerView). n.asked) c.ask_deq-ask.ensures.counted) full.0 full.1)
