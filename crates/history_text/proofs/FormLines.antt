@@ -1,5 +1,5 @@
 -- Lines that are read by a table: what is written is read back, and what is read is spelled so.
-use Rattle.std.proofs.Common.{◌≡◌, ℕ, ◌<◌, List, ◌++◌, true, ap, subst, ◌∙◌, Some, Ok}
+use Rattle.std.proofs.Common.{◌≡◌, ℕ, ◌<◌, List, ◌++◌, true, refl, ap, subst, ◌∙◌, Some, Ok}
 use Rattle.std.specs.declared.result.Result.{Result}
 use Rattle.std.specs.List.{AllByRecursion, list_all}
 use Rattle.text_lines.specs.declared.fault.TextFault.{TextFault}
@@ -48,3 +48,8 @@ item_read format n k ending item rest is few = item_front format n k ending item
 pub line_read : {A : Type 0} (read : ℕ → List (List ℕ) → Result A TextFault) (fields : List (List ℕ)) (said : A) → IsReadAs read fields said
     → Says read (line (spaced fields)) said
 line_read read fields said is = λ n ending rest. line_front read n ending fields said rest is.one (is.read_back n)
+
+-- what a table says of a line is made an item
+pub read_as : {T A : Type 0} (table : Table T) (make : T → List ℕ → A) (n : ℕ) (fields : List (List ℕ)) (t : T) (numbers : List ℕ)
+    → Ok (t, numbers) ≡ judged n table fields → Ok (make t numbers) ≡ read_by table make n fields
+read_as table make n fields t numbers said = rw (← said) refl
