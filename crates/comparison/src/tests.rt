@@ -14,7 +14,7 @@ use history_merge::History;
 use std::alloc::Global;
 use std::process::Abort;
 use std::test::Fail;
-use value_match::{Matched, match_values};
+use value_match::{Matched, Matching, match_values};
 use verdicts::{Claimed, Verdict, ViolationKind, claim, decide, verify};
 
 /// The histories of each rate of lies.
@@ -92,16 +92,21 @@ fn the_claim_of_a_large_verdict_is_true(rt: HostRuntime) -> Result<(), Fail> {
     Ok(())
 }
 
-/// What is found of the window of the first empty answer.
-fn first_gap(alloc: Global, history: &History) -> Result<GapAnswer, Fail> {
-    let Matched::Clear(matching) = match_values(alloc, history)? else {
-        return Err(Fail::from("a value that was not there, or came twice"));
-    };
+/// What is found of the window of the first empty answer of a matching.
+fn first_gap_in(alloc: Global, matching: &Matching) -> Result<GapAnswer, Fail> {
     let empties = matching.empties();
     if empties.len() == 0 {
         return Err(Fail::from("no empty answer"));
     }
-    Ok(gap_for(alloc, &matching, empties.get(0))?)
+    Ok(gap_for(alloc, matching, empties.get(0))?)
+}
+
+/// The same of a history.
+fn first_gap(alloc: Global, history: &History) -> Result<GapAnswer, Fail> {
+    match match_values(alloc, history)? {
+        Matched::Clear(matching) => first_gap_in(alloc, &matching),
+        _ => Err(Fail::from("a value that was not there, or came twice")),
+    }
 }
 
 #[test]

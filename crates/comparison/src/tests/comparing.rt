@@ -20,22 +20,45 @@ enum Plain {
     Witness(OpId, Vec<CoverStep>),
 }
 
+/// The verdict on a history, and the kind of violation that it claims, if it claims one.
+fn decided(
+    alloc: Global,
+    history: &History,
+) -> Result<(Verdict, Option<ViolationKind>), AllocError> {
+    let verdict = decide(alloc, history)?;
+    let kind = match claim(alloc, history, &verdict)? {
+        Claimed::Yes(_) => None,
+        Claimed::No(kind, _) => Some(kind),
+    };
+    Ok((verdict, kind))
+}
+
+/// Compares the answers about the matching of a history, or gives the kind of the violation for which there is none.
+fn compare_matched(
+    rt: &impl Abort,
+    alloc: Global,
+    history: &History,
+    verdict: &Verdict,
+) -> Result<Option<ViolationKind>, Fail> {
+    match match_values(alloc, history)? {
+        Matched::Fresh(_) => Ok(Some(ViolationKind::VFresh)),
+        Matched::Repeat(_) => Ok(Some(ViolationKind::VRepeat)),
+        Matched::Clear(matching) => {
+            compare_clear(rt, alloc, &matching, verdict)?;
+            Ok(None)
+        }
+    }
+}
+
 /// Compares the answers about this history, and gives the kind of its violation, if it has one.
 pub fn compare(
     rt: &impl Abort,
     alloc: Global,
     history: &History,
 ) -> Result<Option<ViolationKind>, Fail> {
-    let verdict = decide(alloc, history)?;
-    let kind = match claim(alloc, history, &verdict)? {
-        Claimed::Yes(_) => None,
-        Claimed::No(kind, _) => Some(kind),
-    };
-    match match_values(alloc, history)? {
-        Matched::Fresh(_) => assert_eq!(rt; kind, Some(ViolationKind::VFresh)),
-        Matched::Repeat(_) => assert_eq!(rt; kind, Some(ViolationKind::VRepeat)),
-        Matched::Clear(matching) => compare_clear(rt, alloc, &matching, &verdict)?,
-    }
+    let (verdict, kind) = decided(alloc, history)?;
+    let unmatched = compare_matched(rt, alloc, history, &verdict)?;
+    assert!(rt; unmatched.is_none() || unmatched == kind, "{kind:?}");
     Ok(kind)
 }
 
