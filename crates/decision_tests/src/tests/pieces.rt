@@ -3,8 +3,10 @@ use super::small_histories::{
     by, covered_by_two, dequeued_later, hidden, history_of, in_turn, matching_of, never_empty,
     once_empty, op, overlapping, overtaken,
 };
+use empty_witness::WitnessAnswer;
 use history_merge::OpKind::{Deq, Empty, Enq};
 use history_merge::Operation;
+use order_violation::OrderPair;
 use parallel_finders::{find_order_par, find_witness_par, order_in_pieces, witness_in_pieces};
 use std::alloc::{AllocError, Global};
 use std::process::Abort;
@@ -15,6 +17,18 @@ use value_match::Matching;
 /// What the two searches find: the places of the pair, if there is one, and the windows.
 type Found = (Option<Vec<usize>>, Windows);
 
+/// The places that the two answers name.
+fn places_of(
+    alloc: Global,
+    pair: Option<OrderPair>,
+    answer: &WitnessAnswer,
+) -> Result<Found, AllocError> {
+    Ok((
+        places_of_pair(alloc, pair)?,
+        places_of_witness(alloc, answer)?,
+    ))
+}
+
 /// What the searches find, cut into pieces although the operations are few.
 fn found_in_pieces<R: Threads + Sync>(
     rt: &R,
@@ -24,10 +38,7 @@ fn found_in_pieces<R: Threads + Sync>(
 ) -> Result<Found, AllocError> {
     let pair = order_in_pieces(rt, alloc, matching, pieces)?;
     let answer = witness_in_pieces(rt, alloc, matching, pieces)?;
-    Ok((
-        places_of_pair(alloc, pair)?,
-        places_of_witness(alloc, &answer)?,
-    ))
+    places_of(alloc, pair, &answer)
 }
 
 /// What the searches find of these operations, cut into pieces.
@@ -117,10 +128,7 @@ fn found_par<R: Threads + Sync>(
 ) -> Result<Found, AllocError> {
     let pair = find_order_par(rt, alloc, matching, 64)?;
     let answer = find_witness_par(rt, alloc, matching, 64)?;
-    Ok((
-        places_of_pair(alloc, pair)?,
-        places_of_witness(alloc, &answer)?,
-    ))
+    places_of(alloc, pair, &answer)
 }
 
 /// The same of these operations.
