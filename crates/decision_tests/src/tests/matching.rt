@@ -94,12 +94,13 @@ fn accepts(
     Ok(are(&matching.filled().values(), expected))
 }
 
-/// The places of the empty answers of these operations, and those of the refused enqueues.
-fn others(alloc: Global, operations: &[Operation]) -> Result<[Vec<OpId>; 2], Fail> {
+/// How many operations the matching of these has, the places of the empty answers, and those of the refused enqueues.
+fn others(alloc: Global, operations: &[Operation]) -> Result<(usize, [Vec<OpId>; 2]), Fail> {
     let history = history_of(alloc, operations)?;
     let matching = matching_of(alloc, &history)?;
     let empties = matching.filled().empties().to_vec(alloc)?;
-    Ok([empties, matching.filled().refused().to_vec(alloc)?])
+    let refused = matching.filled().refused().to_vec(alloc)?;
+    Ok((matching.operations().len(), [empties, refused]))
 }
 
 /// A value of these operations, with their places.
@@ -124,7 +125,8 @@ fn matches_a_history_without_such_violations(rt: HostRuntime) -> Result<(), Fail
         value_of((2, enq_9), None),
     ];
     assert!(rt; accepts(rt.alloc(), &operations, &values)?);
-    let [empties, refused] = others(rt.alloc(), &operations)?;
+    let (count, [empties, refused]) = others(rt.alloc(), &operations)?;
+    assert_eq!(rt; count, 5);
     assert_eq!(rt; empties.as_slice(), [OpId::new(4)].as_slice());
     assert_eq!(rt; refused.as_slice(), [OpId::new(3)].as_slice());
     Ok(())
