@@ -2,7 +2,7 @@
 
 /// The version of the program, as CHANGELOG.md has it, and in a second line the kit that proves and builds it.
 pub(crate) const VERSION: &str =
-    "0.1.0\nproved and built with rattle-kit-13b logic dac8208d650f15bf";
+    "0.1.0\nproved and built with rattle-kit-13f logic dac8208d650f15bf";
 
 pub(crate) const ABOUT: &str = "Records and judges histories of a concurrent FIFO queue";
 
