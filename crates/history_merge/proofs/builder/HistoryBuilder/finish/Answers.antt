@@ -25,3 +25,10 @@ returns-in-Some-clause-refused c = λ events gathered complete.
 
 pub returns-in-Some-least_pending-clause-refused : goal.returns-in-Some-least_pending-clause-refused
 returns-in-Some-least_pending-clause-refused c = λ events. left_pending c.args.self _ events c.in_default.is c.in-Some-least_pending.ensures
+
+pub returns-in-Some-least_pending-clause-outcome : goal.returns-in-Some-least_pending-clause-outcome
+returns-in-Some-least_pending-clause-outcome c = λ events gathered.
+    let known = still_forming events c.args.self c.in_default.is gathered in (known.no_fault, c.in-Some-least_pending.ensures events known.tracked)
+
+pub returns-in-Some-least_pending-clause-complete : goal.returns-in-Some-least_pending-clause-complete
+returns-in-Some-least_pending-clause-complete c = λ events gathered. tt
