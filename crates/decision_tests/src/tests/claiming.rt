@@ -46,11 +46,7 @@ pub fn expect_claim<R>(rt: &R, history: &History, expected: &Claimed) -> Result<
 where
     R: Abort + AllocGlobal + Threads + Sync,
 {
-    let claimed = claimed_of(rt.alloc(), history)?;
-    assert!(rt;
-        are_same(&claimed, expected),
-        "{claimed:?} is not {expected:?}"
-    );
+    assert!(rt; are_same(&claimed_of(rt.alloc(), history)?, expected));
     assert!(rt; verify(rt.alloc(), history, expected)?);
     for pieces in [1, 2, 3, 64] {
         assert!(rt; are_same(&claimed_in(rt, history, pieces)?, expected));

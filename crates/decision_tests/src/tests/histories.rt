@@ -1,6 +1,6 @@
 ghost use Rattle.std.specs.Prelude.{◌≤◌, length};
 
-use super::small_histories::{at, by, hidden, overlapping};
+use super::small_histories::{at, by, hidden, history_of, overlapping};
 use event_records::{Event, Lists, MAX_EVENTS, What};
 use history_merge::{History, HistoryFault, OpKind, Operation, history, merge};
 use std::alloc::{AllocError, Global};
@@ -16,14 +16,10 @@ fn judged(alloc: Global, events: &[Event]) -> Result<Result<History, HistoryFaul
     }
 }
 
+/// What no text can tell: tickets and threads above the greatest.
 #[test]
 fn names_the_first_fault(rt: HostRuntime) -> Result<(), Fail> {
-    let call_enq = What::CallEnq(7);
-    let cases: [(&[Event], HistoryFault); 13] = [
-        (
-            &[at(5, 0, What::CallDeq), at(5, 0, What::RetEmpty)],
-            HistoryFault::TicketOrder(1),
-        ),
+    let cases: [(&[Event], HistoryFault); 4] = [
         (
             &[at(5, 0, What::CallDeq), at(4, 64, What::CallDeq)],
             HistoryFault::TicketOrder(1),
@@ -34,45 +30,6 @@ fn names_the_first_fault(rt: HostRuntime) -> Result<(), Fail> {
         ),
         (&[at(0, 64, What::CallDeq)], HistoryFault::BadThread(0)),
         (&[at(0, 64, What::RetEnq)], HistoryFault::BadThread(0)),
-        (
-            &[at(0, 0, What::CallDeq), at(1, 0, What::CallDeq)],
-            HistoryFault::CallWhilePending(1),
-        ),
-        (
-            &[at(0, 0, call_enq), at(1, 0, call_enq)],
-            HistoryFault::CallWhilePending(1),
-        ),
-        (
-            &[at(0, 0, What::RetEmpty)],
-            HistoryFault::ReturnWithoutCall(0),
-        ),
-        (
-            &[at(0, 0, call_enq), at(1, 1, What::RetEnq)],
-            HistoryFault::ReturnWithoutCall(1),
-        ),
-        (
-            &[at(0, 0, call_enq), at(1, 0, What::RetEmpty)],
-            HistoryFault::WrongReturn(1),
-        ),
-        (
-            &[
-                at(10, 0, call_enq),
-                at(11, 0, What::RetEnq),
-                at(12, 0, call_enq),
-                at(13, 0, What::RetEnq),
-            ],
-            HistoryFault::DuplicateValue(2),
-        ),
-        (&[at(0, 0, call_enq)], HistoryFault::Pending(0)),
-        (
-            &[
-                at(3, 5, What::CallDeq),
-                at(4, 2, What::CallDeq),
-                at(6, 2, What::RetEmpty),
-                at(8, 0, call_enq),
-            ],
-            HistoryFault::Pending(3),
-        ),
     ];
     for (events, fault) in cases {
         assert!(rt; events.len() <= MAX_EVENTS);
@@ -81,54 +38,17 @@ fn names_the_first_fault(rt: HostRuntime) -> Result<(), Fail> {
     Ok(())
 }
 
+/// Whether the history of these operations shows them.
+fn shows(alloc: Global, operations: &[Operation]) -> Result<bool, Fail> {
+    Ok(history_of(alloc, operations)?.operations() == operations)
+}
+
 #[test]
 fn shows_operations_by_their_calls(rt: HostRuntime) -> Result<(), Fail> {
-    let cases: [(&[Event], &[Operation]); 4] = [
-        (&[], &[]),
-        (
-            &[
-                at(0, 0, What::CallEnq(7)),
-                at(1, 1, What::CallEnq(9)),
-                at(2, 0, What::RetEnq),
-                at(3, 1, What::RetEnq),
-                at(4, 0, What::CallDeq),
-                at(5, 0, What::RetDeq(9)),
-                at(6, 0, What::CallDeq),
-                at(7, 0, What::RetDeq(7)),
-            ],
-            &overlapping(),
-        ),
-        (
-            &[
-                at(0, 0, What::CallEnq(7)),
-                at(1, 1, What::CallDeq),
-                at(2, 2, What::CallDeq),
-                at(3, 1, What::RetDeq(7)),
-                at(4, 1, What::CallEnq(9)),
-                at(5, 1, What::RetEnq),
-                at(6, 0, What::RetEnq),
-                at(7, 2, What::RetDeq(9)),
-            ],
-            &hidden(),
-        ),
-        (
-            &[
-                at(999_999_999_996, 63, What::CallEnq(u64::MAX)),
-                at(999_999_999_997, 0, What::CallDeq),
-                at(999_999_999_998, 63, What::RetNot),
-                at(999_999_999_999, 0, What::RetEmpty),
-            ],
-            &[
-                by(63, 999_999_999_996, 999_999_999_998, OpKind::Not(u64::MAX)),
-                by(0, 999_999_999_997, 999_999_999_999, OpKind::Empty),
-            ],
-        ),
-    ];
-    for (events, operations) in cases {
-        assert!(rt; events.len() <= MAX_EVENTS);
-        let history = judged(rt.alloc(), events)?.expect(&rt, "a complete history");
-        assert_eq!(rt; history.events(), events);
-        assert_eq!(rt; history.operations(), operations);
+    let refused = by(63, 999_999_999_996, 999_999_999_998, OpKind::Not(u64::MAX));
+    let empty = by(0, 999_999_999_997, 999_999_999_999, OpKind::Empty);
+    for operations in [[].as_slice(), &overlapping(), &hidden(), &[refused, empty]] {
+        assert!(rt; shows(rt.alloc(), operations)?, "{operations:?}");
     }
     Ok(())
 }

@@ -40,71 +40,26 @@ fn gathered(
     }
 }
 
+/// What no text can tell: a ticket and a thread above the greatest.
 #[test]
 fn names_the_first_fault_of_initial_values_and_events(rt: HostRuntime) -> Result<(), Fail> {
-    let call_enq = What::CallEnq(7);
-    let cases: [(&[u64], &[Event], HistoryFault); 11] = [
-        (&[5, 5], &[], HistoryFault::InitialTwice(1)),
-        (&[4, 5, 6, 5, 4, 4], &[], HistoryFault::InitialTwice(3)),
-        (
-            &[5, 5],
-            &[at(1_000_000_000_000, 0, What::CallDeq)],
-            HistoryFault::InitialTwice(1),
-        ),
-        (
-            &[5, 5],
-            &[at(0, 0, call_enq)],
-            HistoryFault::InitialTwice(1),
-        ),
-        (
-            &[7],
-            &[at(0, 0, call_enq), at(1, 0, What::RetEnq)],
-            HistoryFault::DuplicateValue(0),
-        ),
-        (
-            &[6, 7, 8],
-            &[at(0, 0, call_enq)],
-            HistoryFault::DuplicateValue(0),
-        ),
-        (&[7], &[at(0, 64, call_enq)], HistoryFault::BadThread(0)),
-        (
-            &[7],
-            &[
-                at(1, 0, What::CallDeq),
-                at(0, 1, What::CallDeq),
-                at(2, 2, call_enq),
-            ],
-            HistoryFault::TicketOrder(1),
-        ),
-        (
-            &[7],
-            &[at(1, 0, call_enq), at(0, 0, What::RetEnq)],
-            HistoryFault::DuplicateValue(0),
-        ),
-        (
-            &[7],
-            &[at(3, 0, What::CallEnq(6)), at(4, 1, call_enq)],
-            HistoryFault::DuplicateValue(1),
-        ),
-        (&[6, 8], &[at(3, 0, call_enq)], HistoryFault::Pending(3)),
+    let late = [at(1_000_000_000_000, 0, What::CallDeq)];
+    let of_no_thread = [at(0, 64, What::CallEnq(7))];
+    let cases: [(&[u64], [Event; 1], HistoryFault); 2] = [
+        (&[5, 5], late, HistoryFault::InitialTwice(1)),
+        (&[7], of_no_thread, HistoryFault::BadThread(0)),
     ];
     for (initial, events, fault) in cases {
         assert!(rt; initial.len() <= MAX_INITIAL);
-        assert!(rt; events.len() <= MAX_EVENTS);
-        assert_eq!(rt; judged(rt.alloc(), initial, events)?.err(), Some(fault));
-        assert_eq!(rt; gathered(rt.alloc(), initial, events)?.err(), Some(fault));
+        assert_eq!(rt; judged(rt.alloc(), initial, &events)?.err(), Some(fault));
+        assert_eq!(rt; gathered(rt.alloc(), initial, &events)?.err(), Some(fault));
     }
     Ok(())
 }
 
-/// What a history shows of itself: its initial values, its events and its operations.
-fn shown(
-    alloc: Global,
-    history: &History,
-) -> Result<(Vec<u64>, Vec<Event>, Vec<Operation>), AllocError> {
-    let initial = history.initial().to_vec(alloc)?;
-    let events = history.events().to_vec(alloc)?;
-    Ok((initial, events, history.operations().to_vec(alloc)?))
+/// Whether a history shows these initial values, events and operations.
+fn shows(history: &History, initial: &[u64], events: &[Event], operations: &[Operation]) -> bool {
+    history.initial() == initial && history.events() == events && history.operations() == operations
 }
 
 /// Three initial values, and the events of two operations.
@@ -130,10 +85,7 @@ fn operations_of_two() -> [Operation; 2] {
 fn shows_its_parts(rt: HostRuntime) -> Result<(), Fail> {
     let (values, given) = overlapping_two();
     let history = judged(rt.alloc(), &values, &given)?.expect(&rt, "a complete history");
-    let (initial, events, operations) = shown(rt.alloc(), &history)?;
-    assert_eq!(rt; initial.as_slice(), values.as_slice());
-    assert_eq!(rt; events.as_slice(), given.as_slice());
-    assert_eq!(rt; operations.as_slice(), operations_of_two().as_slice());
+    assert!(rt; shows(&history, &values, &given, &operations_of_two()));
     Ok(())
 }
 

@@ -162,10 +162,7 @@ fn finds_the_same_in_any_pieces(rt: HostRuntime) -> Result<(), Fail> {
 
 #[test]
 fn finds_one_value_in_any_pieces(rt: HostRuntime) -> Result<(), Fail> {
-    let (pair, answer) = found_of_rounds(&rt, 3000)?;
-    let places = pair.ok_or("no pair is found")?;
-    assert_eq!(rt; places.as_slice(), [9000, 9002, 9003].as_slice());
-    let covered = answer.as_ref().err().ok_or("no window is covered")?;
-    assert_eq!(rt; covered.as_slice(), [9001, 9000].as_slice());
+    let one = expected(rt.alloc(), Some(&[9000, 9002, 9003]), Err(&[9001, 9000]))?;
+    assert_eq!(rt; found_of_rounds(&rt, 3000)?, one);
     Ok(())
 }

@@ -60,32 +60,59 @@ fn found_of(rt: &impl AllocGlobal, operations: &[Operation]) -> Result<Found, Fa
     Ok(found_in(rt, &matching)?)
 }
 
+/// Whether this is what is found of a window.
+fn is_window(window: &Window, expected: Result<u64, &[usize]>) -> bool {
+    match (window, expected) {
+        (Ok(gap), Ok(free)) => *gap == free,
+        (Err(places), Err(cover)) => places.as_slice() == cover,
+        _ => false,
+    }
+}
+
+/// Whether these places are found: of a pair, and of the first window.
+fn is_found(found: &Found, pair: Option<&[usize]>, first: Option<Result<u64, &[usize]>>) -> bool {
+    let is_pair = match (&found.pair, pair) {
+        (None, None) => true,
+        (Some(places), Some(expected)) => places.as_slice() == expected,
+        _ => false,
+    };
+    let is_first = match (&found.first, first) {
+        (None, None) => true,
+        (Some(window), Some(expected)) => is_window(window, expected),
+        _ => false,
+    };
+    is_pair && is_first
+}
+
+/// Whether these are all windows: their gaps, or the places of a covered one.
+fn are_windows(windows: &Windows, expected: Result<&[u64], &[usize]>) -> bool {
+    match (windows, expected) {
+        (Ok(gaps), Ok(free)) => gaps.as_slice() == free,
+        (Err(places), Err(covered)) => places.as_slice() == covered,
+        _ => false,
+    }
+}
+
 #[test]
 fn finds_overtaken_values(rt: HostRuntime) -> Result<(), Fail> {
-    assert!(rt; found_of(&rt, &overlapping())?.pair.is_none());
-    let found = found_of(&rt, &overtaken())?;
-    let places = found.pair.ok_or("no pair is found")?;
-    assert_eq!(rt; places.as_slice(), [0, 1, 2].as_slice());
+    let none = found_of(&rt, &overlapping())?;
+    assert!(rt; is_found(&none, None, None) && are_windows(&none.windows, Ok(&[])));
+    let pair = found_of(&rt, &overtaken())?;
+    assert!(rt; is_found(&pair, Some(&[0, 1, 2]), None) && are_windows(&pair.windows, Ok(&[])));
     Ok(())
 }
 
 #[test]
 fn finds_free_gaps(rt: HostRuntime) -> Result<(), Fail> {
     let found = found_of(&rt, &once_empty())?;
-    let gaps = found.windows.ok().ok_or("the window is not covered")?;
-    assert_eq!(rt; gaps.as_slice(), [4].as_slice());
-    let first = found.first.ok_or("no answer is empty")?;
-    assert_eq!(rt; first.ok(), Some(4));
+    assert!(rt; is_found(&found, None, Some(Ok(4))) && are_windows(&found.windows, Ok(&[4])));
     Ok(())
 }
 
 #[test]
 fn finds_covers(rt: HostRuntime) -> Result<(), Fail> {
     let found = found_of(&rt, &never_empty())?;
-    let covered = found.windows.err().ok_or("the window is covered")?;
-    assert_eq!(rt; covered.as_slice(), [1, 0, 3, 2, 4].as_slice());
-    let first = found.first.ok_or("no answer is empty")?;
-    let cover = first.err().ok_or("the window is covered")?;
-    assert_eq!(rt; cover.as_slice(), [0, 3, 2, 4].as_slice());
+    assert!(rt; is_found(&found, None, Some(Err(&[0, 3, 2, 4]))));
+    assert!(rt; are_windows(&found.windows, Err(&[1, 0, 3, 2, 4])));
     Ok(())
 }

@@ -1,14 +1,9 @@
-use super::outcomes::{check_fronts, known};
-use super::{schedules, texts};
+use super::outcomes::known;
+use super::texts;
 use event_records::{Event, MAX_THREAD, MAX_TICKET, What};
 use history_text::{MemorySource, TextFault, TextReader, at_end, read_history};
 use std::alloc::{AllocError, Global};
 use std::test::Fail;
-
-/// Values that overlap, and are dequeued in the other order.
-const OVERLAPPING: &str =
-    "fifo-history 1\n0 0 call-enq 7\n1 1 call-enq 9\n2 0 ret-enq\n3 1 ret-enq\n\
-    4 0 call-deq\n5 0 ret-deq 9\n6 0 call-deq\n7 0 ret-deq 7\nend 8\n";
 
 /// A queue that was never empty, and answered so.
 const NEVER_EMPTY: &str =
@@ -18,10 +13,6 @@ const NEVER_EMPTY: &str =
 /// The greatest ticket, thread and value.
 const GREATEST: &str = "fifo-history 1\n999999999998 63 call-enq 18446744073709551615\n\
     999999999999 63 ret-enq\nend 2\n";
-
-/// A schedule of one thread that enqueues and dequeues.
-const SCHEDULE: &[u8] =
-    b"fifo-schedule 1\nthreads 1 ring 2\nask-enq 0\npush 0\neffect 0\nret 0\npush 0\ndrain 0 2\nend 6\n";
 
 /// A number without leading zeros, up to the greatest.
 fn plain_number(field: &str, greatest: u64) -> Option<u64> {
@@ -130,21 +121,6 @@ fn read(alloc: Global, text: &[u8]) -> Result<Option<Vec<Event>>, AllocError> {
 }
 
 #[test]
-fn every_front_of_a_history_is_cut(rt: HostRuntime) -> Result<(), Fail> {
-    for text in [OVERLAPPING, NEVER_EMPTY, GREATEST] {
-        check_fronts(
-            &rt,
-            rt.alloc(),
-            text.as_bytes(),
-            usize::MAX,
-            TextFault::Cut,
-            texts::outcome,
-        )?;
-    }
-    Ok(())
-}
-
-#[test]
 fn what_was_read_before_a_failure_is_judged(rt: HostRuntime) -> Result<(), Fail> {
     let cases: [(&[u8], TextFault); 5] = [
         (b"fifo-history 3\n", TextFault::Header),
@@ -158,18 +134,6 @@ fn what_was_read_before_a_failure_is_judged(rt: HostRuntime) -> Result<(), Fail>
         assert_eq!(rt; found, Err(fault), "{text:?}");
     }
     Ok(())
-}
-
-#[test]
-fn every_front_of_a_schedule_is_cut(rt: HostRuntime) -> Result<(), Fail> {
-    check_fronts(
-        &rt,
-        rt.alloc(),
-        SCHEDULE,
-        usize::MAX,
-        TextFault::Cut,
-        schedules::outcome,
-    )
 }
 
 /// Whether this reader takes a text exactly where the plain one does, with the same events, and these print as it.

@@ -17,28 +17,6 @@ pub fn known<T>(answer: Result<T, TextFault>) -> Result<Result<T, TextFault>, Al
     }
 }
 
-/// Checks what each of these inputs gives.
-pub fn check_each<T, F>(
-    rt: &impl Abort,
-    alloc: Global,
-    cases: &[(&[u8], Result<T, TextFault>)],
-    outcome: F,
-) -> Result<(), Fail>
-where
-    T: PartialEq + Debug + Drop,
-    F: Fn(Global, MemorySource<'_>) -> Result<Result<T, TextFault>, AllocError>,
-    requires { F.IsAlwaysCallable outcome }
-{
-    for (text, expected) in cases {
-        assert_eq!(rt;
-            outcome(alloc, MemorySource::new(text))?,
-            *expected,
-            "{text:?}"
-        );
-    }
-    Ok(())
-}
-
 /// Checks that each front of a text gives this fault, in pieces of so many bytes. The source fails behind the front if the fault
 /// is `Read`, and ends there otherwise.
 pub fn check_fronts<T, F>(

@@ -3,7 +3,7 @@ ghost use Rattle.history_merge.specs.Operations.{operations_of};
 ghost use Rattle.history_text.specs.Verdicts.{IsWithin, places_of};
 ghost use Rattle.verdicts.specs.declared.shown.LinePlace.TheVariants.{Op};
 
-use super::outcomes::{check_each, check_fronts, known};
+use super::outcomes::{check_fronts, known};
 use event_records::{Event, What};
 use history_merge::{History, OpId, history, history_from};
 use history_text::{
@@ -25,21 +25,6 @@ pub fn outcome(
         Ok(events) => Ok(at_end(&mut reader).map(|()| events.len())),
         Err(fault) => Ok(Err(fault)),
     }
-}
-
-/// So many digits, with something before and after them.
-fn with_digits(
-    alloc: Global,
-    front: &[u8],
-    count: usize,
-    back: &[u8],
-) -> Result<Vec<u8>, AllocError> {
-    let mut text = Vec::from_slice(alloc, front)?;
-    for _ in 0..count {
-        text.push(b'1')?;
-    }
-    text.extend_from_slice(back)?;
-    Ok(text)
 }
 
 const TEXT: &[u8] = b"fifo-history 1\n0 0 call-enq 7\n1 0 ret-enq\n2 1 call-deq\n3 1 ret-deq 7\n\
@@ -66,131 +51,6 @@ fn reads_each_word(rt: HostRuntime) -> Result<(), Fail> {
     });
     assert_eq!(rt; events.as_slice(), expected.as_slice());
     assert_eq!(rt; at_end(&mut reader), Ok(()));
-    Ok(())
-}
-
-#[test]
-fn first_faults(rt: HostRuntime) -> Result<(), Fail> {
-    let cases: [(&[u8], Result<usize, TextFault>); 36] = [
-        (b"", Err(TextFault::Cut)),
-        (b"fifo-history 1\nend 0\n", Ok(0)),
-        (b"fifo-history 3\nend 0\n", Err(TextFault::Header)),
-        (b"fifo-history 1\r\nend 0\n", Err(TextFault::Header)),
-        (b"fifo-history 1 \nend 0\n", Err(TextFault::Header)),
-        (b"fifo-histo", Err(TextFault::Cut)),
-        (b"fifo-history 1\n", Err(TextFault::Cut)),
-        (b"fifo-history 1\nend 0", Err(TextFault::Cut)),
-        (
-            b"fifo-history 1\n0 0 call-enq 7\n1 0 ret-enq\n",
-            Err(TextFault::Cut),
-        ),
-        (
-            b"fifo-history 1\n0 0 call-enq 7\n1 0 ret-enq\n2 0 call-deq\n3 0 ret-deq 7\nend 3\n",
-            Err(TextFault::Count),
-        ),
-        (b"fifo-history 1\nend 1\n", Err(TextFault::Count)),
-        (
-            b"fifo-history 1\nend 99999999999999999999999\n",
-            Err(TextFault::Count),
-        ),
-        (b"fifo-history 1\nend 0\n\n", Err(TextFault::Trailing)),
-        (b"fifo-history 1\nend \n", Err(TextFault::Number(2))),
-        (b"fifo-history 1\nend 00\n", Err(TextFault::Number(2))),
-        (b"fifo-history 1\nend 0 0\n", Err(TextFault::Number(2))),
-        (b"fifo-history 1\nend 0\r\n", Err(TextFault::Number(2))),
-        (b"fifo-history 1\nend\n", Err(TextFault::Line(2))),
-        (b"fifo-history 1\n\nend 0\n", Err(TextFault::Line(2))),
-        (
-            b"fifo-history 1\n0 0 call-enq 07\nend 1\n",
-            Err(TextFault::Number(2)),
-        ),
-        (
-            b"fifo-history 1\n0 0 call-enq\nend 1\n",
-            Err(TextFault::Line(2)),
-        ),
-        (
-            b"fifo-history 1\n0 0 ret-enq 7\nend 1\n",
-            Err(TextFault::Line(2)),
-        ),
-        (
-            b"fifo-history 1\n0 0 call-enq 7 7\nend 1\n",
-            Err(TextFault::Line(2)),
-        ),
-        (
-            b"fifo-history 1\n0 0 ret-enq\r\nend 1\n",
-            Err(TextFault::Line(2)),
-        ),
-        (
-            b"fifo-history 1\n0 0 ret\0enq\nend 1\n",
-            Err(TextFault::Line(2)),
-        ),
-        (
-            b"fifo-history 1\n\0 0 ret-enq\nend 1\n",
-            Err(TextFault::Number(2)),
-        ),
-        (
-            b"fifo-history 1\n0  0 ret-enq\nend 1\n",
-            Err(TextFault::Line(2)),
-        ),
-        (
-            b"fifo-history 1\n0  ret-enq\nend 1\n",
-            Err(TextFault::Number(2)),
-        ),
-        (
-            b"fifo-history 1\n0 0 call-enq \nend 1\n",
-            Err(TextFault::Number(2)),
-        ),
-        (
-            b"fifo-history 1\n1000000000000 0 ret-enq\nend 1\n",
-            Err(TextFault::Limit(2)),
-        ),
-        (
-            b"fifo-history 1\n0 64 ret-enq\nend 1\n",
-            Err(TextFault::Limit(2)),
-        ),
-        (
-            b"fifo-history 1\n0 0 call-enq 18446744073709551616\nend 1\n",
-            Err(TextFault::Limit(2)),
-        ),
-        (
-            b"fifo-history 1\n07 64 ret-enq\nend 1\n",
-            Err(TextFault::Number(2)),
-        ),
-        (
-            b"fifo-history 1\n0 64 call-enq 07\nend 1\n",
-            Err(TextFault::Limit(2)),
-        ),
-        (
-            b"fifo-history 1\n07 0 ret\nend 1\n",
-            Err(TextFault::Line(2)),
-        ),
-        (
-            b"fifo-history 1\n0 0 ret-enq\n1 0 call-deq\n2 -1 call-deq\nend 3\n",
-            Err(TextFault::Number(4)),
-        ),
-    ];
-    check_each(&rt, rt.alloc(), &cases, outcome)
-}
-
-#[test]
-fn long_lines(rt: HostRuntime) -> Result<(), Fail> {
-    let header = b"fifo-history 1\n".as_slice();
-    let event = b" 0 ret-enq\nend 1\n".as_slice();
-    let cut_event = b" 0 ret-enq".as_slice();
-    let cases: [(&[u8], usize, &[u8], TextFault); 7] = [
-        (header, 70, event, TextFault::Limit(2)),
-        (header, 71, event, TextFault::Line(2)),
-        (header, 70, cut_event, TextFault::Cut),
-        (header, 71, cut_event, TextFault::Line(2)),
-        (b"", 80, b"\nend 0\n", TextFault::Header),
-        (b"", 80, b"", TextFault::Cut),
-        (b"", 81, b"", TextFault::Header),
-    ];
-    for (front, count, back, fault) in cases {
-        let text = with_digits(rt.alloc(), front, count, back)?;
-        let found = outcome(rt.alloc(), MemorySource::new(&text))?;
-        assert!(rt; found == Err(fault), "{count} digits, then {back:?}");
-    }
     Ok(())
 }
 

@@ -1,4 +1,4 @@
-use super::outcomes::{check_each, check_fronts, known};
+use super::outcomes::{check_fronts, known};
 use history_merge::{OpKind, Operation};
 use history_text::{MemorySource, TextFault, TextReader, read_history, read_verdict};
 use std::alloc::{AllocError, Global};
@@ -85,54 +85,7 @@ fn reads_initial_values(rt: HostRuntime) -> Result<(), Fail> {
 }
 
 #[test]
-fn first_faults(rt: HostRuntime) -> Result<(), Fail> {
-    let cases: [(&[u8], Result<usize, TextFault>); 29] = [
-        (b"", Err(TextFault::Cut)),
-        (b"YES", Err(TextFault::Cut)),
-        (b"YES\n", Ok(0)),
-        (b"NO VWit\n", Ok(0)),
-        (b"MAYBE\n", Err(TextFault::Line(1))),
-        (b"NO\n", Err(TextFault::Line(1))),
-        (b"NO VFresh \n", Err(TextFault::Line(1))),
-        (b"\n", Err(TextFault::Line(1))),
-        (b"YES\n0 1 0 enq 7", Err(TextFault::Cut)),
-        (b"YES\n0 1 0 enq\n", Err(TextFault::Line(2))),
-        (b"YES\n0 1 0 empty 7\n", Err(TextFault::Line(2))),
-        (b"YES\n0 1 0 deq 7 7\n", Err(TextFault::Line(2))),
-        (b"YES\n0 1 0 empty\nend 1\n", Err(TextFault::Line(3))),
-        (b"YES\n0 1 0 empty\n\n", Err(TextFault::Line(3))),
-        (b"YES\n0 01 0 enq 7\n", Err(TextFault::Number(2))),
-        (b"YES\n0 1 64 enq x\n", Err(TextFault::Limit(2))),
-        (b"YES\n0 1 0 not -1\n", Err(TextFault::Number(2))),
-        (b"YES\n1000000000000 x 0 enq 7\n", Err(TextFault::Limit(2))),
-        (b"YES\n0 1000000000000 0 empty\n", Err(TextFault::Limit(2))),
-        (b"NO VOrd\ninit 5\ninit 6\n0 1 0 deq 6\n", Ok(3)),
-        (b"NO VOrd\ninit\n", Err(TextFault::Line(2))),
-        (b"NO VOrd\ninit 5 6\n", Err(TextFault::Line(2))),
-        (b"NO VOrd\ninit 5 0 enq 7\n", Err(TextFault::Line(2))),
-        (b"NO VOrd\ninit \n", Err(TextFault::Number(2))),
-        (b"NO VOrd\ninit 07\n", Err(TextFault::Number(2))),
-        (
-            b"NO VOrd\ninit 18446744073709551616\n",
-            Err(TextFault::Limit(2)),
-        ),
-        (b"NO VOrd\n0 1 0 init 5\n", Err(TextFault::Line(2))),
-        (b"YES\ninit 5\n", Err(TextFault::Line(2))),
-        (b"YES\ninit 5 0 enq 7\n", Err(TextFault::Line(2))),
-    ];
-    check_each(&rt, rt.alloc(), &cases, outcome)
-}
-
-#[test]
-fn long_lines_and_failures(rt: HostRuntime) -> Result<(), Fail> {
-    let mut long = Vec::new(rt.alloc());
-    for _ in 0..81 {
-        long.push(b'Y')?;
-    }
-    assert_eq!(rt;
-        outcome(rt.alloc(), MemorySource::new(&long))?,
-        Err(TextFault::Line(1))
-    );
+fn any_failure(rt: HostRuntime) -> Result<(), Fail> {
     check_fronts(&rt, rt.alloc(), YES, 1, TextFault::Read, outcome)
 }
 
