@@ -1,5 +1,5 @@
 -- Lines that are read by a table: what is written is read back, and what is read is spelled so.
-use Rattle.std.proofs.Common.{◌≡◌, ℕ, ◌<◌, List, ◌++◌, true, refl, ap, subst, ◌∙◌, Some, Ok}
+use Rattle.std.proofs.Common.{◌≡◌, ℕ, ◌<◌, List, ◌++◌, true, refl, ap, subst, ◌∙◌, Some, Ok, Err}
 use Rattle.std.specs.declared.result.Result.{Result}
 use Rattle.std.specs.List.{AllByRecursion, list_all}
 use Rattle.text_lines.specs.declared.fault.TextFault.{TextFault}
@@ -53,3 +53,8 @@ line_read read fields said is = λ n ending rest. line_front read n ending field
 pub read_as : {T A : Type 0} (table : Table T) (make : T → List ℕ → A) (n : ℕ) (fields : List (List ℕ)) (t : T) (numbers : List ℕ)
     → Ok (t, numbers) ≡ judged n table fields → Ok (make t numbers) ≡ read_by table make n fields
 read_as table make n fields t numbers said = rw (← said) refl
+
+-- a fault that a table finds in a line is what it is read as
+pub read_faulty : {T A : Type 0} (table : Table T) (make : T → List ℕ → A) (n : ℕ) (fields : List (List ℕ)) (fault : TextFault)
+    → Err fault ≡ judged n table fields → Err fault ≡ read_by table make n fields
+read_faulty table make n fields fault said = rw (← said) refl

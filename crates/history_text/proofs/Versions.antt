@@ -1,6 +1,8 @@
 -- What is taken of a history of either version, and its first fault.
 use Rattle.std.proofs.Common.{◌≡◌, ℕ, ◌+◌, ◌<◌, ◌≤◌, List, ◌++◌, length, arith, sym, subst, refl, Bool, true, false}
-use Rattle.std.proofs.Common.{Option, Some, None, inl, inr, IfSome, append_assoc}
+use Rattle.std.proofs.Common.{Option, Some, None, Ok, Err, inl, inr, IfSome, append_assoc}
+use Rattle.std.specs.Prelude.{IfOk}
+use Rattle.std.specs.declared.result.Result.{Result}
 use Rattle.std.specs.List.{AllByRecursion}
 use Rattle.std.specs.Str.{bytes_eq}
 use Rattle.event_records.specs.declared.limits.TheConstants.{MAX_INITIAL}
@@ -94,6 +96,14 @@ pub takes_initial : (k : ℕ) (initial : List ℕ) (old mid new : Option Ahead) 
     → Takes mid new (lines_of value_format initial) → Takes old new (lines_of_initial initial)
 takes_initial k initial old mid new is count values =
     Takes-append old mid new _ _ (subst (λ (i : ℕ). Takes old mid (line (spaced (count_fields i)))) (sym is) count) values
+
+-- where the values of so many lines are read, they and the line that counts them are taken
+pub initial_taken : {V E : Type 0} (items : V → List ℕ) (k : ℕ) (old mid new : Option Ahead) (r : Result V E)
+    → Takes old mid (line (spaced (count_fields k)))
+    → IfOk r (λ v. HaveLines value_format (items v) × Takes mid new (lines_of value_format (items v))) → IfOk r (λ v. length (items v) ≡ k)
+    → IfOk r (λ v. HaveLines value_format (items v) × Takes old new (lines_of_initial (items v)))
+initial_taken items k old mid new (Ok v) count values many = (values.0, takes_initial k (items v) old mid new many count values.1)
+initial_taken items k old mid new (Err fault) count values many = tt
 
 -- ---- whole histories
 

@@ -1,3 +1,6 @@
+use Rattle.std.proofs.Common.{Bool, ◌||◌, ap, ◌∙◌}
+use Rattle.std.specs.Prelude.{is_err}
+use Rattle.std.proofs.Math.Bool.{or-false}
 use Rattle.text_lines.proofs.Asking.{both_written, second_refused}
 use Rattle.history_text.proofs.Written.{all_out, front_out}
 use Rattle.history_text.proofs.history_writer.write_text.Goals as goal
@@ -13,3 +16,7 @@ returns-clause-written g c = both_written g.W.TextSink.goes c.write_piece.result
 
 pub returns-clause-stopped : goal.returns-clause-stopped
 returns-clause-stopped g c = second_refused g.W.TextSink.goes c.write_piece.result _ c.in_ok-put_text.ensures.written c.write_piece.ensures.stopped
+
+pub returns-clause-refused : goal.returns-clause-refused
+returns-clause-refused g c =
+    c.write_piece.ensures.refused ∙ ap (λ (b : Bool). b || is_err c.write_piece.result) (c.in_ok-put_text.ensures.refused ∙ or-false _)
