@@ -43,6 +43,12 @@ pub find_step : {X : Type 0} (p : X → Bool) (xs : List X) (i : ℕ) (d : X) �
     → find p (drop i xs) ≡ cond (p (get_or xs i d)) (Some (get_or xs i d)) (find p (drop (i + 1) xs))
 find_step p xs i d within = at_drop_more (find p) xs i d within
 
+-- what isn't found up to an element that fails is not found up to the next one
+pub passed_over : {X : Type 0} (p : X → Bool) (xs : List X) (i : ℕ) (d : X) → i < length xs → find p xs ≡ find p (drop i xs)
+    → p (get_or xs i d) ≡ false → find p xs ≡ find p (drop (i + 1) xs)
+passed_over p xs i d within before fails =
+    before ∙ find_step p xs i d within ∙ ap (λ (b : Bool). cond b (Some (get_or xs i d)) (find p (drop (i + 1) xs))) fails
+
 -- the threads that have events, with one thread more
 pub threads_more : (events : List Event) (n : ℕ) → threads_below events (n + 1) ≡ threads_below events n ++ cond (has_events events n) (n ∷ []) []
 unfolding threads_below
