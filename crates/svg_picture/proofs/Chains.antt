@@ -15,3 +15,11 @@ around (Err e) old one two last a b c h k l = tt
 pub three_pieces : (a b c one two three : List ℕ) → one ≡ a → two ≡ one ++ b → three ≡ two ++ c → three ≡ concat (a ∷ b ∷ c ∷ [])
 three_pieces a b c one two three h k l =
     l ∙ ap (λ (t : List ℕ). t ++ c) (k ∙ ap (λ (t : List ℕ). t ++ b) h) ∙ append_assoc a b c ∙ ap (λ (t : List ℕ). a ++ (b ++ t)) (sym (append-nil c))
+
+-- a piece behind another
+pub behind : {A : Type 0} (old one two a b : List A) → one ≡ old ++ a → two ≡ one ++ b → two ≡ old ++ (a ++ b)
+behind old one two a b h k = k ∙ ap (λ (t : List _). t ++ b) h ∙ append_assoc old a b
+
+-- a last piece, and nothing behind it
+pub at_end : {A : Type 0} (old new a : List A) → new ≡ old ++ a → new ≡ old ++ (a ++ [])
+at_end old new a h = h ∙ ap (λ (t : List _). old ++ t) (sym (append-nil a))
