@@ -94,7 +94,7 @@ fn of_a_legal_order(rt: HostRuntime) -> Result<(), Fail> {
 }
 
 /// The verdict on a history.
-pub fn decided(alloc: Global, history: &History) -> Result<Verdict, AllocError>
+pub(crate) fn decided(alloc: Global, history: &History) -> Result<Verdict, AllocError>
     ensures chosen { IfOk result (λ verdict. IsVerdictFrom history.now.initial (operations_of history.now.events) verdict) }
     ensures places { IfOk result (λ verdict. IsWithin history.now.initial (operations_of history.now.events) verdict) }
 {

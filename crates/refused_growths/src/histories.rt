@@ -7,7 +7,7 @@ use std::alloc::{AllocError, Global};
 use std::test::Fail;
 
 /// An operation of this thread, with the tickets of its call and its return.
-pub fn by(thread: u8, kind: OpKind, call: u64, ret: u64) -> Operation {
+pub(crate) fn by(thread: u8, kind: OpKind, call: u64, ret: u64) -> Operation {
     Operation {
         call,
         ret,
@@ -54,7 +54,7 @@ fn history_or_none(
 }
 
 /// The history of these operations.
-pub fn history_of(alloc: Global, operations: &[Operation]) -> Result<History, Fail>
+pub(crate) fn history_of(alloc: Global, operations: &[Operation]) -> Result<History, Fail>
     ensures { IfOk result (λ history. history.initial ≡ []) }
 {
     let judged = match history_or_none(alloc, operations) {
