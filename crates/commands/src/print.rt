@@ -1,5 +1,5 @@
 //! What is written, and the status that goes with it.
-ghost use Rattle.std.specs.Prelude.{◌≡◌, ◌||◌, ℕ, List, OnOk, OnErr, is_err, false};
+ghost use Rattle.std.specs.Prelude.{◌≡◌, ◌||◌, ℕ, List, Option, OnOk, OnErr, is_err, false};
 ghost use Rattle.std.specs.Io.KnownBytes.{Appends};
 ghost use Rattle.history_merge.specs.declared.operation.Operation.{Operation};
 ghost use Rattle.verdicts.specs.Claiming.{claim_of};
@@ -66,6 +66,25 @@ pub fn status_of(outcome: &Outcome) -> u8
     }
 }
 
+// Flushes what was written, and answers this status if that went well too, else 3.
+fn flush_written<W: TextSink>(written: Result<(), WriteFault>, status: u8, writer: &mut W) -> u8
+    requires { W.has_refused writer.old ≡ is_err written }
+    ensures printed { (before : Option (List ℕ)) (text : List ℕ) → OnOk written (Appends before (W.contents writer.old) text)
+        → OnErr written (AppendsFront before (W.contents writer.old) text)
+        → Prints before (W.contents writer.new) (W.has_refused writer.new) result text status }
+    ensures asked { (before : W) → OnOk written (IsWritten W.goes before writer.old) → OnErr written (IsRefused W.goes before writer.old)
+        → WritesAndFlushes W.goes (W.has_refused writer.new) before writer.new }
+    ensures passed_on { W.has_refused writer.new ≡ false → W.holds_back writer.new ≡ false }
+{
+    if written.is_err() {
+        return 3;
+    }
+    if writer.flush().is_err() {
+        return 3;
+    }
+    status
+}
+
 /// Writes what a command found and flushes the writer; answers the status.
 pub fn print_outcome<W: TextSink>(outcome: &Outcome, writer: &mut W) -> u8
     requires fresh { W.has_refused writer.old ≡ false }
@@ -74,13 +93,8 @@ pub fn print_outcome<W: TextSink>(outcome: &Outcome, writer: &mut W) -> u8
     ensures asked { WritesAndFlushes W.goes (W.has_refused writer.new) writer.old writer.new }
     ensures passed_on { W.has_refused writer.new ≡ false → W.holds_back writer.new ≡ false }
 {
-    if write_outcome(outcome, writer).is_err() {
-        return 3;
-    }
-    if writer.flush().is_err() {
-        return 3;
-    }
-    status_of(outcome)
+    let written = write_outcome(outcome, writer);
+    flush_written(written, status_of(outcome), writer)
 }
 
 /// Writes a text and flushes the writer; answers the status.
@@ -90,11 +104,6 @@ pub fn print_text<W: TextSink>(text: &[u8], status: u8, writer: &mut W) -> u8
     ensures asked { WritesAndFlushes W.goes (W.has_refused writer.new) writer.old writer.new }
     ensures passed_on { W.has_refused writer.new ≡ false → W.holds_back writer.new ≡ false }
 {
-    if write_piece(text, writer).is_err() {
-        return 3;
-    }
-    if writer.flush().is_err() {
-        return 3;
-    }
-    status
+    let written = write_piece(text, writer);
+    flush_written(written, status, writer)
 }

@@ -2,11 +2,11 @@
 ghost use Rattle.std.specs.Prelude.{◌≡◌, ◌<◌, ◌++◌, ◌∷◌, [], List, ℕ, OnOk, length};
 ghost use Rattle.event_records.specs.declared.event.Event.{Event};
 ghost use Rattle.event_records.specs.declared.limits.TheConstants.{MAX_EVENTS};
-ghost use Rattle.history_merge.specs.Gathering.{HasGathered, HasGatheredFrom};
+ghost use Rattle.history_merge.specs.Gathering.{HasGatheredFrom};
 ghost use Rattle.std.proofs.Common.{sym, append-nil};
 
 use event_records::Event;
-use history_merge::{HistoryBuilder, PreloadedBuilder};
+use history_merge::PreloadedBuilder;
 use std::alloc::AllocError;
 
 /// What takes the items of a text, one after another.
@@ -33,18 +33,6 @@ impl<T: Drop> Collects<T> for Vec<T> {
             Ok(()) => Ok(()),
             Err(_) => Err(AllocError),
         }
-    }
-}
-
-impl Collects<Event> for HistoryBuilder {
-    ghost Adds = { λ first now events. HasGathered [] first → HasGathered events now };
-
-    ghost none = { λ first begun. begun };
-
-    #[inline(always)]
-    fn add(&mut self, item: Event) -> Result<(), AllocError> {
-        HistoryBuilder::add(self, item);
-        Ok(())
     }
 }
 

@@ -29,8 +29,7 @@ pub use laws::{
     no_text_of_either_version_begins_another, one_first_fault,
 };
 pub use reader::{
-    TextReader, at_end, gather_any, gather_history, is_at_end, read_any, read_history,
-    read_schedule, read_verdict,
+    TextReader, at_end, gather_any, is_at_end, read_any, read_history, read_schedule, read_verdict,
 };
 pub use schedule::{MOST_DRAINED, Schedule, Steps};
 pub use text_lines::{

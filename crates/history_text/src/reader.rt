@@ -3,7 +3,7 @@ ghost use Rattle.std.specs.Prelude.{◌≡◌, ◌+◌, ◌<◌, ◌^◌, ◌≤
 ghost use Rattle.std.specs.Prelude.{option_to_list, is_err, not, Err, Ok, length, List, []};
 ghost use Rattle.event_records.specs.declared.event.Event.{Event};
 ghost use Rattle.event_records.specs.declared.limits.TheConstants.{MAX_INITIAL};
-ghost use Rattle.history_merge.specs.Gathering.{HasGathered, HasGatheredFrom};
+ghost use Rattle.history_merge.specs.Gathering.{HasGatheredFrom};
 ghost use Rattle.verdicts.specs.declared.verifying.Claimed.{Claimed};
 ghost use Rattle.history_text.specs.declared.schedule.Schedule.{Schedule};
 ghost use Rattle.history_text.specs.declared.version.HistoryText.{HistoryText};
@@ -31,7 +31,7 @@ use crate::step_line::setting_in;
 use crate::value_line::{count_in, version_in};
 use crate::version::{Events, HistoryText, InitialValues, Version};
 use event_records::Event;
-use history_merge::{HistoryBuilder, PreloadedBuilder};
+use history_merge::PreloadedBuilder;
 use std::alloc::Global;
 use std::marker::Model;
 use text_lines::{LONGEST_LINE, Line, ReadFailed, TextFault, TextSource};
@@ -353,18 +353,6 @@ impl<R: TextSource> TextReader<R> {
         Ok(items)
     }
 
-    /// The events of the history that the input begins with are added to a history in the making.
-    fn gathered(&mut self, builder: &mut HistoryBuilder) -> Result<(), TextFault>
-        requires { self.old.lines < 2 ^ 63 }
-        ensures events { IfOk result (λ _. (events : List Event) × HasHistoryText events × Takes self.old.left self.new.left (history_text events)
-            × (self.new.lines ≡ self.old.lines + 2 + length events) × (HasGathered [] builder.old → HasGathered events builder.new)) }
-        ensures fault { IfErr result (HasHistoryTextFault self.old.lines self.old.left) }
-        ensures is_stopped { self.new.is_stopped ≡ self.old.is_stopped }
-    {
-        self.header_line(b"fifo-history 1")?;
-        self.collect_items(builder)
-    }
-
     /// The events of the history that the input begins with.
     fn history(&mut self, alloc: Global) -> Result<Vec<Event>, TextFault>
         requires { self.old.lines < 2 ^ 63 }
@@ -623,33 +611,6 @@ pub fn read_any<R: TextSource>(
     ensures stopped { reader.new.is_stopped ≡ is_err result }
 {
     let result = reader.any_history(alloc);
-    reader.is_stopped = result.is_err();
-    result
-}
-
-/// Reads the text of a history as [`read_history`] does, and adds its events to a history in the making, which keeps none of
-/// them. The time is linear in the bytes read, beside that of the adding.
-pub fn gather_history<R: TextSource>(
-    builder: &mut HistoryBuilder,
-    reader: &mut TextReader<R>,
-) -> Result<(), TextFault>
-    requires running { reader.old.is_stopped ≡ false }
-    requires lines { reader.old.lines < 2 ^ 63 }
-
-    // What is read is the text of some events, nothing else is taken, and just these events are added.
-    ensures events { IfOk result (λ _. (events : List Event) × HasHistoryText events × Takes reader.old.left reader.new.left (history_text events)
-        × (reader.new.lines ≡ reader.old.lines + 2 + length events) × (HasGathered [] builder.old → HasGathered events builder.new)) }
-
-    // Where the text of some events stands at the front it is read, unless memory is refused.
-    ensures whole { (events : List Event) → HasHistoryText events → BeginsWith reader.old.left (history_text events)
-        → MatchResult result (λ _. HasGathered [] builder.old → HasGathered events builder.new) (λ fault. fault ≡ TextFault.Memory) }
-
-    // A fault is the first one.
-    ensures fault { IfErr result (HasHistoryTextFault reader.old.lines reader.old.left) }
-
-    ensures stopped { reader.new.is_stopped ≡ is_err result }
-{
-    let result = reader.gathered(builder);
     reader.is_stopped = result.is_err();
     result
 }

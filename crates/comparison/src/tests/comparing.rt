@@ -51,7 +51,7 @@ fn compare_matched(
 }
 
 /// Compares the answers about this history, and gives the kind of its violation, if it has one.
-pub fn compare(
+pub(crate) fn compare(
     rt: &impl Abort,
     alloc: Global,
     history: &History,

@@ -26,14 +26,14 @@ pub struct Words {
 }
 
 impl Words {
-    pub fn new(seed: u64) -> Words {
+    pub(crate) fn new(seed: u64) -> Words {
         Words {
             last: seed.wrapping_mul(0x9e37_79b9_7f4a_7c15) | 1,
         }
     }
 
     /// The next word, below the limit.
-    pub fn below(&mut self, limit: u64) -> u64
+    pub(crate) fn below(&mut self, limit: u64) -> u64
         requires { 0 < limit }
         ensures { result < limit }
     {
@@ -115,7 +115,7 @@ fn end_all(machine: &mut Machine, threads: u8)
 }
 
 /// The history that a machine has collected after seeded steps.
-pub fn seeded_history(alloc: Global, seed: u64, lies: Lies) -> Result<History, Fail> {
+pub(crate) fn seeded_history(alloc: Global, seed: u64, lies: Lies) -> Result<History, Fail> {
     let mut words = Words::new(seed);
     let most = 1 + words.below(MOST_OPERATIONS);
     let mut machine = Machine::new(alloc, usize::from(FEW_THREADS), 4)?;
@@ -159,7 +159,7 @@ fn take_round(machine: &mut Machine, round: u64, threads: u8)
 }
 
 /// An honest history of so many rounds, the first of which has this number.
-pub fn honest_history(alloc: Global, first: u64, rounds: u64) -> Result<History, Fail> {
+pub(crate) fn honest_history(alloc: Global, first: u64, rounds: u64) -> Result<History, Fail> {
     let mut machine = Machine::new(alloc, usize::from(MANY_THREADS), 4)?;
     for round in 0..rounds {
         take_round(&mut machine, first.wrapping_add(round), MANY_THREADS);
@@ -177,7 +177,7 @@ fn operate(machine: &mut Machine, ask: Step, thread: u8)
 }
 
 /// A history with one empty answer, around so many values, each of which is dequeued only after the next is there.
-pub fn covered_history(alloc: Global, values: u64) -> Result<History, Fail> {
+pub(crate) fn covered_history(alloc: Global, values: u64) -> Result<History, Fail> {
     let mut machine = Machine::new(alloc, 2, 4)?;
     operate(&mut machine, Step::AskEnq(0), 0);
     let _ = take(&mut machine, Step::AskDeq(1), 1);

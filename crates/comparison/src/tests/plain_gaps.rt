@@ -16,7 +16,7 @@ fn is_free(values: &[MatchedValue], gap: u64) -> bool {
 }
 
 /// The least free gap of a window, looked for at its call and at each ticket in it.
-pub fn plain_gap(
+pub(crate) fn plain_gap(
     operations: &[Operation],
     values: &[MatchedValue],
     answer: &Operation,
@@ -67,7 +67,7 @@ fn longest_before(values: &[MatchedValue], frontier: u64) -> Option<MatchedValue
 }
 
 /// The cover of a window, value by value; none where it isn't covered.
-pub fn plain_cover(
+pub(crate) fn plain_cover(
     alloc: Global,
     values: &[MatchedValue],
     answer: &Operation,
@@ -100,12 +100,12 @@ pub enum PlainWitness {
 }
 
 /// The operation at a place of a history.
-pub fn operation_at(matching: &FilledMatching, id: OpId) -> Result<Operation, Fail> {
+pub(crate) fn operation_at(matching: &FilledMatching, id: OpId) -> Result<Operation, Fail> {
     Ok(*matching.operations().get(id.place()).ok_or("no operation")?)
 }
 
 /// The least free gap of each empty answer, or the covered one that returned first with its cover.
-pub fn plain_witness(
+pub(crate) fn plain_witness(
     alloc: Global,
     matching: &FilledMatching,
     values: &[MatchedValue],

@@ -110,7 +110,7 @@ fn value_positions(
 }
 
 /// The chosen order of all operations, where each empty answer has its gap.
-pub fn plain_linearization(
+pub(crate) fn plain_linearization(
     alloc: Global,
     matching: &FilledMatching,
     values: &[MatchedValue],

@@ -24,7 +24,7 @@ fn is_before(pair: &(MatchedValue, MatchedValue), other: &(MatchedValue, Matched
 }
 
 /// The chosen pair, by a scan of all pairs.
-pub fn plain_pair(values: &[MatchedValue]) -> Option<OrderPair> {
+pub(crate) fn plain_pair(values: &[MatchedValue]) -> Option<OrderPair> {
     let mut chosen: Option<(MatchedValue, MatchedValue)> = None;
     for a in values {
         for b in values {

@@ -42,7 +42,7 @@ fn claimed_in<R: AllocGlobal + Threads + Sync>(
 }
 
 /// Asserts what the verdict on a history claims, which is verified. Searches in pieces claim the same.
-pub fn expect_claim<R>(rt: &R, history: &History, expected: &Claimed) -> Result<(), Fail>
+pub(crate) fn expect_claim<R>(rt: &R, history: &History, expected: &Claimed) -> Result<(), Fail>
 where
     R: Abort + AllocGlobal + Threads + Sync,
 {

@@ -8,7 +8,7 @@ use std::process::Abort;
 use std::test::Fail;
 
 /// What a reader answered. Want of memory is an error of its own.
-pub fn known<T>(answer: Result<T, TextFault>) -> Result<Result<T, TextFault>, AllocError>
+pub(crate) fn known<T>(answer: Result<T, TextFault>) -> Result<Result<T, TextFault>, AllocError>
     ensures { IfOk result (λ known. known ≡ answer) }
 {
     match answer {
@@ -19,7 +19,7 @@ pub fn known<T>(answer: Result<T, TextFault>) -> Result<Result<T, TextFault>, Al
 
 /// Checks that each front of a text gives this fault, in pieces of so many bytes. The source fails behind the front if the fault
 /// is `Read`, and ends there otherwise.
-pub fn check_fronts<T, F>(
+pub(crate) fn check_fronts<T, F>(
     rt: &impl Abort,
     alloc: Global,
     text: &[u8],

@@ -16,7 +16,7 @@ use value_match::{Cover, CoverStep, Source, Violation};
 use verdicts::{Order, Verdict};
 
 /// How many events a history alone in its input has, or the fault of that input. Want of memory is an error of its own.
-pub fn outcome(
+pub(crate) fn outcome(
     alloc: Global,
     source: MemorySource<'_>,
 ) -> Result<Result<usize, TextFault>, AllocError> {
