@@ -144,7 +144,7 @@ pub fn run<R: Threads + Sync>(
 /// thread is started: `Limit` where a size is out of range, or where the values aren't distinct, each 2^38 or greater and not
 /// more than 100,000, unless memory for this test is refused; `Preload` of the first value that the queue refuses. `Memory` is
 /// answered where a growth was refused; where that was one of the collector's, the workers go on without it until they end
-/// or stall. `Stalled` is answered where a push found no room in all its tries, between which the thread yields: never of a
+/// or stall. `Stalled` is answered where a push found no room in all its tries, between which the thread yields for longer and longer: never of a
 /// row whose events all have room in its ring. `CloseLost` is answered where a worker's ring gave no token after its row,
 /// and `Uncertified` never. The rings are closed whatever fault stands, except where want of memory took the workers
 /// themselves.

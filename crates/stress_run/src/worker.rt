@@ -56,7 +56,21 @@ pub enum WorkerFault {
     Stalled,
 }
 
-// Pushes an event, with as many tries as the number says. Between tries the thread yields.
+// So many tries in vain make a pause longer by one turn, up to the longest. A million of them take ten seconds at least where
+// a turn takes a tenth of a microsecond or more, so that a collector that waits for a processor gets one.
+const TRIES_TO_A_TURN: u32 = 512;
+
+const LONGEST_PAUSE: u32 = 128;
+
+// Pauses after so many tries in vain: yields to other threads, for longer and longer.
+fn pause(tried: u32) {
+    let turns = 1 + tried / TRIES_TO_A_TURN;
+    for _ in 0..turns.min(LONGEST_PAUSE) {
+        thread::yield_now();
+    }
+}
+
+// Pushes an event, with as many tries as the number says. Between tries the thread pauses.
 fn push_with_tries(ring: &mut PushEnd, noted: Noted, tries: u32) -> Result<(), WorkerFault>
     requires thread { noted.thread ≡ ring.old.thread }
     requires tries { AreTries tries }
@@ -65,12 +79,12 @@ fn push_with_tries(ring: &mut PushEnd, noted: Noted, tries: u32) -> Result<(), W
     ensures filled { OnErr result (ring.old.capacity ≤ length ring.old.sent) }
 {
     let mut held = noted;
-    for _ in 0..tries {
+    for tried in 0..tries {
         match ring.push(held) {
             Ok(()) => return Ok(()),
             Err(back) => held = back,
         }
-        thread::yield_now();
+        pause(tried);
     }
     Err(WorkerFault::Stalled)
 }
@@ -191,7 +205,7 @@ impl Worker {
 /// before the queue is asked, so a queue isn't asked whose call found no room; no contract says so. The pass is of these
 /// `Tickets` and has two tickets left, and the namer has asked fewer operations than a thread has names for.
 ///
-/// `Stalled` comes where a push found no room in all tries of the worker, between which the thread yields, and is then the
+/// `Stalled` comes if a push found no room in all tries of the worker, between which the thread yields for longer and longer, and is then the
 /// answer of each later call, which draws nothing. It waits for nobody but where the queue does, and takes no memory.
 pub fn one_call(
     queue: &dyn TestQueue,
