@@ -1,9 +1,6 @@
 //! The program: one subcommand over standard input and output, or a run of one of the built-in queues.
 #![tactic(auto)]
 
-#[cfg(test)]
-mod tests;
-
 use commands::{Shelved, StartFault, built_ins, print_start_fault, run_over, words_of};
 use history_text::{Buffered, Watched};
 use std::process::ExitCode;

@@ -5,7 +5,8 @@
 //! them makes, and the number from which the plan is made. The status is 0 for a yes and 1 for a no.
 #![tactic(auto)]
 
-ghost use Rattle.std.specs.Prelude.{◌≡◌, []};
+ghost use Rattle.std.specs.Prelude.{◌≡◌, [], IfOk};
+ghost use Rattle.own_queue.specs.Settings.{IsWithinLimits};
 
 mod two_stacks;
 
@@ -13,8 +14,10 @@ use anyhow::{Result, bail};
 use history_text::{Watched, write_history, write_verdict};
 use std::alloc::Global;
 use std::process::ExitCode;
+use std::sync::Wait;
+use std::thread::Threads;
 use std::{env, io};
-use stress_run::{MAX_OPERATIONS, MAX_THREAD_OPERATIONS, MAX_WORKERS, Plan, run};
+use stress_run::{MAX_OPERATIONS, MAX_THREAD_OPERATIONS, MAX_WORKERS, Plan, Recorded, run};
 use two_stacks::TwoStacks;
 use verdicts::{History, Verdict, decide};
 
@@ -55,11 +58,18 @@ fn show<R: Print>(rt: &R, alloc: Global, history: &History) -> Result<Verdict>
     Ok(verdict)
 }
 
-fn main(rt: HostRuntime) -> Result<ExitCode> {
-    let mut words = env::args(&rt)?.skip(1);
-    let workers = number_or(words.next(), WORKERS)?;
-    let operations = number_or(words.next(), OPERATIONS)?;
-    let seed = number_or(words.next(), SEED)?;
+/// What is run, within the limits of a run.
+#[derive(Clone, Copy)]
+struct Setting {
+    workers: usize,
+    operations: usize,
+    seed: u64,
+}
+
+/// The setting that these numbers are, if a run may have them.
+fn within_limits(workers: u64, operations: u64, seed: u64) -> Result<Setting>
+    ensures { IfOk result IsWithinLimits }
+{
     if !(1..=MAX_WORKERS as u64).contains(&workers) || operations > MAX_THREAD_OPERATIONS {
         bail!(
             "a run has 1 to {MAX_WORKERS} workers, with up to {MAX_THREAD_OPERATIONS} operations each"
@@ -68,11 +78,47 @@ fn main(rt: HostRuntime) -> Result<ExitCode> {
     if workers * operations > MAX_OPERATIONS {
         bail!("a run has up to {MAX_OPERATIONS} operations");
     }
+    Ok(Setting {
+        workers: workers as usize,
+        operations: operations as usize,
+        seed,
+    })
+}
+
+/// The setting that the words of the command ask for.
+fn setting_of(rt: HostRuntime) -> Result<Setting>
+    ensures { IfOk result IsWithinLimits }
+{
+    let mut words = env::args(&rt)?.skip(1);
+    let workers = number_or(words.next(), WORKERS)?;
+    let operations = number_or(words.next(), OPERATIONS)?;
+    let seed = number_or(words.next(), SEED)?;
+    within_limits(workers, operations, seed)
+}
+
+/// Runs the plan of a setting on a new queue, and records it.
+fn record<R>(rt: R, setting: &Setting) -> Result<Recorded>
+where
+    R: AllocGlobal + Threads + Wait + Copy + Drop + Send + Sync,
+    requires { IsWithinLimits setting.now }
+    ensures { IfOk result (λ recorded. recorded.initial ≡ []) }
+{
     let alloc = rt.alloc();
-    let plan = Plan::from_seed(alloc, seed, workers as usize, operations as usize, PERCENT)?;
+    let plan = Plan::from_seed(
+        alloc,
+        setting.seed,
+        setting.workers,
+        setting.operations,
+        PERCENT,
+    )?;
     let queue = TwoStacks::new(alloc, rt);
-    let recorded = run(&rt, alloc, &queue, &plan, RING, TRIES)?;
-    match show(&rt, alloc, &recorded.history(alloc)?)? {
+    Ok(run(&rt, alloc, &queue, &plan, RING, TRIES)?)
+}
+
+fn main(rt: HostRuntime) -> Result<ExitCode> {
+    let setting = setting_of(rt)?;
+    let history = record(rt, &setting)?.history(rt.alloc())?;
+    match show(&rt, rt.alloc(), &history)? {
         Verdict::Yes(_) => Ok(ExitCode::SUCCESS),
         Verdict::No(_) => Ok(ExitCode::FAILURE),
     }

@@ -1,5 +1,5 @@
 //! A writer that takes one byte at a time.
-use crate::run_over;
+use commands::run_over;
 use std::io;
 use std::io::{ErrorKind, Write};
 use std::test::Fail;
