@@ -5,8 +5,7 @@
 //! them makes, and the number from which the plan is made. The status is 0 for a yes and 1 for a no.
 #![tactic(auto)]
 
-ghost use Rattle.std.specs.Prelude.{◌≡◌, [], IfOk};
-ghost use Rattle.own_queue.specs.Settings.{IsWithinLimits};
+ghost use Rattle.std.specs.Prelude.{◌≡◌, []};
 
 mod two_stacks;
 
@@ -14,10 +13,8 @@ use anyhow::{Result, bail};
 use history_text::{Watched, write_history, write_verdict};
 use std::alloc::Global;
 use std::process::ExitCode;
-use std::sync::Wait;
-use std::thread::Threads;
 use std::{env, io};
-use stress_run::{MAX_OPERATIONS, MAX_THREAD_OPERATIONS, MAX_WORKERS, Plan, Recorded, run};
+use stress_run::{MAX_OPERATIONS, MAX_THREAD_OPERATIONS, MAX_WORKERS, Plan, run};
 use two_stacks::TwoStacks;
 use verdicts::{History, Verdict, decide};
 
@@ -58,18 +55,8 @@ fn show<R: Print>(rt: &R, alloc: Global, history: &History) -> Result<Verdict>
     Ok(verdict)
 }
 
-/// What is run, within the limits of a run.
-#[derive(Clone, Copy)]
-struct Setting {
-    workers: usize,
-    operations: usize,
-    seed: u64,
-}
-
-/// The setting that these numbers are, if a run may have them.
-fn within_limits(workers: u64, operations: u64, seed: u64) -> Result<Setting>
-    ensures { IfOk result IsWithinLimits }
-{
+/// The plan of a run with these numbers, if they are within the limits of a run.
+fn plan_of(alloc: Global, workers: u64, operations: u64, seed: u64) -> Result<Plan> {
     if !(1..=MAX_WORKERS as u64).contains(&workers) || operations > MAX_THREAD_OPERATIONS {
         bail!(
             "a run has 1 to {MAX_WORKERS} workers, with up to {MAX_THREAD_OPERATIONS} operations each"
@@ -78,47 +65,25 @@ fn within_limits(workers: u64, operations: u64, seed: u64) -> Result<Setting>
     if workers * operations > MAX_OPERATIONS {
         bail!("a run has up to {MAX_OPERATIONS} operations");
     }
-    Ok(Setting {
-        workers: workers as usize,
-        operations: operations as usize,
-        seed,
-    })
+    let plan = Plan::from_seed(alloc, seed, workers as usize, operations as usize, PERCENT)?;
+    Ok(plan)
 }
 
-/// The setting that the words of the command ask for.
-fn setting_of(rt: HostRuntime) -> Result<Setting>
-    ensures { IfOk result IsWithinLimits }
-{
+/// The plan that the words of the command ask for.
+fn asked_plan(rt: HostRuntime) -> Result<Plan> {
     let mut words = env::args(&rt)?.skip(1);
     let workers = number_or(words.next(), WORKERS)?;
     let operations = number_or(words.next(), OPERATIONS)?;
     let seed = number_or(words.next(), SEED)?;
-    within_limits(workers, operations, seed)
-}
-
-/// Runs the plan of a setting on a new queue, and records it.
-fn record<R>(rt: R, setting: &Setting) -> Result<Recorded>
-where
-    R: AllocGlobal + Threads + Wait + Copy + Drop + Send + Sync,
-    requires { IsWithinLimits setting.now }
-    ensures { IfOk result (λ recorded. recorded.initial ≡ []) }
-{
-    let alloc = rt.alloc();
-    let plan = Plan::from_seed(
-        alloc,
-        setting.seed,
-        setting.workers,
-        setting.operations,
-        PERCENT,
-    )?;
-    let queue = TwoStacks::new(alloc, rt);
-    Ok(run(&rt, alloc, &queue, &plan, RING, TRIES)?)
+    plan_of(rt.alloc(), workers, operations, seed)
 }
 
 fn main(rt: HostRuntime) -> Result<ExitCode> {
-    let setting = setting_of(rt)?;
-    let history = record(rt, &setting)?.history(rt.alloc())?;
-    match show(&rt, rt.alloc(), &history)? {
+    let plan = asked_plan(rt)?;
+    let alloc = rt.alloc();
+    let queue = TwoStacks::new(alloc, rt);
+    let recorded = run(&rt, alloc, &queue, &plan, RING, TRIES)?;
+    match show(&rt, alloc, &recorded.history(alloc)?)? {
         Verdict::Yes(_) => Ok(ExitCode::SUCCESS),
         Verdict::No(_) => Ok(ExitCode::FAILURE),
     }

@@ -12,9 +12,11 @@ mod sized_apart;
 
 use anyhow::{Result, bail};
 use history_text::{Watched, write_history, write_verdict};
+use queue_interface::TestQueue;
 use sized_apart::SizedApart;
 use std::alloc::Global;
 use std::process::ExitCode;
+use std::thread::Threads;
 use std::{env, io};
 use stress_run::{MAX_WORKERS, Plan, run};
 use verdicts::{History, Verdict, decide, shrink};
@@ -64,19 +66,32 @@ fn shows_violation<R: Print>(rt: &R, alloc: Global, history: &History) -> Result
     Ok(true)
 }
 
+/// The plan of a run of so many workers, if a run may have them.
+fn plan_of(alloc: Global, workers: u64, seed: u64) -> Result<Plan> {
+    if !(1..=MAX_WORKERS as u64).contains(&workers) {
+        bail!("a run has 1 to {MAX_WORKERS} workers");
+    }
+    let plan = Plan::from_seed(alloc, seed, workers as usize, OPERATIONS, PERCENT)?;
+    Ok(plan)
+}
+
+/// Whether a run of this plan on the queue shows a violation, which is then written.
+fn shows_in_run<R>(rt: &R, queue: &dyn TestQueue, plan: &Plan) -> Result<bool>
+where
+    R: AllocGlobal + Print + Threads + Sync,
+{
+    let recorded = run(rt, rt.alloc(), queue, plan, RING, TRIES)?;
+    shows_violation(rt, rt.alloc(), &recorded.history(rt.alloc())?)
+}
+
 fn main(rt: HostRuntime) -> Result<ExitCode> {
     let mut words = env::args(&rt)?.skip(1);
     let workers = number_or(words.next(), WORKERS)?;
     let seeds = number_or(words.next(), SEEDS)?;
-    if !(1..=MAX_WORKERS as u64).contains(&workers) {
-        bail!("a run has 1 to {MAX_WORKERS} workers");
-    }
-    let alloc = rt.alloc();
     for seed in 1..=seeds {
-        let plan = Plan::from_seed(alloc, seed, workers as usize, OPERATIONS, PERCENT)?;
-        let queue = SizedApart::new(alloc, rt);
-        let recorded = run(&rt, alloc, &queue, &plan, RING, TRIES)?;
-        if shows_violation(&rt, alloc, &recorded.history(alloc)?)? {
+        let plan = plan_of(rt.alloc(), workers, seed)?;
+        let queue = SizedApart::new(rt.alloc(), rt);
+        if shows_in_run(&rt, &queue, &plan)? {
             eprintln!(&rt; "seed {seed} of {seeds} shows a violation")?;
             return Ok(ExitCode::FAILURE);
         }
