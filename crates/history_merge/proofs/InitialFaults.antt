@@ -1,5 +1,5 @@
 -- The first fault of a history whose queue holds some values first, by that of its events alone and the calls with its initial values.
-use Rattle.std.proofs.Common.{◌≡◌, ◌≢◌, ℕ, zero, suc, ◌+◌, ◌-◌, ◌<◌, ◌↔◌, Bool, true, false, List, [], ◌∷◌, ◌++◌, length, get_or, take, Option, Some, None}
+use Rattle.std.proofs.Common.{◌≡◌, ◌≢◌, ℕ, zero, suc, ◌+◌, ◌-◌, ◌<◌, ◌↔◌, Bool, true, false, List, [], ◌∷◌, ◌++◌, length, get_or, take, Option, Some, None, IsErr}
 use Rattle.std.proofs.Common.{refl, sym, ◌∙◌, ap, subst, inl, inr, arith, nat_eq, nat_le, length-append}
 use Rattle.std.specs.Prelude.{All, Result, Ok, Err, MatchResult, IfOk, IfErr}
 use Rattle.std.specs.Result.{IsErrAnd}
@@ -124,6 +124,12 @@ fault_by_call initial events place (Err f) fault distinct call first complete ke
 pub by_err : {T E : Type 0} (Q R : E → Type 0) (result : Result T E) → IsErrAnd result R → ((fault : E) → R fault → Q fault) → IfErr result Q
 by_err Q R (Ok made) is told = tt
 by_err Q R (Err fault) is told = told fault is
+
+-- what holds of the fault of a result that is one, whatever is asked of the others
+pub by_fault : {T E : Type 0} (P : T → Type 0) (Q R : E → Type 0) (result : Result T E) → IsErr result → IsErrAnd result R
+    → ((fault : E) → R fault → Q fault) → MatchResult result P Q
+by_fault P Q R (Ok made) bad is told = cc
+by_fault P Q R (Err fault) bad is told = told fault is
 
 -- ---- complete histories
 
