@@ -1,12 +1,12 @@
 //! A VecDeque under a Mutex, and the same made wrong on purpose in some ways, recorded.
 //!
-//!     queue QUEUE                                            searches for a violation, status 0, 1 or 2
+//!     queue QUEUE                                        searches for a violation, status 0, 1 or 2
 //!     queue QUEUE [--runs R] [--threads T] [--ops N] [--pattern P] [--percent K] [--seed S] [--folder F]
-//!         [--timeout SECONDS]                               the same with settings
-//!     queue QUEUE THREADS OPERATIONS [PATTERN [SEED]]        one run, written to standard output
+//!         [--timeout SECONDS]                            the same with settings
+//!     queue QUEUE THREADS OPERATIONS [PATTERN [SEED]]    one run, written to standard output
 //!
-//!         [--timeout SECONDS]                              the same with settings
-//! early), `hang` (a dequeue never returns) or `throw` (a dequeue panics).
+//! QUEUE is `good`, `wrong` (every 4th value that is found stays), `stack` (last in, first out), `early` (says empty
+//! too early), `hang` (a dequeue never returns) or `throw` (a dequeue panics).
 
 #![deny(warnings)]
 
