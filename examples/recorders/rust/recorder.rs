@@ -15,7 +15,7 @@
 //!
 //! #[test]
 //! fn my_queue_is_linearizable() {
-//!     let answer = recorder::search(&recorder::Options::default(), || MyQueue::new());
+//!     let answer = recorder::search(&recorder::Options::default(), MyQueue::new);
 //!     assert_eq!(answer, recorder::Answer::NoViolation);
 //! }
 //! ```
@@ -593,8 +593,8 @@ fn plan(options: &Options, thread: usize) -> Vec<bool> {
     let mut words = Words(options.seed.wrapping_mul(64).wrapping_add(thread as u64));
     let operations = 0..options.operations;
     match options.pattern_of(options.seed) {
-        Pattern::Roles if options.threads > 1 => operations.map(|_| thread % 2 == 0).collect(),
-        Pattern::Alternate | Pattern::Roles => operations.map(|n| n % 2 == 0).collect(),
+        Pattern::Roles if options.threads > 1 => operations.map(|_| thread & 1 == 0).collect(),
+        Pattern::Alternate | Pattern::Roles => operations.map(|n| n & 1 == 0).collect(),
         Pattern::Mix => operations.map(|_| words.next() % 100 < options.percent).collect(),
         Pattern::Bursts => {
             let mut plan = Vec::with_capacity(options.operations + 64);
