@@ -415,14 +415,16 @@ impl History {
 
     // How many operations there are, and how many of them overlap another.
     fn overlapping(&self) -> (usize, usize) {
-        let mut open: Vec<(usize, bool)> = Vec::new();
-        let mut overlapping = 0;
+        let (mut open, mut met, mut overlapping) = (0u64, 0u64, 0);
         for event in &self.events {
+            let thread = 1 << event.thread;
             if event.is_call() {
-                open.iter_mut().for_each(|(_, overlaps)| *overlaps = true);
-                open.push((event.thread, !open.is_empty()));
-            } else if let Some(place) = open.iter().position(|(thread, _)| *thread == event.thread) {
-                overlapping += usize::from(open.swap_remove(place).1);
+                met |= if open == 0 { 0 } else { open | thread };
+                open |= thread;
+            } else {
+                overlapping += usize::from(met & thread != 0);
+                met &= !thread;
+                open &= !thread;
             }
         }
         (self.events.len() / 2, overlapping)
