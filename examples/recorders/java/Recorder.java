@@ -14,6 +14,7 @@ import java.util.Comparator;
 import java.util.List;
 import java.util.Locale;
 import java.util.Objects;
+import java.util.concurrent.TimeUnit;
 import java.util.concurrent.atomic.AtomicInteger;
 import java.util.concurrent.atomic.AtomicLong;
 import java.util.function.BooleanSupplier;
@@ -445,7 +446,7 @@ public final class Recorder implements AutoCloseable {
      */
     public History record(Work work) {
         Run run = new Run(0);
-        run.go(worker -> {}, work, worker -> {});
+        run.go(work, null);
         return run.history();
     }
 
@@ -460,11 +461,7 @@ public final class Recorder implements AutoCloseable {
         for (int place = 0; place < initial; place++) {
             preload(queue, place);
         }
-        run.go(worker -> queue.setUp(worker.number), worker -> makeOperations(worker, queue),
-                worker -> queue.tearDown(worker.number));
-        if (drains && run.failures.isEmpty()) {
-            run.drain(queue);
-        }
+        run.go(worker -> makeOperations(worker, queue), queue);
         return run.history();
     }
 
@@ -498,6 +495,8 @@ public final class Recorder implements AutoCloseable {
         private final Worker[] workers;
         private final int initialValues;
         private final List<String> failures = new ArrayList<>();
+        private final AtomicInteger ended = new AtomicInteger();
+        private volatile boolean hasFailed;
         private boolean hasEnded = true;
 
         Run(int initialValues) {
@@ -509,22 +508,42 @@ public final class Recorder implements AutoCloseable {
             }
         }
 
+        // What one thread does; the first one drains when all have ended.
+        private void makeSteps(Worker worker, Start start, Work work, Queue queue) {
+            try {
+                if (queue != null) {
+                    queue.setUp(worker.number);
+                }
+                start.meet(worker.number);
+                work.make(worker);
+                ended.incrementAndGet();
+                if (queue != null) {
+                    if (worker.number == 0 && drains && haveAllEnded()) {
+                        drain(queue);
+                    }
+                    queue.tearDown(worker.number);
+                }
+            } catch (Throwable failure) {
+                worker.failure = failure;
+                hasFailed = true;
+            }
+        }
+
+        // Stays until all threads have made their operations; false where one failed.
+        private boolean haveAllEnded() throws InterruptedException {
+            while (ended.get() < workers.length && !hasFailed) {
+                TimeUnit.MICROSECONDS.sleep(50);
+            }
+            return !hasFailed;
+        }
+
         // Runs the threads, and waits until they have ended or the time is over.
-        void go(Work before, Work work, Work after) {
+        void go(Work work, Queue queue) {
             Start start = new Start(threads);
             List<Thread> running = new ArrayList<>();
             long end = System.nanoTime() + timeout.toNanos();
             for (Worker worker : workers) {
-                Thread thread = new Thread(() -> {
-                    try {
-                        before.make(worker);
-                        start.meet(worker.number);
-                        work.make(worker);
-                        after.make(worker);
-                    } catch (Throwable failure) {
-                        worker.failure = failure;
-                    }
-                });
+                Thread thread = new Thread(() -> makeSteps(worker, start, work, queue));
                 thread.setDaemon(true);
                 running.add(thread);
                 thread.start();
@@ -532,20 +551,17 @@ public final class Recorder implements AutoCloseable {
             running.removeIf(thread -> hasEndedBy(thread, end));
             hanging.addAll(running);
             hasEnded = running.isEmpty();
+            hasFailed = hasFailed || !hasEnded;
             for (Worker worker : workers) {
                 if (worker.failure != null) {
                     failures.add("thread " + worker.number + " failed: " + worker.failure);
                 }
             }
             if (!hasEnded) {
-                giveUp();
+                String told = toldCalls(history().openCalls());
+                failures.add("no end after " + timeout.toSeconds() + " s: " + told);
+                keepFailed(history());
             }
-        }
-
-        private void giveUp() {
-            History history = history();
-            failures.add("no end after " + timeout.toSeconds() + " s: " + toldCalls(history.openCalls()));
-            keepFailed(history);
         }
 
         // The events below the ticket that is read first: while threads run, what happened later took no part in them.
@@ -563,21 +579,16 @@ public final class Recorder implements AutoCloseable {
         }
 
         // Takes out what is left, until the queue says that it is empty or has given more values than went in.
-        void drain(Queue queue) {
+        private void drain(Queue queue) throws Exception {
             List<Event> events = history().events;
             long taken = events.stream().filter(event -> event.what == RET_ENQ).count();
             long given = events.stream().filter(event -> event.what == RET_DEQ).count();
             long left = Math.max(0, initialValues + taken - given);
             long room = MAX_OPERATIONS - events.size() / 2;
-            try {
-                for (long n = 0; n < Math.min(left + 1, room); n++) {
-                    if (workers[0].dequeue(queue::dequeue) == null) {
-                        return;
-                    }
+            for (long n = 0; n < Math.min(left + 1, room); n++) {
+                if (workers[0].dequeue(queue::dequeue) == null) {
+                    return;
                 }
-            } catch (Exception failure) {
-                failures.add("the drain failed: " + failure);
-                return;
             }
             if (room > left) {
                 say("seed " + seed + ": the queue gave more values than went in");

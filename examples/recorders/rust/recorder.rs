@@ -231,17 +231,28 @@ struct Run<'a> {
     options: &'a Options,
     tickets: AtomicU64,
     chunks: Vec<Chunk>,
+    ended: AtomicUsize,
+    has_failed: AtomicBool,
 }
 
 impl Run<'_> {
     fn new(options: &Options) -> Run<'_> {
         let places = (2 * options.operations).max(64);
         let chunks = (0..options.threads).map(|_| Chunk::new(places)).collect();
-        Run { options, tickets: AtomicU64::new(0), chunks }
+        let ended = AtomicUsize::new(0);
+        Run { options, tickets: AtomicU64::new(0), chunks, ended, has_failed: AtomicBool::new(false) }
     }
 
     fn thread(&self, number: usize) -> Thread<'_> {
         Thread { run: self, number, asked: 0, chunk: &self.chunks[number], used: 0 }
+    }
+
+    // Stays until all threads have made their operations; false where one failed.
+    fn have_all_ended(&self) -> bool {
+        while self.ended.load(Ordering::SeqCst) < self.options.threads && !self.has_failed.load(Ordering::SeqCst) {
+            thread::sleep(Duration::from_micros(50));
+        }
+        !self.has_failed.load(Ordering::SeqCst)
     }
 
     // The events by ticket. While threads run, those below the ticket that was read first: what happened later took no
@@ -493,7 +504,7 @@ pub fn record(threads: usize, operations: usize, work: impl Fn(&mut Thread) + Sy
 pub fn record_with(options: &Options, work: impl Fn(&mut Thread) + Sync) -> History {
     options.check();
     let run = Run::new(options);
-    let (_, failures) = run_threads(&run, &[], &|_| (), &work, &|_| ());
+    let failures = run_threads(&run, &[], &Steps { before: &|_| (), work: &work, drain: &|_| (), after: &|_| () });
     finish(&run, Vec::new(), failures)
 }
 
@@ -509,12 +520,16 @@ pub fn run(options: &Options, queue: &impl Queue) -> History {
         assert!(queue.preload(*value), "the queue has no room for the initial value at place {place}");
     }
     let run = Run::new(options);
-    let work = |thread: &mut Thread| make_operations(thread, queue);
-    let (mut threads, failures) =
-        run_threads(&run, &initial, &|number| queue.set_up(number), &work, &|number| queue.tear_down(number));
-    if options.drain && failures.is_empty() {
-        drain(&mut threads[0], queue, initial.len());
-    }
+    let failures = run_threads(
+        &run,
+        &initial,
+        &Steps {
+            before: &|number| queue.set_up(number),
+            work: &|thread| make_operations(thread, queue),
+            drain: &|thread| drain(thread, queue, initial.len()),
+            after: &|number| queue.tear_down(number),
+        },
+    );
     finish(&run, initial, failures)
 }
 
@@ -525,17 +540,34 @@ fn finish(run: &Run, initial: Vec<u64>, failures: Vec<String>) -> History {
     history
 }
 
-type InThread<'a> = &'a (dyn Fn(usize) + Sync);
-type Work<'a> = &'a (dyn Fn(&mut Thread) + Sync);
+// What each thread does, one step after the other; the first one drains when all have ended.
+struct Steps<'a> {
+    before: &'a (dyn Fn(usize) + Sync),
+    work: &'a (dyn Fn(&mut Thread) + Sync),
+    drain: &'a (dyn Fn(&mut Thread) + Sync),
+    after: &'a (dyn Fn(usize) + Sync),
+}
 
-// Runs the threads, with a watchdog beside them, and gives them back with what went wrong in them.
-fn run_threads<'a>(
-    run: &'a Run<'a>,
-    initial: &[u64],
-    before: InThread,
-    work: Work,
-    after: InThread,
-) -> (Vec<Thread<'a>>, Vec<String>) {
+fn make_steps(run: &Run, start: &Start, number: usize, steps: &Steps) -> Result<(), String> {
+    let outcome = panic::catch_unwind(AssertUnwindSafe(|| {
+        let mut thread = run.thread(number);
+        (steps.before)(number);
+        start.meet(number);
+        (steps.work)(&mut thread);
+        run.ended.fetch_add(1, Ordering::SeqCst);
+        if number == 0 && run.options.drain && run.have_all_ended() {
+            (steps.drain)(&mut thread);
+        }
+        (steps.after)(number);
+    }));
+    outcome.map_err(|panic| {
+        run.has_failed.store(true, Ordering::SeqCst);
+        format!("thread {number} panicked: {}", told_panic(&*panic))
+    })
+}
+
+// Runs the threads, with a watchdog beside them, and gives what went wrong in them.
+fn run_threads(run: &Run, initial: &[u64], steps: &Steps) -> Vec<String> {
     let start = &Start::new(run.options.threads);
     thread::scope(|scope| {
         let (ended, end) = mpsc::channel::<()>();
@@ -544,28 +576,13 @@ fn run_threads<'a>(
                 give_up(run, initial);
             }
         });
-        let in_thread = move |number: usize| {
-            let mut thread = run.thread(number);
-            let outcome = panic::catch_unwind(AssertUnwindSafe(|| {
-                before(number);
-                start.meet(number);
-                work(&mut thread);
-                after(number);
-            }));
-            (thread, outcome)
-        };
         let numbers = 0..run.options.threads;
-        let running: Vec<_> = numbers.map(|number| scope.spawn(move || in_thread(number))).collect();
-        let (mut threads, mut failures) = (Vec::new(), Vec::new());
-        for running in running {
-            let (thread, outcome) = running.join().expect("a panic is caught in the thread");
-            if let Err(panic) = outcome {
-                failures.push(format!("thread {} panicked: {}", thread.number, told_panic(&*panic)));
-            }
-            threads.push(thread);
-        }
+        let running: Vec<_> =
+            numbers.map(|number| scope.spawn(move || make_steps(run, start, number, steps))).collect();
+        let outcomes = running.into_iter().map(|running| running.join().expect("a panic is caught in the thread"));
+        let failures = outcomes.filter_map(Result::err).collect();
         drop(ended);
-        (threads, failures)
+        failures
     })
 }
 
