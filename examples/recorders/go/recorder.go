@@ -1,6 +1,6 @@
 // Package fifobench records what goroutines do with a FIFO queue, and searches for a run that no FIFO queue can have
-// made. Go 1.19 or later with its standard library, this one file: copy it into a folder fifobench of your module. In a
-// test:
+// made. Go 1.19 or later with its standard library, this one file: copy it into a folder fifobench of your module. In
+// a test:
 //
 //	func TestMyQueue(t *testing.T) {
 //		answer := fifobench.Search(fifobench.Defaults(), func() fifobench.Queue { return NewMyQueue() })
@@ -33,6 +33,7 @@ import (
 const (
 	MaxThreads    = 64
 	MaxOperations = 1_000_000
+	MaxEvents     = 2_000_000
 	MaxInitial    = 100_000
 )
 
@@ -49,11 +50,11 @@ type Preloader interface {
 	Preload(value uint64) bool
 }
 
-// A Registrar is a queue whose threads register: SetUp is called in each goroutine before the common start, and
-// TearDown after its last operation.
+// A Registrar is a queue whose threads register: Enter is called in each goroutine before the common start, and Leave
+// after its last operation.
 type Registrar interface {
-	SetUp(thread int)
-	TearDown(thread int)
+	Enter(thread int)
+	Leave(thread int)
 }
 
 // Pattern says which operations a thread makes.
@@ -82,10 +83,10 @@ type Options struct {
 	Percent    uint64                            // enqueues of a hundred operations, for Mix
 	Seed       uint64                            // of the run, or of the first run of a search
 	Runs       uint64                            // how many a search makes at most
-	Timeout    time.Duration                     // until a run is given up as hanging
+	Timeout    time.Duration                     // a run without an event for so long is given up
 	Value      func(thread int, n uint64) uint64 // of a thread's operation n; values have to differ
 	First      uint64                            // added to n; 1 for a queue that takes 0 for "nothing"
-	Initial    int                               // values that the queue is given before: 2^38, 2^38 + 1, ..
+	Initial    int                               // values that the queue is given before: those of a thread 64
 	Drain      bool                              // take values out at the end, until the queue says that it is empty
 	Folder     string                            // where histories and reports are kept
 	Program    string                            // if empty, that of the variable FIFOBENCH, else that on the PATH
@@ -217,6 +218,9 @@ func (thread *Thread) Dequeue(call func() (uint64, bool)) (uint64, bool) {
 // before a return is seen by every call that has a greater ticket, since Go's atomics are sequentially consistent.
 func (thread *Thread) note(what string, value uint64) {
 	ticket := thread.run.tickets.Add(1) - 1
+	if ticket >= MaxEvents {
+		panic(fmt.Sprintf("a history has at most %d events", MaxEvents))
+	}
 	if thread.used == len(thread.events) {
 		thread.makeRoom(2 * thread.used)
 	}
@@ -275,7 +279,7 @@ func (start *start) turns(turns, often int, isSeen func() bool) bool {
 // History is what was recorded: the events of all threads, by ticket.
 type History struct {
 	events   []event
-	initial  int
+	initial  []uint64
 	failures []string
 	hasEnded bool
 }
@@ -285,12 +289,12 @@ func (history *History) IsComplete() bool {
 	return history.hasEnded && len(history.openCalls()) == 0
 }
 
-// IsGivenUp says whether the run didn't end in its time. What there was by then is kept in the folder, which was said.
+// IsGivenUp says whether the run hung. What there was is kept in the folder, which was said on standard error.
 func (history *History) IsGivenUp() bool {
 	return !history.hasEnded
 }
 
-// Failures says what went wrong: panics, or that the run didn't end in its time.
+// Failures says what went wrong: panics, or that the run hung.
 func (history *History) Failures() []string {
 	return history.failures
 }
@@ -309,10 +313,6 @@ func (history *History) openCalls() []event {
 	return calls
 }
 
-func initialValue(place int) uint64 {
-	return 1<<38 + uint64(place)
-}
-
 // Write writes the text of the history.
 func (history *History) Write(to io.Writer) error {
 	out := bufio.NewWriter(to)
@@ -320,13 +320,13 @@ func (history *History) Write(to io.Writer) error {
 	if !history.IsComplete() {
 		name = "fifo-pending"
 	}
-	if history.initial == 0 {
+	if len(history.initial) == 0 {
 		fmt.Fprintln(out, name, 1)
 	} else {
-		fmt.Fprintf(out, "%s 2\ninitial %d\n", name, history.initial)
+		fmt.Fprintf(out, "%s 2\ninitial %d\n", name, len(history.initial))
 	}
-	for place := 0; place < history.initial; place++ {
-		fmt.Fprintln(out, initialValue(place))
+	for _, value := range history.initial {
+		fmt.Fprintln(out, value)
 	}
 	for _, event := range history.events {
 		if event.what == callEnq || event.what == retDeq {
@@ -378,7 +378,7 @@ func (history *History) count(what string) int {
 // One run: its threads, and what went wrong.
 type run struct {
 	options   Options
-	initial   int
+	initial   []uint64
 	tickets   atomic.Uint64
 	threads   []*Thread
 	start     start
@@ -388,7 +388,7 @@ type run struct {
 	failures  []string // under the lock
 }
 
-func newRun(options Options, initial int) *run {
+func newRun(options Options, initial []uint64) *run {
 	run := &run{options: options, initial: initial, start: start{threads: int64(options.Threads)}}
 	for number := 0; number < options.Threads; number++ {
 		thread := &Thread{run: run, number: number}
@@ -408,7 +408,7 @@ func (run *run) makeSteps(thread *Thread, work func(thread *Thread), queue Queue
 	}()
 	registrar, registers := queue.(Registrar)
 	if registers {
-		registrar.SetUp(thread.number)
+		registrar.Enter(thread.number)
 	}
 	run.start.meet(int64(thread.number))
 	work(thread)
@@ -417,7 +417,7 @@ func (run *run) makeSteps(thread *Thread, work func(thread *Thread), queue Queue
 		run.drain(queue)
 	}
 	if registers {
-		registrar.TearDown(thread.number)
+		registrar.Leave(thread.number)
 	}
 	isOver = true
 }
@@ -437,7 +437,7 @@ func (run *run) haveAllEnded() bool {
 	return !run.hasFailed.Load()
 }
 
-// Runs the goroutines, and waits until they have ended or the time is over. Goroutines that hang are left.
+// Runs the goroutines, and waits until they have ended or hang. Those that hang are left.
 func (run *run) execute(work func(thread *Thread), queue Queue) *History {
 	var running sync.WaitGroup
 	running.Add(len(run.threads))
@@ -452,46 +452,60 @@ func (run *run) execute(work func(thread *Thread), queue Queue) *History {
 		running.Wait()
 		close(over)
 	}()
-	timer := time.NewTimer(run.options.Timeout)
-	defer timer.Stop()
-	select {
-	case <-over:
+	if run.endsWith(over) {
 		return run.history(true)
-	case <-timer.C:
-		run.hasFailed.Store(true)
-		told := toldCalls(run.history(false).openCalls())
-		run.fail(fmt.Sprintf("no end after %v: %s", run.options.Timeout, told))
-		history := run.history(false)
-		history.keepFailed(&run.options)
-		return history
 	}
+	run.hasFailed.Store(true)
+	told := toldCalls(run.history(false).openCalls())
+	run.fail(fmt.Sprintf("no event for %v: %s", run.options.Timeout, told))
+	history := run.history(false)
+	history.keepFailed(&run.options)
+	return history
 }
 
-// The events below the ticket that is read first: while threads run, what happened later took no part in them.
-func (run *run) history(hasEnded bool) *History {
-	below := run.tickets.Load()
-	history := &History{initial: run.initial, hasEnded: hasEnded}
-	for _, thread := range run.threads {
-		count := thread.count.Load()
-		for _, event := range (*thread.read.Load())[:count] {
-			if event.ticket < below {
-				history.events = append(history.events, event)
+// Stays until the run is over; false if no ticket is drawn for the time of the options.
+func (run *run) endsWith(over <-chan struct{}) bool {
+	look := time.NewTicker(50 * time.Millisecond)
+	defer look.Stop()
+	seen, since := uint64(0), time.Now()
+	for {
+		select {
+		case <-over:
+			return true
+		case <-look.C:
+			drawn := run.tickets.Load()
+			if drawn != seen {
+				seen, since = drawn, time.Now()
+			} else if time.Since(since) >= run.options.Timeout {
+				return false
 			}
 		}
 	}
-	sort.Slice(history.events, func(one, other int) bool {
-		return history.events[one].ticket < history.events[other].ticket
-	})
+}
+
+// While goroutines run, the events up to the first that isn't there yet.
+func (run *run) history(hasEnded bool) *History {
+	var events []event
+	for _, thread := range run.threads {
+		count := thread.count.Load()
+		events = append(events, (*thread.read.Load())[:count]...)
+	}
+	sort.Slice(events, func(one, other int) bool { return events[one].ticket < events[other].ticket })
+	// Tickets are drawn from 0 on, so a ticket is its event's place.
+	whole := 0
+	for whole < len(events) && events[whole].ticket == uint64(whole) {
+		whole++
+	}
 	run.lock.Lock()
 	defer run.lock.Unlock()
-	history.failures = append(history.failures, run.failures...)
-	return history
+	failures := append([]string(nil), run.failures...)
+	return &History{events: events[:whole], initial: run.initial, failures: failures, hasEnded: hasEnded}
 }
 
 // Takes out what is left, until the queue says that it is empty or has given more values than went in.
 func (run *run) drain(queue Queue) {
 	history := run.history(true)
-	left := run.initial + history.count(retEnq) - history.count(retDeq)
+	left := len(run.initial) + history.count(retEnq) - history.count(retDeq)
 	if left < 0 {
 		left = 0
 	}
@@ -528,9 +542,9 @@ func toldCalls(calls []event) string {
 // Record runs work in each of so many goroutines, which begin together, and gives what they recorded. Memory is taken
 // ahead for so many operations of each; more are recorded too, and take memory as they come.
 //
-// If a call panics, its goroutine ends and the others go on; if the run takes longer than 30 seconds, what there is by
-// then is kept in the folder fifobench-runs, and the goroutines that hang are left. In both cases the history has
-// failures. An error is that a number is out of its range.
+// If a call panics, its goroutine ends and the others go on; if no event comes for 30 seconds, what there is is kept
+// in the folder fifobench-runs, and the goroutines that hang are left. In both cases the history has failures. An
+// error is that a number is out of its range.
 func Record(threads, operations int, work func(thread *Thread)) (*History, error) {
 	options := Defaults()
 	options.Threads, options.Operations = threads, operations
@@ -542,11 +556,11 @@ func RecordWith(options Options, work func(thread *Thread)) (*History, error) {
 	if err := options.Check(); err != nil {
 		return nil, err
 	}
-	return finish(newRun(options, 0).execute(work, nil))
+	return newRun(options, nil).execute(work, nil), nil
 }
 
-// Run makes one run over this queue, by the pattern of the seed. An error is that a setting is out of its range, or that
-// the queue has no room for an initial value.
+// Run makes one run over this queue, by the pattern of the seed. An error is that a setting is out of its range, or
+// that the queue has no room for an initial value.
 func Run(options Options, queue Queue) (*History, error) {
 	if err := options.Check(); err != nil {
 		return nil, err
@@ -555,12 +569,14 @@ func Run(options Options, queue Queue) (*History, error) {
 	if preloader, ok := queue.(Preloader); ok {
 		preload = preloader.Preload
 	}
+	var initial []uint64
 	for place := 0; place < options.Initial; place++ {
-		if !preload(initialValue(place)) {
-			return nil, fmt.Errorf("the queue has no room for the initial value at place %d", place)
+		initial = append(initial, options.Value(MaxThreads, uint64(place)))
+		if !preload(initial[place]) {
+			return nil, fmt.Errorf("the queue has no room for the initial value %d", initial[place])
 		}
 	}
-	return finish(newRun(options, options.Initial).execute(func(thread *Thread) {
+	work := func(thread *Thread) {
 		for _, isEnqueue := range options.plan(thread.number) {
 			if isEnqueue {
 				thread.Enqueue(queue.Enqueue)
@@ -568,14 +584,8 @@ func Run(options Options, queue Queue) (*History, error) {
 				thread.Dequeue(queue.Dequeue)
 			}
 		}
-	}, queue))
-}
-
-func finish(history *History) (*History, error) {
-	if len(history.events) > 2*MaxOperations {
-		return nil, fmt.Errorf("more than %d operations of all threads", MaxOperations)
 	}
-	return history, nil
+	return newRun(options, initial).execute(work, queue), nil
 }
 
 // The state of SplitMix64.
@@ -649,7 +659,7 @@ func search(options Options, makeQueue func() Queue) (Answer, error) {
 	}
 	told, answer := "no violation in", NoViolation
 	if !isJudged {
-		told, answer = "nothing was judged of", Wrong
+		told, answer = "nothing judged in", Wrong
 	}
 	if operations > 0 {
 		overlapping = 100 * overlapping / operations

@@ -19,7 +19,6 @@ import java.util.concurrent.atomic.AtomicInteger;
 import java.util.concurrent.atomic.AtomicLong;
 import java.util.function.BooleanSupplier;
 import java.util.function.Supplier;
-import java.util.stream.Collectors;
 
 /**
  * Records what threads do with a FIFO queue, and searches for a run that no FIFO queue can have made. Java 17 with its
@@ -44,6 +43,7 @@ import java.util.stream.Collectors;
 public final class Recorder implements AutoCloseable {
     public static final int MAX_THREADS = 64;
     public static final int MAX_OPERATIONS = 1_000_000;
+    public static final int MAX_EVENTS = 2_000_000;
     public static final int MAX_INITIAL = 100_000;
 
     /** A queue that is tested. An exception in a call ends the thread that called. */
@@ -60,32 +60,28 @@ public final class Recorder implements AutoCloseable {
         }
 
         /** Called in each thread before the common start, for queues whose threads register. */
-        default void setUp(int thread) throws Exception {}
+        default void enter(int thread) throws Exception {}
 
         /** Called in each thread after its last operation. */
-        default void tearDown(int thread) throws Exception {}
+        default void leave(int thread) throws Exception {}
     }
 
     /** One call of enqueue. */
-    @FunctionalInterface
     public interface Enqueue {
         boolean call(long value) throws Exception;
     }
 
     /** One call of dequeue. */
-    @FunctionalInterface
     public interface Dequeue {
         Long call() throws Exception;
     }
 
     /** What one thread does in a loop of your own. */
-    @FunctionalInterface
     public interface Work {
         void make(Worker worker) throws Exception;
     }
 
     /** The value of operation n, from 0, of a thread. */
-    @FunctionalInterface
     public interface Values {
         long value(int thread, long n);
     }
@@ -166,7 +162,7 @@ public final class Recorder implements AutoCloseable {
         return this;
     }
 
-    /** How long a run may take before it is given up as hanging; 30 seconds unless set. */
+    /** A run without an event for so long is given up as hanging; 30 seconds unless set. */
     public Recorder timeout(Duration timeout) {
         this.timeout = timeout;
         return this;
@@ -184,7 +180,7 @@ public final class Recorder implements AutoCloseable {
         return this;
     }
 
-    /** How many values the queue is given before the threads start: 2^38, 2^38 + 1, ..; none unless set. */
+    /** How many values the queue is given before: those of a thread 64, as a rule 2^38, 2^38 + 1, ..; 0 unless set. */
     public Recorder initial(int initial) {
         this.initial = initial;
         return this;
@@ -236,10 +232,6 @@ public final class Recorder implements AutoCloseable {
         boolean isCall() {
             return what == CALL_ENQ || what == CALL_DEQ;
         }
-
-        boolean hasValue() {
-            return what == CALL_ENQ || what == RET_DEQ;
-        }
     }
 
     /** What one thread records. Only that thread may use it. */
@@ -290,6 +282,9 @@ public final class Recorder implements AutoCloseable {
         // consistent.
         private void note(int what, long value) {
             long ticket = tickets.getAndIncrement();
+            if (ticket >= MAX_EVENTS) {
+                throw new IllegalStateException("a history has at most " + MAX_EVENTS + " events");
+            }
             int place = 2 * count.getPlain();
             long[] to = noted;
             if (place == to.length) {
@@ -301,13 +296,11 @@ public final class Recorder implements AutoCloseable {
             count.setRelease(place / 2 + 1);
         }
 
-        private void read(List<Event> events, long below) {
+        private void read(List<Event> events) {
             int published = count.getAcquire();
             long[] from = noted;
             for (int place = 0; place < 2 * published; place += 2) {
-                if (from[place] >>> 3 < below) {
-                    events.add(new Event(from[place] >>> 3, number, (int) (from[place] & 7), from[place + 1]));
-                }
+                events.add(new Event(from[place] >>> 3, number, (int) (from[place] & 7), from[place + 1]));
             }
         }
     }
@@ -318,7 +311,6 @@ public final class Recorder implements AutoCloseable {
         private static final int ARRIVAL_TURNS = 2_500;
         private static final int RUNNING_TURNS = 6_000;
         private static final int PASSES = 64;
-
         private final int threads;
         private final AtomicInteger arrived = new AtomicInteger();
         private final AtomicInteger lastBy = new AtomicInteger();
@@ -357,13 +349,15 @@ public final class Recorder implements AutoCloseable {
 
     /** What was recorded: the events of all threads, by ticket. */
     public static final class History {
+        private final long seed;
         private final List<Event> events;
-        private final int initial;
+        private final List<Long> initial;
         private final List<String> failures;
         private final boolean hasEnded;
         private final boolean isComplete;
 
-        private History(List<Event> events, int initial, List<String> failures, boolean hasEnded) {
+        private History(long seed, List<Event> events, List<Long> initial, List<String> failures, boolean hasEnded) {
+            this.seed = seed;
             this.events = events;
             this.initial = initial;
             this.failures = failures;
@@ -376,12 +370,12 @@ public final class Recorder implements AutoCloseable {
             return isComplete;
         }
 
-        /** Whether the run didn't end in its time. What there was by then is kept in the folder, which was said. */
+        /** Whether the run hung. What there was is kept in the folder, which was said on standard error. */
         public boolean isGivenUp() {
             return !hasEnded;
         }
 
-        /** What went wrong: exceptions in threads, or that the run didn't end in its time. */
+        /** What went wrong: exceptions in threads, or that the run hung. */
         public List<String> failures() {
             return failures;
         }
@@ -398,12 +392,13 @@ public final class Recorder implements AutoCloseable {
         public void write(OutputStream to) throws IOException {
             Writer text = new BufferedWriter(new OutputStreamWriter(to, StandardCharsets.US_ASCII));
             text.append(isComplete ? "fifo-history " : "fifo-pending ");
-            text.append(initial == 0 ? "1\n" : "2\ninitial " + initial + "\n");
-            for (int place = 0; place < initial; place++) {
-                text.append(initialValue(place) + "\n");
+            text.append(initial.isEmpty() ? "1\n" : "2\ninitial " + initial.size() + "\n");
+            for (long value : initial) {
+                text.append(Long.toUnsignedString(value) + "\n");
             }
             for (Event event : events) {
-                String value = event.hasValue() ? " " + Long.toUnsignedString(event.value) : "";
+                boolean hasValue = event.what == CALL_ENQ || event.what == RET_DEQ;
+                String value = hasValue ? " " + Long.toUnsignedString(event.value) : "";
                 text.append(event.ticket + " " + event.thread + " " + WORDS[event.what] + value + "\n");
             }
             text.append(isComplete ? "" : "open " + openCalls().size() + "\n");
@@ -431,22 +426,18 @@ public final class Recorder implements AutoCloseable {
         }
     }
 
-    private static long initialValue(int place) {
-        return (1L << 38) + place;
-    }
-
     /**
      * Runs {@code work} in each thread, all of which begin together, and gives what they recorded; there is no drain,
      * no initial value and no pattern. Memory is taken ahead for the operations of each thread; more are recorded too.
      *
-     * <p>If a call throws, its thread ends and the others go on; if the run takes longer than its time, what there is
-     * by then is kept in the folder. In both cases the history has failures.
+     * <p>If a call throws, its thread ends and the others go on; if the run hangs, what there is is kept in the
+     * folder. In both cases the history has failures.
      *
      * @throws IllegalArgumentException if a setting is out of its range
      */
     public History record(Work work) {
-        Run run = new Run(0);
-        run.go(work, null);
+        Run run = new Run(seed, 0);
+        run.go(work, queue(value -> false, () -> null), false);
         return run.history();
     }
 
@@ -455,26 +446,21 @@ public final class Recorder implements AutoCloseable {
      *
      * @throws IllegalArgumentException if a setting is out of its range
      * @throws IllegalStateException if the queue has no room for an initial value
+     * @throws Exception if the queue throws it at an initial value
      */
-    public History run(Queue queue) {
-        Run run = new Run(initial);
-        for (int place = 0; place < initial; place++) {
-            preload(queue, place);
-        }
-        run.go(worker -> makeOperations(worker, queue), queue);
-        return run.history();
+    public History run(Queue queue) throws Exception {
+        return run(seed, queue);
     }
 
-    private static void preload(Queue queue, int place) {
-        String told = "the queue has no room for the initial value at place " + place;
-        try {
-            if (queue.preload(initialValue(place))) {
-                return;
+    private History run(long seed, Queue queue) throws Exception {
+        Run run = new Run(seed, initial);
+        for (long value : run.initials) {
+            if (!queue.preload(value)) {
+                throw new IllegalStateException("no room for the initial value " + Long.toUnsignedString(value));
             }
-        } catch (Exception failure) {
-            throw new IllegalStateException(told, failure);
         }
-        throw new IllegalStateException(told);
+        run.go(worker -> makeOperations(worker, seed, queue), queue, drains);
+        return run.history();
     }
 
     private void checkSettings() {
@@ -491,17 +477,21 @@ public final class Recorder implements AutoCloseable {
 
     // One run: its workers, and what went wrong.
     private final class Run {
+        private final long seed;
         private final AtomicLong tickets = new AtomicLong();
         private final Worker[] workers;
-        private final int initialValues;
+        private final List<Long> initials = new ArrayList<>();
         private final List<String> failures = new ArrayList<>();
         private final AtomicInteger ended = new AtomicInteger();
         private volatile boolean hasFailed;
         private boolean hasEnded = true;
 
-        Run(int initialValues) {
+        Run(long seed, int initial) {
             checkSettings();
-            this.initialValues = initialValues;
+            this.seed = seed;
+            for (int place = 0; place < initial; place++) {
+                initials.add(values.value(MAX_THREADS, place));
+            }
             workers = new Worker[threads];
             for (int number = 0; number < threads; number++) {
                 workers[number] = new Worker(tickets, number);
@@ -509,20 +499,16 @@ public final class Recorder implements AutoCloseable {
         }
 
         // What one thread does; the first one drains when all have ended.
-        private void makeSteps(Worker worker, Start start, Work work, Queue queue) {
+        private void makeSteps(Worker worker, Start start, Work work, Queue queue, boolean drains) {
             try {
-                if (queue != null) {
-                    queue.setUp(worker.number);
-                }
+                queue.enter(worker.number);
                 start.meet(worker.number);
                 work.make(worker);
                 ended.incrementAndGet();
-                if (queue != null) {
-                    if (worker.number == 0 && drains && haveAllEnded()) {
-                        drain(queue);
-                    }
-                    queue.tearDown(worker.number);
+                if (worker.number == 0 && drains && haveAllEnded()) {
+                    drain(queue);
                 }
+                queue.leave(worker.number);
             } catch (Throwable failure) {
                 worker.failure = failure;
                 hasFailed = true;
@@ -538,17 +524,16 @@ public final class Recorder implements AutoCloseable {
         }
 
         // Runs the threads, and waits until they have ended or the time is over.
-        void go(Work work, Queue queue) {
+        void go(Work work, Queue queue, boolean drains) {
             Start start = new Start(threads);
             List<Thread> running = new ArrayList<>();
-            long end = System.nanoTime() + timeout.toNanos();
             for (Worker worker : workers) {
-                Thread thread = new Thread(() -> makeSteps(worker, start, work, queue));
+                Thread thread = new Thread(() -> makeSteps(worker, start, work, queue, drains));
                 thread.setDaemon(true);
                 running.add(thread);
                 thread.start();
             }
-            running.removeIf(thread -> hasEndedBy(thread, end));
+            waitForEnd(running);
             hanging.addAll(running);
             hasEnded = running.isEmpty();
             hasFailed = hasFailed || !hasEnded;
@@ -558,24 +543,45 @@ public final class Recorder implements AutoCloseable {
                 }
             }
             if (!hasEnded) {
-                String told = toldCalls(history().openCalls());
-                failures.add("no end after " + timeout.toSeconds() + " s: " + told);
+                failures.add("no event for " + timeout.toSeconds() + " s");
+                history().openCalls().forEach(call -> failures.add(toldCall(call)));
                 keepFailed(history());
             }
         }
 
-        // The events below the ticket that is read first: while threads run, what happened later took no part in them.
+        // Stays until all have ended, or no ticket is drawn for the time of the settings. Who hangs stays in the list.
+        private void waitForEnd(List<Thread> running) {
+            boolean isInterrupted = false;
+            long seen = 0;
+            long since = System.nanoTime();
+            while (!running.isEmpty() && System.nanoTime() - since < timeout.toNanos()) {
+                try {
+                    running.get(0).join(50);
+                } catch (InterruptedException interrupted) {
+                    isInterrupted = true;
+                }
+                running.removeIf(thread -> !thread.isAlive());
+                since = tickets.get() == seen ? since : System.nanoTime();
+                seen = tickets.get();
+            }
+            if (isInterrupted) {
+                Thread.currentThread().interrupt();
+            }
+        }
+
+        // While threads run, the events up to the first that isn't there yet.
         History history() {
-            long below = tickets.get();
             List<Event> events = new ArrayList<>();
             for (Worker worker : workers) {
-                worker.read(events, below);
-            }
-            if (events.size() > 2 * MAX_OPERATIONS) {
-                throw new IllegalStateException("more than " + MAX_OPERATIONS + " operations of all threads");
+                worker.read(events);
             }
             events.sort(Comparator.comparingLong(Event::ticket));
-            return new History(events, initialValues, failures, hasEnded);
+            // Tickets are drawn from 0 on, so a ticket is its event's place.
+            int whole = 0;
+            while (whole < events.size() && events.get(whole).ticket == whole) {
+                whole++;
+            }
+            return new History(seed, events.subList(0, whole), initials, failures, hasEnded);
         }
 
         // Takes out what is left, until the queue says that it is empty or has given more values than went in.
@@ -583,7 +589,7 @@ public final class Recorder implements AutoCloseable {
             List<Event> events = history().events;
             long taken = events.stream().filter(event -> event.what == RET_ENQ).count();
             long given = events.stream().filter(event -> event.what == RET_DEQ).count();
-            long left = Math.max(0, initialValues + taken - given);
+            long left = Math.max(0, initials.size() + taken - given);
             long room = MAX_OPERATIONS - events.size() / 2;
             for (long n = 0; n < Math.min(left + 1, room); n++) {
                 if (workers[0].dequeue(queue::dequeue) == null) {
@@ -594,22 +600,6 @@ public final class Recorder implements AutoCloseable {
                 say("seed " + seed + ": the queue gave more values than went in");
             }
         }
-    }
-
-    private static boolean hasEndedBy(Thread thread, long end) {
-        try {
-            thread.join(Math.max(1, (end - System.nanoTime()) / 1_000_000));
-        } catch (InterruptedException interrupted) {
-            Thread.currentThread().interrupt();
-        }
-        return !thread.isAlive();
-    }
-
-    private static String toldCalls(List<Event> calls) {
-        if (calls.isEmpty()) {
-            return "no thread is inside a call";
-        }
-        return calls.stream().map(Recorder::toldCall).collect(Collectors.joining(", "));
     }
 
     private static String toldCall(Event call) {
@@ -641,7 +631,7 @@ public final class Recorder implements AutoCloseable {
     }
 
     // What one thread does: true is an enqueue.
-    private boolean[] plan(int thread) {
+    private boolean[] plan(long seed, int thread) {
         Words words = new Words(seed * MAX_THREADS + thread);
         boolean[] plan = new boolean[operations];
         Pattern pattern = patternOf(seed);
@@ -662,8 +652,8 @@ public final class Recorder implements AutoCloseable {
         return plan;
     }
 
-    private void makeOperations(Worker worker, Queue queue) throws Exception {
-        for (boolean isEnqueue : plan(worker.number)) {
+    private void makeOperations(Worker worker, long seed, Queue queue) throws Exception {
+        for (boolean isEnqueue : plan(seed, worker.number)) {
             if (isEnqueue) {
                 worker.enqueue(queue::enqueue);
             } else {
@@ -678,29 +668,22 @@ public final class Recorder implements AutoCloseable {
      *
      * <p>What it found is said on standard output. The first violation is kept in the folder: the history, and the
      * report of {@code fifobench shrink}. If no program is found, nothing is judged, and every history is kept.
-     *
-     * @throws IllegalArgumentException if a setting is out of its range
-     * @throws IllegalStateException if the queue has no room for an initial value
      */
     public Answer search(Supplier<Queue> makeQueue) {
-        long firstSeed = seed;
         try {
             return searchRuns(makeQueue);
-        } catch (IOException failure) {
-            say("seed " + seed + ": " + failure.getMessage());
+        } catch (Exception failure) {
+            say(failure.getMessage() != null ? failure.getMessage() : failure.toString());
             return Answer.WRONG;
-        } finally {
-            seed = firstSeed;
         }
     }
 
-    private Answer searchRuns(Supplier<Queue> makeQueue) throws IOException {
-        long firstSeed = seed;
+    private Answer searchRuns(Supplier<Queue> makeQueue) throws Exception {
         long all = 0;
         long overlapping = 0;
         boolean isJudged = isFound();
-        for (; seed < firstSeed + runs; seed++) {
-            History history = run(makeQueue.get());
+        for (long ofRun = seed; ofRun < seed + runs; ofRun++) {
+            History history = run(ofRun, makeQueue.get());
             if (!history.failures.isEmpty()) {
                 if (history.hasEnded) {
                     keepFailed(history);
@@ -720,7 +703,7 @@ public final class Recorder implements AutoCloseable {
             overlapping += history.overlapping();
         }
         System.out.printf("%s %d runs (seeds %d to %d); %d of 100 operations overlap another%n",
-                isJudged ? "no violation in" : "nothing was judged of", runs, firstSeed, firstSeed + runs - 1,
+                isJudged ? "no violation in" : "nothing judged in", runs, seed, seed + runs - 1,
                 all == 0 ? 0 : 100 * overlapping / all);
         return isJudged ? Answer.NO_VIOLATION : Answer.WRONG;
     }
@@ -770,8 +753,9 @@ public final class Recorder implements AutoCloseable {
         Path kept = keep(history, "history");
         String firstLine = new String(verdict.text, StandardCharsets.US_ASCII).lines().findFirst().orElse("no answer");
         if (verdict.status != 1) {
-            throw new IOException("check answers " + firstLine + " to " + kept);
+            throw new IOException("seed " + history.seed + ": check answers " + firstLine + " to " + kept);
         }
+        long seed = history.seed;
         Path report = folder.resolve(seed + ".report");
         Files.write(report, ask("shrink", history).text);
         Pattern pattern = patternOf(seed);
@@ -786,7 +770,7 @@ public final class Recorder implements AutoCloseable {
 
     private Path keep(History history, String kind) throws IOException {
         Files.createDirectories(folder);
-        Path path = folder.resolve(seed + "." + kind);
+        Path path = folder.resolve(history.seed + "." + kind);
         try (OutputStream to = Files.newOutputStream(path)) {
             history.write(to);
         }
@@ -795,7 +779,7 @@ public final class Recorder implements AutoCloseable {
 
     // Keeps what there is, and says what happened.
     private void keepFailed(History history) {
-        say("seed " + seed + ": " + String.join(", ", history.failures));
+        say("seed " + history.seed + ": " + String.join(", ", history.failures));
         try {
             say("what was recorded: " + keep(history, history.isComplete ? "history" : "pending"));
         } catch (IOException failure) {

@@ -24,8 +24,8 @@ The interpreter's lock lets one thread run at a time, and hides most faults: thr
 the interpreter alone, which this module lets them do often. It pays on a build without that lock (3.13's free-threaded
 build and later), and over a queue in another language that gives the lock up.
 
-A queue may also have `preload(value)`, which puts an initial value in (else `enqueue` does), and `set_up(thread)` and
-`tear_down(thread)`, which are called in each thread before the common start and after its last operation.
+A queue may also have `preload(value)`, which puts an initial value in (else `enqueue` does), and `enter(thread)` and
+`leave(thread)`, which are called in each thread before the common start and after its last operation.
 """
 
 import dataclasses
@@ -39,6 +39,7 @@ import time
 
 MAX_THREADS = 64
 MAX_OPERATIONS = 1_000_000
+MAX_EVENTS = 2_000_000
 MAX_INITIAL = 100_000
 PATTERNS = ("alternate", "mix", "bursts", "roles")
 
@@ -57,16 +58,16 @@ class Options:
 
     threads: int = 4    # 1 to 64
     operations: int = 500    # of each thread
-    # alternate: enqueue, dequeue, ..; mix: by chance; bursts: 1 to 32 enqueues and then as many dequeues; roles: threads
-    # of even number enqueue and others dequeue. None: the four take turns by seed.
+    # alternate: enqueue, dequeue, ..; mix: by chance; bursts: 1 to 32 enqueues and then as many dequeues; roles: those
+    # of even number enqueue and the others dequeue. None: the four take turns by seed.
     pattern: str = None
     percent: int = 50    # enqueues of a hundred operations, for mix
     seed: int = 1    # of the run, or of the first run of a search
     runs: int = 100    # how many a search makes at most
-    timeout: float = 30.0    # seconds until a run is given up as hanging
+    timeout: float = 30.0    # seconds; a run without an event for so long is given up as hanging
     first: int = 0    # added to n; 1 for a queue that takes 0 for "nothing"
     value: object = None    # the value of a thread's operation n, a function (thread, n); None: thread * 2**32 + n
-    initial: int = 0    # how many values the queue is given before the threads start: 2**38, 2**38 + 1, ..
+    initial: int = 0    # how many values the queue is given before: those of a thread 64, as a rule 2**38, ..
     drain: bool = True    # take values out after the threads have ended, until the queue says that it is empty
     folder: str = "fifobench-runs"    # where histories and reports are kept
     program: str = None    # else that of the environment variable FIFOBENCH, else fifobench on the PATH
@@ -74,6 +75,10 @@ class Options:
     def pattern_of(self, seed):
         """The pattern of a seed."""
         return self.pattern or PATTERNS[(seed + 3) % 4]
+
+    def value_of(self, thread, n):
+        """The value of operation n of a thread, and initial value n with the thread 64."""
+        return self.value(thread, n) if self.value else (thread << 32) + n
 
     def check(self):
         """Raises ValueError if a setting is out of its range."""
@@ -112,27 +117,28 @@ class Thread:
         self._asked = 0
         self._events = []
 
-    def _value(self):
-        n = self._asked + self._options.first
-        return self._options.value(self.number, n) if self._options.value else (self.number << 32) + n
-
-    # A ticket is drawn first: of a call that is before the queue is asked, of a return after it has answered.
+    # The ticket is drawn first: of a call that is before the queue is asked, of a return after it has answered.
+    def _note(self, what, value):
+        ticket = self._draw()
+        if ticket >= MAX_EVENTS:
+            raise ValueError(f"a history has at most {MAX_EVENTS} events")
+        self._events.append((ticket, self.number, what, value))
 
     def enqueue(self, call):
         """Calls `call(value)` with a value that no other call has. Where that gives False, the queue was full."""
-        value = self._value()
+        value = self._options.value_of(self.number, self._asked + self._options.first)
         self._asked += 1
-        self._events.append((self._draw(), self.number, "call-enq", value))
+        self._note("call-enq", value)
         taken = call(value) is not False
-        self._events.append((self._draw(), self.number, "ret-enq" if taken else "ret-not", None))
+        self._note("ret-enq" if taken else "ret-not", None)
         return taken
 
     def dequeue(self, call):
         """Calls `call()`, which gives the value that the queue gave, or None if it said that it is empty."""
         self._asked += 1
-        self._events.append((self._draw(), self.number, "call-deq", None))
+        self._note("call-deq", None)
         found = call()
-        self._events.append((self._draw(), self.number, "ret-empty" if found is None else "ret-deq", found))
+        self._note("ret-empty" if found is None else "ret-deq", found)
         return found
 
 
@@ -185,8 +191,8 @@ class History:
     def __init__(self, events, initial, failures, has_ended):
         self._events = events
         self._initial = initial
-        self.failures = failures    # what went wrong: exceptions in threads, or that the run didn't end in its time
-        self.has_ended = has_ended    # False: it was given up, and what there was by then is kept in the folder
+        self.failures = failures    # what went wrong: exceptions in threads, or that the run hung
+        self.has_ended = has_ended    # False: it hung, and what there was is kept in the folder
         self.is_complete = has_ended and not self._open_calls()    # False: `write` writes a pending text
 
     def _open_calls(self):
@@ -256,7 +262,7 @@ def _told_calls(calls):
 
 
 def _nothing(number):
-    """The set-up and tear-down of a queue that has none."""
+    """What is called in each thread if the queue asks for nothing."""
 
 
 class _Run:
@@ -277,13 +283,13 @@ class _Run:
     def _make_steps(self, thread, work, queue):
         """What one thread does; the first one drains when all have ended."""
         try:
-            getattr(queue, "set_up", _nothing)(thread.number)
+            getattr(queue, "enter", _nothing)(thread.number)
             self.start.meet(thread.number)
             work(thread)
             self.ended.add(thread.number)
             if queue and thread.number == 0 and self.options.drain and self._have_all_ended():
                 self._drain(queue)
-            getattr(queue, "tear_down", _nothing)(thread.number)
+            getattr(queue, "leave", _nothing)(thread.number)
         except BaseException as failure:
             thread.failure = failure
             self.has_failed = True
@@ -309,24 +315,29 @@ class _Run:
         if not self.has_ended:
             self.has_failed = True
             told = _told_calls(self.history()._open_calls())
-            self.failures.append(f"no end after {self.options.timeout:g} s: {told}")
+            self.failures.append(f"no event for {self.options.timeout:g} s: {told}")
             self.history().keep_failed(self.options)
 
     def _wait(self, running):
-        end = time.monotonic() + self.options.timeout
+        """Stays until all have ended, or no event comes for the time of the options."""
         for thread in running:
             thread.start()
-        for thread in running:
-            thread.join(max(0.0, end - time.monotonic()))
-        self.has_ended = not any(thread.is_alive() for thread in running)
+        seen, since = 0, time.monotonic()
+        while running and time.monotonic() - since < self.options.timeout:
+            running[0].join(0.05)
+            running = [thread for thread in running if thread.is_alive()]
+            events = sum(len(thread._events) for thread in self.threads)
+            if events != seen:
+                seen, since = events, time.monotonic()
+        self.has_ended = not running
 
     def history(self):
-        """The events below the ticket drawn first: while threads run, what happened later took no part in them."""
-        below = self.draw() if not self.has_ended else float("inf")
-        events = [event for thread in self.threads for event in list(thread._events) if event[0] < below]
-        if len(events) > 2 * MAX_OPERATIONS:
-            raise ValueError(f"more than {MAX_OPERATIONS} operations of all threads")
-        return History(sorted(events, key=lambda event: event[0]), self.initial, self.failures, self.has_ended)
+        """While threads run, the events up to the first that isn't there yet."""
+        events = [event for thread in self.threads for event in list(thread._events)]
+        events.sort(key=lambda event: event[0])
+        # Tickets are drawn from 0 on, so a ticket is its event's place.
+        whole = [event for place, event in enumerate(events) if event[0] == place]
+        return History(whole, self.initial, self.failures, self.has_ended)
 
     def _drain(self, queue):
         """Takes out what is left, until the queue says that it is empty or has given more values than went in."""
@@ -344,8 +355,8 @@ def record(threads, operations, work, **settings):
     """Runs `work(thread)` in each of so many threads, which begin together, and gives what they recorded.
 
     There is no drain, no initial value and no pattern. `settings` are those of Options. If a call raises an exception,
-    its thread ends and the others go on; if the run takes longer than its time, what there is by then is kept in the
-    folder, and the threads that hang are left. In both cases the history has failures.
+    its thread ends and the others go on; if the run hangs, what there is is kept in the folder, and the threads that
+    hang are left. In both cases the history has failures.
     """
     run_of = _Run(Options(threads=threads, operations=operations, **settings), [])
     run_of.go(work, None)
@@ -354,10 +365,10 @@ def record(threads, operations, work, **settings):
 
 def run(options, queue):
     """One run over this queue, by the pattern of the seed."""
-    run_of = _Run(options, [2**38 + place for place in range(options.initial)])
-    for place, value in enumerate(run_of.initial):
+    run_of = _Run(options, [options.value_of(MAX_THREADS, place) for place in range(options.initial)])
+    for value in run_of.initial:
         if getattr(queue, "preload", queue.enqueue)(value) is False:
-            raise ValueError(f"the queue has no room for the initial value at place {place}")
+            raise ValueError(f"the queue has no room for the initial value {value}")
 
     def make_operations(thread):
         for is_enqueue in _plan(options, thread.number):
@@ -418,7 +429,7 @@ def search(options, make_queue):
             return answer
         made, met = history.overlapping()
         operations, overlapping = operations + made, overlapping + met
-    print("no violation in" if is_judged else "nothing was judged of",
+    print("no violation in" if is_judged else "nothing judged in",
           f"{options.runs} runs (seeds {options.seed} to {options.seed + options.runs - 1});",
           f"{100 * overlapping // max(1, operations)} of 100 operations overlap another", flush=True)
     return Answer.NO_VIOLATION if is_judged else Answer.WRONG

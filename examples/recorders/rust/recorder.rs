@@ -36,13 +36,14 @@ use std::path::{Path, PathBuf};
 use std::process::{self, Command, Stdio};
 use std::str::FromStr;
 use std::sync::atomic::{AtomicBool, AtomicU64, AtomicUsize, Ordering};
-use std::sync::mpsc::{self, RecvTimeoutError};
+use std::sync::mpsc::{self, Receiver, RecvTimeoutError};
 use std::sync::OnceLock;
 use std::thread;
-use std::time::Duration;
+use std::time::{Duration, Instant};
 
 pub const MAX_THREADS: usize = 64;
 pub const MAX_OPERATIONS: usize = 1_000_000;
+pub const MAX_EVENTS: u64 = 2_000_000;
 pub const MAX_INITIAL: usize = 100_000;
 
 /// A queue that is tested.
@@ -59,10 +60,10 @@ pub trait Queue: Sync {
     }
 
     /// Called in each thread before the common start, for queues whose threads register.
-    fn set_up(&self, _thread: usize) {}
+    fn enter(&self, _thread: usize) {}
 
     /// Called in each thread after its last operation.
-    fn tear_down(&self, _thread: usize) {}
+    fn leave(&self, _thread: usize) {}
 }
 
 /// Which operations a thread makes.
@@ -117,13 +118,13 @@ pub struct Options {
     pub seed: u64,
     /// How many runs a search makes at most.
     pub runs: u64,
-    /// How long a run may take before it is given up as hanging.
+    /// A run without an event for so long is given up as hanging.
     pub timeout: Duration,
     /// The value of each thread's operation n from 0, which is called with n + `first`. Values have to differ.
     pub value: fn(thread: usize, n: u64) -> u64,
     /// Added to n; 1 for a queue that takes 0 for "nothing".
     pub first: u64,
-    /// How many values the queue is given before the threads start: 2^38, 2^38 + 1, ..
+    /// How many values the queue is given before the threads start: those of a thread 64, as a rule 2^38, 2^38 + 1, ..
     pub initial: usize,
     /// Whether values are taken out after the threads have ended, until the queue says that it is empty.
     pub drain: bool,
@@ -255,16 +256,16 @@ impl Run<'_> {
         !self.has_failed.load(Ordering::SeqCst)
     }
 
-    // The events by ticket. While threads run, those below the ticket that was read first: what happened later took no
-    // part in them.
+    // The events by ticket. While threads run, those up to the first that isn't there yet.
     fn events(&self) -> Vec<Event> {
-        let tickets = self.tickets.load(Ordering::SeqCst);
         let mut events = Vec::new();
         for (thread, chunk) in self.chunks.iter().enumerate() {
             chunk.read(thread, &mut events);
         }
-        events.retain(|event| event.ticket < tickets);
         events.sort_unstable_by_key(|event| event.ticket);
+        // Tickets are drawn from 0 on, so a ticket is its event's place.
+        let whole = events.iter().zip(0..).take_while(|(event, place)| event.ticket == *place).count();
+        events.truncate(whole);
         events
     }
 }
@@ -312,6 +313,7 @@ impl Thread<'_> {
     // came before a return is seen by every call that has a greater ticket: the order is sequentially consistent.
     fn note(&mut self, what: u64, value: u64) {
         let ticket = self.run.tickets.fetch_add(1, Ordering::SeqCst);
+        assert!(ticket < MAX_EVENTS, "a history has at most {MAX_EVENTS} events");
         if self.used == self.chunk.slots.len() {
             self.chunk = self.chunk.next.get_or_init(|| Box::new(Chunk::new(2 * self.used)));
             self.used = 0;
@@ -490,12 +492,12 @@ fn told_panic(panic: &(dyn Any + Send)) -> &str {
 /// Runs `work` in each of so many threads, which begin together, and gives what they recorded.
 ///
 /// Memory is taken ahead for so many operations of each thread; more are recorded too, and take memory as they come.
-/// If a call panics, its thread ends and the others go on; the history is not complete then. A run that takes more
-/// than 30 seconds ends the process with status 2, after what was recorded has been kept as a pending text.
+/// If a call panics, its thread ends and the others go on; the history is not complete then. A run without an event
+/// for 30 seconds ends the process with status 2, after what was recorded has been kept as a pending text.
 ///
 /// # Panics
 ///
-/// If there are no threads or more than 64, or more than 1,000,000 operations.
+/// If there are no threads or more than 64, or more than 1,000,000 operations of all threads.
 pub fn record(threads: usize, operations: usize, work: impl Fn(&mut Thread) + Sync) -> History {
     record_with(&Options { threads, operations, ..Options::default() }, work)
 }
@@ -504,7 +506,7 @@ pub fn record(threads: usize, operations: usize, work: impl Fn(&mut Thread) + Sy
 pub fn record_with(options: &Options, work: impl Fn(&mut Thread) + Sync) -> History {
     options.check();
     let run = Run::new(options);
-    let failures = run_threads(&run, &[], &Steps { before: &|_| (), work: &work, drain: &|_| (), after: &|_| () });
+    let failures = run_threads(&run, &[], &Steps { enter: &|_| (), work: &work, drain: &|_| (), leave: &|_| () });
     finish(&run, Vec::new(), failures)
 }
 
@@ -515,7 +517,7 @@ pub fn record_with(options: &Options, work: impl Fn(&mut Thread) + Sync) -> Hist
 /// If a setting is out of its range, or the queue has no room for an initial value.
 pub fn run(options: &Options, queue: &impl Queue) -> History {
     options.check();
-    let initial: Vec<u64> = (0..options.initial as u64).map(|place| (1 << 38) + place).collect();
+    let initial: Vec<u64> = (0..options.initial as u64).map(|place| (options.value)(MAX_THREADS, place)).collect();
     for (place, value) in initial.iter().enumerate() {
         assert!(queue.preload(*value), "the queue has no room for the initial value at place {place}");
     }
@@ -524,10 +526,10 @@ pub fn run(options: &Options, queue: &impl Queue) -> History {
         &run,
         &initial,
         &Steps {
-            before: &|number| queue.set_up(number),
+            enter: &|number| queue.enter(number),
             work: &|thread| make_operations(thread, queue),
             drain: &|thread| drain(thread, queue, initial.len()),
-            after: &|number| queue.tear_down(number),
+            leave: &|number| queue.leave(number),
         },
     );
     finish(&run, initial, failures)
@@ -535,30 +537,29 @@ pub fn run(options: &Options, queue: &impl Queue) -> History {
 
 fn finish(run: &Run, initial: Vec<u64>, failures: Vec<String>) -> History {
     let mut history = History { events: run.events(), initial, is_pending: false, failures };
-    assert!(history.events.len() <= 2 * MAX_OPERATIONS, "at most {MAX_OPERATIONS} operations of all threads");
     history.is_pending = !history.open_calls().is_empty();
     history
 }
 
 // What each thread does, one step after the other; the first one drains when all have ended.
 struct Steps<'a> {
-    before: &'a (dyn Fn(usize) + Sync),
+    enter: &'a (dyn Fn(usize) + Sync),
     work: &'a (dyn Fn(&mut Thread) + Sync),
     drain: &'a (dyn Fn(&mut Thread) + Sync),
-    after: &'a (dyn Fn(usize) + Sync),
+    leave: &'a (dyn Fn(usize) + Sync),
 }
 
 fn make_steps(run: &Run, start: &Start, number: usize, steps: &Steps) -> Result<(), String> {
     let outcome = panic::catch_unwind(AssertUnwindSafe(|| {
         let mut thread = run.thread(number);
-        (steps.before)(number);
+        (steps.enter)(number);
         start.meet(number);
         (steps.work)(&mut thread);
         run.ended.fetch_add(1, Ordering::SeqCst);
         if number == 0 && run.options.drain && run.have_all_ended() {
             (steps.drain)(&mut thread);
         }
-        (steps.after)(number);
+        (steps.leave)(number);
     }));
     outcome.map_err(|panic| {
         run.has_failed.store(true, Ordering::SeqCst);
@@ -571,11 +572,7 @@ fn run_threads(run: &Run, initial: &[u64], steps: &Steps) -> Vec<String> {
     let start = &Start::new(run.options.threads);
     thread::scope(|scope| {
         let (ended, end) = mpsc::channel::<()>();
-        scope.spawn(move || {
-            if end.recv_timeout(run.options.timeout) == Err(RecvTimeoutError::Timeout) {
-                give_up(run, initial);
-            }
-        });
+        scope.spawn(move || watch(run, initial, &end));
         let numbers = 0..run.options.threads;
         let running: Vec<_> =
             numbers.map(|number| scope.spawn(move || make_steps(run, start, number, steps))).collect();
@@ -586,11 +583,24 @@ fn run_threads(run: &Run, initial: &[u64], steps: &Steps) -> Vec<String> {
     })
 }
 
+// Waits for the end, and gives the run up where no ticket is drawn for the time of the settings.
+fn watch(run: &Run, initial: &[u64], end: &Receiver<()>) {
+    let (mut seen, mut since) = (0, Instant::now());
+    while end.recv_timeout(Duration::from_millis(50)) == Err(RecvTimeoutError::Timeout) {
+        let drawn = run.tickets.load(Ordering::SeqCst);
+        if drawn != seen {
+            (seen, since) = (drawn, Instant::now());
+        } else if since.elapsed() >= run.options.timeout {
+            give_up(run, initial);
+        }
+    }
+}
+
 // The end of a run that hangs: its threads can't be let go, since they borrow the queue.
 fn give_up(run: &Run, initial: &[u64]) {
     let history = History { events: run.events(), initial: initial.to_vec(), is_pending: true, failures: Vec::new() };
     let told = told_calls(&history.open_calls());
-    history.keep_failed(run.options, &format!("no end after {:?}: {told}", run.options.timeout));
+    history.keep_failed(run.options, &format!("no event for {:?}: {told}", run.options.timeout));
     process::exit(2);
 }
 
@@ -691,7 +701,7 @@ fn search_runs<Q: Queue>(options: &Options, make_queue: impl Fn() -> Q) -> Resul
     }
     let share = (100 * overlapping).checked_div(operations).unwrap_or(0);
     let last = options.seed.wrapping_add(options.runs).wrapping_sub(1);
-    let outcome = if is_judged { "no violation in" } else { "nothing was judged of" };
+    let outcome = if is_judged { "no violation in" } else { "nothing judged in" };
     let (runs, first) = (options.runs, options.seed);
     println!("{outcome} {runs} runs (seeds {first} to {last}); {share} of 100 operations overlap another");
     Ok(if is_judged { Answer::NoViolation } else { Answer::Wrong })
