@@ -236,7 +236,7 @@ func (thread *Thread) makeRoom(places int) {
 	thread.read.Store(&events)
 }
 
-// The common start: goroutines wait, for no longer than their turns, until all are there and two run at once.
+// The common start: goroutines wait, for a bounded time, until all are there and two are seen to run at once.
 type start struct {
 	threads int64
 	arrived atomic.Int64
@@ -245,35 +245,39 @@ type start struct {
 }
 
 const (
-	looks        = 1_000
-	arrivalTurns = 2_500
-	runningTurns = 6_000
-	passes       = 64
+	looks       = 1_000
+	passes      = 64
+	arrivalTime = time.Second
+	runningTime = 100 * time.Millisecond
 )
 
 func (start *start) meet(number int64) {
 	start.arrived.Add(1)
-	if start.turns(arrivalTurns, 1, func() bool { return start.arrived.Load() >= start.threads }) && start.threads > 1 {
-		start.turns(runningTurns, passes, func() bool { return start.lastBy.Swap(number) != number })
+	if start.turns(arrivalTime, 1, func() bool { return start.arrived.Load() >= start.threads }) && start.threads > 1 {
+		start.turns(runningTime, passes, func() bool { return start.lastBy.Swap(number) != number })
 	}
 	start.isOpen.Store(true)
 }
 
-// Looks until the start is open, or what is looked for was seen so often in one turn. False if the turns are used up
-func (start *start) turns(turns, often int, isSeen func() bool) bool {
-	for turn := 0; turn < turns; turn++ {
-		seen := 0
-		for look := 0; look < looks; look++ {
-			if isSeen() {
-				seen++
-			}
-			if seen >= often || start.isOpen.Load() {
-				return true
-			}
+// Takes turns of looks until the start is open, or what is looked for was seen so often in one turn. False if the time
+// is used up.
+func (start *start) turns(bound time.Duration, often int, isSeen func() bool) bool {
+	for begin := time.Now(); time.Since(begin) < bound; runtime.Gosched() {
+		if start.isSeenInTurn(often, isSeen) {
+			return true
 		}
-		runtime.Gosched()
 	}
 	return false
+}
+
+func (start *start) isSeenInTurn(often int, isSeen func() bool) bool {
+	seen := 0
+	for look := 0; look < looks && seen < often && !start.isOpen.Load(); look++ {
+		if isSeen() {
+			seen++
+		}
+	}
+	return start.isOpen.Load() || seen >= often
 }
 
 // History is what was recorded: the events of all threads, by ticket.

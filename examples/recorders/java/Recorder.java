@@ -277,9 +277,8 @@ public final class Recorder implements AutoCloseable {
             return found;
         }
 
-        // The ticket is drawn first: of a call that is before the queue is asked, of a return after it has answered.
-        // What came before a return is seen by every call that has a greater ticket: the order is sequentially
-        // consistent.
+        // The ticket is drawn first: of a call before the queue is asked, of a return after it has answered. What came
+        // before a return is seen by every call of a greater ticket, since the order is sequentially consistent.
         private void note(int what, long value) {
             long ticket = tickets.getAndIncrement();
             if (ticket >= MAX_EVENTS) {
@@ -305,12 +304,12 @@ public final class Recorder implements AutoCloseable {
         }
     }
 
-    // The common start: threads wait, for no longer than their turns, until all are there and two run at once.
+    // The common start: threads wait, for a bounded time, until all are there and two are seen to run at once.
     private static final class Start {
         private static final int LOOKS = 1_000;
-        private static final int ARRIVAL_TURNS = 2_500;
-        private static final int RUNNING_TURNS = 6_000;
         private static final int PASSES = 64;
+        private static final long ARRIVAL_NANOS = 1_000_000_000;
+        private static final long RUNNING_NANOS = 100_000_000;
         private final int threads;
         private final AtomicInteger arrived = new AtomicInteger();
         private final AtomicInteger lastBy = new AtomicInteger();
@@ -323,27 +322,30 @@ public final class Recorder implements AutoCloseable {
 
         void meet(int number) {
             arrived.incrementAndGet();
-            if (turns(ARRIVAL_TURNS, () -> arrived.get() >= threads, LOOKS)) {
-                turns(RUNNING_TURNS, () -> lastBy.getAndSet(number) != number, PASSES);
+            if (turns(ARRIVAL_NANOS, () -> arrived.get() >= threads, 1)) {
+                turns(RUNNING_NANOS, () -> lastBy.getAndSet(number) != number, PASSES);
             }
             isOpen = true;
         }
 
-        // Looks until the start is open, or what is looked for was seen: once among the arrivals, so often in one turn
-        // among those that run. False where the turns are used up.
-        private boolean turns(int turns, BooleanSupplier isSeen, int often) {
-            for (int turn = 0; turn < turns; turn++) {
-                int seen = 0;
-                for (int look = 0; look < LOOKS; look++) {
-                    seen += isSeen.getAsBoolean() ? 1 : 0;
-                    if (isOpen || seen >= often) {
-                        return true;
-                    }
-                    Thread.onSpinWait();
+        // Takes turns of looks until the start is open or enough was seen in one turn; false if the time is used up.
+        private boolean turns(long nanos, BooleanSupplier isSeen, int often) {
+            long begin = System.nanoTime();
+            while (System.nanoTime() - begin < nanos) {
+                if (isSeenIn(LOOKS, isSeen, often)) {
+                    return true;
                 }
                 Thread.yield();
             }
             return false;
+        }
+
+        private boolean isSeenIn(int looks, BooleanSupplier isSeen, int often) {
+            int seen = 0;
+            for (int look = 0; look < looks && seen < often && !isOpen; look++) {
+                seen += isSeen.getAsBoolean() ? 1 : 0;
+            }
+            return isOpen || seen >= often;
         }
     }
 
@@ -354,7 +356,6 @@ public final class Recorder implements AutoCloseable {
         private final List<Long> initial;
         private final List<String> failures;
         private final boolean hasEnded;
-        private final boolean isComplete;
 
         private History(long seed, List<Event> events, List<Long> initial, List<String> failures, boolean hasEnded) {
             this.seed = seed;
@@ -362,12 +363,11 @@ public final class Recorder implements AutoCloseable {
             this.initial = initial;
             this.failures = failures;
             this.hasEnded = hasEnded;
-            this.isComplete = hasEnded && openCalls().isEmpty();
         }
 
         /** Whether every call has its return. Where one has none, {@link #write} writes a pending text. */
         public boolean isComplete() {
-            return isComplete;
+            return hasEnded && openCalls().isEmpty();
         }
 
         /** Whether the run hung. What there was is kept in the folder, which was said on standard error. */
@@ -391,7 +391,7 @@ public final class Recorder implements AutoCloseable {
         /** Writes the text of the history: bytes of ASCII. */
         public void write(OutputStream to) throws IOException {
             Writer text = new BufferedWriter(new OutputStreamWriter(to, StandardCharsets.US_ASCII));
-            text.append(isComplete ? "fifo-history " : "fifo-pending ");
+            text.append(isComplete() ? "fifo-history " : "fifo-pending ");
             text.append(initial.isEmpty() ? "1\n" : "2\ninitial " + initial.size() + "\n");
             for (long value : initial) {
                 text.append(Long.toUnsignedString(value) + "\n");
@@ -401,7 +401,7 @@ public final class Recorder implements AutoCloseable {
                 String value = hasValue ? " " + Long.toUnsignedString(event.value) : "";
                 text.append(event.ticket + " " + event.thread + " " + WORDS[event.what] + value + "\n");
             }
-            text.append(isComplete ? "" : "open " + openCalls().size() + "\n");
+            text.append(isComplete() ? "" : "open " + openCalls().size() + "\n");
             text.append("end " + events.size() + "\n");
             text.flush();
         }
@@ -730,11 +730,10 @@ public final class Recorder implements AutoCloseable {
     // What the program writes about this history, and its status.
     private Told ask(String command, History history) throws IOException {
         Process judge = new ProcessBuilder(program(), command).redirectError(Redirect.INHERIT).start();
-        // The program reads all before it writes. If it refuses a text it reads no further, and this write may fail.
         try (OutputStream input = judge.getOutputStream()) {
             history.write(input);
         } catch (IOException refused) {
-            // Its answer says why.
+            // The program reads all before it writes, unless it refuses the text; then its answer says why.
         }
         byte[] text = judge.getInputStream().readAllBytes();
         try {
@@ -781,7 +780,7 @@ public final class Recorder implements AutoCloseable {
     private void keepFailed(History history) {
         say("seed " + history.seed + ": " + String.join(", ", history.failures));
         try {
-            say("what was recorded: " + keep(history, history.isComplete ? "history" : "pending"));
+            say("what was recorded: " + keep(history, history.isComplete() ? "history" : "pending"));
         } catch (IOException failure) {
             say("can't keep what was recorded: " + failure);
         }

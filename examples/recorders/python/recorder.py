@@ -143,15 +143,15 @@ class Thread:
 
 
 class _Start:
-    """The common start: threads wait, for no longer than their turns, until all are there and two are seen to run.
+    """The common start: threads wait, for a bounded time, until all are there and two are seen to run at once.
 
-    Under the interpreter's lock two run if they take turns within a few looks.
+    Under the interpreter's lock these are two that take turns within a few looks.
     """
 
     LOOKS = 200
-    ARRIVAL_TURNS = 500
-    RUNNING_TURNS = 200
     PASSES = 4
+    ARRIVAL = 1.0    # seconds
+    RUNNING = 0.1
 
     def __init__(self, threads):
         self.threads = threads
@@ -161,23 +161,29 @@ class _Start:
 
     def meet(self, number):
         self.arrived.add(number)
-        if self._turns(self.ARRIVAL_TURNS, lambda: len(self.arrived) == self.threads, 1):
-            self._turns(self.RUNNING_TURNS, lambda: self._passes(number), self.PASSES)
+        if self._turns(self.ARRIVAL, lambda: len(self.arrived) == self.threads, 1):
+            self._turns(self.RUNNING, lambda: self._passes(number), self.PASSES)
         self.is_open = True
 
     def _passes(self, number):
         other, self.last_by = self.last_by, number
         return other != number
 
-    def _turns(self, turns, is_seen, often):
-        """Whether the start is open, or what is looked for was seen so often in one turn."""
-        for _ in range(turns):
-            seen = 0
-            for _ in range(self.LOOKS):
-                seen += is_seen()
-                if self.is_open or seen >= often:
-                    return True
+    def _turns(self, seconds, is_seen, often):
+        """Whether the start is open, or what is looked for was seen so often in one turn of looks."""
+        end = time.monotonic() + seconds
+        while time.monotonic() < end:
+            if self._is_seen_in_a_turn(is_seen, often):
+                return True
             time.sleep(0)
+        return False
+
+    def _is_seen_in_a_turn(self, is_seen, often):
+        seen = 0
+        for _ in range(self.LOOKS):
+            seen += is_seen()
+            if self.is_open or seen >= often:
+                return True
         return False
 
 

@@ -29,7 +29,6 @@ use std::any::Any;
 use std::env;
 use std::fmt::{self, Display};
 use std::fs::{self, File};
-use std::hint;
 use std::io::{self, BufWriter, Write};
 use std::panic::{self, AssertUnwindSafe};
 use std::path::{Path, PathBuf};
@@ -326,7 +325,7 @@ impl Thread<'_> {
     }
 }
 
-// The common start: threads wait, for no longer than their turns, until all are there and two are seen to run at once.
+// The common start: threads wait, for a bounded time, until all are there and two are seen to run at once.
 struct Start {
     threads: usize,
     arrived: AtomicUsize,
@@ -336,9 +335,9 @@ struct Start {
 
 impl Start {
     const LOOKS: usize = 1_000;
-    const ARRIVAL_TURNS: usize = 2_500;
-    const RUNNING_TURNS: usize = 6_000;
     const PASSES: usize = 64;
+    const ARRIVAL: Duration = Duration::from_secs(1);
+    const RUNNING: Duration = Duration::from_millis(100);
 
     fn new(threads: usize) -> Start {
         let [arrived, last_by] = [0, 0].map(AtomicUsize::new);
@@ -348,9 +347,9 @@ impl Start {
     // Who finds another thread's number often in one turn runs at the same time as that one.
     fn meet(&self, number: usize) {
         self.arrived.fetch_add(1, Ordering::SeqCst);
-        if self.turns(Start::ARRIVAL_TURNS, |_| self.arrived.load(Ordering::SeqCst) >= self.threads) {
+        if self.turns(Start::ARRIVAL, |_| self.arrived.load(Ordering::SeqCst) >= self.threads) {
             let mut passes = 0;
-            self.turns(Start::RUNNING_TURNS, |look| {
+            self.turns(Start::RUNNING, |look| {
                 passes = if look == 0 { 0 } else { passes };
                 passes += usize::from(self.last_by.swap(number, Ordering::SeqCst) != number);
                 passes >= Start::PASSES
@@ -359,16 +358,15 @@ impl Start {
         self.is_open.store(true, Ordering::SeqCst);
     }
 
-    // Looks until it is over or the start is open; false where the turns are used up.
-    fn turns(&self, turns: usize, mut is_over: impl FnMut(usize) -> bool) -> bool {
-        for look in 0..turns * Start::LOOKS {
-            if self.is_open.load(Ordering::SeqCst) || is_over(look % Start::LOOKS) {
+    // Takes turns of looks until it is over or the start is open; false where the time is used up.
+    fn turns(&self, time: Duration, mut is_over: impl FnMut(usize) -> bool) -> bool {
+        let begin = Instant::now();
+        while begin.elapsed() < time {
+            let mut looks = 0..Start::LOOKS;
+            if looks.any(|look| self.is_open.load(Ordering::SeqCst) || is_over(look)) {
                 return true;
             }
-            hint::spin_loop();
-            if look % Start::LOOKS == Start::LOOKS - 1 {
-                thread::yield_now();
-            }
+            thread::yield_now();
         }
         false
     }
