@@ -10,7 +10,7 @@
 //	}
 //
 // With the environment variable FIFOBENCH=/path/to/fifobench this makes 100 short runs, each over a fresh queue, and
-// judges each. A loop of your own is recorded by Record. docs/RECORDING.md tells the rules that this package keeps.
+// judges each. A loop of your own is recorded by Record. docs/RECORDING.md has the rules that this package keeps.
 package fifobench
 
 import (
@@ -288,12 +288,12 @@ type History struct {
 	hasEnded bool
 }
 
-// IsComplete says whether every call has its return. Where one has none, Write writes a pending text.
+// IsComplete says whether every call has its return. If one has none, Write writes a pending text.
 func (history *History) IsComplete() bool {
 	return history.hasEnded && len(history.openCalls()) == 0
 }
 
-// IsGivenUp says whether the run hung. What there was is kept in the folder, which was said on standard error.
+// IsGivenUp says whether the run hung. What there was is kept in the folder; standard error says where.
 func (history *History) IsGivenUp() bool {
 	return !history.hasEnded
 }
@@ -433,7 +433,7 @@ func (run *run) fail(told string) {
 	run.failures = append(run.failures, told)
 }
 
-// Stays until all threads have made their operations; false where one failed.
+// Stays until all threads have made their operations; false if one failed.
 func (run *run) haveAllEnded() bool {
 	for run.ended.Load() < int64(len(run.threads)) && !run.hasFailed.Load() {
 		time.Sleep(50 * time.Microsecond)
@@ -543,8 +543,8 @@ func toldCalls(calls []event) string {
 	return strings.Join(told, ", ")
 }
 
-// Record runs work in each of so many goroutines, which begin together, and gives what they recorded. Memory is taken
-// ahead for so many operations of each; more are recorded too, and take memory as they come.
+// Record runs work in each of the goroutines, which begin together, and gives what they recorded. Memory is taken
+// ahead for this number of operations of each; more are recorded too, and take memory as they come.
 //
 // If a call panics, its goroutine ends and the others go on; if no event comes for 30 seconds, what there is is kept
 // in the folder fifobench-runs, and the goroutines that hang are left. In both cases the history has failures. An
@@ -697,7 +697,7 @@ func (options *Options) program() string {
 	return "fifobench"
 }
 
-// Whether the program can be started; where it can't, that is said.
+// Whether the program can be started; if it can't, a line says so.
 func (options *Options) isFound() bool {
 	var ended *exec.ExitError
 	err := exec.Command(options.program(), "help").Run()

@@ -149,7 +149,7 @@ final class Queue {
         }
     }
 
-    // Which operations are enqueues where no pattern is named, from the thread's number on and over and over.
+    // Which operations are enqueues if no pattern is named; a thread begins at its number and goes round.
     private static final String STEPS = "EEDDDEED";
 
     // A loop of one's own, recorded.

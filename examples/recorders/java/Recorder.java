@@ -37,7 +37,7 @@ import java.util.function.Supplier;
  * }</pre>
  *
  * With the environment variable {@code FIFOBENCH=/path/to/fifobench} this makes 100 short runs, each over a fresh
- * queue, and judges each. A loop of your own is recorded by {@link #record}. docs/RECORDING.md tells the rules that
+ * queue, and judges each. A loop of your own is recorded by {@link #record}. docs/RECORDING.md has the rules that
  * this class keeps. A recorder is used by one thread.
  */
 public final class Recorder implements AutoCloseable {
@@ -138,7 +138,7 @@ public final class Recorder implements AutoCloseable {
         return this;
     }
 
-    /** Unless set, or where it is null, the four take turns by seed. */
+    /** Unless set, or if it is null, the four take turns by seed. */
     public Recorder pattern(Pattern pattern) {
         this.pattern = pattern;
         return this;
@@ -365,12 +365,12 @@ public final class Recorder implements AutoCloseable {
             this.hasEnded = hasEnded;
         }
 
-        /** Whether every call has its return. Where one has none, {@link #write} writes a pending text. */
+        /** Whether every call has its return. If one has none, {@link #write} writes a pending text. */
         public boolean isComplete() {
             return hasEnded && openCalls().isEmpty();
         }
 
-        /** Whether the run hung. What there was is kept in the folder, which was said on standard error. */
+        /** Whether the run hung. What there was is kept in the folder; standard error says where. */
         public boolean isGivenUp() {
             return !hasEnded;
         }
@@ -515,7 +515,7 @@ public final class Recorder implements AutoCloseable {
             }
         }
 
-        // Stays until all threads have made their operations; false where one failed.
+        // Stays until all threads have made their operations; false if one failed.
         private boolean haveAllEnded() throws InterruptedException {
             while (ended.get() < workers.length && !hasFailed) {
                 TimeUnit.MICROSECONDS.sleep(50);
@@ -713,7 +713,7 @@ public final class Recorder implements AutoCloseable {
         return set != null ? set : "fifobench";
     }
 
-    // Whether the program can be started; where it can't, that is said.
+    // Whether the program can be started; if it can't, a line says so.
     private boolean isFound() {
         try {
             ProcessBuilder help = new ProcessBuilder(program(), "help");

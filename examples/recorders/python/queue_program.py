@@ -128,7 +128,7 @@ def settings(words):
     return options, is_one_run
 
 
-# Which operations are enqueues where no pattern is named, from the thread's number on and over and over.
+# Which operations are enqueues if no pattern is named; a thread begins at its number and goes round.
 STEPS = "EEDDDEED"
 
 

@@ -18,7 +18,7 @@ Python 3.8 or later with its standard library, this one file. In a test:
         assert recorder.search(recorder.Options(), Mine) == recorder.Answer.NO_VIOLATION
 
 With the environment variable FIFOBENCH=/path/to/fifobench this makes 100 short runs, each over a fresh queue, and
-judges each. A loop of your own is recorded by `record`. docs/RECORDING.md tells the rules that this module keeps.
+judges each. A loop of your own is recorded by `record`. docs/RECORDING.md has the rules that this module keeps.
 
 The interpreter's lock lets one thread run at a time, and hides most faults: threads change places between two steps of
 the interpreter alone, which this module lets them do often. It pays on a build without that lock (3.13's free-threaded
@@ -125,7 +125,7 @@ class Thread:
         self._events.append((ticket, self.number, what, value))
 
     def enqueue(self, call):
-        """Calls `call(value)` with a value that no other call has. Where that gives False, the queue was full."""
+        """Calls `call(value)` with a value that no other call has. If that gives False, the queue was full."""
         value = self._options.value_of(self.number, self._asked + self._options.first)
         self._asked += 1
         self._note("call-enq", value)
@@ -358,7 +358,7 @@ class _Run:
 
 
 def record(threads, operations, work, **settings):
-    """Runs `work(thread)` in each of so many threads, which begin together, and gives what they recorded.
+    """Runs `work(thread)` in each of the threads, which begin together, and gives what they recorded.
 
     There is no drain, no initial value and no pattern. `settings` are those of Options. If a call raises an exception,
     its thread ends and the others go on; if the run hangs, what there is is kept in the folder, and the threads that
@@ -457,7 +457,7 @@ def _program(options):
 
 
 def _is_found(options):
-    """Whether the program can be started; if it can't, that is said."""
+    """Whether the program can be started; if it can't, a line says so."""
     try:
         subprocess.run([_program(options), "help"], stdout=subprocess.DEVNULL, stderr=subprocess.DEVNULL, check=False)
         return True

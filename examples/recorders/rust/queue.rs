@@ -122,7 +122,7 @@ impl recorder::Queue for Queue {
     }
 }
 
-/// Which operations are enqueues where no pattern is named, from the thread's number on and over and over.
+/// Which operations are enqueues if no pattern is named; a thread begins at its number and goes round.
 const STEPS: &[u8; 8] = b"EEDDDEED";
 
 /// A loop of one's own, recorded.

@@ -21,7 +21,7 @@
 //! ```
 //!
 //! `FIFOBENCH=/path/to/fifobench cargo test` then makes 100 short runs, each over a fresh queue, and judges each. A
-//! loop of your own is recorded by `record`. docs/RECORDING.md tells the rules that this module keeps.
+//! loop of your own is recorded by `record`. docs/RECORDING.md has the rules that this module keeps.
 
 #![allow(dead_code)] // A test uses a part of it.
 
@@ -109,7 +109,7 @@ pub struct Options {
     pub threads: usize,
     /// Operations of each thread.
     pub operations: usize,
-    /// Where there is none, the four take turns by seed.
+    /// If there is none, the four take turns by seed.
     pub pattern: Option<Pattern>,
     /// Enqueues of a hundred operations, for the pattern `Mix`.
     pub percent: u64,
@@ -247,7 +247,7 @@ impl Run<'_> {
         Thread { run: self, number, asked: 0, chunk: &self.chunks[number], used: 0 }
     }
 
-    // Stays until all threads have made their operations; false where one failed.
+    // Stays until all threads have made their operations; false if one failed.
     fn have_all_ended(&self) -> bool {
         while self.ended.load(Ordering::SeqCst) < self.options.threads && !self.has_failed.load(Ordering::SeqCst) {
             thread::sleep(Duration::from_micros(50));
@@ -358,7 +358,7 @@ impl Start {
         self.is_open.store(true, Ordering::SeqCst);
     }
 
-    // Takes turns of looks until it is over or the start is open; false where the time is used up.
+    // Takes turns of looks until it is over or the start is open; false if the time is used up.
     fn turns(&self, time: Duration, mut is_over: impl FnMut(usize) -> bool) -> bool {
         let begin = Instant::now();
         while begin.elapsed() < time {
@@ -390,7 +390,7 @@ impl History {
         open.into_iter().flatten().collect()
     }
 
-    /// Whether every call has its return. Where one has none, `write` writes a pending text, which `check` refuses.
+    /// Whether every call has its return. If one has none, `write` writes a pending text, which `check` refuses.
     pub fn is_complete(&self) -> bool {
         !self.is_pending
     }
@@ -487,9 +487,9 @@ fn told_panic(panic: &(dyn Any + Send)) -> &str {
     words.or_else(|| panic.downcast_ref::<String>().map(String::as_str)).unwrap_or("a panic")
 }
 
-/// Runs `work` in each of so many threads, which begin together, and gives what they recorded.
+/// Runs `work` in each of the threads, which begin together, and gives what they recorded.
 ///
-/// Memory is taken ahead for so many operations of each thread; more are recorded too, and take memory as they come.
+/// Memory is taken ahead for this number of operations of each thread; more are recorded too, and take memory as they come.
 /// If a call panics, its thread ends and the others go on; the history is not complete then. A run without an event
 /// for 30 seconds ends the process with status 2, after what was recorded has been kept as a pending text.
 ///
@@ -581,7 +581,7 @@ fn run_threads(run: &Run, initial: &[u64], steps: &Steps) -> Vec<String> {
     })
 }
 
-// Waits for the end, and gives the run up where no ticket is drawn for the time of the settings.
+// Waits for the end, and gives the run up if no ticket is drawn for the time of the settings.
 fn watch(run: &Run, initial: &[u64], end: &Receiver<()>) {
     let (mut seen, mut since) = (0, Instant::now());
     while end.recv_timeout(Duration::from_millis(50)) == Err(RecvTimeoutError::Timeout) {
@@ -714,7 +714,7 @@ fn program(options: &Options) -> PathBuf {
     set.unwrap_or_else(|| PathBuf::from("fifobench"))
 }
 
-// Whether the program can be started; where it can't, that is said.
+// Whether the program can be started; if it can't, a line says so.
 fn is_found(options: &Options) -> bool {
     let program = program(options);
     let started = Command::new(&program).arg("help").stdout(Stdio::null()).stderr(Stdio::null()).status();
@@ -738,7 +738,7 @@ fn ask(options: &Options, command: &str, history: &History) -> Result<(Vec<u8>, 
     Ok((output.stdout, output.status.code()))
 }
 
-// The answer where the search ends with this history.
+// The answer, if the search ends with this history.
 fn judge(options: &Options, history: &History) -> Result<Option<Answer>, String> {
     let (verdict, status) = ask(options, "check", history)?;
     if status == Some(0) {

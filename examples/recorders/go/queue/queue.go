@@ -58,7 +58,7 @@ func (list *list) Enqueue(value uint64) bool {
 	list.values = append(list.values, value)
 	list.lock.Unlock()
 	if list.kind == "early" {
-		// A yield is over at once where no other goroutine waits for this processor.
+		// A yield is over at once if no other goroutine waits for this processor.
 		if value%8 == 0 {
 			time.Sleep(time.Microsecond)
 		}
@@ -198,7 +198,7 @@ func settings(words []string) (fifobench.Options, error) {
 	return options, options.Check()
 }
 
-// Which operations are enqueues where no pattern is named, from the thread's number on and over and over.
+// Which operations are enqueues if no pattern is named; a thread begins at its number and goes round.
 const steps = "EEDDDEED"
 
 // A loop of one's own, recorded.
