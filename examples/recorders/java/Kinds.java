@@ -6,7 +6,7 @@ import java.util.concurrent.atomic.AtomicLong;
 import java.util.concurrent.atomic.AtomicLongArray;
 import java.util.function.Supplier;
 
-/** Queues of several kinds, as they are, and how the recorder calls each. The status is 0 if none shows a violation. */
+/** Queues of several kinds, as they are, and how the recorder calls each. The status is 0 if none has a violation. */
 final class Kinds {
     private static boolean isSound = true;
 

@@ -489,9 +489,9 @@ fn told_panic(panic: &(dyn Any + Send)) -> &str {
 
 /// Runs `work` in each of the threads, which begin together, and gives what they recorded.
 ///
-/// Memory is taken ahead for this number of operations of each thread; more are recorded too, and take memory as they come.
-/// If a call panics, its thread ends and the others go on; the history is not complete then. A run without an event
-/// for 30 seconds ends the process with status 2, after what was recorded has been kept as a pending text.
+/// Memory is taken ahead for this number of operations of each thread; more are recorded too, and take memory as they
+/// come. If a call panics, its thread ends and the others go on; the history is not complete then. A run without an
+/// event for 30 seconds ends the process with status 2, after what was recorded has been kept as a pending text.
 ///
 /// # Panics
 ///
