@@ -1,33 +1,152 @@
-// Records what goroutines do with a FIFO queue, as a history that `fifobench check` reads. Go with its standard library, this
-// one file.
+// Package fifobench records what goroutines do with a FIFO queue, and searches for a run that no FIFO queue can have
+// made. Go 1.19 or later with its standard library, this one file: copy it into a folder fifobench of your module. In
+// a test:
 //
-//	history, err := Record(4, 1000, func(thread *Thread) {
-//		for i := 0; i < 500; i++ {
-//			thread.Enqueue(func(value uint64) bool { return queue.Push(value) })
-//			thread.Dequeue(func() (uint64, bool) { return queue.Pop() })
+//	func TestMyQueue(t *testing.T) {
+//		answer := fifobench.Search(fifobench.Defaults(), func() fifobench.Queue { return NewMyQueue() })
+//		if answer != fifobench.NoViolation {
+//			t.Fatal(answer)
 //		}
-//	})
-//	if err == nil {
-//		err = history.Write(os.Stdout)
 //	}
 //
-// docs/RECORDING.md tells the rules that this file keeps.
-package main
+// With the environment variable FIFOBENCH=/path/to/fifobench this makes 100 short runs, each over a fresh queue, and
+// judges each. A loop of your own is recorded by Record. docs/RECORDING.md has the rules that this package keeps.
+package fifobench
 
 import (
 	"bufio"
+	"bytes"
 	"errors"
 	"fmt"
 	"io"
+	"os"
+	"os/exec"
+	"path/filepath"
 	"runtime"
+	"sort"
+	"strings"
 	"sync"
 	"sync/atomic"
+	"time"
 )
 
 const (
-	maxThreads = 64
-	maxEvents  = 2_000_000
+	MaxThreads    = 64
+	MaxOperations = 1_000_000
+	MaxEvents     = 2_000_000
+	MaxInitial    = 100_000
 )
+
+// Queue is a queue that is tested.
+type Queue interface {
+	// Enqueue says whether the queue took the value: false if it was full.
+	Enqueue(value uint64) bool
+	// Dequeue gives the value that the queue gave, or false if it said that it is empty.
+	Dequeue() (uint64, bool)
+}
+
+// A Preloader is a queue that takes initial values otherwise than by Enqueue, before the goroutines start.
+type Preloader interface {
+	Preload(value uint64) bool
+}
+
+// A Registrar is a queue whose threads register: Enter is called in each goroutine before the common start, and Leave
+// after its last operation.
+type Registrar interface {
+	Enter(thread int)
+	Leave(thread int)
+}
+
+// Pattern says which operations a thread makes.
+type Pattern string
+
+const (
+	// Turns is the pattern of no name: the four take turns by seed.
+	Turns Pattern = ""
+	// Alternate is enqueue, dequeue, enqueue, ..
+	Alternate Pattern = "alternate"
+	// Mix takes each operation by chance, Options.Percent of a hundred of them enqueues.
+	Mix Pattern = "mix"
+	// Bursts is 1 to 32 enqueues, by chance, and then as many dequeues.
+	Bursts Pattern = "bursts"
+	// Roles lets threads of even number enqueue and the others dequeue; one thread alone alternates.
+	Roles Pattern = "roles"
+)
+
+var patterns = [4]Pattern{Alternate, Mix, Bursts, Roles}
+
+// Options are the settings of a run and of a search. Begin with Defaults.
+type Options struct {
+	Threads    int // 1 to 64
+	Operations int // of each thread
+	Pattern    Pattern
+	Percent    uint64                            // enqueues of a hundred operations, for Mix
+	Seed       uint64                            // of the run, or of the first run of a search
+	Runs       uint64                            // how many a search makes at most
+	Timeout    time.Duration                     // a run without an event for so long is given up
+	Value      func(thread int, n uint64) uint64 // of a thread's operation n; values have to differ
+	First      uint64                            // added to n; 1 for a queue that takes 0 for "nothing"
+	Initial    int                               // values that the queue is given before: those of a thread 64
+	Drain      bool                              // take values out at the end, until the queue says that it is empty
+	Folder     string                            // where histories and reports are kept
+	Program    string                            // if empty, that of the variable FIFOBENCH, else that on the PATH
+}
+
+// Defaults gives the settings that a search has as a rule.
+func Defaults() Options {
+	return Options{
+		Threads:    4,
+		Operations: 500,
+		Percent:    50,
+		Seed:       1,
+		Runs:       100,
+		Timeout:    30 * time.Second,
+		Value:      func(thread int, n uint64) uint64 { return uint64(thread)<<32 + n },
+		Drain:      true,
+		Folder:     "fifobench-runs",
+	}
+}
+
+// PatternOf gives the pattern of a seed.
+func (options *Options) PatternOf(seed uint64) Pattern {
+	if options.Pattern != Turns {
+		return options.Pattern
+	}
+	return patterns[(seed+3)%4]
+}
+
+// Check says which setting is out of its range.
+func (options *Options) Check() error {
+	if options.Threads < 1 || options.Threads > MaxThreads {
+		return fmt.Errorf("1 to %d threads", MaxThreads)
+	}
+	if options.Operations < 0 || options.Operations > MaxOperations/options.Threads {
+		return fmt.Errorf("0 to %d operations of all threads", MaxOperations)
+	}
+	if options.Initial < 0 || options.Initial > MaxInitial {
+		return fmt.Errorf("0 to %d initial values", MaxInitial)
+	}
+	for _, pattern := range patterns {
+		if options.PatternOf(0) == pattern {
+			return nil
+		}
+	}
+	return fmt.Errorf("no pattern %q: alternate, mix, bursts or roles", options.Pattern)
+}
+
+// Answer is what a search found; its number is the status that a program ends with.
+type Answer int
+
+const (
+	NoViolation Answer = iota
+	Violation
+	// Wrong: no program, a refused history, a hang, a panic. What is wrong is said on standard error.
+	Wrong
+)
+
+func (answer Answer) String() string {
+	return [...]string{"no violation", "violation", "something is wrong"}[answer]
+}
 
 // The words of the events, as a history text has them.
 const (
@@ -46,12 +165,20 @@ type event struct {
 	what   string
 }
 
+func (event *event) isCall() bool {
+	return event.what == callEnq || event.what == callDeq
+}
+
 // Thread is what one goroutine records. Only that goroutine may use it.
 type Thread struct {
-	tickets *uint64
-	number  int
-	asked   uint64
-	events  []event
+	run    *run
+	number int
+	asked  uint64
+	events []event
+	used   int
+	// What others may read: the count first, and then as many events.
+	count atomic.Int64
+	read  atomic.Pointer[[]event]
 }
 
 // Number is the thread's number, from 0.
@@ -59,10 +186,10 @@ func (thread *Thread) Number() int {
 	return thread.number
 }
 
-// Enqueue calls call with a value that no other call has. It tells whether the queue took the value: false where the queue was
-// full.
+// Enqueue calls call with a value that no other call has. It says whether the queue took the value: false if the queue
+// was full.
 func (thread *Thread) Enqueue(call func(value uint64) bool) bool {
-	value := uint64(thread.number)<<32 | thread.asked
+	value := thread.run.options.Value(thread.number, thread.asked+thread.run.options.First)
 	thread.asked++
 	thread.note(callEnq, value)
 	taken := call(value)
@@ -74,7 +201,7 @@ func (thread *Thread) Enqueue(call func(value uint64) bool) bool {
 	return taken
 }
 
-// Dequeue calls call, which gives the value that the queue gave, or false where the queue said that it is empty.
+// Dequeue calls call, which gives the value that the queue gave, or false if the queue said that it is empty.
 func (thread *Thread) Dequeue(call func() (uint64, bool)) (uint64, bool) {
 	thread.asked++
 	thread.note(callDeq, 0)
@@ -87,22 +214,124 @@ func (thread *Thread) Dequeue(call func() (uint64, bool)) (uint64, bool) {
 	return value, found
 }
 
-// The ticket is drawn first: of a call that is before the queue is asked, of a return after it has answered. What came before a
-// return is seen by every call that has a greater ticket, since Go's atomics are sequentially consistent.
+// The ticket is drawn first: of a call that is before the queue is asked, of a return after it has answered. What came
+// before a return is seen by every call that has a greater ticket, since Go's atomics are sequentially consistent.
 func (thread *Thread) note(what string, value uint64) {
-	ticket := atomic.AddUint64(thread.tickets, 1) - 1
-	thread.events = append(thread.events, event{ticket: ticket, value: value, thread: thread.number, what: what})
+	ticket := thread.run.tickets.Add(1) - 1
+	if ticket >= MaxEvents {
+		panic(fmt.Sprintf("a history has at most %d events", MaxEvents))
+	}
+	if thread.used == len(thread.events) {
+		thread.makeRoom(2 * thread.used)
+	}
+	thread.events[thread.used] = event{ticket: ticket, value: value, thread: thread.number, what: what}
+	thread.used++
+	thread.count.Store(int64(thread.used))
 }
 
-// History is the events of all threads, by ticket.
+func (thread *Thread) makeRoom(places int) {
+	events := make([]event, places)
+	copy(events, thread.events)
+	thread.events = events
+	thread.read.Store(&events)
+}
+
+// The common start: goroutines wait, for a bounded time, until all are there and two are seen to run at once.
+type start struct {
+	threads int64
+	arrived atomic.Int64
+	lastBy  atomic.Int64
+	isOpen  atomic.Bool
+}
+
+const (
+	looks       = 1_000
+	passes      = 64
+	arrivalTime = time.Second
+	runningTime = 100 * time.Millisecond
+)
+
+func (start *start) meet(number int64) {
+	start.arrived.Add(1)
+	if start.turns(arrivalTime, 1, func() bool { return start.arrived.Load() >= start.threads }) && start.threads > 1 {
+		start.turns(runningTime, passes, func() bool { return start.lastBy.Swap(number) != number })
+	}
+	start.isOpen.Store(true)
+}
+
+// Takes turns of looks until the start is open, or what is looked for was seen so often in one turn. False if the time
+// is used up.
+func (start *start) turns(bound time.Duration, often int, isSeen func() bool) bool {
+	for begin := time.Now(); time.Since(begin) < bound; runtime.Gosched() {
+		if start.isSeenInTurn(often, isSeen) {
+			return true
+		}
+	}
+	return false
+}
+
+func (start *start) isSeenInTurn(often int, isSeen func() bool) bool {
+	seen := 0
+	for look := 0; look < looks && seen < often && !start.isOpen.Load(); look++ {
+		if isSeen() {
+			seen++
+		}
+	}
+	return start.isOpen.Load() || seen >= often
+}
+
+// History is what was recorded: the events of all threads, by ticket.
 type History struct {
-	events []event
+	events   []event
+	initial  []uint64
+	failures []string
+	hasEnded bool
+}
+
+// IsComplete says whether every call has its return. If one has none, Write writes a pending text.
+func (history *History) IsComplete() bool {
+	return history.hasEnded && len(history.openCalls()) == 0
+}
+
+// IsGivenUp says whether the run hung. What there was is kept in the folder; standard error says where.
+func (history *History) IsGivenUp() bool {
+	return !history.hasEnded
+}
+
+// Failures says what went wrong: panics, or that the run hung.
+func (history *History) Failures() []string {
+	return history.failures
+}
+
+func (history *History) openCalls() []event {
+	var last [MaxThreads]*event
+	for place := range history.events {
+		last[history.events[place].thread] = &history.events[place]
+	}
+	var calls []event
+	for _, event := range last {
+		if event != nil && event.isCall() {
+			calls = append(calls, *event)
+		}
+	}
+	return calls
 }
 
 // Write writes the text of the history.
 func (history *History) Write(to io.Writer) error {
 	out := bufio.NewWriter(to)
-	fmt.Fprintln(out, "fifo-history 1")
+	name := "fifo-history"
+	if !history.IsComplete() {
+		name = "fifo-pending"
+	}
+	if len(history.initial) == 0 {
+		fmt.Fprintln(out, name, 1)
+	} else {
+		fmt.Fprintf(out, "%s 2\ninitial %d\n", name, len(history.initial))
+	}
+	for _, value := range history.initial {
+		fmt.Fprintln(out, value)
+	}
 	for _, event := range history.events {
 		if event.what == callEnq || event.what == retDeq {
 			fmt.Fprintln(out, event.ticket, event.thread, event.what, event.value)
@@ -110,52 +339,444 @@ func (history *History) Write(to io.Writer) error {
 			fmt.Fprintln(out, event.ticket, event.thread, event.what)
 		}
 	}
+	if !history.IsComplete() {
+		fmt.Fprintln(out, "open", len(history.openCalls()))
+	}
 	fmt.Fprintln(out, "end", len(history.events))
 	// A write that failed above is kept by the writer, and told here.
 	return out.Flush()
 }
 
-// Record runs work in each of so many goroutines, which begin together, and gives what they recorded. Memory is taken ahead for
-// so many operations of each; more are recorded too, and take memory as they come.
-func Record(threads, operations int, work func(thread *Thread)) (*History, error) {
-	if threads < 1 || threads > maxThreads {
-		return nil, errors.New("recorder: 1 to 64 threads")
-	}
-	if operations < 0 || operations > maxEvents/2 {
-		return nil, errors.New("recorder: at most 1000000 operations")
-	}
-	var tickets uint64
-	var arrived int64
-	var running sync.WaitGroup
-	recorded := make([]*Thread, threads)
-	for number := range recorded {
-		recorded[number] = &Thread{tickets: &tickets, number: number, events: make([]event, 0, 2*operations)}
-	}
-	for _, thread := range recorded {
-		running.Add(1)
-		go func(thread *Thread) {
-			defer running.Done()
-			atomic.AddInt64(&arrived, 1)
-			for atomic.LoadInt64(&arrived) < int64(threads) {
-				runtime.Gosched()
+// How many operations overlap another. Threads are bits.
+func (history *History) overlapping() int {
+	var open, met uint64
+	overlapping := 0
+	for place := range history.events {
+		thread := uint64(1) << history.events[place].thread
+		if history.events[place].isCall() {
+			if open != 0 {
+				met |= open | thread
 			}
-			work(thread)
-		}(thread)
+			open |= thread
+			continue
+		}
+		if met&thread != 0 {
+			overlapping++
+		}
+		met &^= thread
+		open &^= thread
 	}
-	running.Wait()
-	total := 0
-	for _, thread := range recorded {
-		total += len(thread.events)
-	}
-	if total > maxEvents {
-		return nil, errors.New("recorder: at most 2000000 events")
-	}
-	// Tickets are the numbers below the total, each once, so a ticket is its event's place.
-	history := &History{events: make([]event, total)}
-	for _, thread := range recorded {
-		for _, event := range thread.events {
-			history.events[event.ticket] = event
+	return overlapping
+}
+
+func (history *History) count(what string) int {
+	count := 0
+	for _, event := range history.events {
+		if event.what == what {
+			count++
 		}
 	}
-	return history, nil
+	return count
+}
+
+// One run: its threads, and what went wrong.
+type run struct {
+	options   Options
+	initial   []uint64
+	tickets   atomic.Uint64
+	threads   []*Thread
+	start     start
+	ended     atomic.Int64
+	hasFailed atomic.Bool
+	lock      sync.Mutex
+	failures  []string // under the lock
+}
+
+func newRun(options Options, initial []uint64) *run {
+	run := &run{options: options, initial: initial, start: start{threads: int64(options.Threads)}}
+	for number := 0; number < options.Threads; number++ {
+		thread := &Thread{run: run, number: number}
+		thread.makeRoom(2*options.Operations + 64)
+		run.threads = append(run.threads, thread)
+	}
+	return run
+}
+
+// What one goroutine does; the first one drains when all have ended.
+func (run *run) makeSteps(thread *Thread, work func(thread *Thread), queue Queue) {
+	isOver := false
+	defer func() {
+		if !isOver {
+			run.fail(fmt.Sprintf("thread %d panicked: %v", thread.number, recover()))
+		}
+	}()
+	registrar, registers := queue.(Registrar)
+	if registers {
+		registrar.Enter(thread.number)
+	}
+	run.start.meet(int64(thread.number))
+	work(thread)
+	run.ended.Add(1)
+	if thread.number == 0 && queue != nil && run.options.Drain && run.haveAllEnded() {
+		run.drain(queue)
+	}
+	if registers {
+		registrar.Leave(thread.number)
+	}
+	isOver = true
+}
+
+func (run *run) fail(told string) {
+	run.hasFailed.Store(true)
+	run.lock.Lock()
+	defer run.lock.Unlock()
+	run.failures = append(run.failures, told)
+}
+
+// Stays until all threads have made their operations; false if one failed.
+func (run *run) haveAllEnded() bool {
+	for run.ended.Load() < int64(len(run.threads)) && !run.hasFailed.Load() {
+		time.Sleep(50 * time.Microsecond)
+	}
+	return !run.hasFailed.Load()
+}
+
+// Runs the goroutines, and waits until they have ended or hang. Those that hang are left.
+func (run *run) execute(work func(thread *Thread), queue Queue) *History {
+	var running sync.WaitGroup
+	running.Add(len(run.threads))
+	for _, thread := range run.threads {
+		go func(thread *Thread) {
+			defer running.Done()
+			run.makeSteps(thread, work, queue)
+		}(thread)
+	}
+	over := make(chan struct{})
+	go func() {
+		running.Wait()
+		close(over)
+	}()
+	if run.endsWith(over) {
+		return run.history(true)
+	}
+	run.hasFailed.Store(true)
+	told := toldCalls(run.history(false).openCalls())
+	run.fail(fmt.Sprintf("no event for %v: %s", run.options.Timeout, told))
+	history := run.history(false)
+	history.keepFailed(&run.options)
+	return history
+}
+
+// Stays until the run is over; false if no ticket is drawn for the time of the options.
+func (run *run) endsWith(over <-chan struct{}) bool {
+	look := time.NewTicker(50 * time.Millisecond)
+	defer look.Stop()
+	seen, since := uint64(0), time.Now()
+	for {
+		select {
+		case <-over:
+			return true
+		case <-look.C:
+			drawn := run.tickets.Load()
+			if drawn != seen {
+				seen, since = drawn, time.Now()
+			} else if time.Since(since) >= run.options.Timeout {
+				return false
+			}
+		}
+	}
+}
+
+// While goroutines run, the events up to the first that isn't there yet.
+func (run *run) history(hasEnded bool) *History {
+	var events []event
+	for _, thread := range run.threads {
+		count := thread.count.Load()
+		events = append(events, (*thread.read.Load())[:count]...)
+	}
+	sort.Slice(events, func(one, other int) bool { return events[one].ticket < events[other].ticket })
+	// Tickets are drawn from 0 on, so a ticket is its event's place.
+	whole := 0
+	for whole < len(events) && events[whole].ticket == uint64(whole) {
+		whole++
+	}
+	run.lock.Lock()
+	defer run.lock.Unlock()
+	failures := append([]string(nil), run.failures...)
+	return &History{events: events[:whole], initial: run.initial, failures: failures, hasEnded: hasEnded}
+}
+
+// Takes out what is left, until the queue says that it is empty or has given more values than went in.
+func (run *run) drain(queue Queue) {
+	history := run.history(true)
+	left := len(run.initial) + history.count(retEnq) - history.count(retDeq)
+	if left < 0 {
+		left = 0
+	}
+	room := MaxOperations - len(history.events)/2
+	for n := 0; n < left+1 && n < room; n++ {
+		if _, found := run.threads[0].Dequeue(queue.Dequeue); !found {
+			return
+		}
+	}
+	if room > left {
+		say("seed %d: the queue gave more values than went in", run.options.Seed)
+	}
+}
+
+func say(format string, words ...any) {
+	fmt.Fprintf(os.Stderr, "fifobench: "+format+"\n", words...)
+}
+
+func toldCalls(calls []event) string {
+	var told []string
+	for _, call := range calls {
+		kind := "dequeue"
+		if call.what == callEnq {
+			kind = fmt.Sprintf("enqueue of %d", call.value)
+		}
+		told = append(told, fmt.Sprintf("thread %d is inside %s", call.thread, kind))
+	}
+	if told == nil {
+		return "no thread is inside a call"
+	}
+	return strings.Join(told, ", ")
+}
+
+// Record runs work in each of the goroutines, which begin together, and gives what they recorded. Memory is taken
+// ahead for this number of operations of each; more are recorded too, and take memory as they come.
+//
+// If a call panics, its goroutine ends and the others go on; if no event comes for 30 seconds, what there is is kept
+// in the folder fifobench-runs, and the goroutines that hang are left. In both cases the history has failures. An
+// error is that a number is out of its range.
+func Record(threads, operations int, work func(thread *Thread)) (*History, error) {
+	options := Defaults()
+	options.Threads, options.Operations = threads, operations
+	return RecordWith(options, work)
+}
+
+// RecordWith is Record with more settings; there is no drain, no initial value and no pattern.
+func RecordWith(options Options, work func(thread *Thread)) (*History, error) {
+	if err := options.Check(); err != nil {
+		return nil, err
+	}
+	return newRun(options, nil).execute(work, nil), nil
+}
+
+// Run makes one run over this queue, by the pattern of the seed. An error is that a setting is out of its range, or
+// that the queue has no room for an initial value.
+func Run(options Options, queue Queue) (*History, error) {
+	if err := options.Check(); err != nil {
+		return nil, err
+	}
+	preload := queue.Enqueue
+	if preloader, ok := queue.(Preloader); ok {
+		preload = preloader.Preload
+	}
+	var initial []uint64
+	for place := 0; place < options.Initial; place++ {
+		initial = append(initial, options.Value(MaxThreads, uint64(place)))
+		if !preload(initial[place]) {
+			return nil, fmt.Errorf("the queue has no room for the initial value %d", initial[place])
+		}
+	}
+	work := func(thread *Thread) {
+		for _, isEnqueue := range options.plan(thread.number) {
+			if isEnqueue {
+				thread.Enqueue(queue.Enqueue)
+			} else {
+				thread.Dequeue(queue.Dequeue)
+			}
+		}
+	}
+	return newRun(options, initial).execute(work, queue), nil
+}
+
+// The state of SplitMix64.
+type words uint64
+
+func (words *words) next() uint64 {
+	*words += 0x9e3779b97f4a7c15
+	z := uint64(*words)
+	z = (z ^ z>>30) * 0xbf58476d1ce4e5b9
+	z = (z ^ z>>27) * 0x94d049bb133111eb
+	return z ^ z>>31
+}
+
+// What one thread does: true is an enqueue.
+func (options *Options) plan(thread int) []bool {
+	words := words(options.Seed*MaxThreads + uint64(thread))
+	plan := make([]bool, options.Operations)
+	pattern := options.PatternOf(options.Seed)
+	length, burst := 1, 0
+	for n := range plan {
+		if burst == 0 {
+			if pattern == Bursts {
+				length = 1 + int(words.next()%32)
+			}
+			burst = 2 * length
+		}
+		plan[n] = burst > length
+		if pattern == Mix {
+			plan[n] = words.next()%100 < options.Percent
+		} else if pattern == Roles && options.Threads > 1 {
+			plan[n] = thread%2 == 0
+		}
+		burst--
+	}
+	return plan
+}
+
+// Search makes runs from the first seed on, each over a fresh queue, and judges each with `fifobench check`, until one
+// is a violation.
+//
+// What it found is said on standard output. The first violation is kept in the folder: the history, and the report of
+// `fifobench shrink`. If no program is found, nothing is judged, and every history is kept.
+func Search(options Options, makeQueue func() Queue) Answer {
+	answer, err := search(options, makeQueue)
+	if err != nil {
+		say("%v", err)
+		return Wrong
+	}
+	return answer
+}
+
+func search(options Options, makeQueue func() Queue) (Answer, error) {
+	if err := options.Check(); err != nil {
+		return Wrong, err
+	}
+	operations, overlapping := 0, 0
+	isJudged := options.isFound()
+	for number := uint64(0); number < options.Runs; number++ {
+		ofRun := options
+		ofRun.Seed += number
+		history, err := Run(ofRun, makeQueue())
+		if err != nil {
+			return Wrong, err
+		}
+		answer, err := ofRun.answer(history, isJudged)
+		if err != nil || answer != NoViolation {
+			return answer, err
+		}
+		operations += len(history.events) / 2
+		overlapping += history.overlapping()
+	}
+	told, answer := "no violation in", NoViolation
+	if !isJudged {
+		told, answer = "nothing judged in", Wrong
+	}
+	if operations > 0 {
+		overlapping = 100 * overlapping / operations
+	}
+	fmt.Printf("%s %d runs (seeds %d to %d); %d of 100 operations overlap another\n",
+		told, options.Runs, options.Seed, options.Seed+options.Runs-1, overlapping)
+	return answer, nil
+}
+
+func (options *Options) answer(history *History, isJudged bool) (Answer, error) {
+	if len(history.failures) > 0 {
+		if history.hasEnded {
+			history.keepFailed(options)
+		}
+		return Wrong, nil
+	}
+	if isJudged {
+		return options.judge(history)
+	}
+	_, err := history.keep(options, "history")
+	return NoViolation, err
+}
+
+func (options *Options) program() string {
+	if options.Program != "" {
+		return options.Program
+	}
+	if named := os.Getenv("FIFOBENCH"); named != "" {
+		return named
+	}
+	return "fifobench"
+}
+
+// Whether the program can be started; if it can't, a line says so.
+func (options *Options) isFound() bool {
+	var ended *exec.ExitError
+	err := exec.Command(options.program(), "help").Run()
+	if err == nil || errors.As(err, &ended) {
+		return true
+	}
+	say("no program %s: nothing is judged, and each history is kept in %s", options.program(), options.Folder)
+	return false
+}
+
+// What the program writes about this history, and its status.
+func (options *Options) ask(command string, history *History) ([]byte, int, error) {
+	var text, told bytes.Buffer
+	if err := history.Write(&text); err != nil {
+		return nil, 0, err
+	}
+	judge := exec.Command(options.program(), command)
+	judge.Stdin, judge.Stdout, judge.Stderr = &text, &told, os.Stderr
+	err := judge.Run()
+	var ended *exec.ExitError
+	if err != nil && !errors.As(err, &ended) {
+		return nil, 0, err
+	}
+	return told.Bytes(), judge.ProcessState.ExitCode(), nil
+}
+
+func (options *Options) judge(history *History) (Answer, error) {
+	verdict, status, err := options.ask("check", history)
+	if err != nil || status == 0 {
+		return NoViolation, err
+	}
+	kept, err := history.keep(options, "history")
+	if err != nil {
+		return Wrong, err
+	}
+	firstLine, _, _ := strings.Cut(string(verdict), "\n")
+	if status != 1 {
+		return Wrong, fmt.Errorf("seed %d: check answers %s to %s", options.Seed, firstLine, kept)
+	}
+	shrunk, _, err := options.ask("shrink", history)
+	if err != nil {
+		return Wrong, err
+	}
+	report := filepath.Join(options.Folder, fmt.Sprintf("%d.report", options.Seed))
+	if err := os.WriteFile(report, shrunk, 0o666); err != nil {
+		return Wrong, err
+	}
+	seed, pattern := options.Seed, options.PatternOf(options.Seed)
+	fmt.Printf("%s: seed %d, %s\n", firstLine, seed, pattern)
+	fmt.Printf("  history: %s\n  report:  %s\n", kept, report)
+	fmt.Printf("  see it:  %s draw --text < %s\n", options.program(), report)
+	fmt.Printf("  again:   seed %d, pattern %s: the same plan, though threads may meet in another way\n", seed, pattern)
+	return Violation, nil
+}
+
+func (history *History) keep(options *Options, kind string) (string, error) {
+	if err := os.MkdirAll(options.Folder, 0o777); err != nil {
+		return "", err
+	}
+	path := filepath.Join(options.Folder, fmt.Sprintf("%d.%s", options.Seed, kind))
+	to, err := os.Create(path)
+	if err != nil {
+		return "", err
+	}
+	defer to.Close()
+	return path, history.Write(to)
+}
+
+// Keeps what there is, and says what happened.
+func (history *History) keepFailed(options *Options) {
+	say("seed %d: %s", options.Seed, strings.Join(history.failures, ", "))
+	kind := "pending"
+	if history.IsComplete() {
+		kind = "history"
+	}
+	path, err := history.keep(options, kind)
+	if err != nil {
+		say("can't keep what was recorded: %v", err)
+		return
+	}
+	say("what was recorded: %s", path)
 }

@@ -1,141 +1,763 @@
-//! Records what threads do with a FIFO queue, as a history that `fifobench check` reads. Rust with its standard library.
+//! Records what threads do with a FIFO queue, and searches for a run that no FIFO queue can have made. Rust with its
+//! standard library, this one file. In a test:
 //!
 //! ```ignore
-//! let history = recorder::record(4, 1000, |thread| {
-//!     for _ in 0..500 {
-//!         thread.enqueue(|value| queue.push(value).is_ok());
-//!         thread.dequeue(|| queue.pop());
+//! mod recorder;
+//!
+//! impl recorder::Queue for MyQueue {
+//!     fn enqueue(&self, value: u64) -> bool {
+//!         self.push(value).is_ok() // false: the queue is full
 //!     }
-//! });
-//! history.write(std::io::stdout().lock())?;
+//!     fn dequeue(&self) -> Option<u64> {
+//!         self.pop() // none: the queue is empty
+//!     }
+//! }
+//!
+//! #[test]
+//! fn my_queue_is_linearizable() {
+//!     let answer = recorder::search(&recorder::Options::default(), MyQueue::new);
+//!     assert_eq!(answer, recorder::Answer::NoViolation);
+//! }
 //! ```
 //!
-//! docs/RECORDING.md tells the rules that this module keeps.
+//! `FIFOBENCH=/path/to/fifobench cargo test` then makes 100 short runs, each over a fresh queue, and judges each. A
+//! loop of your own is recorded by `record`. docs/RECORDING.md has the rules that this module keeps.
 
-use std::hint;
+#![allow(dead_code)] // A test uses a part of it.
+
+use std::any::Any;
+use std::env;
+use std::fmt::{self, Display};
+use std::fs::{self, File};
 use std::io::{self, BufWriter, Write};
-use std::sync::atomic::{AtomicU64, AtomicUsize, Ordering};
+use std::panic::{self, AssertUnwindSafe};
+use std::path::{Path, PathBuf};
+use std::process::{self, Command, Stdio};
+use std::str::FromStr;
+use std::sync::atomic::{AtomicBool, AtomicU64, AtomicUsize, Ordering};
+use std::sync::mpsc::{self, Receiver, RecvTimeoutError};
+use std::sync::OnceLock;
 use std::thread;
+use std::time::{Duration, Instant};
 
 pub const MAX_THREADS: usize = 64;
-pub const MAX_EVENTS: usize = 2_000_000;
+pub const MAX_OPERATIONS: usize = 1_000_000;
+pub const MAX_EVENTS: u64 = 2_000_000;
+pub const MAX_INITIAL: usize = 100_000;
 
-#[derive(Clone, Copy)]
-enum What {
-    CallEnq(u64),
-    RetEnq,
-    RetNot,
-    CallDeq,
-    RetDeq(u64),
-    RetEmpty,
+/// A queue that is tested.
+pub trait Queue: Sync {
+    /// Whether the queue took the value: false if it was full or had no memory.
+    fn enqueue(&self, value: u64) -> bool;
+
+    /// The value that the queue gave, or none if it said that it is empty.
+    fn dequeue(&self) -> Option<u64>;
+
+    /// Puts an initial value in, before the threads start. It is no operation of the run.
+    fn preload(&self, value: u64) -> bool {
+        self.enqueue(value)
+    }
+
+    /// Called in each thread before the common start, for queues whose threads register.
+    fn enter(&self, _thread: usize) {}
+
+    /// Called in each thread after its last operation.
+    fn leave(&self, _thread: usize) {}
 }
+
+/// Which operations a thread makes.
+#[derive(Clone, Copy, Debug, PartialEq, Eq)]
+pub enum Pattern {
+    /// Enqueue, dequeue, enqueue, ..
+    Alternate,
+    /// Each operation by chance, [`Options::percent`] of a hundred of them enqueues.
+    Mix,
+    /// 1 to 32 enqueues, by chance, and then as many dequeues.
+    Bursts,
+    /// Threads of even number enqueue and the others dequeue; one thread alone alternates.
+    Roles,
+}
+
+impl Pattern {
+    pub const ALL: [Pattern; 4] = [Pattern::Alternate, Pattern::Mix, Pattern::Bursts, Pattern::Roles];
+}
+
+impl Display for Pattern {
+    fn fmt(&self, f: &mut fmt::Formatter) -> fmt::Result {
+        f.write_str(match self {
+            Pattern::Alternate => "alternate",
+            Pattern::Mix => "mix",
+            Pattern::Bursts => "bursts",
+            Pattern::Roles => "roles",
+        })
+    }
+}
+
+impl FromStr for Pattern {
+    type Err = String;
+
+    fn from_str(word: &str) -> Result<Pattern, String> {
+        let found = Pattern::ALL.into_iter().find(|pattern| pattern.to_string() == word);
+        found.ok_or_else(|| format!("no pattern {word:?}: alternate, mix, bursts or roles"))
+    }
+}
+
+/// The settings of a run and of a search.
+#[derive(Clone, Debug)]
+pub struct Options {
+    /// 1 to 64.
+    pub threads: usize,
+    /// Operations of each thread.
+    pub operations: usize,
+    /// If there is none, the four take turns by seed.
+    pub pattern: Option<Pattern>,
+    /// Enqueues of a hundred operations, for the pattern `Mix`.
+    pub percent: u64,
+    /// That of the run, or of the first run of a search.
+    pub seed: u64,
+    /// How many runs a search makes at most.
+    pub runs: u64,
+    /// A run without an event for so long is given up as hanging.
+    pub timeout: Duration,
+    /// The value of each thread's operation n from 0, which is called with n + `first`. Values have to differ.
+    pub value: fn(thread: usize, n: u64) -> u64,
+    /// Added to n; 1 for a queue that takes 0 for "nothing".
+    pub first: u64,
+    /// How many values the queue is given before the threads start: those of a thread 64, as a rule 2^38, 2^38 + 1, ..
+    pub initial: usize,
+    /// Whether values are taken out after the threads have ended, until the queue says that it is empty.
+    pub drain: bool,
+    /// Where histories and reports are kept.
+    pub folder: PathBuf,
+    /// The program `fifobench`; else that of the environment variable FIFOBENCH, else that on the PATH.
+    pub program: Option<PathBuf>,
+}
+
+impl Default for Options {
+    fn default() -> Options {
+        Options {
+            threads: 4,
+            operations: 500,
+            pattern: None,
+            percent: 50,
+            seed: 1,
+            runs: 100,
+            timeout: Duration::from_secs(30),
+            value: |thread, n| (thread as u64) << 32 | n,
+            first: 0,
+            initial: 0,
+            drain: true,
+            folder: PathBuf::from("fifobench-runs"),
+            program: None,
+        }
+    }
+}
+
+impl Options {
+    /// The pattern of this seed.
+    pub fn pattern_of(&self, seed: u64) -> Pattern {
+        self.pattern.unwrap_or(Pattern::ALL[(seed.wrapping_add(3) % 4) as usize])
+    }
+
+    fn check(&self) {
+        assert!((1..=MAX_THREADS).contains(&self.threads), "1 to {MAX_THREADS} threads");
+        let total = self.threads.saturating_mul(self.operations);
+        assert!(total <= MAX_OPERATIONS, "at most {MAX_OPERATIONS} operations of all threads");
+        assert!(self.initial <= MAX_INITIAL, "at most {MAX_INITIAL} initial values");
+    }
+}
+
+/// What a search found. Its number is the status that a program ends with.
+#[derive(Clone, Copy, Debug, PartialEq, Eq)]
+pub enum Answer {
+    NoViolation = 0,
+    Violation = 1,
+    /// No program, a refused history, a panic in a call: what is wrong is said on standard error.
+    Wrong = 2,
+}
+
+// What an event is: a place in the list of its words.
+const WORDS: [&str; 6] = ["call-enq", "ret-enq", "ret-not", "call-deq", "ret-deq", "ret-empty"];
+const CALL_ENQ: u64 = 0;
+const RET_ENQ: u64 = 1;
+const RET_NOT: u64 = 2;
+const CALL_DEQ: u64 = 3;
+const RET_DEQ: u64 = 4;
+const RET_EMPTY: u64 = 5;
 
 #[derive(Clone, Copy)]
 struct Event {
     ticket: u64,
     thread: usize,
-    what: What,
+    what: u64,
+    // Of CALL_ENQ and RET_DEQ.
+    value: u64,
+}
+
+impl Event {
+    fn is_call(&self) -> bool {
+        self.what == CALL_ENQ || self.what == CALL_DEQ
+    }
+}
+
+// A part of the events of one thread. That thread alone writes; the watchdog may read what is counted while it does.
+struct Chunk {
+    // The ticket times 8 plus the event's word, and the value.
+    slots: Box<[[AtomicU64; 2]]>,
+    count: AtomicUsize,
+    next: OnceLock<Box<Chunk>>,
+}
+
+impl Chunk {
+    fn new(places: usize) -> Chunk {
+        let slots = (0..places).map(|_| [AtomicU64::new(0), AtomicU64::new(0)]).collect();
+        Chunk { slots, count: AtomicUsize::new(0), next: OnceLock::new() }
+    }
+
+    fn read(&self, thread: usize, events: &mut Vec<Event>) {
+        let count = self.count.load(Ordering::Acquire);
+        events.extend(self.slots[..count].iter().map(|[head, value]| {
+            let head = head.load(Ordering::Relaxed);
+            Event { ticket: head >> 3, thread, what: head & 7, value: value.load(Ordering::Relaxed) }
+        }));
+        if let Some(next) = self.next.get() {
+            next.read(thread, events);
+        }
+    }
+}
+
+// What the threads of a run share.
+struct Run<'a> {
+    options: &'a Options,
+    tickets: AtomicU64,
+    chunks: Vec<Chunk>,
+    ended: AtomicUsize,
+    has_failed: AtomicBool,
+}
+
+impl Run<'_> {
+    fn new(options: &Options) -> Run<'_> {
+        let places = (2 * options.operations).max(64);
+        let chunks = (0..options.threads).map(|_| Chunk::new(places)).collect();
+        let ended = AtomicUsize::new(0);
+        Run { options, tickets: AtomicU64::new(0), chunks, ended, has_failed: AtomicBool::new(false) }
+    }
+
+    fn thread(&self, number: usize) -> Thread<'_> {
+        Thread { run: self, number, asked: 0, chunk: &self.chunks[number], used: 0 }
+    }
+
+    // Stays until all threads have made their operations; false if one failed.
+    fn have_all_ended(&self) -> bool {
+        while self.ended.load(Ordering::SeqCst) < self.options.threads && !self.has_failed.load(Ordering::SeqCst) {
+            thread::sleep(Duration::from_micros(50));
+        }
+        !self.has_failed.load(Ordering::SeqCst)
+    }
+
+    // The events by ticket. While threads run, those up to the first that isn't there yet.
+    fn events(&self) -> Vec<Event> {
+        let mut events = Vec::new();
+        for (thread, chunk) in self.chunks.iter().enumerate() {
+            chunk.read(thread, &mut events);
+        }
+        events.sort_unstable_by_key(|event| event.ticket);
+        // Tickets are drawn from 0 on, so a ticket is its event's place.
+        let whole = events.iter().zip(0..).take_while(|(event, place)| event.ticket == *place).count();
+        events.truncate(whole);
+        events
+    }
 }
 
 /// What one thread records.
 pub struct Thread<'a> {
-    tickets: &'a AtomicU64,
+    run: &'a Run<'a>,
     number: usize,
     asked: u64,
-    events: Vec<Event>,
+    chunk: &'a Chunk,
+    used: usize,
 }
 
-impl<'a> Thread<'a> {
-    fn new(tickets: &'a AtomicU64, number: usize, operations: usize) -> Self {
-        Thread { tickets, number, asked: 0, events: Vec::with_capacity(2 * operations) }
-    }
-
+impl Thread<'_> {
     /// Its number, from 0.
     pub fn number(&self) -> usize {
         self.number
     }
 
-    /// Calls `call` with a value that no other call has. It tells whether the queue took the value: false where the queue was
-    /// full or had no memory.
+    /// Calls `call` with a value that no other call has. It says whether the queue took the value: false if the queue
+    /// was full or had no memory.
     pub fn enqueue(&mut self, call: impl FnOnce(u64) -> bool) -> bool {
-        let value = (self.number as u64) << 32 | self.asked;
+        let options = self.run.options;
+        let value = (options.value)(self.number, self.asked + options.first);
         self.asked += 1;
-        self.note(What::CallEnq(value));
+        self.note(CALL_ENQ, value);
         let taken = call(value);
-        self.note(if taken { What::RetEnq } else { What::RetNot });
+        self.note(if taken { RET_ENQ } else { RET_NOT }, 0);
         taken
     }
 
-    /// Calls `call`, which gives the value that the queue gave, or none where the queue said that it is empty.
+    /// Calls `call`, which gives the value that the queue gave, or none if the queue said that it is empty.
     pub fn dequeue(&mut self, call: impl FnOnce() -> Option<u64>) -> Option<u64> {
         self.asked += 1;
-        self.note(What::CallDeq);
+        self.note(CALL_DEQ, 0);
         let found = call();
-        self.note(found.map_or(What::RetEmpty, What::RetDeq));
+        match found {
+            Some(value) => self.note(RET_DEQ, value),
+            None => self.note(RET_EMPTY, 0),
+        }
         found
     }
 
-    // The ticket is drawn first: of a call that is before the queue is asked, of a return after it has answered. What came
-    // before a return is seen by every call that has a greater ticket, since the order is sequentially consistent.
-    fn note(&mut self, what: What) {
-        let ticket = self.tickets.fetch_add(1, Ordering::SeqCst);
-        self.events.push(Event { ticket, thread: self.number, what });
+    // The ticket is drawn first: of a call that is before the queue is asked, of a return after it has answered. What
+    // came before a return is seen by every call that has a greater ticket: the order is sequentially consistent.
+    fn note(&mut self, what: u64, value: u64) {
+        let ticket = self.run.tickets.fetch_add(1, Ordering::SeqCst);
+        assert!(ticket < MAX_EVENTS, "a history has at most {MAX_EVENTS} events");
+        if self.used == self.chunk.slots.len() {
+            self.chunk = self.chunk.next.get_or_init(|| Box::new(Chunk::new(2 * self.used)));
+            self.used = 0;
+        }
+        let [head, of_value] = &self.chunk.slots[self.used];
+        head.store(ticket << 3 | what, Ordering::Relaxed);
+        of_value.store(value, Ordering::Relaxed);
+        self.used += 1;
+        self.chunk.count.store(self.used, Ordering::Release);
     }
 }
 
-/// The events of all threads, by ticket.
-pub struct History(Vec<Event>);
+// The common start: threads wait, for a bounded time, until all are there and two are seen to run at once.
+struct Start {
+    threads: usize,
+    arrived: AtomicUsize,
+    last_by: AtomicUsize,
+    is_open: AtomicBool,
+}
+
+impl Start {
+    const LOOKS: usize = 1_000;
+    const PASSES: usize = 64;
+    const ARRIVAL: Duration = Duration::from_secs(1);
+    const RUNNING: Duration = Duration::from_millis(100);
+
+    fn new(threads: usize) -> Start {
+        let [arrived, last_by] = [0, 0].map(AtomicUsize::new);
+        Start { threads, arrived, last_by, is_open: AtomicBool::new(threads == 1) }
+    }
+
+    // Who finds another thread's number often in one turn runs at the same time as that one.
+    fn meet(&self, number: usize) {
+        self.arrived.fetch_add(1, Ordering::SeqCst);
+        if self.turns(Start::ARRIVAL, |_| self.arrived.load(Ordering::SeqCst) >= self.threads) {
+            let mut passes = 0;
+            self.turns(Start::RUNNING, |look| {
+                passes = if look == 0 { 0 } else { passes };
+                passes += usize::from(self.last_by.swap(number, Ordering::SeqCst) != number);
+                passes >= Start::PASSES
+            });
+        }
+        self.is_open.store(true, Ordering::SeqCst);
+    }
+
+    // Takes turns of looks until it is over or the start is open; false if the time is used up.
+    fn turns(&self, time: Duration, mut is_over: impl FnMut(usize) -> bool) -> bool {
+        let begin = Instant::now();
+        while begin.elapsed() < time {
+            let mut looks = 0..Start::LOOKS;
+            if looks.any(|look| self.is_open.load(Ordering::SeqCst) || is_over(look)) {
+                return true;
+            }
+            thread::yield_now();
+        }
+        false
+    }
+}
+
+/// What was recorded: the events of all threads, by ticket.
+pub struct History {
+    events: Vec<Event>,
+    initial: Vec<u64>,
+    is_pending: bool,
+    failures: Vec<String>,
+}
 
 impl History {
+    // The calls without a return, by thread.
+    fn open_calls(&self) -> Vec<Event> {
+        let mut open: [Option<Event>; MAX_THREADS] = [None; MAX_THREADS];
+        for event in &self.events {
+            open[event.thread] = event.is_call().then_some(*event);
+        }
+        open.into_iter().flatten().collect()
+    }
+
+    /// Whether every call has its return. If one has none, `write` writes a pending text, which `check` refuses.
+    pub fn is_complete(&self) -> bool {
+        !self.is_pending
+    }
+
+    /// What went wrong in the threads: panics.
+    pub fn failures(&self) -> &[String] {
+        &self.failures
+    }
+
     /// Writes the text of the history.
     pub fn write(&self, to: impl Write) -> io::Result<()> {
         let mut to = BufWriter::new(to);
-        writeln!(to, "fifo-history 1")?;
-        for Event { ticket, thread, what } in &self.0 {
-            write!(to, "{ticket} {thread} ")?;
-            match what {
-                What::CallEnq(value) => writeln!(to, "call-enq {value}")?,
-                What::RetEnq => writeln!(to, "ret-enq")?,
-                What::RetNot => writeln!(to, "ret-not")?,
-                What::CallDeq => writeln!(to, "call-deq")?,
-                What::RetDeq(value) => writeln!(to, "ret-deq {value}")?,
-                What::RetEmpty => writeln!(to, "ret-empty")?,
+        let name = if self.is_pending { "fifo-pending" } else { "fifo-history" };
+        if self.initial.is_empty() {
+            writeln!(to, "{name} 1")?;
+        } else {
+            writeln!(to, "{name} 2\ninitial {}", self.initial.len())?;
+            self.initial.iter().try_for_each(|value| writeln!(to, "{value}"))?;
+        }
+        for Event { ticket, thread, what, value } in &self.events {
+            write!(to, "{ticket} {thread} {}", WORDS[*what as usize])?;
+            if *what == CALL_ENQ || *what == RET_DEQ {
+                write!(to, " {value}")?;
+            }
+            writeln!(to)?;
+        }
+        if self.is_pending {
+            writeln!(to, "open {}", self.open_calls().len())?;
+        }
+        writeln!(to, "end {}", self.events.len())?;
+        to.flush()
+    }
+
+    // How many operations there are, and how many of them overlap another.
+    fn overlapping(&self) -> (usize, usize) {
+        let (mut open, mut met, mut overlapping) = (0u64, 0u64, 0);
+        for event in &self.events {
+            let thread = 1 << event.thread;
+            if event.is_call() {
+                met |= if open == 0 { 0 } else { open | thread };
+                open |= thread;
+            } else {
+                overlapping += usize::from(met & thread != 0);
+                met &= !thread;
+                open &= !thread;
             }
         }
-        writeln!(to, "end {}", self.0.len())?;
-        to.flush()
+        (self.events.len() / 2, overlapping)
+    }
+
+    fn keep(&self, folder: &Path, name: &str) -> io::Result<PathBuf> {
+        let path = folder.join(name);
+        fs::create_dir_all(folder)?;
+        self.write(File::create(&path)?)?;
+        Ok(path)
+    }
+
+    // Keeps what there is, and says what happened.
+    fn keep_failed(&self, options: &Options, told: &str) {
+        say(&format!("seed {}: {told}", options.seed));
+        let kind = if self.is_pending { "pending" } else { "history" };
+        match self.keep(&options.folder, &format!("{}.{kind}", options.seed)) {
+            Ok(path) => say(&format!("what was recorded: {}", path.display())),
+            Err(error) => say(&format!("can't keep what was recorded in {}: {error}", options.folder.display())),
+        }
     }
 }
 
-/// Runs `work` in each of so many threads, which begin together, and gives what they recorded.
+// One line on standard error itself, which a test doesn't catch.
+fn say(line: &str) {
+    let _ = writeln!(io::stderr(), "fifobench: {line}");
+}
+
+fn told_calls(calls: &[Event]) -> String {
+    let told_one = |call: &Event| format!("thread {} is inside {}", call.thread, told_call(call));
+    let told: Vec<String> = calls.iter().map(told_one).collect();
+    if told.is_empty() {
+        "no thread is inside a call".to_string()
+    } else {
+        told.join(", ")
+    }
+}
+
+fn told_call(call: &Event) -> String {
+    if call.what == CALL_ENQ {
+        format!("enqueue of {}", call.value)
+    } else {
+        "dequeue".to_string()
+    }
+}
+
+fn told_panic(panic: &(dyn Any + Send)) -> &str {
+    let words = panic.downcast_ref::<&str>().copied();
+    words.or_else(|| panic.downcast_ref::<String>().map(String::as_str)).unwrap_or("a panic")
+}
+
+/// Runs `work` in each of the threads, which begin together, and gives what they recorded.
 ///
-/// Memory is taken ahead for so many operations of each thread; more are recorded too, and take memory as they come.
+/// Memory is taken ahead for this number of operations of each thread; more are recorded too, and take memory as they
+/// come. If a call panics, its thread ends and the others go on; the history is not complete then. A run without an
+/// event for 30 seconds ends the process with status 2, after what was recorded has been kept as a pending text.
 ///
 /// # Panics
 ///
-/// Where there are no threads or more than 64, where there are more than 2,000,000 events, or where `work` panics.
+/// If there are no threads or more than 64, or more than 1,000,000 operations of all threads.
 pub fn record(threads: usize, operations: usize, work: impl Fn(&mut Thread) + Sync) -> History {
-    assert!((1..=MAX_THREADS).contains(&threads), "1 to {MAX_THREADS} threads");
-    let (tickets, arrived) = (AtomicU64::new(0), AtomicUsize::new(0));
-    let mut events: Vec<Event> = thread::scope(|scope| {
-        let (tickets, arrived, work) = (&tickets, &arrived, &work);
-        let running: Vec<_> = (0..threads)
-            .map(|number| {
-                scope.spawn(move || {
-                    let mut thread = Thread::new(tickets, number, operations);
-                    arrived.fetch_add(1, Ordering::SeqCst);
-                    while arrived.load(Ordering::SeqCst) < threads {
-                        hint::spin_loop();
-                        thread::yield_now();
-                    }
-                    work(&mut thread);
-                    thread.events
-                })
-            })
-            .collect();
-        running.into_iter().flat_map(|thread| thread.join().expect("a thread panicked")).collect()
-    });
-    assert!(events.len() <= MAX_EVENTS, "at most {MAX_EVENTS} events");
-    events.sort_unstable_by_key(|event| event.ticket);
-    History(events)
+    record_with(&Options { threads, operations, ..Options::default() }, work)
+}
+
+/// As [`record`], with more settings; there is no drain, no initial value and no pattern.
+pub fn record_with(options: &Options, work: impl Fn(&mut Thread) + Sync) -> History {
+    options.check();
+    let run = Run::new(options);
+    let failures = run_threads(&run, &[], &Steps { enter: &|_| (), work: &work, drain: &|_| (), leave: &|_| () });
+    finish(&run, Vec::new(), failures)
+}
+
+/// One run over this queue, by the pattern of the seed.
+///
+/// # Panics
+///
+/// If a setting is out of its range, or the queue has no room for an initial value.
+pub fn run(options: &Options, queue: &impl Queue) -> History {
+    options.check();
+    let initial: Vec<u64> = (0..options.initial as u64).map(|place| (options.value)(MAX_THREADS, place)).collect();
+    for (place, value) in initial.iter().enumerate() {
+        assert!(queue.preload(*value), "the queue has no room for the initial value at place {place}");
+    }
+    let run = Run::new(options);
+    let failures = run_threads(
+        &run,
+        &initial,
+        &Steps {
+            enter: &|number| queue.enter(number),
+            work: &|thread| make_operations(thread, queue),
+            drain: &|thread| drain(thread, queue, initial.len()),
+            leave: &|number| queue.leave(number),
+        },
+    );
+    finish(&run, initial, failures)
+}
+
+fn finish(run: &Run, initial: Vec<u64>, failures: Vec<String>) -> History {
+    let mut history = History { events: run.events(), initial, is_pending: false, failures };
+    history.is_pending = !history.open_calls().is_empty();
+    history
+}
+
+// What each thread does, one step after the other; the first one drains when all have ended.
+struct Steps<'a> {
+    enter: &'a (dyn Fn(usize) + Sync),
+    work: &'a (dyn Fn(&mut Thread) + Sync),
+    drain: &'a (dyn Fn(&mut Thread) + Sync),
+    leave: &'a (dyn Fn(usize) + Sync),
+}
+
+fn make_steps(run: &Run, start: &Start, number: usize, steps: &Steps) -> Result<(), String> {
+    let outcome = panic::catch_unwind(AssertUnwindSafe(|| {
+        let mut thread = run.thread(number);
+        (steps.enter)(number);
+        start.meet(number);
+        (steps.work)(&mut thread);
+        run.ended.fetch_add(1, Ordering::SeqCst);
+        if number == 0 && run.options.drain && run.have_all_ended() {
+            (steps.drain)(&mut thread);
+        }
+        (steps.leave)(number);
+    }));
+    outcome.map_err(|panic| {
+        run.has_failed.store(true, Ordering::SeqCst);
+        format!("thread {number} panicked: {}", told_panic(&*panic))
+    })
+}
+
+// Runs the threads, with a watchdog beside them, and gives what went wrong in them.
+fn run_threads(run: &Run, initial: &[u64], steps: &Steps) -> Vec<String> {
+    let start = &Start::new(run.options.threads);
+    thread::scope(|scope| {
+        let (ended, end) = mpsc::channel::<()>();
+        scope.spawn(move || watch(run, initial, &end));
+        let numbers = 0..run.options.threads;
+        let running: Vec<_> =
+            numbers.map(|number| scope.spawn(move || make_steps(run, start, number, steps))).collect();
+        let outcomes = running.into_iter().map(|running| running.join().expect("a panic is caught in the thread"));
+        let failures = outcomes.filter_map(Result::err).collect();
+        drop(ended);
+        failures
+    })
+}
+
+// Waits for the end, and gives the run up if no ticket is drawn for the time of the settings.
+fn watch(run: &Run, initial: &[u64], end: &Receiver<()>) {
+    let (mut seen, mut since) = (0, Instant::now());
+    while end.recv_timeout(Duration::from_millis(50)) == Err(RecvTimeoutError::Timeout) {
+        let drawn = run.tickets.load(Ordering::SeqCst);
+        if drawn != seen {
+            (seen, since) = (drawn, Instant::now());
+        } else if since.elapsed() >= run.options.timeout {
+            give_up(run, initial);
+        }
+    }
+}
+
+// The end of a run that hangs: its threads can't be let go, since they borrow the queue.
+fn give_up(run: &Run, initial: &[u64]) {
+    let history = History { events: run.events(), initial: initial.to_vec(), is_pending: true, failures: Vec::new() };
+    let told = told_calls(&history.open_calls());
+    history.keep_failed(run.options, &format!("no event for {:?}: {told}", run.options.timeout));
+    process::exit(2);
+}
+
+// SplitMix64.
+struct Words(u64);
+
+impl Words {
+    fn next(&mut self) -> u64 {
+        self.0 = self.0.wrapping_add(0x9e37_79b9_7f4a_7c15);
+        let mut z = self.0;
+        z = (z ^ (z >> 30)).wrapping_mul(0xbf58_476d_1ce4_e5b9);
+        z = (z ^ (z >> 27)).wrapping_mul(0x94d0_49bb_1331_11eb);
+        z ^ (z >> 31)
+    }
+}
+
+// What one thread does: true is an enqueue.
+fn plan(options: &Options, thread: usize) -> Vec<bool> {
+    let mut words = Words(options.seed.wrapping_mul(64).wrapping_add(thread as u64));
+    let operations = 0..options.operations;
+    match options.pattern_of(options.seed) {
+        Pattern::Roles if options.threads > 1 => operations.map(|_| thread & 1 == 0).collect(),
+        Pattern::Alternate | Pattern::Roles => operations.map(|n| n & 1 == 0).collect(),
+        Pattern::Mix => operations.map(|_| words.next() % 100 < options.percent).collect(),
+        Pattern::Bursts => {
+            let mut plan = Vec::with_capacity(options.operations + 64);
+            while plan.len() < options.operations {
+                let length = 1 + (words.next() % 32) as usize;
+                plan.resize(plan.len() + length, true);
+                plan.resize(plan.len() + length, false);
+            }
+            plan.truncate(options.operations);
+            plan
+        }
+    }
+}
+
+fn make_operations(thread: &mut Thread, queue: &impl Queue) {
+    for is_enqueue in plan(thread.run.options, thread.number) {
+        if is_enqueue {
+            thread.enqueue(|value| queue.enqueue(value));
+        } else {
+            thread.dequeue(|| queue.dequeue());
+        }
+    }
+}
+
+// Takes out what is left, until the queue says that it is empty or has given more values than went in.
+fn drain(thread: &mut Thread, queue: &impl Queue, initial: usize) {
+    let events = thread.run.events();
+    let count = |what| events.iter().filter(|event| event.what == what).count();
+    let left = (initial + count(RET_ENQ)).saturating_sub(count(RET_DEQ));
+    let room = MAX_OPERATIONS - events.len() / 2;
+    for _ in 0..room.min(left + 1) {
+        if thread.dequeue(|| queue.dequeue()).is_none() {
+            return;
+        }
+    }
+    if room > left {
+        say(&format!("seed {}: the queue gave more values than went in", thread.run.options.seed));
+    }
+}
+
+/// Makes runs from the first seed on, each over a fresh queue, and judges each with `fifobench check`, until one is a
+/// violation.
+///
+/// What it found is said on standard output. The first violation is kept in the folder: the history, and the report of
+/// `fifobench shrink`. If no program is found, nothing is judged, and every history is kept.
+///
+/// # Panics
+///
+/// As [`run`].
+pub fn search<Q: Queue>(options: &Options, make_queue: impl Fn() -> Q) -> Answer {
+    search_runs(options, make_queue).unwrap_or_else(|error| {
+        say(&error);
+        Answer::Wrong
+    })
+}
+
+fn search_runs<Q: Queue>(options: &Options, make_queue: impl Fn() -> Q) -> Result<Answer, String> {
+    let (mut operations, mut overlapping) = (0, 0);
+    let is_judged = is_found(options);
+    for number in 0..options.runs {
+        let options = Options { seed: options.seed.wrapping_add(number), ..options.clone() };
+        let history = run(&options, &make_queue());
+        if !history.failures().is_empty() {
+            history.keep_failed(&options, &history.failures().join(", "));
+            return Ok(Answer::Wrong);
+        }
+        if !is_judged {
+            let name = format!("{}.history", options.seed);
+            history.keep(&options.folder, &name).map_err(|error| unkept(&options, error))?;
+        } else if let Some(answer) = judge(&options, &history)? {
+            return Ok(answer);
+        }
+        let (all, met) = history.overlapping();
+        (operations, overlapping) = (operations + all, overlapping + met);
+    }
+    let share = (100 * overlapping).checked_div(operations).unwrap_or(0);
+    let last = options.seed.wrapping_add(options.runs).wrapping_sub(1);
+    let outcome = if is_judged { "no violation in" } else { "nothing judged in" };
+    let (runs, first) = (options.runs, options.seed);
+    println!("{outcome} {runs} runs (seeds {first} to {last}); {share} of 100 operations overlap another");
+    Ok(if is_judged { Answer::NoViolation } else { Answer::Wrong })
+}
+
+fn unkept(options: &Options, error: io::Error) -> String {
+    format!("can't keep a history in {}: {error}", options.folder.display())
+}
+
+fn program(options: &Options) -> PathBuf {
+    let set = options.program.clone().or_else(|| env::var_os("FIFOBENCH").map(PathBuf::from));
+    set.unwrap_or_else(|| PathBuf::from("fifobench"))
+}
+
+// Whether the program can be started; if it can't, a line says so.
+fn is_found(options: &Options) -> bool {
+    let program = program(options);
+    let started = Command::new(&program).arg("help").stdout(Stdio::null()).stderr(Stdio::null()).status();
+    if let Err(error) = &started {
+        let (program, folder) = (program.display(), options.folder.display());
+        say(&format!("no program {program} ({error}): nothing is judged, and each history is kept in {folder}"));
+    }
+    started.is_ok()
+}
+
+// What the program writes about this history, and its status.
+fn ask(options: &Options, command: &str, history: &History) -> Result<(Vec<u8>, Option<i32>), String> {
+    let told = |error: io::Error| format!("{} {command}: {error}", program(options).display());
+    let mut judge = Command::new(program(options));
+    let mut judge = judge.arg(command).stdin(Stdio::piped()).stdout(Stdio::piped()).spawn().map_err(told)?;
+    // The program reads all before it writes. If it refuses a text it reads no further, and then this write may fail.
+    if let Some(input) = judge.stdin.take() {
+        let _ = history.write(input);
+    }
+    let output = judge.wait_with_output().map_err(told)?;
+    Ok((output.stdout, output.status.code()))
+}
+
+// The answer, if the search ends with this history.
+fn judge(options: &Options, history: &History) -> Result<Option<Answer>, String> {
+    let (verdict, status) = ask(options, "check", history)?;
+    if status == Some(0) {
+        return Ok(None);
+    }
+    let (seed, pattern) = (options.seed, options.pattern_of(options.seed));
+    let kept = history.keep(&options.folder, &format!("{seed}.history")).map_err(|error| unkept(options, error))?;
+    let verdict = String::from_utf8_lossy(&verdict);
+    let first_line = verdict.lines().next().unwrap_or("no answer");
+    if status != Some(1) {
+        return Err(format!("seed {seed}: check answers {first_line} to {}", kept.display()));
+    }
+    let (report, _) = ask(options, "shrink", history)?;
+    let report_path = options.folder.join(format!("{seed}.report"));
+    fs::write(&report_path, report).map_err(|error| unkept(options, error))?;
+    println!("{first_line}: seed {seed}, {pattern}");
+    println!("  history: {}", kept.display());
+    println!("  report:  {}", report_path.display());
+    println!("  see it:  {} draw --text < {}", program(options).display(), report_path.display());
+    println!("  again:   seed {seed}, pattern {pattern}: the same plan, though threads may meet in another way");
+    Ok(Some(Answer::Violation))
 }

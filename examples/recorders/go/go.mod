@@ -1,0 +1,3 @@
+module fifobench
+
+go 1.19

@@ -1,0 +1,798 @@
+import java.io.BufferedWriter;
+import java.io.IOException;
+import java.io.OutputStream;
+import java.io.OutputStreamWriter;
+import java.io.Writer;
+import java.lang.ProcessBuilder.Redirect;
+import java.nio.charset.StandardCharsets;
+import java.nio.file.Files;
+import java.nio.file.Path;
+import java.time.Duration;
+import java.util.ArrayList;
+import java.util.Arrays;
+import java.util.Comparator;
+import java.util.List;
+import java.util.Locale;
+import java.util.Objects;
+import java.util.concurrent.TimeUnit;
+import java.util.concurrent.atomic.AtomicInteger;
+import java.util.concurrent.atomic.AtomicLong;
+import java.util.function.BooleanSupplier;
+import java.util.function.Supplier;
+
+/**
+ * Records what threads do with a FIFO queue, and searches for a run that no FIFO queue can have made. Java 17 with its
+ * own library, this one file. In a test:
+ *
+ * <pre>{@code
+ * @Test
+ * void myQueueIsLinearizable() {
+ *     try (Recorder recorder = new Recorder()) {
+ *         assertEquals(Recorder.Answer.NO_VIOLATION, recorder.search(() -> {
+ *             MyQueue queue = new MyQueue();
+ *             return Recorder.queue(queue::offer, queue::poll);    // false: the queue is full; null: it is empty
+ *         }));
+ *     }
+ * }
+ * }</pre>
+ *
+ * With the environment variable {@code FIFOBENCH=/path/to/fifobench} this makes 100 short runs, each over a fresh
+ * queue, and judges each. A loop of your own is recorded by {@link #record}. docs/RECORDING.md has the rules that
+ * this class keeps. A recorder is used by one thread.
+ */
+public final class Recorder implements AutoCloseable {
+    public static final int MAX_THREADS = 64;
+    public static final int MAX_OPERATIONS = 1_000_000;
+    public static final int MAX_EVENTS = 2_000_000;
+    public static final int MAX_INITIAL = 100_000;
+
+    /** A queue that is tested. An exception in a call ends the thread that called. */
+    public interface Queue {
+        /** Whether the queue took the value: false if it was full. */
+        boolean enqueue(long value) throws Exception;
+
+        /** The value that the queue gave, or null if it said that it is empty. */
+        Long dequeue() throws Exception;
+
+        /** Puts an initial value in, before the threads start. It is no operation of the run. */
+        default boolean preload(long value) throws Exception {
+            return enqueue(value);
+        }
+
+        /** Called in each thread before the common start, for queues whose threads register. */
+        default void enter(int thread) throws Exception {}
+
+        /** Called in each thread after its last operation. */
+        default void leave(int thread) throws Exception {}
+    }
+
+    /** One call of enqueue. */
+    public interface Enqueue {
+        boolean call(long value) throws Exception;
+    }
+
+    /** One call of dequeue. */
+    public interface Dequeue {
+        Long call() throws Exception;
+    }
+
+    /** What one thread does in a loop of your own. */
+    public interface Work {
+        void make(Worker worker) throws Exception;
+    }
+
+    /** The value of operation n, from 0, of a thread. */
+    public interface Values {
+        long value(int thread, long n);
+    }
+
+    /** Which operations a thread makes. */
+    public enum Pattern {
+        /** Enqueue, dequeue, enqueue, .. */
+        ALTERNATE,
+        /** Each operation by chance, {@link #percent} of a hundred of them enqueues. */
+        MIX,
+        /** 1 to 32 enqueues, by chance, and then as many dequeues. */
+        BURSTS,
+        /** Threads of even number enqueue and the others dequeue; one thread alone alternates. */
+        ROLES;
+
+        @Override
+        public String toString() {
+            return name().toLowerCase(Locale.ROOT);
+        }
+    }
+
+    /** What a search found. Its ordinal is the status that a program ends with. */
+    public enum Answer {
+        NO_VIOLATION,
+        VIOLATION,
+        /** No program, a refused history, a hang, an exception: what is wrong is said on standard error. */
+        WRONG
+    }
+
+    private int threads = 4;
+    private int operations = 500;
+    private Pattern pattern;
+    private int percent = 50;
+    private long seed = 1;
+    private long runs = 100;
+    private Duration timeout = Duration.ofSeconds(30);
+    private Values values = (thread, n) -> ((long) thread << 32) + n;
+    private long first;
+    private int initial;
+    private boolean drains = true;
+    private Path folder = Path.of("fifobench-runs");
+    private String program;
+    private final List<Thread> hanging = new ArrayList<>();
+
+    /** 1 to 64; 4 unless set. */
+    public Recorder threads(int threads) {
+        this.threads = threads;
+        return this;
+    }
+
+    /** Operations of each thread; 500 unless set. */
+    public Recorder operations(int operations) {
+        this.operations = operations;
+        return this;
+    }
+
+    /** Unless set, or if it is null, the four take turns by seed. */
+    public Recorder pattern(Pattern pattern) {
+        this.pattern = pattern;
+        return this;
+    }
+
+    /** Enqueues of a hundred operations, for the pattern {@code MIX}; 50 unless set. */
+    public Recorder percent(int percent) {
+        this.percent = percent;
+        return this;
+    }
+
+    /** That of the run, or of the first run of a search; 1 unless set. */
+    public Recorder seed(long seed) {
+        this.seed = seed;
+        return this;
+    }
+
+    /** How many runs a search makes at most; 100 unless set. */
+    public Recorder runs(long runs) {
+        this.runs = runs;
+        return this;
+    }
+
+    /** A run without an event for so long is given up as hanging; 30 seconds unless set. */
+    public Recorder timeout(Duration timeout) {
+        this.timeout = timeout;
+        return this;
+    }
+
+    /** The value of each thread's operation n; values have to differ. Unless set, thread * 2^32 + n. */
+    public Recorder values(Values values) {
+        this.values = values;
+        return this;
+    }
+
+    /** Added to n; 1 for a queue that takes 0 for "nothing". */
+    public Recorder first(long first) {
+        this.first = first;
+        return this;
+    }
+
+    /** How many values the queue is given before: those of a thread 64, as a rule 2^38, 2^38 + 1, ..; 0 unless set. */
+    public Recorder initial(int initial) {
+        this.initial = initial;
+        return this;
+    }
+
+    /** Whether values are taken out after the threads have ended, until the queue says that it is empty; as a rule. */
+    public Recorder drains(boolean drains) {
+        this.drains = drains;
+        return this;
+    }
+
+    /** Where histories and reports are kept; {@code fifobench-runs} unless set. */
+    public Recorder folder(Path folder) {
+        this.folder = folder;
+        return this;
+    }
+
+    /** The program {@code fifobench}; unless set, that of the variable FIFOBENCH, else that on the PATH. */
+    public Recorder program(String program) {
+        this.program = program;
+        return this;
+    }
+
+    /** A queue of two calls. */
+    public static Queue queue(Enqueue enqueue, Dequeue dequeue) {
+        return new Queue() {
+            @Override
+            public boolean enqueue(long value) throws Exception {
+                return enqueue.call(value);
+            }
+
+            @Override
+            public Long dequeue() throws Exception {
+                return dequeue.call();
+            }
+        };
+    }
+
+    // What an event is: a place in the list of its words.
+    private static final String[] WORDS = {"call-enq", "ret-enq", "ret-not", "call-deq", "ret-deq", "ret-empty"};
+    private static final int CALL_ENQ = 0;
+    private static final int RET_ENQ = 1;
+    private static final int RET_NOT = 2;
+    private static final int CALL_DEQ = 3;
+    private static final int RET_DEQ = 4;
+    private static final int RET_EMPTY = 5;
+
+    private record Event(long ticket, int thread, int what, long value) {
+        boolean isCall() {
+            return what == CALL_ENQ || what == CALL_DEQ;
+        }
+    }
+
+    /** What one thread records. Only that thread may use it. */
+    public final class Worker {
+        private final AtomicLong tickets;
+        private final int number;
+        private long asked;
+        // Of each event the ticket times 8 plus its word, and the value. Who reads takes the count first.
+        private volatile long[] noted;
+        private final AtomicInteger count = new AtomicInteger();
+        private volatile Throwable failure;
+
+        private Worker(AtomicLong tickets, int number) {
+            this.tickets = tickets;
+            this.number = number;
+            this.noted = new long[Math.max(128, 4 * operations)];
+        }
+
+        /** Its number, from 0. */
+        public int number() {
+            return number;
+        }
+
+        /**
+         * Calls {@code call} with a value that no other call has. It says whether the queue took the value: false if
+         * the queue was full.
+         */
+        public boolean enqueue(Enqueue call) throws Exception {
+            long value = values.value(number, asked + first);
+            asked++;
+            note(CALL_ENQ, value);
+            boolean taken = call.call(value);
+            note(taken ? RET_ENQ : RET_NOT, 0);
+            return taken;
+        }
+
+        /** Calls {@code call}, which gives the value that the queue gave, or null if it said that it is empty. */
+        public Long dequeue(Dequeue call) throws Exception {
+            asked++;
+            note(CALL_DEQ, 0);
+            Long found = call.call();
+            note(found == null ? RET_EMPTY : RET_DEQ, found == null ? 0 : found);
+            return found;
+        }
+
+        // The ticket is drawn first: of a call before the queue is asked, of a return after it has answered. What came
+        // before a return is seen by every call of a greater ticket, since the order is sequentially consistent.
+        private void note(int what, long value) {
+            long ticket = tickets.getAndIncrement();
+            if (ticket >= MAX_EVENTS) {
+                throw new IllegalStateException("a history has at most " + MAX_EVENTS + " events");
+            }
+            int place = 2 * count.getPlain();
+            long[] to = noted;
+            if (place == to.length) {
+                to = Arrays.copyOf(to, 2 * place);
+                noted = to;
+            }
+            to[place] = ticket << 3 | what;
+            to[place + 1] = value;
+            count.setRelease(place / 2 + 1);
+        }
+
+        private void read(List<Event> events) {
+            int published = count.getAcquire();
+            long[] from = noted;
+            for (int place = 0; place < 2 * published; place += 2) {
+                events.add(new Event(from[place] >>> 3, number, (int) (from[place] & 7), from[place + 1]));
+            }
+        }
+    }
+
+    // The common start: threads wait, for a bounded time, until all are there and two are seen to run at once.
+    private static final class Start {
+        private static final int LOOKS = 1_000;
+        private static final int PASSES = 64;
+        private static final long ARRIVAL_NANOS = 1_000_000_000;
+        private static final long RUNNING_NANOS = 100_000_000;
+        private final int threads;
+        private final AtomicInteger arrived = new AtomicInteger();
+        private final AtomicInteger lastBy = new AtomicInteger();
+        private volatile boolean isOpen;
+
+        Start(int threads) {
+            this.threads = threads;
+            this.isOpen = threads == 1;
+        }
+
+        void meet(int number) {
+            arrived.incrementAndGet();
+            if (turns(ARRIVAL_NANOS, () -> arrived.get() >= threads, 1)) {
+                turns(RUNNING_NANOS, () -> lastBy.getAndSet(number) != number, PASSES);
+            }
+            isOpen = true;
+        }
+
+        // Takes turns of looks until the start is open or enough was seen in one turn; false if the time is used up.
+        private boolean turns(long nanos, BooleanSupplier isSeen, int often) {
+            long begin = System.nanoTime();
+            while (System.nanoTime() - begin < nanos) {
+                if (isSeenIn(LOOKS, isSeen, often)) {
+                    return true;
+                }
+                Thread.yield();
+            }
+            return false;
+        }
+
+        private boolean isSeenIn(int looks, BooleanSupplier isSeen, int often) {
+            int seen = 0;
+            for (int look = 0; look < looks && seen < often && !isOpen; look++) {
+                seen += isSeen.getAsBoolean() ? 1 : 0;
+            }
+            return isOpen || seen >= often;
+        }
+    }
+
+    /** What was recorded: the events of all threads, by ticket. */
+    public static final class History {
+        private final long seed;
+        private final List<Event> events;
+        private final List<Long> initial;
+        private final List<String> failures;
+        private final boolean hasEnded;
+
+        private History(long seed, List<Event> events, List<Long> initial, List<String> failures, boolean hasEnded) {
+            this.seed = seed;
+            this.events = events;
+            this.initial = initial;
+            this.failures = failures;
+            this.hasEnded = hasEnded;
+        }
+
+        /** Whether every call has its return. If one has none, {@link #write} writes a pending text. */
+        public boolean isComplete() {
+            return hasEnded && openCalls().isEmpty();
+        }
+
+        /** Whether the run hung. What there was is kept in the folder; standard error says where. */
+        public boolean isGivenUp() {
+            return !hasEnded;
+        }
+
+        /** What went wrong: exceptions in threads, or that the run hung. */
+        public List<String> failures() {
+            return failures;
+        }
+
+        private List<Event> openCalls() {
+            Event[] open = new Event[MAX_THREADS];
+            for (Event event : events) {
+                open[event.thread] = event.isCall() ? event : null;
+            }
+            return Arrays.stream(open).filter(Objects::nonNull).toList();
+        }
+
+        /** Writes the text of the history: bytes of ASCII. */
+        public void write(OutputStream to) throws IOException {
+            Writer text = new BufferedWriter(new OutputStreamWriter(to, StandardCharsets.US_ASCII));
+            text.append(isComplete() ? "fifo-history " : "fifo-pending ");
+            text.append(initial.isEmpty() ? "1\n" : "2\ninitial " + initial.size() + "\n");
+            for (long value : initial) {
+                text.append(Long.toUnsignedString(value) + "\n");
+            }
+            for (Event event : events) {
+                boolean hasValue = event.what == CALL_ENQ || event.what == RET_DEQ;
+                String value = hasValue ? " " + Long.toUnsignedString(event.value) : "";
+                text.append(event.ticket + " " + event.thread + " " + WORDS[event.what] + value + "\n");
+            }
+            text.append(isComplete() ? "" : "open " + openCalls().size() + "\n");
+            text.append("end " + events.size() + "\n");
+            text.flush();
+        }
+
+        // How many operations overlap another.
+        private long overlapping() {
+            long open = 0;
+            long met = 0;
+            long overlapping = 0;
+            for (Event event : events) {
+                long thread = 1L << event.thread;
+                if (event.isCall()) {
+                    met |= open == 0 ? 0 : open | thread;
+                    open |= thread;
+                } else {
+                    overlapping += (met & thread) == 0 ? 0 : 1;
+                    met &= ~thread;
+                    open &= ~thread;
+                }
+            }
+            return overlapping;
+        }
+    }
+
+    /**
+     * Runs {@code work} in each thread, all of which begin together, and gives what they recorded; there is no drain,
+     * no initial value and no pattern. Memory is taken ahead for the operations of each thread; more are recorded too.
+     *
+     * <p>If a call throws, its thread ends and the others go on; if the run hangs, what there is is kept in the
+     * folder. In both cases the history has failures.
+     *
+     * @throws IllegalArgumentException if a setting is out of its range
+     */
+    public History record(Work work) {
+        Run run = new Run(seed, 0);
+        run.go(work, queue(value -> false, () -> null), false);
+        return run.history();
+    }
+
+    /**
+     * One run over this queue, by the pattern of the seed.
+     *
+     * @throws IllegalArgumentException if a setting is out of its range
+     * @throws IllegalStateException if the queue has no room for an initial value
+     * @throws Exception if the queue throws it at an initial value
+     */
+    public History run(Queue queue) throws Exception {
+        return run(seed, queue);
+    }
+
+    private History run(long seed, Queue queue) throws Exception {
+        Run run = new Run(seed, initial);
+        for (long value : run.initials) {
+            if (!queue.preload(value)) {
+                throw new IllegalStateException("no room for the initial value " + Long.toUnsignedString(value));
+            }
+        }
+        run.go(worker -> makeOperations(worker, seed, queue), queue, drains);
+        return run.history();
+    }
+
+    private void checkSettings() {
+        if (threads < 1 || threads > MAX_THREADS) {
+            throw new IllegalArgumentException("1 to " + MAX_THREADS + " threads");
+        }
+        if (operations < 0 || (long) threads * operations > MAX_OPERATIONS) {
+            throw new IllegalArgumentException("0 to " + MAX_OPERATIONS + " operations of all threads");
+        }
+        if (initial < 0 || initial > MAX_INITIAL) {
+            throw new IllegalArgumentException("0 to " + MAX_INITIAL + " initial values");
+        }
+    }
+
+    // One run: its workers, and what went wrong.
+    private final class Run {
+        private final long seed;
+        private final AtomicLong tickets = new AtomicLong();
+        private final Worker[] workers;
+        private final List<Long> initials = new ArrayList<>();
+        private final List<String> failures = new ArrayList<>();
+        private final AtomicInteger ended = new AtomicInteger();
+        private volatile boolean hasFailed;
+        private boolean hasEnded = true;
+
+        Run(long seed, int initial) {
+            checkSettings();
+            this.seed = seed;
+            for (int place = 0; place < initial; place++) {
+                initials.add(values.value(MAX_THREADS, place));
+            }
+            workers = new Worker[threads];
+            for (int number = 0; number < threads; number++) {
+                workers[number] = new Worker(tickets, number);
+            }
+        }
+
+        // What one thread does; the first one drains when all have ended.
+        private void makeSteps(Worker worker, Start start, Work work, Queue queue, boolean drains) {
+            try {
+                queue.enter(worker.number);
+                start.meet(worker.number);
+                work.make(worker);
+                ended.incrementAndGet();
+                if (worker.number == 0 && drains && haveAllEnded()) {
+                    drain(queue);
+                }
+                queue.leave(worker.number);
+            } catch (Throwable failure) {
+                worker.failure = failure;
+                hasFailed = true;
+            }
+        }
+
+        // Stays until all threads have made their operations; false if one failed.
+        private boolean haveAllEnded() throws InterruptedException {
+            while (ended.get() < workers.length && !hasFailed) {
+                TimeUnit.MICROSECONDS.sleep(50);
+            }
+            return !hasFailed;
+        }
+
+        // Runs the threads, and waits until they have ended or the time is over.
+        void go(Work work, Queue queue, boolean drains) {
+            Start start = new Start(threads);
+            List<Thread> running = new ArrayList<>();
+            for (Worker worker : workers) {
+                Thread thread = new Thread(() -> makeSteps(worker, start, work, queue, drains));
+                thread.setDaemon(true);
+                running.add(thread);
+                thread.start();
+            }
+            waitForEnd(running);
+            hanging.addAll(running);
+            hasEnded = running.isEmpty();
+            hasFailed = hasFailed || !hasEnded;
+            for (Worker worker : workers) {
+                if (worker.failure != null) {
+                    failures.add("thread " + worker.number + " failed: " + worker.failure);
+                }
+            }
+            if (!hasEnded) {
+                failures.add("no event for " + timeout.toSeconds() + " s");
+                history().openCalls().forEach(call -> failures.add(toldCall(call)));
+                keepFailed(history());
+            }
+        }
+
+        // Stays until all have ended, or no ticket is drawn for the time of the settings. Who hangs stays in the list.
+        private void waitForEnd(List<Thread> running) {
+            boolean isInterrupted = false;
+            long seen = 0;
+            long since = System.nanoTime();
+            while (!running.isEmpty() && System.nanoTime() - since < timeout.toNanos()) {
+                try {
+                    running.get(0).join(50);
+                } catch (InterruptedException interrupted) {
+                    isInterrupted = true;
+                }
+                running.removeIf(thread -> !thread.isAlive());
+                since = tickets.get() == seen ? since : System.nanoTime();
+                seen = tickets.get();
+            }
+            if (isInterrupted) {
+                Thread.currentThread().interrupt();
+            }
+        }
+
+        // While threads run, the events up to the first that isn't there yet.
+        History history() {
+            List<Event> events = new ArrayList<>();
+            for (Worker worker : workers) {
+                worker.read(events);
+            }
+            events.sort(Comparator.comparingLong(Event::ticket));
+            // Tickets are drawn from 0 on, so a ticket is its event's place.
+            int whole = 0;
+            while (whole < events.size() && events.get(whole).ticket == whole) {
+                whole++;
+            }
+            return new History(seed, events.subList(0, whole), initials, failures, hasEnded);
+        }
+
+        // Takes out what is left, until the queue says that it is empty or has given more values than went in.
+        private void drain(Queue queue) throws Exception {
+            List<Event> events = history().events;
+            long taken = events.stream().filter(event -> event.what == RET_ENQ).count();
+            long given = events.stream().filter(event -> event.what == RET_DEQ).count();
+            long left = Math.max(0, initials.size() + taken - given);
+            long room = MAX_OPERATIONS - events.size() / 2;
+            for (long n = 0; n < Math.min(left + 1, room); n++) {
+                if (workers[0].dequeue(queue::dequeue) == null) {
+                    return;
+                }
+            }
+            if (room > left) {
+                say("seed " + seed + ": the queue gave more values than went in");
+            }
+        }
+    }
+
+    private static String toldCall(Event call) {
+        String kind = call.what == CALL_DEQ ? "dequeue" : "enqueue of " + Long.toUnsignedString(call.value);
+        return "thread " + call.thread + " is inside " + kind;
+    }
+
+    // SplitMix64.
+    private static final class Words {
+        private long state;
+
+        Words(long state) {
+            this.state = state;
+        }
+
+        // The next word modulo a number.
+        int below(int number) {
+            state += 0x9e3779b97f4a7c15L;
+            long z = state;
+            z = (z ^ z >>> 30) * 0xbf58476d1ce4e5b9L;
+            z = (z ^ z >>> 27) * 0x94d049bb133111ebL;
+            return (int) Long.remainderUnsigned(z ^ z >>> 31, number);
+        }
+    }
+
+    /** The pattern of a seed. */
+    public Pattern patternOf(long seed) {
+        return pattern != null ? pattern : Pattern.values()[(int) Long.remainderUnsigned(seed + 3, 4)];
+    }
+
+    // What one thread does: true is an enqueue.
+    private boolean[] plan(long seed, int thread) {
+        Words words = new Words(seed * MAX_THREADS + thread);
+        boolean[] plan = new boolean[operations];
+        Pattern pattern = patternOf(seed);
+        int length = 0;
+        int burst = 0;
+        for (int n = 0; n < operations; n++) {
+            if (burst == 0) {
+                length = pattern == Pattern.BURSTS ? 1 + words.below(32) : 1;
+                burst = 2 * length;
+            }
+            plan[n] = switch (pattern) {
+                case ALTERNATE, BURSTS -> burst > length;
+                case MIX -> words.below(100) < percent;
+                case ROLES -> threads == 1 ? burst > length : thread % 2 == 0;
+            };
+            burst--;
+        }
+        return plan;
+    }
+
+    private void makeOperations(Worker worker, long seed, Queue queue) throws Exception {
+        for (boolean isEnqueue : plan(seed, worker.number)) {
+            if (isEnqueue) {
+                worker.enqueue(queue::enqueue);
+            } else {
+                worker.dequeue(queue::dequeue);
+            }
+        }
+    }
+
+    /**
+     * Makes runs from the first seed on, each over a fresh queue, and judges each with {@code fifobench check}, until
+     * one is a violation.
+     *
+     * <p>What it found is said on standard output. The first violation is kept in the folder: the history, and the
+     * report of {@code fifobench shrink}. If no program is found, nothing is judged, and every history is kept.
+     */
+    public Answer search(Supplier<Queue> makeQueue) {
+        try {
+            return searchRuns(makeQueue);
+        } catch (Exception failure) {
+            say(failure.getMessage() != null ? failure.getMessage() : failure.toString());
+            return Answer.WRONG;
+        }
+    }
+
+    private Answer searchRuns(Supplier<Queue> makeQueue) throws Exception {
+        long all = 0;
+        long overlapping = 0;
+        boolean isJudged = isFound();
+        for (long ofRun = seed; ofRun < seed + runs; ofRun++) {
+            History history = run(ofRun, makeQueue.get());
+            if (!history.failures.isEmpty()) {
+                if (history.hasEnded) {
+                    keepFailed(history);
+                }
+                return Answer.WRONG;
+            }
+            Answer answer = Answer.NO_VIOLATION;
+            if (isJudged) {
+                answer = judge(history);
+            } else {
+                keep(history, "history");
+            }
+            if (answer != Answer.NO_VIOLATION) {
+                return answer;
+            }
+            all += history.events.size() / 2;
+            overlapping += history.overlapping();
+        }
+        System.out.printf("%s %d runs (seeds %d to %d); %d of 100 operations overlap another%n",
+                isJudged ? "no violation in" : "nothing judged in", runs, seed, seed + runs - 1,
+                all == 0 ? 0 : 100 * overlapping / all);
+        return isJudged ? Answer.NO_VIOLATION : Answer.WRONG;
+    }
+
+    private String program() {
+        String set = program != null ? program : System.getenv("FIFOBENCH");
+        return set != null ? set : "fifobench";
+    }
+
+    // Whether the program can be started; if it can't, a line says so.
+    private boolean isFound() {
+        try {
+            ProcessBuilder help = new ProcessBuilder(program(), "help");
+            help.redirectOutput(Redirect.DISCARD).redirectError(Redirect.DISCARD).start();
+            return true;
+        } catch (IOException failure) {
+            say("no program " + program() + ": nothing is judged, and each history is kept in " + folder);
+            return false;
+        }
+    }
+
+    private record Told(byte[] text, int status) {}
+
+    // What the program writes about this history, and its status.
+    private Told ask(String command, History history) throws IOException {
+        Process judge = new ProcessBuilder(program(), command).redirectError(Redirect.INHERIT).start();
+        try (OutputStream input = judge.getOutputStream()) {
+            history.write(input);
+        } catch (IOException refused) {
+            // The program reads all before it writes, unless it refuses the text; then its answer says why.
+        }
+        byte[] text = judge.getInputStream().readAllBytes();
+        try {
+            return new Told(text, judge.waitFor());
+        } catch (InterruptedException interrupted) {
+            Thread.currentThread().interrupt();
+            throw new IOException("interrupted", interrupted);
+        }
+    }
+
+    private Answer judge(History history) throws IOException {
+        Told verdict = ask("check", history);
+        if (verdict.status == 0) {
+            return Answer.NO_VIOLATION;
+        }
+        Path kept = keep(history, "history");
+        String firstLine = new String(verdict.text, StandardCharsets.US_ASCII).lines().findFirst().orElse("no answer");
+        if (verdict.status != 1) {
+            throw new IOException("seed " + history.seed + ": check answers " + firstLine + " to " + kept);
+        }
+        long seed = history.seed;
+        Path report = folder.resolve(seed + ".report");
+        Files.write(report, ask("shrink", history).text);
+        Pattern pattern = patternOf(seed);
+        System.out.println(firstLine + ": seed " + seed + ", " + pattern);
+        System.out.println("  history: " + kept);
+        System.out.println("  report:  " + report);
+        System.out.println("  see it:  " + program() + " draw --text < " + report);
+        System.out.println("  again:   seed " + seed + ", pattern " + pattern
+                + ": the same plan, though threads may meet in another way");
+        return Answer.VIOLATION;
+    }
+
+    private Path keep(History history, String kind) throws IOException {
+        Files.createDirectories(folder);
+        Path path = folder.resolve(history.seed + "." + kind);
+        try (OutputStream to = Files.newOutputStream(path)) {
+            history.write(to);
+        }
+        return path;
+    }
+
+    // Keeps what there is, and says what happened.
+    private void keepFailed(History history) {
+        say("seed " + history.seed + ": " + String.join(", ", history.failures));
+        try {
+            say("what was recorded: " + keep(history, history.isComplete() ? "history" : "pending"));
+        } catch (IOException failure) {
+            say("can't keep what was recorded: " + failure);
+        }
+    }
+
+    private static void say(String line) {
+        System.err.println("fifobench: " + line);
+    }
+
+    /** Interrupts the threads of runs that were given up as hanging. They are daemons, and hold no program up. */
+    @Override
+    public void close() {
+        hanging.forEach(Thread::interrupt);
+    }
+}

@@ -1,0 +1,176 @@
+"""A deque under a lock, and the same made wrong on purpose in some ways, recorded.
+
+    queue_program.py QUEUE                                        searches for a violation, status 0, 1 or 2
+    queue_program.py QUEUE [--runs R] [--threads T] [--ops N] [--pattern P] [--percent K] [--seed S] [--folder F]
+        [--timeout SECONDS]                                       the same with settings
+    queue_program.py QUEUE THREADS OPERATIONS [PATTERN [SEED]]    one run, written to standard output
+
+QUEUE is `good`, `wrong` (every 4th value that is found stays), `stack` (last in, first out), `early` (says empty too
+early), `hang` (a dequeue never returns) or `throw` (a dequeue raises an exception).
+"""
+
+import collections
+import itertools
+import sys
+import threading
+import time
+
+import recorder
+
+KINDS = ("good", "wrong", "stack", "early", "hang", "throw")
+
+
+class Queue:
+    def __init__(self, kind):
+        self.kind = kind
+        self.lock = threading.Lock()
+        self.list = collections.deque()
+        self.found = 0
+        self.size = 0    # counted beside the list, under a lock of its own, for `early`
+        self.size_lock = threading.Lock()
+        self.dequeues = itertools.count(1)
+
+    def enqueue(self, value):
+        with self.lock:
+            self.list.append(value)
+        if self.kind == "early":
+            time.sleep(0)
+            self.count(1)
+        return True
+
+    def dequeue(self):
+        if self.kind == "early":
+            return self.take_counted()
+        if self.kind in ("hang", "throw") and next(self.dequeues) == 100:
+            if self.kind == "throw":
+                raise RuntimeError("the 100th dequeue")
+            threading.Event().wait()
+        return self.take()
+
+    def take(self):
+        with self.lock:
+            if not self.list:
+                return None
+            if self.kind == "stack":
+                return self.list.pop()
+            self.found += 1
+            # The fault of `wrong`: every 4th value that is found is left in place.
+            if self.kind == "wrong" and self.found % 4 == 0:
+                return self.list[0]
+            return self.list.popleft()
+
+    def take_counted(self):
+        """The fault of `early`: a value is in the list before it is counted, and another may take it meanwhile."""
+        if self.size <= 0:
+            return None
+        value = self.take()
+        if value is not None:
+            self.count(-1)
+        return value
+
+    def count(self, change):
+        with self.size_lock:
+            self.size += change
+
+
+class Refused(Exception):
+    """What is wrong with the words."""
+
+
+def number(name, word, least, most):
+    if not (word.isascii() and word.isdigit()):
+        raise Refused(f'{name} is a number, and not "{word}"')
+    if not least <= int(word) <= most:
+        raise Refused(f"{name} is {least} to {most}, and not {word}")
+    return int(word)
+
+
+# The setting that an option sets, and its range.
+NUMBERS = {
+    "--runs": ("runs", 1, 1_000_000),
+    "--threads": ("threads", 1, 64),
+    "--ops": ("operations", 0, 1_000_000),
+    "--percent": ("percent", 0, 100),
+    "--seed": ("seed", 0, 4_294_967_295),
+    "--timeout": ("timeout", 1, 86_400),
+}
+
+
+def set_option(options, name, word):
+    if name in NUMBERS:
+        setting, least, most = NUMBERS[name]
+        setattr(options, setting, number(name, word, least, most))
+    elif name == "--pattern":
+        options.pattern = word
+    elif name == "--folder":
+        options.folder = word
+    else:
+        raise Refused(f'no option "{name}"')
+
+
+def settings(words):
+    """The settings, and whether they are those of one run."""
+    options = recorder.Options()
+    is_one_run = bool(words) and not words[0].startswith("--")
+    names = ("--threads", "--ops", "--pattern", "--seed")
+    if is_one_run and not 2 <= len(words) <= len(names):
+        raise Refused("one run is QUEUE THREADS OPERATIONS [PATTERN [SEED]]")
+    if is_one_run:
+        options.drain = False
+        pairs = zip(names, words)
+    elif len(words) % 2 == 1:
+        raise Refused(f"{words[-1]} has no value")
+    else:
+        pairs = zip(words[::2], words[1::2])
+    for name, word in pairs:
+        set_option(options, name, word)
+    options.check()
+    return options, is_one_run
+
+
+# Which operations are enqueues if no pattern is named; a thread begins at its number and goes round.
+STEPS = "EEDDDEED"
+
+
+def record_steps(options, queue):
+    """A loop of one's own, recorded."""
+
+    def work(thread):
+        for n in range(options.operations):
+            if STEPS[(n + thread.number) % len(STEPS)] == "E":
+                thread.enqueue(queue.enqueue)
+            else:
+                thread.dequeue(queue.dequeue)
+
+    return recorder.record(options.threads, options.operations, work)
+
+
+def one_run(options, queue):
+    history = recorder.run(options, queue) if options.pattern else record_steps(options, queue)
+    if not history.has_ended:
+        return recorder.Answer.WRONG
+    for failure in history.failures:
+        print(f"fifobench: {failure}", file=sys.stderr)
+    try:
+        history.write(sys.stdout)
+    except OSError:
+        return 3
+    return recorder.Answer.WRONG if history.failures else 0
+
+
+def main(words):
+    try:
+        if not words or words[0] not in KINDS:
+            what = f'no queue "{words[0]}":' if words else "which queue?"
+            raise Refused(f"{what} good, wrong, stack, early, hang or throw")
+        options, is_one_run = settings(words[1:])
+    except (Refused, ValueError) as refused:
+        print(f"queue: {refused}", file=sys.stderr)
+        return recorder.Answer.WRONG
+    if is_one_run:
+        return one_run(options, Queue(words[0]))
+    return recorder.search(options, lambda: Queue(words[0]))
+
+
+if __name__ == "__main__":
+    sys.exit(main(sys.argv[1:]))

@@ -1,0 +1,495 @@
+"""Records what threads do with a FIFO queue, and searches for a run that no FIFO queue can have made.
+
+Python 3.8 or later with its standard library, this one file. In a test:
+
+    import recorder
+
+    class Mine:
+        def __init__(self):
+            self.queue = MyQueue()
+
+        def enqueue(self, value):
+            return self.queue.push(value)    # False: the queue is full; anything else: it took the value
+
+        def dequeue(self):
+            return self.queue.pop()    # None: the queue is empty
+
+    def test_my_queue_is_linearizable():
+        assert recorder.search(recorder.Options(), Mine) == recorder.Answer.NO_VIOLATION
+
+With the environment variable FIFOBENCH=/path/to/fifobench this makes 100 short runs, each over a fresh queue, and
+judges each. A loop of your own is recorded by `record`. docs/RECORDING.md has the rules that this module keeps.
+
+The interpreter's lock lets one thread run at a time, and hides most faults: threads change places between two steps of
+the interpreter alone, which this module lets them do often. It pays on a build without that lock (3.13's free-threaded
+build and later), and over a queue in another language that gives the lock up.
+
+A queue may also have `preload(value)`, which puts an initial value in (else `enqueue` does), and `enter(thread)` and
+`leave(thread)`, which are called in each thread before the common start and after its last operation.
+"""
+
+import dataclasses
+import enum
+import itertools
+import os
+import subprocess
+import sys
+import threading
+import time
+
+MAX_THREADS = 64
+MAX_OPERATIONS = 1_000_000
+MAX_EVENTS = 2_000_000
+MAX_INITIAL = 100_000
+PATTERNS = ("alternate", "mix", "bursts", "roles")
+
+
+class Answer(enum.IntEnum):
+    """What a search found; its number is the status that a program ends with."""
+
+    NO_VIOLATION = 0
+    VIOLATION = 1
+    WRONG = 2    # no program, a refused history, a hang, an exception: what is wrong is said on standard error
+
+
+@dataclasses.dataclass
+class Options:
+    """The settings of a run and of a search."""
+
+    threads: int = 4    # 1 to 64
+    operations: int = 500    # of each thread
+    # alternate: enqueue, dequeue, ..; mix: by chance; bursts: 1 to 32 enqueues and then as many dequeues; roles: those
+    # of even number enqueue and the others dequeue. None: the four take turns by seed.
+    pattern: str = None
+    percent: int = 50    # enqueues of a hundred operations, for mix
+    seed: int = 1    # of the run, or of the first run of a search
+    runs: int = 100    # how many a search makes at most
+    timeout: float = 30.0    # seconds; a run without an event for so long is given up as hanging
+    first: int = 0    # added to n; 1 for a queue that takes 0 for "nothing"
+    value: object = None    # the value of a thread's operation n, a function (thread, n); None: thread * 2**32 + n
+    initial: int = 0    # how many values the queue is given before: those of a thread 64, as a rule 2**38, ..
+    drain: bool = True    # take values out after the threads have ended, until the queue says that it is empty
+    folder: str = "fifobench-runs"    # where histories and reports are kept
+    program: str = None    # else that of the environment variable FIFOBENCH, else fifobench on the PATH
+
+    def pattern_of(self, seed):
+        """The pattern of a seed."""
+        return self.pattern or PATTERNS[(seed + 3) % 4]
+
+    def value_of(self, thread, n):
+        """The value of operation n of a thread, and initial value n with the thread 64."""
+        return self.value(thread, n) if self.value else (thread << 32) + n
+
+    def check(self):
+        """Raises ValueError if a setting is out of its range."""
+        if not 1 <= self.threads <= MAX_THREADS:
+            raise ValueError(f"1 to {MAX_THREADS} threads")
+        if not 0 <= self.threads * self.operations <= MAX_OPERATIONS:
+            raise ValueError(f"0 to {MAX_OPERATIONS} operations of all threads")
+        if not 0 <= self.initial <= MAX_INITIAL:
+            raise ValueError(f"0 to {MAX_INITIAL} initial values")
+        if self.pattern is not None and self.pattern not in PATTERNS:
+            raise ValueError(f'no pattern "{self.pattern}": alternate, mix, bursts or roles')
+
+
+def _tickets():
+    """A function that draws the next ticket, atomic with the interpreter's lock and without it."""
+    count = itertools.count()
+    if getattr(sys, "_is_gil_enabled", lambda: True)():
+        return count.__next__
+    lock = threading.Lock()
+
+    def draw():
+        with lock:
+            return next(count)
+
+    return draw
+
+
+class Thread:
+    """What one thread records. Only that thread may use it."""
+
+    def __init__(self, options, draw, number):
+        self.number = number    # from 0
+        self.failure = None
+        self._options = options
+        self._draw = draw
+        self._asked = 0
+        self._events = []
+
+    # The ticket is drawn first: of a call that is before the queue is asked, of a return after it has answered.
+    def _note(self, what, value):
+        ticket = self._draw()
+        if ticket >= MAX_EVENTS:
+            raise ValueError(f"a history has at most {MAX_EVENTS} events")
+        self._events.append((ticket, self.number, what, value))
+
+    def enqueue(self, call):
+        """Calls `call(value)` with a value that no other call has. If that gives False, the queue was full."""
+        value = self._options.value_of(self.number, self._asked + self._options.first)
+        self._asked += 1
+        self._note("call-enq", value)
+        taken = call(value) is not False
+        self._note("ret-enq" if taken else "ret-not", None)
+        return taken
+
+    def dequeue(self, call):
+        """Calls `call()`, which gives the value that the queue gave, or None if it said that it is empty."""
+        self._asked += 1
+        self._note("call-deq", None)
+        found = call()
+        self._note("ret-empty" if found is None else "ret-deq", found)
+        return found
+
+
+class _Start:
+    """The common start: threads wait, for a bounded time, until all are there and two are seen to run at once.
+
+    Under the interpreter's lock these are two that take turns within a few looks.
+    """
+
+    LOOKS = 200
+    PASSES = 4
+    ARRIVAL = 1.0    # seconds
+    RUNNING = 0.1
+
+    def __init__(self, threads):
+        self.threads = threads
+        self.arrived = set()
+        self.last_by = 0
+        self.is_open = threads == 1
+
+    def meet(self, number):
+        self.arrived.add(number)
+        if self._turns(self.ARRIVAL, lambda: len(self.arrived) == self.threads, 1):
+            self._turns(self.RUNNING, lambda: self._passes(number), self.PASSES)
+        self.is_open = True
+
+    def _passes(self, number):
+        other, self.last_by = self.last_by, number
+        return other != number
+
+    def _turns(self, seconds, is_seen, often):
+        """Whether the start is open, or what is looked for was seen so often in one turn of looks."""
+        end = time.monotonic() + seconds
+        while time.monotonic() < end:
+            if self._is_seen_in_a_turn(is_seen, often):
+                return True
+            time.sleep(0)
+        return False
+
+    def _is_seen_in_a_turn(self, is_seen, often):
+        seen = 0
+        for _ in range(self.LOOKS):
+            seen += is_seen()
+            if self.is_open or seen >= often:
+                return True
+        return False
+
+
+def _is_call(event):
+    return event[2] in ("call-enq", "call-deq")
+
+
+class History:
+    """What was recorded: the events of all threads, by ticket."""
+
+    def __init__(self, events, initial, failures, has_ended):
+        self._events = events
+        self._initial = initial
+        self.failures = failures    # what went wrong: exceptions in threads, or that the run hung
+        self.has_ended = has_ended    # False: it hung, and what there was is kept in the folder
+        self.is_complete = has_ended and not self._open_calls()    # False: `write` writes a pending text
+
+    def _open_calls(self):
+        calls = {}
+        for event in self._events:
+            calls[event[1]] = event if _is_call(event) else None
+        return [calls[thread] for thread in sorted(calls) if calls[thread]]
+
+    def _lines(self):
+        name = "fifo-history" if self.is_complete else "fifo-pending"
+        if self._initial:
+            yield f"{name} 2\ninitial {len(self._initial)}\n"
+            yield from (f"{value}\n" for value in self._initial)
+        else:
+            yield f"{name} 1\n"
+        for ticket, thread, what, value in self._events:
+            yield f"{ticket} {thread} {what}\n" if value is None else f"{ticket} {thread} {what} {value}\n"
+        if not self.is_complete:
+            yield f"open {len(self._open_calls())}\n"
+        yield f"end {len(self._events)}\n"
+
+    def write(self, to):
+        """Writes the text of the history to a text file."""
+        to.writelines(self._lines())
+        to.flush()
+
+    def overlapping(self):
+        """How many operations there are, and how many of them overlap another."""
+        open_now, met, overlapping = set(), set(), 0
+        for event in self._events:
+            thread = event[1]
+            if _is_call(event):
+                if open_now:
+                    met |= open_now | {thread}
+                open_now.add(thread)
+            else:
+                overlapping += thread in met
+                met.discard(thread)
+                open_now.discard(thread)
+        return len(self._events) // 2, overlapping
+
+    def keep(self, options, kind):
+        """Writes the text into the folder, and gives the path."""
+        os.makedirs(options.folder, exist_ok=True)
+        path = os.path.join(options.folder, f"{options.seed}.{kind}")
+        with open(path, "w", encoding="ascii", newline="\n") as to:
+            self.write(to)
+        return path
+
+    def keep_failed(self, options):
+        """Keeps what there is, and says what happened."""
+        _say(f"seed {options.seed}: {', '.join(self.failures)}")
+        try:
+            _say(f"what was recorded: {self.keep(options, 'history' if self.is_complete else 'pending')}")
+        except OSError as error:
+            _say(f"can't keep what was recorded: {error}")
+
+
+def _say(line):
+    print(f"fifobench: {line}", file=sys.stderr, flush=True)
+
+
+def _told_calls(calls):
+    told = [f"thread {thread} is inside " + (f"enqueue of {value}" if what == "call-enq" else "dequeue")
+            for _, thread, what, value in calls]
+    return ", ".join(told) or "no thread is inside a call"
+
+
+def _nothing(number):
+    """What is called in each thread if the queue asks for nothing."""
+
+
+class _Run:
+    """One run: its threads, and what went wrong."""
+
+    def __init__(self, options, initial):
+        options.check()
+        self.options = options
+        self.initial = initial
+        self.draw = _tickets()
+        self.threads = [Thread(options, self.draw, number) for number in range(options.threads)]
+        self.start = _Start(len(self.threads))
+        self.ended = set()
+        self.failures = []
+        self.has_failed = False
+        self.has_ended = True
+
+    def _make_steps(self, thread, work, queue):
+        """What one thread does; the first one drains when all have ended."""
+        try:
+            getattr(queue, "enter", _nothing)(thread.number)
+            self.start.meet(thread.number)
+            work(thread)
+            self.ended.add(thread.number)
+            if queue and thread.number == 0 and self.options.drain and self._have_all_ended():
+                self._drain(queue)
+            getattr(queue, "leave", _nothing)(thread.number)
+        except BaseException as failure:
+            thread.failure = failure
+            self.has_failed = True
+
+    def _have_all_ended(self):
+        """Stays until all threads have made their operations; False if one failed."""
+        while len(self.ended) < len(self.threads) and not self.has_failed:
+            time.sleep(5e-5)
+        return not self.has_failed
+
+    def go(self, work, queue):
+        """Runs the threads, and waits until they have ended or the time is over."""
+        running = [threading.Thread(target=self._make_steps, args=(thread, work, queue), daemon=True)
+                   for thread in self.threads]
+        interval = sys.getswitchinterval()
+        sys.setswitchinterval(1e-5)
+        try:
+            self._wait(running)
+        finally:
+            sys.setswitchinterval(interval)
+        self.failures = [f"thread {thread.number} failed: {thread.failure!r}"
+                         for thread in self.threads if thread.failure]
+        if not self.has_ended:
+            self.has_failed = True
+            told = _told_calls(self.history()._open_calls())
+            self.failures.append(f"no event for {self.options.timeout:g} s: {told}")
+            self.history().keep_failed(self.options)
+
+    def _wait(self, running):
+        """Stays until all have ended, or no event comes for the time of the options."""
+        for thread in running:
+            thread.start()
+        seen, since = 0, time.monotonic()
+        while running and time.monotonic() - since < self.options.timeout:
+            running[0].join(0.05)
+            running = [thread for thread in running if thread.is_alive()]
+            events = sum(len(thread._events) for thread in self.threads)
+            if events != seen:
+                seen, since = events, time.monotonic()
+        self.has_ended = not running
+
+    def history(self):
+        """While threads run, the events up to the first that isn't there yet."""
+        events = [event for thread in self.threads for event in list(thread._events)]
+        events.sort(key=lambda event: event[0])
+        # Tickets are drawn from 0 on, so a ticket is its event's place.
+        whole = [event for place, event in enumerate(events) if event[0] == place]
+        return History(whole, self.initial, self.failures, self.has_ended)
+
+    def _drain(self, queue):
+        """Takes out what is left, until the queue says that it is empty or has given more values than went in."""
+        kinds = [event[2] for thread in self.threads for event in thread._events]
+        left = max(0, len(self.initial) + kinds.count("ret-enq") - kinds.count("ret-deq"))
+        room = MAX_OPERATIONS - len(kinds) // 2
+        for _ in range(min(left + 1, room)):
+            if self.threads[0].dequeue(queue.dequeue) is None:
+                return
+        if room > left:
+            _say(f"seed {self.options.seed}: the queue gave more values than went in")
+
+
+def record(threads, operations, work, **settings):
+    """Runs `work(thread)` in each of the threads, which begin together, and gives what they recorded.
+
+    There is no drain, no initial value and no pattern. `settings` are those of Options. If a call raises an exception,
+    its thread ends and the others go on; if the run hangs, what there is is kept in the folder, and the threads that
+    hang are left. In both cases the history has failures.
+    """
+    run_of = _Run(Options(threads=threads, operations=operations, **settings), [])
+    run_of.go(work, None)
+    return run_of.history()
+
+
+def run(options, queue):
+    """One run over this queue, by the pattern of the seed."""
+    run_of = _Run(options, [options.value_of(MAX_THREADS, place) for place in range(options.initial)])
+    for value in run_of.initial:
+        if getattr(queue, "preload", queue.enqueue)(value) is False:
+            raise ValueError(f"the queue has no room for the initial value {value}")
+
+    def make_operations(thread):
+        for is_enqueue in _plan(options, thread.number):
+            if is_enqueue:
+                thread.enqueue(queue.enqueue)
+            else:
+                thread.dequeue(queue.dequeue)
+
+    run_of.go(make_operations, queue)
+    return run_of.history()
+
+
+def _words(state):
+    """SplitMix64."""
+    mask = 2**64 - 1
+    while True:
+        state = (state + 0x9E3779B97F4A7C15) & mask
+        z = ((state ^ (state >> 30)) * 0xBF58476D1CE4E5B9) & mask
+        z = ((z ^ (z >> 27)) * 0x94D049BB133111EB) & mask
+        yield z ^ (z >> 31)
+
+
+def _plan(options, thread):
+    """What one thread does: True is an enqueue."""
+    words = _words((options.seed * MAX_THREADS + thread) & (2**64 - 1))
+    pattern = options.pattern_of(options.seed)
+    if pattern == "mix":
+        return [next(words) % 100 < options.percent for _ in range(options.operations)]
+    if pattern == "bursts":
+        plan = []
+        while len(plan) < options.operations:
+            length = 1 + next(words) % 32
+            plan += [True] * length + [False] * length
+        return plan[:options.operations]
+    if pattern == "roles" and options.threads > 1:
+        return [thread % 2 == 0] * options.operations
+    return [n % 2 == 0 for n in range(options.operations)]
+
+
+def search(options, make_queue):
+    """Makes runs, each over a fresh queue, and judges each with `fifobench check`, until one is a violation.
+
+    What it found is said on standard output. The first violation is kept in the folder: the history, and the report of
+    `fifobench shrink`. If no program is found, nothing is judged, and every history is kept.
+    """
+    options.check()
+    operations = overlapping = 0
+    is_judged = _is_found(options)
+    for seed in range(options.seed, options.seed + options.runs):
+        of_run = dataclasses.replace(options, seed=seed)
+        history = run(of_run, make_queue())
+        try:
+            answer = _answer(of_run, history, is_judged)
+        except OSError as error:
+            _say(f"seed {seed}: {error}")
+            answer = Answer.WRONG
+        if answer != Answer.NO_VIOLATION:
+            return answer
+        made, met = history.overlapping()
+        operations, overlapping = operations + made, overlapping + met
+    print("no violation in" if is_judged else "nothing judged in",
+          f"{options.runs} runs (seeds {options.seed} to {options.seed + options.runs - 1});",
+          f"{100 * overlapping // max(1, operations)} of 100 operations overlap another", flush=True)
+    return Answer.NO_VIOLATION if is_judged else Answer.WRONG
+
+
+def _answer(options, history, is_judged):
+    if history.failures:
+        if history.has_ended:
+            history.keep_failed(options)
+        return Answer.WRONG
+    if is_judged:
+        return _judge(options, history)
+    history.keep(options, "history")
+    return Answer.NO_VIOLATION
+
+
+def _program(options):
+    return options.program or os.environ.get("FIFOBENCH") or "fifobench"
+
+
+def _is_found(options):
+    """Whether the program can be started; if it can't, a line says so."""
+    try:
+        subprocess.run([_program(options), "help"], stdout=subprocess.DEVNULL, stderr=subprocess.DEVNULL, check=False)
+        return True
+    except OSError:
+        _say(f"no program {_program(options)}: nothing is judged, and each history is kept in {options.folder}")
+        return False
+
+
+def _ask(options, command, history):
+    """What the program writes about this history, and its status."""
+    text = "".join(history._lines()).encode("ascii")
+    told = subprocess.run([_program(options), command], input=text, stdout=subprocess.PIPE, check=False)
+    return told.stdout.decode("ascii", "replace"), told.returncode
+
+
+def _judge(options, history):
+    verdict, status = _ask(options, "check", history)
+    if status == 0:
+        return Answer.NO_VIOLATION
+    kept = history.keep(options, "history")
+    first_line = (verdict.splitlines() or ["no answer"])[0]
+    seed, pattern = options.seed, options.pattern_of(options.seed)
+    if status != 1:
+        _say(f"seed {seed}: check answers {first_line} to {kept}")
+        return Answer.WRONG
+    report = os.path.join(options.folder, f"{seed}.report")
+    with open(report, "w", encoding="ascii", newline="\n") as to:
+        to.write(_ask(options, "shrink", history)[0])
+    print(f"{first_line}: seed {seed}, {pattern}")
+    print(f"  history: {kept}")
+    print(f"  report:  {report}")
+    print(f"  see it:  {_program(options)} draw --text < {report}")
+    print(f"  again:   seed {seed}, pattern {pattern}: the same plan, though threads may meet in another way")
+    sys.stdout.flush()
+    return Answer.VIOLATION
