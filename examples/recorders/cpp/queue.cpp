@@ -101,9 +101,10 @@ private:
 class Hang : public Good {
 public:
     std::optional<std::uint64_t> dequeue() override {
-        while (calls_.fetch_add(1) == 100) {
-            std::this_thread::sleep_for(std::chrono::hours(1));
-            calls_.store(100);
+        if (calls_.fetch_add(1) == 100) {
+            for (;;) {
+                std::this_thread::sleep_for(std::chrono::hours(1));
+            }
         }
         return Good::dequeue();
     }
@@ -135,10 +136,11 @@ std::unique_ptr<Good> make(const std::string& name) {
     throw std::invalid_argument("no queue '" + name + "': good, wrong, stack, early, hang or throw");
 }
 
-std::uint64_t number(const std::string& word, std::uint64_t most) {
+std::uint64_t number(const std::string& word, std::uint64_t least, std::uint64_t most) {
     const bool has_digits = word.find_first_not_of("0123456789") == std::string::npos;
-    if (word.empty() || word.size() > 18 || !has_digits || std::stoull(word) > most) {
-        throw std::invalid_argument("'" + word + "' is no number from 0 to " + std::to_string(most));
+    if (word.empty() || word.size() > 18 || !has_digits || std::stoull(word) < least || std::stoull(word) > most) {
+        throw std::invalid_argument("'" + word + "' is no number from " + std::to_string(least) + " to " +
+                                    std::to_string(most));
     }
     return std::stoull(word);
 }
@@ -154,14 +156,14 @@ fifobench::Pattern pattern(const std::string& word) {
 }
 
 void set(fifobench::Settings& settings, const std::string& option, const std::string& word) {
-    if (option == "--runs") settings.runs = static_cast<unsigned>(number(word, 1'000'000));
-    else if (option == "--threads") settings.threads = static_cast<unsigned>(number(word, 64));
-    else if (option == "--ops") settings.operations = number(word, 1'000'000);
+    if (option == "--runs") settings.runs = static_cast<unsigned>(number(word, 1, 1'000'000));
+    else if (option == "--threads") settings.threads = static_cast<unsigned>(number(word, 1, 64));
+    else if (option == "--ops") settings.operations = number(word, 0, 1'000'000);
     else if (option == "--pattern") settings.pattern = pattern(word);
-    else if (option == "--percent") settings.percent = static_cast<unsigned>(number(word, 100));
-    else if (option == "--seed") settings.seed = number(word, 1'000'000'000'000);
+    else if (option == "--percent") settings.percent = static_cast<unsigned>(number(word, 0, 100));
+    else if (option == "--seed") settings.seed = number(word, 0, 4'294'967'295);
     else if (option == "--folder") settings.folder = word;
-    else if (option == "--timeout") settings.timeout = std::chrono::seconds(number(word, 1'000'000));
+    else if (option == "--timeout") settings.timeout = std::chrono::seconds(number(word, 1, 86'400));
     else throw std::invalid_argument("no option '" + option + "'");
 }
 

@@ -65,8 +65,7 @@
 namespace fifobench {
 
 constexpr unsigned max_threads = 64;
-constexpr std::size_t max_events = 2'000'000;
-constexpr std::size_t max_initial = 100'000;
+constexpr std::size_t max_events = 2'000'000, max_initial = 100'000;
 
 enum class What : std::uint8_t { CallEnq, RetEnq, RetNot, CallDeq, RetDeq, RetEmpty };
 
@@ -83,7 +82,6 @@ struct Event {
 // seed. Bursts: 1 to 32 enqueues, by the seed, and then as many dequeues. Roles: threads of even number enqueue, the
 // others dequeue; one thread alone alternates.
 enum class Pattern { Alternate, Mix, Bursts, Roles };
-
 constexpr const char* pattern_names[] = {"alternate", "mix", "bursts", "roles"};
 
 inline const char* name_of(Pattern pattern) { return pattern_names[static_cast<unsigned>(pattern)]; }
@@ -226,7 +224,7 @@ public:
         note(What::CallEnq, value);
         const bool taken = detail::took([&] { return std::forward<Call>(call)(value); });
         note(taken ? What::RetEnq : What::RetNot, 0);
-        accepted_ += taken ? 1 : 0;
+        stay_ += taken ? 1 : 0;
         return taken;
     }
 
@@ -237,10 +235,11 @@ public:
         note(What::CallDeq, 0);
         const std::optional<std::uint64_t> found = std::forward<Call>(call)();
         note(found ? What::RetDeq : What::RetEmpty, found.value_or(0));
+        stay_ -= found ? 1 : 0;
         return found;
     }
 
-    std::uint64_t accepted() const { return accepted_; }    // values that the queue took
+    std::int64_t stay() const { return stay_; }    // values that the queue took from it, less those that it gave
 
 private:
     friend class History;
@@ -258,7 +257,7 @@ private:
     std::atomic<std::uint64_t>* tickets_;
     const Settings* settings_;
     std::uint64_t asked_ = 0;
-    std::uint64_t accepted_ = 0;
+    std::int64_t stay_ = 0;
     unsigned number_;
     detail::Log log_;
 };
@@ -288,7 +287,7 @@ public:
         std::copy_if(last.begin(), last.end(), std::back_inserter(open_), is_open);
     }
 
-    // A history, or a pending text (docs/RECORDING.md) if some call has no return.
+    // Writes a history, or a pending text (docs/RECORDING.md) if some call has no return.
     void write(std::ostream& to) const {
         to << (open_.empty() ? "fifo-history " : "fifo-pending ") << (initial_.empty() ? 1 : 2) << '\n';
         if (!initial_.empty()) {
@@ -501,10 +500,11 @@ private:
         if (has_failed_.load()) {
             return;
         }
-        std::uint64_t bound = initial_.size() + 1;
+        auto stay = static_cast<std::int64_t>(initial_.size());
         for (const Thread& other : recorded_) {
-            bound += other.accepted();
+            stay += other.stay();
         }
+        std::int64_t bound = std::max<std::int64_t>(stay, 0) + 1;
         while (bound > 0 && thread.dequeue(hooks_.drain)) {
             --bound;
         }
@@ -615,11 +615,10 @@ Hooks hooks_of(Queue& queue, const Settings& settings) {
 
 }    // namespace detail
 
-// Runs `work(thread)` in each of the threads of the settings, which begin together, and gives what they recorded.
-// Memory is taken ahead for the operations of the settings; more are recorded too. An exception that leaves `work`
-// ends its thread, and the others go on: History::notes tells it. A run that hangs ends the process with status 2,
-// and leaves a pending text in the folder. Throws std::invalid_argument if the settings are out of range,
-// std::runtime_error if a thread can't be started.
+// Runs `work(thread)` in each of the threads, which begin together, and gives what they recorded. Memory is taken ahead
+// for the operations of the settings; more are recorded too. An exception that leaves `work` ends its thread alone:
+// History::notes tells it. A run that hangs ends the process with status 2, and leaves a pending text. Throws
+// std::invalid_argument if the settings are out of range, std::runtime_error if a thread can't be started.
 template <class Work>
 History record(const Settings& settings, Work work) {
     return detail::Run(settings, {}).record(work);
@@ -695,17 +694,17 @@ public:
         }
         std::error_code ignored;
         std::filesystem::remove(settings_.folder, ignored);    // if it is empty
-        std::cout << settings_.runs << " runs from seed " << settings_.seed
-                  << (judges_ ? ": no violation found (" : ": not judged (")
+        std::cout << (judges_ ? "no violation" : "nothing judged") << " in " << settings_.runs << " runs (seeds "
+                  << settings_.seed << " to " << settings_.seed + settings_.runs - 1 << "); "
                   << 100 * overlapping_ / std::max<std::size_t>(operations_, 1)
-                  << "% of the operations overlap another)" << std::endl;
+                  << " of 100 operations overlap another" << std::endl;
         return judges_ ? 0 : 2;
     }
 
 private:
     int judge(const Settings& one, const History& history) {
-        const std::string seed = std::to_string(one.seed);
-        const std::string path = path_of(one, history), report = settings_.folder + "/" + seed + ".report";
+        const std::string path = path_of(one, history);
+        const std::string report = settings_.folder + "/" + std::to_string(one.seed) + ".report";
         operations_ += history.operations();
         overlapping_ += history.overlapping();
         std::ofstream file(path, std::ios::binary);
@@ -714,7 +713,7 @@ private:
             throw std::runtime_error("can't write " + path);
         }
         for (const std::string& sentence : history.notes()) {
-            std::cerr << "fifobench: seed " << seed << ": " << sentence << std::endl;
+            std::cerr << "fifobench: seed " << one.seed << ": " << sentence << std::endl;
         }
         if (history.has_failed()) {
             std::cerr << "fifobench: what there is: " << path << std::endl;
@@ -742,11 +741,12 @@ private:
              const std::string& report) const {
         const int status = ask("shrink", path, report);
         const char* const pattern = name_of(*one.pattern);
-        std::cout << "seed " << one.seed << " (" << pattern << "): " << verdict << '\n'
-                  << "  the run:            " << path << '\n'
-                  << "  what shows it:      " << report << '\n'
-                  << "  a picture:          " << program_ << " draw --text <" << report << '\n'
-                  << "  such a run again:   seed " << one.seed << ", pattern " << pattern << ", 1 run" << std::endl;
+        std::cout << verdict << ": seed " << one.seed << ", " << pattern << '\n'
+                  << "  history: " << path << '\n'
+                  << "  report:  " << report << '\n'
+                  << "  see it:  " << program_ << " draw --text < " << report << '\n'
+                  << "  again:   seed " << one.seed << ", pattern " << pattern
+                  << ": the same plan, though threads may meet in another way" << std::endl;
         if (status != 1) {
             std::cerr << "fifobench: '" << program_ << "' can't shrink " << path << std::endl;
             return 2;
