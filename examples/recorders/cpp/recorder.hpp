@@ -83,7 +83,6 @@ struct Event {
 // others dequeue; one thread alone alternates.
 enum class Pattern { Alternate, Mix, Bursts, Roles };
 constexpr const char* pattern_names[] = {"alternate", "mix", "bursts", "roles"};
-
 inline const char* name_of(Pattern pattern) { return pattern_names[static_cast<unsigned>(pattern)]; }
 
 struct Settings {
@@ -450,6 +449,9 @@ public:
         for (const std::string& sentence : failures_) {
             history.add_note(sentence, true);
         }
+        for (const auto& [thread, call] : history.open()) {
+            history.add_note(described(thread, call), true);
+        }
         if (has_surplus_) {
             history.add_note("the queue gave more values than went in, and hasn't said that it is empty", false);
         }
@@ -687,8 +689,7 @@ public:
             Settings one = settings_;
             one.seed += made;
             one.pattern = one.pattern_of_seed();
-            const int status = judge(one, run_one(static_cast<const Settings&>(one)));
-            if (status != 0) {
+            if (const int status = judge(one, run_one(static_cast<const Settings&>(one))); status != 0) {
                 return status;
             }
         }
@@ -749,9 +750,8 @@ private:
                   << ": the same plan, though threads may meet in another way" << std::endl;
         if (status != 1) {
             std::cerr << "fifobench: '" << program_ << "' can't shrink " << path << std::endl;
-            return 2;
         }
-        return 1;
+        return status == 1 ? 1 : 2;
     }
 
     // The status of a command of the program.
