@@ -1,8 +1,8 @@
-/* A ring of values under a mtx_t, and the same made wrong on purpose: recorded, and judged in this process.
+/* A ring of values under a lock, and the same made wrong on purpose: recorded, and judged in this process.
  *
  *     queue good|wrong THREADS OPERATIONS
  *
- * The status is the verdict's: 0 yes, 1 no. Of a no the few operations that show it are printed. C11 with atomics and threads. */
+ * The status is the verdict's: 0 yes, 1 no. Of a no the few operations that show it are printed. C11 with atomics. */
 #include "../recorders/c/recorder.h"
 #include "fifobench.h"
 
@@ -11,7 +11,7 @@
 enum { CAPACITY = 1024 };
 
 struct queue {
-    mtx_t lock;
+    pthread_mutex_t lock;
     uint64_t values[CAPACITY];
     size_t first;
     size_t count;
@@ -21,19 +21,19 @@ struct queue {
 
 static bool queue_push(struct queue *queue, uint64_t value)
 {
-    mtx_lock(&queue->lock);
+    pthread_mutex_lock(&queue->lock);
     bool taken = queue->count < CAPACITY;
     if (taken) {
         queue->values[(queue->first + queue->count) % CAPACITY] = value;
         queue->count++;
     }
-    mtx_unlock(&queue->lock);
+    pthread_mutex_unlock(&queue->lock);
     return taken;
 }
 
 static bool queue_pop(struct queue *queue, uint64_t *value)
 {
-    mtx_lock(&queue->lock);
+    pthread_mutex_lock(&queue->lock);
     bool found = queue->count > 0;
     if (found) {
         *value = queue->values[queue->first];
@@ -44,7 +44,7 @@ static bool queue_pop(struct queue *queue, uint64_t *value)
             queue->count--;
         }
     }
-    mtx_unlock(&queue->lock);
+    pthread_mutex_unlock(&queue->lock);
     return found;
 }
 
@@ -78,15 +78,13 @@ static struct fifobench_event *events_of(struct recorder *recorder, size_t *coun
 {
     static const uint32_t kinds[] = {FIFOBENCH_CALL_ENQ, FIFOBENCH_RET_ENQ, FIFOBENCH_RET_NOT,
                                      FIFOBENCH_CALL_DEQ, FIFOBENCH_RET_DEQ, FIFOBENCH_RET_EMPTY};
-    *count = atomic_load(&recorder->tickets);
-    struct fifobench_event *events = calloc(*count + 1, sizeof *events);
-    for (unsigned number = 0; events != NULL && number < recorder->threads; number++) {
-        const struct recorder_thread *thread = &recorder->of_thread[number];
-        for (size_t place = 0; place < thread->count; place++) {
-            const struct recorder_event *from = &thread->events[place];
-            events[from->ticket] = (struct fifobench_event){from->ticket, from->value, from->thread, kinds[from->what]};
-        }
+    const struct recorder_event **recorded = recorder_events(recorder, count);
+    struct fifobench_event *events = recorded != NULL ? calloc(*count + 1, sizeof *events) : NULL;
+    for (size_t place = 0; events != NULL && place < *count; place++) {
+        const struct recorder_event *from = recorded[place];
+        events[place] = (struct fifobench_event){from->ticket, from->value, from->thread, kinds[from->what]};
     }
+    free(recorded);
     return events;
 }
 
@@ -159,7 +157,7 @@ int main(int count, char **words)
         return 2;
     }
     static struct queue queue;
-    if (mtx_init(&queue.lock, mtx_plain) != thrd_success) {
+    if (pthread_mutex_init(&queue.lock, NULL) != 0) {
         return 3;
     }
     queue.wrong = strcmp(words[1], "wrong") == 0;
@@ -171,6 +169,6 @@ int main(int count, char **words)
     }
     int status = judge(recorder);
     recorder_free(recorder);
-    mtx_destroy(&queue.lock);
+    pthread_mutex_destroy(&queue.lock);
     return status;
 }

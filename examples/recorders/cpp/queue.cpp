@@ -1,70 +1,226 @@
-// A std::deque under a std::mutex, and the same made wrong on purpose, recorded.
+// A good queue and some that are wrong on purpose, recorded and judged.
 //
-//     queue good|wrong THREADS OPERATIONS > history
+//     queue QUEUE [--runs R] [--threads T] [--ops N] [--pattern P] [--percent K] [--seed S] [--folder F]
+//                 [--timeout SECONDS]
+//     queue QUEUE THREADS OPERATIONS [PATTERN [SEED]] > history
+//
+// The first makes runs until one shows a violation: status 0 none does, 1 one does, 2 something is wrong. The second
+// makes one run, and writes its history. A queue is good; wrong: every 4th value that is found is left in place;
+// stack: the last value comes out first; early: it says empty too early; hang: a dequeue never returns; throw: an
+// enqueue throws.
 #include "recorder.hpp"
 
 #include <cstring>
 #include <deque>
 #include <iostream>
+#include <memory>
 #include <mutex>
+#include <stdexcept>
 #include <string>
+#include <vector>
 
 namespace {
 
-class Queue {
+// A list under a lock.
+class Good {
 public:
-    explicit Queue(bool wrong) : wrong_(wrong) {}
+    virtual ~Good() = default;
 
-    bool push(std::uint64_t value) {
-        std::lock_guard<std::mutex> guard(lock_);
+    virtual bool enqueue(std::uint64_t value) {
+        const std::lock_guard<std::mutex> guard(lock_);
         values_.push_back(value);
         return true;
     }
 
-    std::optional<std::uint64_t> pop() {
-        std::lock_guard<std::mutex> guard(lock_);
+    virtual std::optional<std::uint64_t> dequeue() {
+        const std::lock_guard<std::mutex> guard(lock_);
+        return take();
+    }
+
+protected:
+    std::optional<std::uint64_t> take() {
         if (values_.empty()) {
             return std::nullopt;
         }
         const std::uint64_t value = values_.front();
-        ++found_;
-        // The fault: every 4th value that is found is left in place.
-        if (!wrong_ || found_ % 4 != 0) {
-            values_.pop_front();
-        }
+        values_.pop_front();
         return value;
     }
 
-private:
     std::mutex lock_;
     std::deque<std::uint64_t> values_;
-    std::uint64_t found_ = 0;
-    bool wrong_;
 };
 
-// Which operations are enqueues, from the thread's number on and over and over.
+class Wrong : public Good {
+public:
+    std::optional<std::uint64_t> dequeue() override {
+        const std::lock_guard<std::mutex> guard(lock_);
+        if (!values_.empty() && ++found_ % 4 == 0) {
+            return values_.front();
+        }
+        return take();
+    }
+
+private:
+    std::uint64_t found_ = 0;
+};
+
+class Stack : public Good {
+public:
+    bool enqueue(std::uint64_t value) override {
+        const std::lock_guard<std::mutex> guard(lock_);
+        values_.push_front(value);
+        return true;
+    }
+};
+
+// The size is counted beside the list, after it was changed and outside of the lock: so it can be 0 while values are
+// in.
+class Early : public Good {
+public:
+    bool enqueue(std::uint64_t value) override {
+        Good::enqueue(value);
+        std::this_thread::yield();
+        size_.fetch_add(1);
+        return true;
+    }
+
+    std::optional<std::uint64_t> dequeue() override {
+        if (size_.load() <= 0) {
+            return std::nullopt;
+        }
+        const auto found = Good::dequeue();
+        size_.fetch_sub(found ? 1 : 0);
+        return found;
+    }
+
+private:
+    std::atomic<std::int64_t> size_{0};
+};
+
+class Hang : public Good {
+public:
+    std::optional<std::uint64_t> dequeue() override {
+        if (calls_.fetch_add(1) == 100) {
+            for (;;) {
+                std::this_thread::sleep_for(std::chrono::hours(1));
+            }
+        }
+        return Good::dequeue();
+    }
+
+private:
+    std::atomic<std::uint64_t> calls_{0};
+};
+
+class Throw : public Good {
+public:
+    bool enqueue(std::uint64_t value) override {
+        if (calls_.fetch_add(1) == 100) {
+            throw std::runtime_error("no memory");
+        }
+        return Good::enqueue(value);
+    }
+
+private:
+    std::atomic<std::uint64_t> calls_{0};
+};
+
+std::unique_ptr<Good> make(const std::string& name) {
+    if (name == "good") return std::make_unique<Good>();
+    if (name == "wrong") return std::make_unique<Wrong>();
+    if (name == "stack") return std::make_unique<Stack>();
+    if (name == "early") return std::make_unique<Early>();
+    if (name == "hang") return std::make_unique<Hang>();
+    if (name == "throw") return std::make_unique<Throw>();
+    throw std::invalid_argument("no queue '" + name + "': good, wrong, stack, early, hang or throw");
+}
+
+std::uint64_t number(const std::string& word, std::uint64_t least, std::uint64_t most) {
+    const bool has_digits = word.find_first_not_of("0123456789") == std::string::npos;
+    if (word.empty() || word.size() > 18 || !has_digits || std::stoull(word) < least || std::stoull(word) > most) {
+        throw std::invalid_argument("'" + word + "' is no number from " + std::to_string(least) + " to " +
+                                    std::to_string(most));
+    }
+    return std::stoull(word);
+}
+
+fifobench::Pattern pattern(const std::string& word) {
+    using fifobench::Pattern;
+    for (const Pattern pattern : {Pattern::Alternate, Pattern::Mix, Pattern::Bursts, Pattern::Roles}) {
+        if (word == fifobench::name_of(pattern)) {
+            return pattern;
+        }
+    }
+    throw std::invalid_argument("no pattern '" + word + "': alternate, mix, bursts or roles");
+}
+
+void set(fifobench::Settings& settings, const std::string& option, const std::string& word) {
+    if (option == "--runs") settings.runs = static_cast<unsigned>(number(word, 1, 1'000'000));
+    else if (option == "--threads") settings.threads = static_cast<unsigned>(number(word, 1, 64));
+    else if (option == "--ops") settings.operations = number(word, 0, 1'000'000);
+    else if (option == "--pattern") settings.pattern = pattern(word);
+    else if (option == "--percent") settings.percent = static_cast<unsigned>(number(word, 0, 100));
+    else if (option == "--seed") settings.seed = number(word, 0, 4'294'967'295);
+    else if (option == "--folder") settings.folder = word;
+    else if (option == "--timeout") settings.timeout = std::chrono::seconds(number(word, 1, 86'400));
+    else throw std::invalid_argument("no option '" + option + "'");
+}
+
+// A loop of one's own. Which operations are enqueues, from the thread's number on and over and over:
 constexpr char plan[] = "EEDDDEED";
+
+fifobench::History loop(const fifobench::Settings& settings, Good& queue) {
+    return fifobench::record(settings, [&](fifobench::Thread& thread) {
+        for (std::size_t n = 0; n < settings.operations; ++n) {
+            if (plan[(n + thread.number()) % 8] == 'E') {
+                thread.enqueue([&](std::uint64_t value) { return queue.enqueue(value); });
+            } else {
+                thread.dequeue([&] { return queue.dequeue(); });
+            }
+        }
+    });
+}
+
+int run_once(const std::vector<std::string>& words) {
+    fifobench::Settings settings;
+    const auto queue = make(words[0]);
+    set(settings, "--threads", words[1]);
+    set(settings, "--ops", words[2]);
+    settings.drain = false;
+    if (words.size() > 3) set(settings, "--pattern", words[3]);
+    if (words.size() > 4) set(settings, "--seed", words[4]);
+    const auto history = words.size() > 3 ? fifobench::run(settings, *queue) : loop(settings, *queue);
+    for (const std::string& sentence : history.notes()) {
+        std::cerr << "queue: " << sentence << '\n';
+    }
+    history.write(std::cout);
+    return !std::cout ? 3 : history.has_failed() ? 2 : 0;
+}
+
+int run(const std::vector<std::string>& words) {
+    if (words.empty()) {
+        throw std::invalid_argument("a queue is missing: queue QUEUE, or queue QUEUE THREADS OPERATIONS");
+    }
+    make(words[0]);
+    if (words.size() >= 3 && words.size() <= 5 && words[1].rfind("--", 0) != 0) {
+        return run_once(words);
+    }
+    fifobench::Settings settings;
+    for (std::size_t place = 1; place < words.size(); place += 2) {
+        set(settings, words[place], place + 1 < words.size() ? words[place + 1] : "");
+    }
+    return fifobench::search(settings, [&] { return make(words[0]); });
+}
 
 }    // namespace
 
 int main(int count, char** words) {
-    if (count != 4 || (std::strcmp(words[1], "good") != 0 && std::strcmp(words[1], "wrong") != 0)) {
-        std::cerr << "usage: queue good|wrong THREADS OPERATIONS\n";
+    std::ios::sync_with_stdio(false);
+    try {
+        return run(std::vector<std::string>(words + 1, words + count));
+    } catch (const std::exception& exception) {
+        std::cerr << "queue: " << exception.what() << '\n';
         return 2;
     }
-    const unsigned threads = static_cast<unsigned>(std::stoul(words[2]));
-    const std::size_t operations = std::stoul(words[3]);
-    Queue queue(std::strcmp(words[1], "wrong") == 0);
-    const auto history = fifobench::record(threads, operations, [&](fifobench::Thread& thread) {
-        for (std::size_t i = 0; i < operations; ++i) {
-            if (plan[(i + thread.number()) % 8] == 'E') {
-                thread.enqueue([&](std::uint64_t value) { return queue.push(value); });
-            } else {
-                thread.dequeue([&] { return queue.pop(); });
-            }
-        }
-    });
-    std::ios::sync_with_stdio(false);
-    history.write(std::cout);
-    return std::cout ? 0 : 3;
 }
