@@ -4,16 +4,16 @@ _fifobench() {
     local word=$2 before=$3 command=${COMP_WORDS[1]}
     COMPREPLY=()
     if [ "$COMP_CWORD" -eq 1 ]; then
-        mapfile -t COMPREPLY < <(compgen -W 'check shrink verify draw convert sim stress help -h --help -V --version' -- "$word")
+        mapfile -t COMPREPLY < <(compgen -W 'check shrink verify draw convert stats sim stress help -h --help -V --version' -- "$word")
         return
     fi
     case $command in
         help)
             if [ "$COMP_CWORD" -eq 2 ]; then
-                mapfile -t COMPREPLY < <(compgen -W 'check shrink verify draw convert sim stress help' -- "$word")
+                mapfile -t COMPREPLY < <(compgen -W 'check shrink verify draw convert stats sim stress help' -- "$word")
             fi
             ;;
-        check | shrink | verify | convert | sim)
+        check | shrink | verify | convert | stats | sim)
             mapfile -t COMPREPLY < <(compgen -W '-h --help' -- "$word")
             ;;
         draw)
