@@ -133,7 +133,8 @@ def cases():
         Case(["draw", "--text"], violated + claim),
         Case(["stats"], violated),
         Case(["sim"], example("full-ring.schedule")),
-        Case(["stress", "--queue", "locked", "--threads", "3", "--ops", "20", "--ring", "2"], is_run=True),
+        # Each ring has room for all events of its worker: without a collector a full one stalls, after ten seconds or more.
+        Case(["stress", "--queue", "locked", "--threads", "3", "--ops", "20", "--ring", "64"], is_run=True),
         Case(["stress", "--queue", "seg", "--threads", "2", "--ops", "20"], is_run=True),
         Case(["stress", "--queue", "none"]),
         Case(["help"]),

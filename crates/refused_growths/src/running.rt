@@ -10,8 +10,8 @@ use stress_run::{Recorded, RunFault, run};
 use verdicts::Verdict;
 use workloads::Plan;
 
-/// How often a push is tried.
-const TRIES: u32 = 1_000_000;
+/// How often a push is tried: a refused round leaves the rings full, and the workers use all their tries up.
+const TRIES: u32 = 20_000;
 
 /// What a run may answer, where it gives no history: want of memory; that a ring gave no token; or, where a thread couldn't be started,
 /// that a worker stalled.
