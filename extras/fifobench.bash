@@ -21,16 +21,16 @@ _fifobench() {
         value=1
     fi
     if [ "$COMP_CWORD" -eq 1 ]; then
-        _fifobench_words 'check shrink verify draw convert sim stress help -h --help -V --version' "$word"
+        _fifobench_words 'check shrink verify draw convert stats sim stress help -h --help -V --version' "$word"
         return
     fi
     case $command in
         help)
             if [ "$COMP_CWORD" -eq 2 ]; then
-                _fifobench_words 'check shrink verify draw convert sim stress help' "$word"
+                _fifobench_words 'check shrink verify draw convert stats sim stress help' "$word"
             fi
             ;;
-        check | shrink | verify | convert | sim)
+        check | shrink | verify | convert | stats | sim)
             _fifobench_words '-h --help' "$word"
             ;;
         draw)

@@ -8,10 +8,11 @@ complete -c fifobench -n __fish_use_subcommand -a shrink -d 'Read a history and 
 complete -c fifobench -n __fish_use_subcommand -a verify -d 'Read a history and a verdict, and tell whether it is evidence'
 complete -c fifobench -n __fish_use_subcommand -a draw -d 'Read a history, and a verdict if one follows, and draw them'
 complete -c fifobench -n __fish_use_subcommand -a convert -d 'Read a history and write it in version 2 of its text'
+complete -c fifobench -n __fish_use_subcommand -a stats -d 'Read a history and print how far its operations overlap, and other counts'
 complete -c fifobench -n __fish_use_subcommand -a sim -d 'Play a schedule of the steps of the recorder'
 complete -c fifobench -n __fish_use_subcommand -a stress -d 'Run threads on a built-in queue'
 complete -c fifobench -n __fish_use_subcommand -a help -d 'Print a help'
-complete -c fifobench -n '__fish_seen_subcommand_from help' -a 'check shrink verify draw convert sim stress help'
+complete -c fifobench -n '__fish_seen_subcommand_from help' -a 'check shrink verify draw convert stats sim stress help'
 complete -c fifobench -n '__fish_seen_subcommand_from draw' -l text -d 'Draw in lines of characters, and not as SVG'
 complete -c fifobench -n '__fish_seen_subcommand_from stress' -l queue -x -d 'Name of the queue' -a "
     locked\t'A list under one lock'

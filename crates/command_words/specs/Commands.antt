@@ -15,7 +15,7 @@ abbrev pub the_program : App
 the_program = record {
   top = record (new_shape (codes "fifobench")) { is_leaf = false; subcommand_required = true; has_version = true };
   subs = new_shape (codes "check") ∷ new_shape (codes "shrink") ∷ new_shape (codes "verify")
-      ∷ the_draw ∷ new_shape (codes "convert") ∷ new_shape (codes "sim") ∷ the_stress ∷ [];
+      ∷ the_draw ∷ new_shape (codes "convert") ∷ new_shape (codes "stats") ∷ new_shape (codes "sim") ∷ the_stress ∷ [];
 }
 
 -- what is wrong with the words, or which help they ask for: nothing where they are a command
@@ -29,6 +29,7 @@ pub data Request : Type 0 where
   verify : Request
   draw : PictureForm → Request
   convert : Request
+  stats : Request
   sim : Request
   stress : Settings → Request
 
@@ -40,6 +41,7 @@ request_named name rows =
     else if bytes_eq name (codes "verify") then Some verify
     else if bytes_eq name (codes "draw") then Some (draw (form_in rows))
     else if bytes_eq name (codes "convert") then Some convert
+    else if bytes_eq name (codes "stats") then Some stats
     else if bytes_eq name (codes "sim") then Some sim
     else if bytes_eq name (codes "stress") then Some (stress (settings_in rows)) else None
 
@@ -58,6 +60,7 @@ request_of task.Shrink = shrink
 request_of task.Verify = verify
 request_of (task.Draw form) = draw form
 request_of task.Convert = convert
+request_of task.Stats = stats
 request_of task.Sim = sim
 request_of (task.Stress options) = stress (settings_of options)
 

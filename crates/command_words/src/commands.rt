@@ -29,6 +29,7 @@ pub(crate) fn the_command<'a>(alloc: Global) -> Result<Command<'a>, AllocError>
         .subcommand(plain_command(alloc, "verify", help::VERIFY_ABOUT, help::VERIFY_HELP))?
         .subcommand(draw)?
         .subcommand(plain_command(alloc, "convert", help::CONVERT_ABOUT, help::CONVERT_HELP))?
+        .subcommand(plain_command(alloc, "stats", help::STATS_ABOUT, help::STATS_HELP))?
         .subcommand(plain_command(alloc, "sim", help::SIM_ABOUT, help::SIM_HELP))?
         .subcommand(stress)
 }

@@ -144,6 +144,50 @@ Example:
   end 2
 ";
 
+pub(crate) const STATS_ABOUT: &str =
+    "Reads a history from standard input and prints how far its operations overlap, and other counts";
+
+pub(crate) const STATS_HELP: &str = "\
+Input: the text of a history, as for `check`, from its first line to the line `end N`.
+
+Output: a line for each number, its name and its value:
+  events               events
+  operations           operations, each a call with its return
+  threads              threads that have an event
+  enqueued             enqueues that the queue took
+  refused              enqueues that it refused
+  dequeued             dequeues that gave a value
+  empty                dequeues that found the queue empty
+  initial              values that the queue holds before the first event
+  thread-changes       events of another thread than the event before
+  overlapping          operations that overlap another one: neither returned before the other was called
+  overlapping-percent  the same among a hundred operations, rounded down; 0.0 of no operations
+  most-pending         the most operations that were pending at once
+  most-in-queue        the most values that surely were in the queue at once: put there by enqueues that
+                       had returned, and not given by dequeues that had been called
+
+Status: 0 counted, 2 the input is refused (a line `REFUSED ..` says why), 3 a read, a write or
+memory failed (a line `FAULT ..`). What `check` refuses is refused, with the same line. A text that goes
+on behind its line `end N` is `REFUSED Trailing`: of what `stress` writes, take the history alone by
+`sed '/^end /q'`.
+
+Example:
+  $ printf 'fifo-history 1\\n0 0 call-enq 7\\n1 1 call-deq\\n2 0 ret-enq\\n3 1 ret-deq 7\\nend 4\\n' | fifobench stats
+  events 4
+  operations 2
+  threads 2
+  enqueued 1
+  refused 0
+  dequeued 1
+  empty 0
+  initial 0
+  thread-changes 3
+  overlapping 2
+  overlapping-percent 100.0
+  most-pending 2
+  most-in-queue 0
+";
+
 pub(crate) const SIM_ABOUT: &str =
     "Reads a schedule from standard input, steps the recorder through it, and judges what it recorded";
 

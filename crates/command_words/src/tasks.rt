@@ -24,6 +24,8 @@ pub enum Task<'a> {
     Draw(PictureForm),
     /// Read a history of either version of the text, and write it in version 2.
     Convert,
+    /// Read a history and print its statistics.
+    Stats,
     /// Read a schedule, run it on the recorder's machine, and print what it recorded and the verdict.
     Sim,
     /// Run workers on a queue, and print what was recorded and the verdict.
@@ -63,6 +65,7 @@ fn task_of<'a>(matches: &ArgMatches<'a>) -> Task<'a>
         "verify" => Task::Verify,
         "draw" => Task::Draw(picture_form(options)),
         "convert" => Task::Convert,
+        "stats" => Task::Stats,
         "sim" => Task::Sim,
         "stress" => Task::Stress(stress_options(options)),
         _ => unreachable!(),

@@ -14,13 +14,13 @@ use Rattle.history_text.specs.Claims.{HasVerdictText}
 use Rattle.history_text.specs.Verdicts.{verdict_text}
 use Rattle.command_words.specs.Commands.{convert}
 use Rattle.commands.specs.Answers.{Reply, converted, memory_fault, answer_of_text_fault, answer_of_history_fault, answer_status}
-use Rattle.commands.specs.Conversions.{ConvertedIsSameHistory, ConvertedIsKept, ConvertedIsChecked, ConvertedIsVerified}
+use Rattle.commands.specs.Conversions.{ConvertedIsSameHistory, ConvertedIsKept, ConvertedIsChecked, ConvertedIsCounted, ConvertedIsVerified}
 use Rattle.commands.specs.Evidence.{input_of}
 use Rattle.commands.specs.Inputs.{ClaimOnText, IsHistoryOf, IsClaimOf}
-use Rattle.commands.specs.Judging.{AnswersOrNoMemory, Converts, IsSound, Judges, Verifies, in_version_2, said_by}
+use Rattle.commands.specs.Judging.{AnswersOrNoMemory, Converts, Counts, IsSound, Judges, Verifies, in_version_2, said_by}
 use Rattle.commands.specs.OneAnswer.{SameOrNoMemory}
 use Rattle.commands.specs.Running.{AnswersOf}
-use Rattle.commands.proofs.OneAnswer.{answered_of_claim, answered_of_history, one_judgement, one_verification}
+use Rattle.commands.proofs.OneAnswer.{answered_of_claim, answered_of_history, one_counting, one_judgement, one_verification}
 use Rattle.commands.proofs.OneInput.{one_history}
 
 -- ---- a fault is no conversion
@@ -123,6 +123,23 @@ converted_is_checked bytes to a b answers first second =
     let is = conversion bytes to answers in
     same_judgement is.text a b is.read.0 (answered_of_history Judges (input_of bytes) is.text a is.read first)
     (answered_of_history Judges (input_of (text_of to)) (in_version_2 is.text) b (says_same bytes to is) second)
+
+same_counting : (text : HistoryText) (a b : Reply) → HasText text → AnswersOrNoMemory Counts text a → AnswersOrNoMemory Counts (in_version_2 text) b
+    → SameOrNoMemory a b
+same_counting text a b has (inl is_a) (inl is_b) = inl (one_counting text a b has is_a (of_text is_b))
+  where
+    of_text : Counts (in_version_2 text) b → Counts text b
+    of_text (inl faulty) = inl faulty
+    of_text (inr is) = inr (record { complete = is.complete; statistics = is.statistics; right = is.right; is = is.is })
+same_counting text a b has (inr memory) is_b = inr (inl memory)
+same_counting text a b has (inl is_a) (inr memory) = inr (inr memory)
+
+-- and so does `stats`
+pub converted_is_counted : ConvertedIsCounted
+converted_is_counted bytes to a b answers first second =
+    let is = conversion bytes to answers in
+    same_counting is.text a b is.read.0 (answered_of_history Counts (input_of bytes) is.text a is.read first)
+    (answered_of_history Counts (input_of (text_of to)) (in_version_2 is.text) b (says_same bytes to is) second)
 
 -- a claim on a text
 abbrev claim_on : HistoryText → Claimed → ClaimOnText

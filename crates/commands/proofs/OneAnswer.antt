@@ -10,6 +10,7 @@ use Rattle.history_merge.specs.Operations.{operations_of}
 use Rattle.history_merge.specs.Initial.{HistoryView, IsCompleteFrom}
 use Rattle.history_merge.proofs.InitialFaults.{complete_from_has_no_fault, complete_from_nothing}
 use Rattle.history_merge.proofs.OneFaultFrom.{one_first_fault_from}
+use Rattle.history_stats.proofs.OneStatistics.{one_statistics}
 use Rattle.recorder_core.specs.Setting.{Setting}
 use Rattle.recorder_core.specs.Laws.{collected_lists}
 use Rattle.simulation.specs.Simulations.{rejections, schedule_of}
@@ -33,12 +34,12 @@ use Rattle.text_lines.proofs.MemoryOrNot.{is_memory}
 use Rattle.history_text.proofs.OneHistory as histories
 use Rattle.history_text.proofs.OneSchedule as schedules
 use Rattle.command_words.specs.declared.options.PictureForm.{PictureForm}
-use Rattle.command_words.specs.Commands.{check, shrink, verify, draw, convert, sim}
-use Rattle.commands.specs.Answers.{Reply, judged, shown, played, verified, memory_fault, answer_of_text_fault, answer_of_history_fault}
+use Rattle.command_words.specs.Commands.{check, shrink, verify, draw, convert, stats, sim}
+use Rattle.commands.specs.Answers.{Reply, judged, shown, played, verified, counted, memory_fault, answer_of_text_fault, answer_of_history_fault}
 use Rattle.commands.specs.Inputs.{ClaimOnText, IsHistoryOf, IsFaultOfHistoryInput, IsScheduleOf, IsFaultOfScheduleInput, IsClaimOf, IsFaultOfClaimInput}
 use Rattle.commands.specs.Inputs.{Drawable, alone, with_claim, IsDrawableOf, IsFaultOfDrawableInput}
 use Rattle.commands.specs.Judging.{IsVerdictClaim, IsFaulty, IsJudged, IsShrunk, IsSound, Judges, Shrinks, Verifies, Draws, DrawsAlone, DrawsClaim}
-use Rattle.commands.specs.Judging.{Converts, Simulates, AnswersFor, IsTooLarge, IsRefuted, IsDrawn, IsDrawnDecided, from_none, said_by}
+use Rattle.commands.specs.Judging.{Converts, Counts, Simulates, AnswersFor, IsTooLarge, IsRefuted, IsDrawn, IsDrawnDecided, from_none, said_by}
 use Rattle.commands.specs.Judging.{AnswersOrNoMemory, IsOfFault}
 use Rattle.commands.specs.OneAnswer.{SameOrNoMemory, HasOneAnswer}
 use Rattle.commands.proofs.OneInput.{one_value, only_memory, one_known_fault, one_history, one_claim, only_memory_of_claim, one_known_fault_of_claim}
@@ -352,6 +353,18 @@ one_conversion text a b has (inr x) (inr y) = x.is ∙ sym y.is
 -- `convert` has one answer
 pub convert_has_one : HasOneAnswer convert
 convert_has_one = of_history Converts one_conversion
+
+-- a history has one counting
+pub one_counting : (text : HistoryText) (a b : Reply) → HasText text → Counts text a → Counts text b → a ≡ b
+one_counting text a b has (inl x) (inl y) = one_faulty (said_by text) a b x y
+one_counting text a b has (inl x) (inr y) = absurd (not_both (said_by text) a x y.complete)
+one_counting text a b has (inr x) (inl y) = absurd (not_both (said_by text) b y x.complete)
+one_counting text a b has (inr x) (inr y) =
+    x.is ∙ ap (λ s. counted s) (one_statistics (said_by text) x.statistics y.statistics x.right y.right) ∙ sym y.is
+
+-- `stats` has one answer
+pub stats_has_one : HasOneAnswer stats
+stats_has_one = of_history Counts one_counting
 
 -- `sim` has one answer
 pub sim_has_one : HasOneAnswer sim

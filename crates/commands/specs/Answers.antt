@@ -13,6 +13,8 @@ use Rattle.history_text.specs.Verdicts.{verdict_text}
 use Rattle.history_merge.specs.declared.fault.HistoryFault.{HistoryFault}
 use Rattle.history_merge.specs.declared.fault.HistoryFault.TheVariants as history
 use Rattle.history_merge.specs.Names as history_names
+use Rattle.history_stats.specs.declared.statistics.Statistics.{Statistics}
+use Rattle.history_stats.specs.Text.{statistics_text}
 use Rattle.recorder_core.specs.Names.{name_of}
 use Rattle.simulation.specs.declared.playing.Rejection.{Rejection}
 use Rattle.stress_run.specs.declared.faults.RunFault.{RunFault}
@@ -34,6 +36,8 @@ pub data Reply : Type 0 where
   verified : Bool → Reply
   -- a history alone
   converted : HistoryText → Reply
+  -- the statistics of a history
+  counted : Statistics → Reply
   -- a picture, in lines of characters
   drawn : List ℕ → Reply
   -- the input is refused
@@ -96,6 +100,7 @@ answer_text (left_open rejections) = rejection_lines rejections ++ line (codes "
 answer_text (played rejections events claimed) = rejection_lines rejections ++ (history_text events ++ verdict_text claimed)
 answer_text (verified valid) = line (validity valid)
 answer_text (converted text) = text_of text
+answer_text (counted statistics) = statistics_text statistics
 answer_text (drawn picture) = picture
 answer_text (refused_text fault) = line (beginning true ++ text_fault_name fault)
 answer_text (refused_history fault) = line (beginning true ++ history_fault_name fault)
@@ -131,6 +136,7 @@ answer_status (left_open rejections) = 0
 answer_status (played rejections events claimed) = claim_status claimed
 answer_status (verified valid) = validity_status valid
 answer_status (converted text) = 0
+answer_status (counted statistics) = 0
 answer_status (drawn picture) = 0
 answer_status (refused_text fault) = fault_status true
 answer_status (refused_history fault) = fault_status true

@@ -1,7 +1,7 @@
 -- What `convert` writes stands for the history that it read.
 use Rattle.std.specs.Prelude.{◌≡◌, ℕ, List, ◌++◌}
 use Rattle.verdicts.specs.declared.verifying.Claimed.{Claimed}
-use Rattle.command_words.specs.Commands.{check, verify, convert}
+use Rattle.command_words.specs.Commands.{check, verify, convert, stats}
 use Rattle.history_text.specs.declared.version.HistoryText.{HistoryText}
 use Rattle.history_text.specs.declared.version.Version.TheVariants.{Two}
 use Rattle.history_text.specs.Claims.{HasVerdictText}
@@ -28,6 +28,11 @@ ConvertedIsKept = (bytes : List ℕ) (text to : HistoryText) → IsHistoryOf (in
 abbrev pub ConvertedIsChecked : Type 0
 ConvertedIsChecked = (bytes : List ℕ) (to : HistoryText) (a b : Reply) → AnswersOf convert (input_of bytes) (converted to)
     → AnswersOf check (input_of bytes) a → AnswersOf check (input_of (text_of to)) b → SameOrNoMemory a b
+
+-- so does `stats`
+abbrev pub ConvertedIsCounted : Type 0
+ConvertedIsCounted = (bytes : List ℕ) (to : HistoryText) (a b : Reply) → AnswersOf convert (input_of bytes) (converted to)
+    → AnswersOf stats (input_of bytes) a → AnswersOf stats (input_of (text_of to)) b → SameOrNoMemory a b
 
 -- `verify` answers a claim alike behind a text and behind its conversion, or memory runs out
 abbrev pub ConvertedIsVerified : Type 0

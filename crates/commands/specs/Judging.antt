@@ -12,6 +12,8 @@ use Rattle.history_merge.specs.Complete.{IsCompleteHistory}
 use Rattle.history_merge.specs.Legal.{IsLinearizableFrom}
 use Rattle.history_merge.specs.Merge.{IsMerged}
 use Rattle.history_merge.specs.Operations.{operations_of}
+use Rattle.history_stats.specs.declared.statistics.Statistics.{Statistics}
+use Rattle.history_stats.specs.Statistics.{AreStatisticsOf}
 use Rattle.value_match.specs.declared.violation.Violation.{Violation}
 use Rattle.recorder_core.specs.Setting.{Setting}
 use Rattle.recorder_core.specs.Schedule.{Attempt}
@@ -36,7 +38,7 @@ use Rattle.text_lines.specs.declared.fault.TextFault.{TextFault}
 use Rattle.history_text.specs.declared.schedule.Schedule.{Schedule}
 use Rattle.text_lines.specs.Input.{Ahead}
 use Rattle.commands.specs.Inputs.{ClaimOnText, Drawable, alone, with_claim}
-use Rattle.commands.specs.Answers.{Reply, judged, shown, left_open, played, verified, converted, drawn, refused_size, memory_fault, answer_of_text_fault}
+use Rattle.commands.specs.Answers.{Reply, judged, shown, left_open, played, verified, converted, counted, drawn, refused_size, memory_fault, answer_of_text_fault}
 use Rattle.commands.specs.Answers.{answer_of_history_fault}
 
 -- ---- histories
@@ -203,6 +205,19 @@ pub record IsConverted (text : HistoryText) (answer : Reply) : Type 0 where
 -- `convert`: the first fault of the history, or its text of version 2
 abbrev pub Converts : HistoryText → Reply → Type 0
 Converts text answer = IsFaulty (said_by text) answer ⊎ IsConverted text answer
+
+-- ---- statistics
+
+-- it is a complete history, and these are its statistics
+pub record IsCounted (text : HistoryText) (answer : Reply) : Type 0 where
+  pub complete : IsSound (said_by text)
+  pub statistics : Statistics
+  pub right : AreStatisticsOf (said_by text) statistics
+  pub is : answer ≡ counted statistics
+
+-- `stats`: the first fault of the history, or its statistics
+abbrev pub Counts : HistoryText → Reply → Type 0
+Counts text answer = IsFaulty (said_by text) answer ⊎ IsCounted text answer
 
 -- ---- schedules
 

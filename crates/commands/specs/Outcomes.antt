@@ -9,10 +9,10 @@ use Rattle.stress_run.specs.Faults as run_names
 use Rattle.verdicts.specs.Claiming.{claim_of, IsWithin}
 use Rattle.std.specs.declared.result.Result.{Result}
 use Rattle.commands.specs.declared.outcome.Found.{Found}
-use Rattle.commands.specs.declared.outcome.Found.TheVariants.{Judged, Shown, LeftOpen, Played, Verified, Converted, Drawn}
+use Rattle.commands.specs.declared.outcome.Found.TheVariants.{Judged, Shown, LeftOpen, Played, Verified, Converted, Counted, Drawn}
 use Rattle.commands.specs.declared.outcome.Fault.{Fault}
 use Rattle.commands.specs.declared.outcome.Fault.TheVariants.{Text, History, Size, Queue, Limit, Memory, Run}
-use Rattle.commands.specs.Answers.{Reply, judged, shown, left_open, played, verified, converted, drawn, refused_size}
+use Rattle.commands.specs.Answers.{Reply, judged, shown, left_open, played, verified, converted, counted, drawn, refused_size}
 use Rattle.commands.specs.Answers.{refused_queue, refused_limit, memory_fault, run_fault, answer_of_text_fault, answer_of_history_fault}
 
 -- the answer that is printed of what was found: of a verdict what it claims, of the rest the same
@@ -25,6 +25,7 @@ answer_of_found (Played rejections history verdict) =
     played rejections history.events (claim_of history.initial (operations_of history.events) verdict)
 answer_of_found (Verified valid) = verified valid
 answer_of_found (Converted history) = converted (said_in Two history)
+answer_of_found (Counted statistics) = counted statistics
 answer_of_found (Drawn picture) = drawn picture.items
 
 -- the answer that is printed of a fault

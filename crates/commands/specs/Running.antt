@@ -7,11 +7,11 @@ use Rattle.text_lines.specs.Writing.{AppendsFront, Asked, IsRefused, IsFlushed}
 use Rattle.clap.specs.Kinds.{Kinds, IsAmong}
 use Rattle.clap.specs.declared.error.kind.ErrorKind.{ErrorKind}
 use Rattle.clap.specs.declared.error.kind.ErrorKind.TheVariants as kind
-use Rattle.command_words.specs.Commands.{Request, check, shrink, verify, draw, convert, sim, stress}
+use Rattle.command_words.specs.Commands.{Request, check, shrink, verify, draw, convert, stats, sim, stress}
 use Rattle.commands.specs.Answers.{Reply, memory_fault, answer_text, answer_status}
 use Rattle.commands.specs.Inputs.{IsHistoryOf, IsFaultOfHistoryInput, IsScheduleOf, IsFaultOfScheduleInput, IsClaimOf, IsFaultOfClaimInput}
 use Rattle.commands.specs.Inputs.{IsDrawableOf, IsFaultOfDrawableInput}
-use Rattle.commands.specs.Judging.{AnswersFor, Judges, Shrinks, Verifies, Draws, Converts, Simulates}
+use Rattle.commands.specs.Judging.{AnswersFor, Judges, Shrinks, Verifies, Draws, Converts, Counts, Simulates}
 
 -- where the writer refused nothing the text is written whole, with this status; else a front of it is, and the status is 3
 abbrev pub Prints : Option (List ℕ) → Option (List ℕ) → Bool → ℕ → List ℕ → ℕ → Type 0
@@ -34,6 +34,7 @@ AnswersOf shrink input answer = AnswersFor IsHistoryOf IsFaultOfHistoryInput Shr
 AnswersOf verify input answer = AnswersFor IsClaimOf IsFaultOfClaimInput Verifies input answer
 AnswersOf (draw form) input answer = AnswersFor IsDrawableOf IsFaultOfDrawableInput (Draws form) input answer
 AnswersOf convert input answer = AnswersFor IsHistoryOf IsFaultOfHistoryInput Converts input answer
+AnswersOf stats input answer = AnswersFor IsHistoryOf IsFaultOfHistoryInput Counts input answer
 AnswersOf sim input answer = AnswersFor IsScheduleOf IsFaultOfScheduleInput Simulates input answer
 AnswersOf (stress settings) input answer = Unit {0}
 

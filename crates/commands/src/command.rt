@@ -16,6 +16,7 @@ use crate::outcome::{Fault, Outcome};
 use crate::print::{print_outcome, print_text};
 use crate::shrink::shrink;
 use crate::sim::sim;
+use crate::stats::stats;
 use crate::stress::{Shelved, stress};
 use crate::verify::verify;
 use clap::Error;
@@ -110,6 +111,7 @@ where
         Task::Verify => return verify(rt.alloc(), reader),
         Task::Draw(form) => return draw(rt.alloc(), reader, form),
         Task::Convert => return convert(rt.alloc(), reader),
+        Task::Stats => return stats(rt.alloc(), reader),
         Task::Sim => return sim(rt.alloc(), reader),
         Task::Stress(options) => return stress(rt, rt.alloc(), shelf, &options),
     }

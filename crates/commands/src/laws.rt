@@ -10,7 +10,7 @@ ghost use Rattle.recorder_core.specs.Replay.{IsHonest};
 ghost use Rattle.simulation.specs.Simulations.{rejections};
 ghost use Rattle.verdicts.specs.declared.verifying.Claimed.TheVariants.{Yes};
 ghost use Rattle.command_words.specs.declared.options.PictureForm.{PictureForm};
-ghost use Rattle.command_words.specs.Commands.{check, shrink, verify, draw, convert, sim};
+ghost use Rattle.command_words.specs.Commands.{check, shrink, verify, draw, convert, stats, sim};
 ghost use Rattle.commands.specs.Answers.{Reply, played};
 ghost use Rattle.commands.specs.Judging.{SimulatesIn};
 ghost use Rattle.commands.specs.OneAnswer.{HasOneAnswer};
@@ -30,5 +30,6 @@ pub fn one_answer()
     ensures verify { HasOneAnswer verify }
     ensures draw { (form : PictureForm) → HasOneAnswer (draw form) }
     ensures convert { HasOneAnswer convert }
+    ensures stats { HasOneAnswer stats }
     ensures sim { HasOneAnswer sim }
 {}

@@ -16,6 +16,7 @@ mod shelf;
 mod show;
 mod shrink;
 mod sim;
+mod stats;
 mod stress;
 mod texts;
 mod verify;

@@ -3,6 +3,7 @@ ghost use Rattle.std.specs.Prelude.{◌≡◌};
 ghost use Rattle.commands.specs.declared.outcome.Fault.TheVariants as made;
 
 use history_merge::{History, HistoryFault, HistoryParts};
+use history_stats::Statistics;
 use history_text::{TextFault, Version};
 use simulation::Rejections;
 use std::alloc::AllocError;
@@ -28,6 +29,8 @@ pub enum Found {
     Verified(bool),
     /// A history alone, to be shown in version 2.
     Converted(History),
+    /// The statistics of a history.
+    Counted(Statistics),
     /// A picture, in lines of characters.
     Drawn(Vec<u8>),
 }

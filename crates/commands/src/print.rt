@@ -11,6 +11,7 @@ ghost use Rattle.commands.specs.Running.{Prints, PrintsAnswer, WritesAndFlushes}
 use crate::faults::write_fault;
 use crate::outcome::{Found, Outcome};
 use crate::show::{write_left_open, write_played, write_shown};
+use history_stats::write_statistics;
 use history_text::{TextSink, WriteFault, write_history_2, write_piece, write_verdict_on};
 use verdicts::Verdict;
 
@@ -37,6 +38,7 @@ pub fn write_outcome<W: TextSink>(outcome: &Outcome, writer: &mut W) -> Result<(
         Ok(Found::Converted(history)) => return write_history_2(history, writer),
         Ok(Found::Verified(true)) => return write_piece(b"VALID\n", writer),
         Ok(Found::Verified(false)) => return write_piece(b"INVALID\n", writer),
+        Ok(Found::Counted(statistics)) => return write_statistics(statistics, writer),
         Ok(Found::Drawn(picture)) => return write_piece(picture.as_slice(), writer),
         Err(fault) => return write_fault(*fault, writer),
     }
@@ -59,7 +61,8 @@ pub fn status_of(outcome: &Outcome) -> u8
         Ok(Found::Judged(_, verdict)) => return status_of_verdict(verdict),
         Ok(Found::Shown(_, _, verdict)) => return status_of_verdict(verdict),
         Ok(Found::Played(_, _, verdict)) => return status_of_verdict(verdict),
-        Ok(Found::LeftOpen(_) | Found::Converted(_) | Found::Drawn(_)) => return 0,
+        Ok(Found::LeftOpen(_) | Found::Converted(_)) => return 0,
+        Ok(Found::Counted(_) | Found::Drawn(_)) => return 0,
         Ok(Found::Verified(true)) => return 0,
         Ok(Found::Verified(false)) => return 1,
         Err(fault) => return fault.status(),

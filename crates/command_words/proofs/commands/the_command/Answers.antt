@@ -24,7 +24,9 @@ returns c =
     let draw = c.in_ok-subcommand-4.ensures.shape c.in_ok-draw.ensures.local ∙ ap₂ with_subcommand verify c.in_ok-draw.ensures.shape in
     let convert = c.in_ok-subcommand-5.ensures.shape c.plain_command-4.ensures.local
     ∙ ap₂ with_subcommand draw (ap (λ (a : App). a.top) c.plain_command-4.ensures.app) in
-    let sim = c.in_ok-subcommand-6.ensures.shape c.plain_command-5.ensures.local
+    let stats = c.in_ok-subcommand-6.ensures.shape c.plain_command-5.ensures.local
     ∙ ap₂ with_subcommand convert (ap (λ (a : App). a.top) c.plain_command-5.ensures.app) in
-    IfOk-weaker c.subcommand-7.result _ _ (λ r h. h.shape c.in_ok-stress.ensures.local ∙ ap₂ with_subcommand sim c.in_ok-stress.ensures.shape)
-    c.subcommand-7.ensures
+    let sim = c.in_ok-subcommand-7.ensures.shape c.plain_command-6.ensures.local
+    ∙ ap₂ with_subcommand stats (ap (λ (a : App). a.top) c.plain_command-6.ensures.app) in
+    IfOk-weaker c.subcommand-8.result _ _ (λ r h. h.shape c.in_ok-stress.ensures.local ∙ ap₂ with_subcommand sim c.in_ok-stress.ensures.shape)
+    c.subcommand-8.ensures

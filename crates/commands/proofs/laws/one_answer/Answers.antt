@@ -1,6 +1,6 @@
-use Rattle.commands.proofs.OneAnswer.{check_has_one, shrink_has_one, verify_has_one, draw_has_one, convert_has_one, sim_has_one}
+use Rattle.commands.proofs.OneAnswer.{check_has_one, shrink_has_one, verify_has_one, draw_has_one, convert_has_one, stats_has_one, sim_has_one}
 use Rattle.commands.proofs.laws.one_answer.Goals as goal
 
 pub returns : goal.returns
 returns c =
-    record { check = check_has_one; shrink = shrink_has_one; verify = verify_has_one; draw = draw_has_one; convert = convert_has_one; sim = sim_has_one }
+    record { check = check_has_one; shrink = shrink_has_one; verify = verify_has_one; draw = draw_has_one; convert = convert_has_one; stats = stats_has_one; sim = sim_has_one }

@@ -1,0 +1,162 @@
+-- What an operation overlaps: of the operations before it and of those behind it.
+use Rattle.std.proofs.Common.{◌≡◌, ℕ, zero, suc, ◌+◌, ◌<◌, ◌≤◌, List, [], ◌∷◌, ◌++◌, length, get_or, take, drop, Bool, true, false, cond, max, not, refl, sym, ◌∙◌, ap, subst, arith, nat_lt, nat_eq}
+use Rattle.std.specs.Prelude.{All, AllPairs, count_by, nat_le, ◌&&◌, ◌||◌}
+use Rattle.std.specs.List.{list_any}
+use Rattle.std.proofs.lemmas.Bool.Decides.{nat_tests}
+use Rattle.std.proofs.lemmas.List.{drop_more, get_or-drop, get_or-take, length-drop, length-take, length-take-le, take-append-drop, take_more}
+use Rattle.std.proofs.lemmas.List.Elements.{All-from_get_or, All-get_or, All-head, All-tail}
+use Rattle.std.proofs.lemmas.List.Folds.{list_any-append}
+use Rattle.std.proofs.lemmas.List.Sums.{count_by_more_no, count_by_more_yes}
+use Rattle.history_merge.specs.declared.operation.Operation.{Operation}
+use Rattle.history_stats.specs.Counts.{overlap}
+use Rattle.history_stats.specs.Inner.AtOnce.{IsLastReturn}
+
+-- tests that agree on each element find one alike
+pub any_alike : {X : Type 0} (p q : X → Bool) (xs : List X) → All (λ x. p x ≡ q x) xs → list_any p xs ≡ list_any q xs
+any_alike p q [] alike = refl
+any_alike p q (x ∷ xs) alike =
+    let here = All-head (λ x. p x ≡ q x) x xs alike in
+    let more = any_alike p q xs (All-tail (λ x. p x ≡ q x) x xs alike) in
+    λ i. here i || more i
+
+-- one is found before a place, at it, or behind it
+pub any_around : {X : Type 0} (p : X → Bool) (xs : List X) (i : ℕ) (d : X) → i < length xs
+    → list_any p xs ≡ (list_any p (take i xs) || (p (get_or xs i d) || list_any p (drop (i + 1) xs)))
+any_around p xs i d within =
+    ap (list_any p) (sym (take-append-drop i xs)) ∙ list_any-append p (take i xs) (drop i xs)
+    ∙ ap (λ rest. list_any p (take i xs) || list_any p rest) (drop_more xs i d within)
+
+-- an operation overlaps an earlier one that returns at its call or behind
+pub overlaps_earlier : (x o : Operation) → o.call < x.call → x.call < x.ret → overlap x o ≡ nat_le x.call o.ret
+overlaps_earlier x o before forward = grind (arith, nat_tests)
+
+-- a later one that is called by its return
+pub overlaps_later : (x o : Operation) → x.call < o.call → o.call < o.ret → overlap x o ≡ nat_le o.call x.ret
+overlaps_later x o behind forward = grind (arith, nat_tests)
+
+-- and not itself
+pub not_itself : (x : Operation) → overlap x x ≡ false
+not_itself x = grind (arith, nat_tests)
+
+-- an operation overlaps another one where the last return before it comes at its call or behind, or the next call by its return
+pub overlaps_one : (operations : List Operation) (i : ℕ) (x : Operation) → i < length operations → x ≡ get_or operations i x
+    → AllPairs (λ a b. a.call < b.call) operations → All (λ o. o.call < o.ret) operations
+    → list_any (overlap x) operations
+    ≡ (list_any (λ o. nat_le x.call o.ret) (take i operations) || list_any (λ o. nat_le o.call x.ret) (drop (i + 1) operations))
+overlaps_one operations i x within at rise forward =
+    any_around (overlap x) operations i x within
+    ∙ (λ k. earlier k || (itself k || later k))
+  where
+    goes_forward : x.call < x.ret
+    goes_forward = subst (λ (o : Operation). o.call < o.ret) (sym at) (All-get_or (λ (o : Operation). o.call < o.ret) operations i x within forward)
+
+    earlier : list_any (overlap x) (take i operations) ≡ list_any (λ o. nat_le x.call o.ret) (take i operations)
+    earlier = any_alike (overlap x) (λ o. nat_le x.call o.ret) (take i operations)
+        (All-from_get_or (λ (o : Operation). overlap x o ≡ nat_le x.call o.ret) (take i operations) x one)
+      where
+        one : (k : ℕ) → k < length (take i operations) → overlap x (get_or (take i operations) k x) ≡ nat_le x.call (get_or (take i operations) k x).ret
+        one k below =
+            let short : k < i = omega (arith, length-take i operations) in
+            let same : get_or (take i operations) k x ≡ get_or operations k x = get_or-take i operations k x short in
+            let before = subst (λ (o : Operation). (get_or operations k x).call < o.call) (sym at) (rise k i x short within) in
+            overlaps_earlier x (get_or (take i operations) k x) (subst (λ (o : Operation). o.call < x.call) (sym same) before) goes_forward
+
+    itself : overlap x (get_or operations i x) ≡ false
+    itself = ap (overlap x) (sym at) ∙ not_itself x
+
+    later : list_any (overlap x) (drop (i + 1) operations) ≡ list_any (λ o. nat_le o.call x.ret) (drop (i + 1) operations)
+    later = any_alike (overlap x) (λ o. nat_le o.call x.ret) (drop (i + 1) operations)
+        (All-from_get_or (λ (o : Operation). overlap x o ≡ nat_le o.call x.ret) (drop (i + 1) operations) x one)
+      where
+        one : (k : ℕ) → k < length (drop (i + 1) operations)
+            → overlap x (get_or (drop (i + 1) operations) k x) ≡ nat_le (get_or (drop (i + 1) operations) k x).call x.ret
+        one k below =
+            let there : i + 1 + k < length operations = omega (arith, length-drop (i + 1) operations) in
+            let same : get_or (drop (i + 1) operations) k x ≡ get_or operations (i + 1 + k) x = get_or-drop (i + 1) operations k x in
+            let behind = subst (λ (o : Operation). o.call < (get_or operations (i + 1 + k) x).call) (sym at) (rise i (i + 1 + k) x (omega arith) there) in
+            let on = All-get_or (λ (o : Operation). o.call < o.ret) operations (i + 1 + k) x there forward in
+            overlaps_later x (get_or (drop (i + 1) operations) k x) (subst (λ (o : Operation). x.call < o.call) (sym same) behind)
+            (subst (λ (o : Operation). o.call < o.ret) (sym same) on)
+
+-- where calls rise, one of them comes by a ticket where the first does
+pub first_decides : (ticket : ℕ) (x : Operation) (rest : List Operation) → All (λ o. x.call < o.call) rest
+    → list_any (λ o. nat_le o.call ticket) (x ∷ rest) ≡ nat_le x.call ticket
+first_decides ticket x [] behind = grind (arith, nat_tests)
+first_decides ticket x (y ∷ rest) behind =
+    let here = All-head (λ (o : Operation). x.call < o.call) y rest behind in
+    let more = first_decides ticket x rest (All-tail (λ (o : Operation). x.call < o.call) y rest behind) in
+    one (nat_le x.call ticket) (nat_le y.call ticket) (list_any (λ o. nat_le o.call ticket) rest) more (less x.call y.call ticket here)
+  where
+    less : (a b t : ℕ) → a < b → nat_le b t ≡ true → nat_le a t ≡ true
+    less a b t lt le = grind (arith, nat_tests)
+
+    one : (a b c : Bool) → (a || c) ≡ a → (b ≡ true → a ≡ true) → (a || (b || c)) ≡ a
+    one true b c e h = refl
+    one false true c e h = let wrong = h refl in cc
+    one false false c e h = e
+
+-- the last return of one operation more
+pub last_more : (operations : List Operation) (i last : ℕ) (d : Operation) → i < length operations → (i ≡ 0 → last ≡ 0)
+    → IsLastReturn (take i operations) last → IsLastReturn (take (i + 1) operations) (max last (get_or operations i d).ret)
+last_more operations i last d within none is ticket =
+    let more = ap (list_any (λ (o : Operation). nat_le ticket o.ret)) (take_more operations i d within)
+    ∙ list_any-append (λ (o : Operation). nat_le ticket o.ret) (take i operations) (get_or operations i d ∷ []) in
+    let before = is ticket in
+    let long : length (take i operations) ≡ i = length-take-le i operations (omega arith) in
+    let longer : length (take (i + 1) operations) ≡ i + 1 = length-take-le (i + 1) operations (omega arith) in
+    more ∙ (λ k. before k || (nat_le ticket (get_or operations i d).ret || false))
+    ∙ both (length (take i operations)) (length (take (i + 1) operations)) (get_or operations i d).ret (omega arith) (λ e. none (omega arith))
+  where
+    both : (n m ret : ℕ) → m ≡ n + 1 → (n ≡ 0 → last ≡ 0)
+        → ((nat_lt 0 n && nat_le ticket last) || (nat_le ticket ret || false)) ≡ (nat_lt 0 m && nat_le ticket (max last ret))
+    both n m ret e h = grind (arith, nat_tests)
+
+-- what holds of each two holds of those behind a place
+pub pairs_behind : {X : Type 0} (R : X → X → Type 0) (xs : List X) (n : ℕ) → AllPairs R xs → AllPairs R (drop n xs)
+pairs_behind R xs n pairs = λ i j d lt below.
+    let there : n + j < length xs = omega (arith, length-drop n xs) in
+    subst (λ a. R a (get_or (drop n xs) j d)) (sym (get_or-drop n xs i d)) (subst (λ b. R (get_or xs (n + i) d) b) (sym (get_or-drop n xs j d))
+    (pairs (n + i) (n + j) d (omega arith) there))
+
+-- those behind the first
+pub behind_first : (x : Operation) (rest : List Operation) → AllPairs (λ a b. a.call < b.call) (x ∷ rest) → All (λ o. x.call < o.call) rest
+behind_first x rest rise = All-from_get_or (λ (o : Operation). x.call < o.call) rest x (λ k below. rise zero (suc k) x (omega arith) (omega arith))
+
+-- a count of one element more
+pub counted_more : {X : Type 0} (p : X → Bool) (xs : List X) (i n : ℕ) (d : X) → i < length xs → n ≡ count_by p (take i xs)
+    → (p (get_or xs i d) ≡ true → n + 1 ≡ count_by p (take (i + 1) xs)) × (p (get_or xs i d) ≡ false → n ≡ count_by p (take (i + 1) xs))
+counted_more p xs i n d within is = (
+  λ yes. let e = count_by_more_yes p xs i d within yes in omega (arith, e, is),
+  λ no. let e = count_by_more_no p xs i d within no in omega (arith, e, is),
+)
+
+-- where calls rise, one of some operations is called by a ticket where the first is
+pub first_called : (ticket : ℕ) (operations : List Operation) (d : Operation) → 1 ≤ length operations
+    → AllPairs (λ a b. a.call < b.call) operations
+    → nat_le (get_or operations 0 d).call ticket ≡ list_any (λ o. nat_le o.call ticket) operations
+first_called ticket [] d some rise = absurd (omega arith)
+first_called ticket (x ∷ rest) d some rise = sym (first_decides ticket x rest (behind_first x rest rise))
+
+-- what an operation overlaps is told by both tests
+pub overlap_told : (operations : List Operation) (i : ℕ) (d x : Operation) (earlier later : Bool) → i < length operations
+    → ((e : Operation) → get_or operations i e ≡ x) → AllPairs (λ a b. a.call < b.call) operations → All (λ o. o.call < o.ret) operations
+    → earlier ≡ list_any (λ o. nat_le x.call o.ret) (take i operations) → later ≡ list_any (λ o. nat_le o.call x.ret) (drop (i + 1) operations)
+    → (earlier || later) ≡ list_any (overlap (get_or operations i d)) operations
+overlap_told operations i d x earlier later within at rise forward is_earlier is_later =
+    (λ k. is_earlier k || is_later k) ∙ sym (overlaps_one operations i x within (sym (at x)) rise forward)
+    ∙ ap (λ o. list_any (overlap o) operations) (sym (at d))
+
+pub overlap_told_earlier : (operations : List Operation) (i : ℕ) (d x : Operation) (earlier : Bool) → i < length operations
+    → ((e : Operation) → get_or operations i e ≡ x) → AllPairs (λ a b. a.call < b.call) operations → All (λ o. o.call < o.ret) operations
+    → earlier ≡ list_any (λ o. nat_le x.call o.ret) (take i operations) → earlier ≡ true
+    → earlier ≡ list_any (overlap (get_or operations i d)) operations
+overlap_told_earlier operations i d x earlier within at rise forward is_earlier found =
+    let told = overlap_told operations i d x earlier (list_any (λ o. nat_le o.call x.ret) (drop (i + 1) operations)) within at rise forward is_earlier refl in
+    found ∙ ap (λ b. b || list_any (λ (o : Operation). nat_le o.call x.ret) (drop (i + 1) operations)) (sym found) ∙ told
+
+pub overlap_told_later : (operations : List Operation) (i : ℕ) (d x : Operation) (earlier later : Bool) → i < length operations
+    → ((e : Operation) → get_or operations i e ≡ x) → AllPairs (λ a b. a.call < b.call) operations → All (λ o. o.call < o.ret) operations
+    → earlier ≡ list_any (λ o. nat_le x.call o.ret) (take i operations) → earlier ≡ false
+    → later ≡ list_any (λ o. nat_le o.call x.ret) (drop (i + 1) operations) → later ≡ list_any (overlap (get_or operations i d)) operations
+overlap_told_later operations i d x earlier later within at rise forward is_earlier none is_later =
+    ap (λ b. b || later) (sym none) ∙ overlap_told operations i d x earlier later within at rise forward is_earlier is_later

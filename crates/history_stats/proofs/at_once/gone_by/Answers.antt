@@ -1,0 +1,18 @@
+use Rattle.std.proofs.Common.{◌+◌, arith, inl, inr}
+use Rattle.std.proofs.lemmas.Bool.{cases_lt}
+use Rattle.history_stats.specs.Inner.AtOnce.{count_before}
+use Rattle.history_stats.proofs.Counted.{at_least, below_at, count_few}
+use Rattle.history_stats.proofs.at_once.gone_by.Goals as goal
+
+pub loop-gone-preserved : goal.loop-gone-preserved
+loop-gone-preserved c =
+    at_least (c.args.ticket + 1) c.args.goes.now c.loop-gone.gone c.requires.goes c.loop-gone-test.true (omega arith)
+
+pub returns-else-goes-gone : goal.returns-else-goes-gone
+returns-else-goes-gone c = elim (cases_lt c.loop-gone.gone (count_before (c.args.ticket + 1) c.args.goes.now)) [
+  | inl few ↦ absurd (omega (arith, below_at (c.args.ticket + 1) c.args.goes.now c.loop-gone.gone c.requires.goes few))
+  | inr all ↦ omega arith
+]
+
+pub returns-after-loop-gone : goal.returns-after-loop-gone
+returns-after-loop-gone c = omega (arith, count_few (c.args.ticket + 1) c.args.goes.now)

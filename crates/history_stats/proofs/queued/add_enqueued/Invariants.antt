@@ -1,0 +1,11 @@
+use Rattle.std.proofs.Common.{◌≡◌, ◌+◌, ◌≤◌, ℕ, count_by, not, take, vec_len}
+use Rattle.history_stats.specs.AtOnce.{values_put_before}
+use Rattle.history_stats.specs.Inner.AtOnce.{count_before, is_kept_before}
+use Rattle.history_stats.proofs.queued.add_enqueued.Given as goal
+
+abbrev pub invariant-loop-operation : goal.invariant-loop-operation
+invariant-loop-operation l = record {
+  stays : (gap : ℕ) → count_by (λ v. not (is_kept_before gap l.takes v)) (values_put_before gap (take l.operation-index l.operations))
+      + count_before gap l.goes.items + count_before gap l.fn.comes.items ≡ count_before gap l.comes.items + count_before gap l.fn.goes.items;
+  few : vec_len l.comes ≤ vec_len l.fn.comes + l.operation-index;
+}

@@ -1,0 +1,24 @@
+-- The statistics of a history.
+use Rattle.std.specs.Prelude.{◌≡◌, length}
+use Rattle.history_merge.specs.Initial.{HistoryView}
+use Rattle.history_merge.specs.Operations.{operations_of}
+use Rattle.history_stats.specs.declared.statistics.Statistics.{Statistics}
+use Rattle.history_stats.specs.AtOnce.{IsMost, pending_at, queued_at}
+use Rattle.history_stats.specs.Counts.{change_count, is_dequeued, is_empty, is_enqueued, is_refused, kind_count, overlapping_count, tenths_of_percent}
+use Rattle.history_stats.specs.Counts.{thread_count}
+
+-- each number is what its name says of the history
+pub record AreStatisticsOf (history : HistoryView) (s : Statistics) : Type 0 where
+  pub events : s.events ≡ length history.events
+  pub operations : s.operations ≡ length (operations_of history.events)
+  pub threads : s.threads ≡ thread_count history.events
+  pub enqueued : s.enqueued ≡ kind_count is_enqueued (operations_of history.events)
+  pub refused : s.refused ≡ kind_count is_refused (operations_of history.events)
+  pub dequeued : s.dequeued ≡ kind_count is_dequeued (operations_of history.events)
+  pub empty : s.empty ≡ kind_count is_empty (operations_of history.events)
+  pub initial : s.initial ≡ length history.initial
+  pub thread_changes : s.thread_changes ≡ change_count history.events
+  pub overlapping : s.overlapping ≡ overlapping_count (operations_of history.events)
+  pub overlapping_tenths : s.overlapping_tenths ≡ tenths_of_percent (overlapping_count (operations_of history.events)) (length (operations_of history.events))
+  pub most_pending : IsMost (pending_at (operations_of history.events)) s.most_pending
+  pub most_queued : IsMost (queued_at history) s.most_queued

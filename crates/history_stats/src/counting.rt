@@ -1,0 +1,121 @@
+//! Counts of events and of operations.
+ghost use Rattle.std.specs.Prelude.{◌≡◌, ◌<◌, ◌≤◌, ℕ, All, count_by, false, length, nat_eq, not, slice_index_or};
+ghost use Rattle.std.specs.List.{zip};
+ghost use Rattle.event_records.specs.declared.limits.TheConstants.{MAX_THREAD, MAX_THREADS};
+ghost use Rattle.history_stats.specs.Counts.{change_count, has_event, is_dequeued, is_empty, is_enqueued, is_refused, kind_count, thread_count};
+
+use event_records::{Event, MAX_THREADS};
+use history_merge::{OpKind, Operation};
+
+/// How many threads have an event.
+pub(crate) fn thread_count(events: &[Event]) -> usize
+    requires { All (λ e. e.thread ≤ MAX_THREAD) events.now }
+    ensures { result ≡ thread_count events.now }
+{
+    count_set(&threads_in(events))
+}
+
+/// Of each thread that there may be, whether it has an event.
+fn threads_in(events: &[Event]) -> [bool; MAX_THREADS]
+    requires { All (λ e. e.thread ≤ MAX_THREAD) events.now }
+    ensures marks { (thread : ℕ) → thread < MAX_THREADS → slice_index_or result thread false ≡ has_event events.now thread }
+    ensures each { length result ≡ MAX_THREADS }
+{
+    let mut seen = [false; MAX_THREADS];
+    for event in events {
+        seen[usize::from(event.thread)] = true;
+    }
+    seen
+}
+
+/// How many are true.
+fn count_set(marks: &[bool; MAX_THREADS]) -> usize
+    ensures { result ≡ count_by (λ mark. mark) marks.now }
+{
+    marks.iter().filter(|mark| **mark).count()
+}
+
+/// How many events are of another thread than the event before.
+pub(crate) fn change_count(events: &[Event]) -> usize
+    ensures { result ≡ change_count events.now }
+{
+    match events {
+        [] => 0,
+        [_, later @ ..] => change_count_with(events, later),
+    }
+}
+
+/// How many events are of another thread than the one at the same place of the second list.
+fn change_count_with(events: &[Event], later: &[Event]) -> usize
+    ensures { result ≡ count_by (λ pair. not (nat_eq pair.0.thread pair.1.thread)) (zip events.now later.now) }
+{
+    events
+        .iter()
+        .zip(later)
+        .filter(|(before, event)| before.thread != event.thread)
+        .count()
+}
+
+/// How many enqueues the queue took.
+pub(crate) fn enqueued_count(operations: &[Operation]) -> usize
+    ensures { result ≡ kind_count is_enqueued operations.now }
+{
+    operations
+        .iter()
+        .filter(|operation| is_enqueued(operation.kind))
+        .count()
+}
+
+/// How many enqueues the queue refused.
+pub(crate) fn refused_count(operations: &[Operation]) -> usize
+    ensures { result ≡ kind_count is_refused operations.now }
+{
+    operations
+        .iter()
+        .filter(|operation| is_refused(operation.kind))
+        .count()
+}
+
+/// How many dequeues gave a value.
+pub(crate) fn dequeued_count(operations: &[Operation]) -> usize
+    ensures { result ≡ kind_count is_dequeued operations.now }
+{
+    operations
+        .iter()
+        .filter(|operation| is_dequeued(operation.kind))
+        .count()
+}
+
+/// How many dequeues found the queue empty.
+pub(crate) fn empty_count(operations: &[Operation]) -> usize
+    ensures { result ≡ kind_count is_empty operations.now }
+{
+    operations
+        .iter()
+        .filter(|operation| is_empty(operation.kind))
+        .count()
+}
+
+fn is_enqueued(kind: OpKind) -> bool
+    ensures { result ≡ is_enqueued kind }
+{
+    matches!(kind, OpKind::Enq(_))
+}
+
+fn is_refused(kind: OpKind) -> bool
+    ensures { result ≡ is_refused kind }
+{
+    matches!(kind, OpKind::Not(_))
+}
+
+fn is_dequeued(kind: OpKind) -> bool
+    ensures { result ≡ is_dequeued kind }
+{
+    matches!(kind, OpKind::Deq(_))
+}
+
+fn is_empty(kind: OpKind) -> bool
+    ensures { result ≡ is_empty kind }
+{
+    matches!(kind, OpKind::Empty)
+}

@@ -1,0 +1,42 @@
+//! The most operations that were pending at once.
+ghost use Rattle.std.specs.Prelude.{◌≡◌, ◌<◌, ◌≤◌, All, IfOk, length, map};
+ghost use Rattle.event_records.specs.declared.limits.TheConstants.{MAX_EVENTS};
+ghost use Rattle.history_merge.specs.declared.operation.Operation.{Operation};
+ghost use Rattle.history_stats.specs.AtOnce.{IsMost, pending_at};
+
+use crate::at_once::most_of;
+use history_merge::Operation;
+use std::alloc::{AllocError, Global};
+
+/// The most operations that were pending at one gap.
+///
+/// Takes time O(n log n) for n operations, and memory for two tickets of each.
+pub(crate) fn most_pending(alloc: Global, operations: &[Operation]) -> Result<usize, AllocError>
+    requires forward { All (λ o. o.call < o.ret) operations.now }
+    requires few { length operations.now ≤ MAX_EVENTS }
+    ensures { IfOk result (IsMost (pending_at operations.now)) }
+{
+    let calls = calls_of(alloc, operations)?;
+    let returns = returns_of(alloc, operations)?;
+    Ok(most_of(0, calls, returns))
+}
+
+/// The tickets of the calls.
+fn calls_of(alloc: Global, operations: &[Operation]) -> Result<Vec<u64>, AllocError>
+    ensures { IfOk result (λ v. v.items ≡ map (λ o. o.call) operations.now) }
+{
+    operations
+        .iter()
+        .map(|operation| operation.call)
+        .collect(alloc)
+}
+
+/// The tickets of the returns.
+fn returns_of(alloc: Global, operations: &[Operation]) -> Result<Vec<u64>, AllocError>
+    ensures { IfOk result (λ v. v.items ≡ map (λ o. o.ret) operations.now) }
+{
+    operations
+        .iter()
+        .map(|operation| operation.ret)
+        .collect(alloc)
+}

@@ -1,0 +1,143 @@
+//! The most values that surely were in the queue at once.
+ghost use Rattle.std.specs.Prelude.{◌≡◌, ◌+◌, ◌≤◌, ◌++◌, ◌&&◌, ◌||◌, ◌==◌, ◌∷◌, [], ℕ, IfOk, OnOk, count_by, false, if◌then◌else◌, length, nat_lt, not, vec_len};
+ghost use Rattle.std.specs.Option.{option_map_or};
+ghost use Rattle.event_records.specs.declared.limits.TheConstants.{MAX_EVENTS, MAX_INITIAL};
+ghost use Rattle.history_merge.specs.declared.operation.Operation.{Operation};
+ghost use Rattle.history_merge.specs.Operations.{operations_of};
+ghost use Rattle.history_stats.specs.AtOnce.{IsMost, is_taken_before, stay_count, values_put_before};
+ghost use Rattle.history_stats.specs.Inner.AtOnce.{count_before, is_kept_before};
+
+use crate::at_once::most_of;
+use history_merge::{OpKind, Operation};
+use std::alloc::{AllocError, Global};
+use std::collections::BTreeMap;
+
+/// The most values that surely were in the queue at one gap.
+///
+/// Takes time O(n log n) for n operations and initial values, and memory in proportion to them.
+pub(crate) fn most_queued(
+    alloc: Global,
+    initial: &[u64],
+    operations: &[Operation],
+) -> Result<usize, AllocError>
+    requires few_initial { length initial.now ≤ MAX_INITIAL }
+    requires few { length operations.now ≤ MAX_EVENTS }
+    ensures { IfOk result (IsMost (λ gap. stay_count gap operations.now (initial.now ++ values_put_before gap operations.now))) }
+{
+    let takes = first_takes(alloc, operations)?;
+    let mut comes = Vec::new(alloc);
+    let mut goes = Vec::new(alloc);
+    add_initial(&mut goes, initial, &takes)?;
+    add_enqueued(&mut comes, &mut goes, operations, &takes)?;
+    Ok(most_of(initial.len(), comes, goes))
+}
+
+/// Of each value that a dequeue gave, the ticket at which the first such dequeue was called.
+fn first_takes(alloc: Global, operations: &[Operation]) -> Result<BTreeMap<u64, u64>, AllocError>
+    ensures { IfOk result (λ takes. (gap v : ℕ) → is_kept_before gap takes v ≡ is_taken_before gap operations.now v) }
+{
+    let mut takes = BTreeMap::new(alloc);
+    for operation in operations {
+        if let OpKind::Deq(value) = operation.kind {
+            keep_least(&mut takes, value, operation.call)?;
+        }
+    }
+    Ok(takes)
+}
+
+/// Keeps the ticket for the value, where no lower one is kept for it.
+fn keep_least(kept: &mut BTreeMap<u64, u64>, value: u64, ticket: u64) -> Result<(), AllocError>
+    ensures { OnOk result ((gap v : ℕ) → is_kept_before gap kept.new v ≡ (is_kept_before gap kept.old v || (v == value && nat_lt ticket gap))) }
+{
+    let least = match kept.get(&value) {
+        Some(earlier) => ticket.min(*earlier),
+        None => ticket,
+    };
+    kept.insert(value, least)?;
+    Ok(())
+}
+
+/// The ticket that is kept for the value, if one is.
+fn ticket_for(kept: &BTreeMap<u64, u64>, value: u64) -> Option<u64>
+    ensures { (gap : ℕ) → option_map_or (λ t. nat_lt t gap) result false ≡ is_kept_before gap kept.now value }
+{
+    kept.get(&value).copied()
+}
+
+/// Adds the tickets at which initial values go.
+fn add_initial(
+    goes: &mut Vec<u64>,
+    values: &[u64],
+    takes: &BTreeMap<u64, u64>,
+) -> Result<(), AllocError>
+    ensures { OnOk result ((gap : ℕ) → count_by (λ v. not (is_kept_before gap takes.now v)) values.now + count_before gap goes.new.items
+        ≡ length values.now + count_before gap goes.old.items) }
+{
+    for value in values {
+        add_go(goes, ticket_for(takes, *value))?;
+    }
+    Ok(())
+}
+
+/// Adds the ticket at which a value goes, if it was taken.
+fn add_go(goes: &mut Vec<u64>, take: Option<u64>) -> Result<(), AllocError>
+    ensures { OnOk result ((gap : ℕ) → count_before gap goes.new.items
+        ≡ count_before gap goes.old.items + (if option_map_or (λ t. nat_lt t gap) take false then 1 else 0)) }
+{
+    if let Some(ticket) = take {
+        goes.push(ticket)?;
+    }
+    Ok(())
+}
+
+/// Adds the tickets at which the values of enqueues come and go.
+fn add_enqueued(
+    comes: &mut Vec<u64>,
+    goes: &mut Vec<u64>,
+    operations: &[Operation],
+    takes: &BTreeMap<u64, u64>,
+) -> Result<(), AllocError>
+    ensures stays { OnOk result ((gap : ℕ) → count_by (λ v. not (is_kept_before gap takes.now v)) (values_put_before gap operations.now)
+        + count_before gap goes.new.items + count_before gap comes.old.items ≡ count_before gap comes.new.items + count_before gap goes.old.items) }
+    ensures few { OnOk result (vec_len comes.new ≤ vec_len comes.old + length operations.now) }
+{
+    for operation in operations {
+        add_one(comes, goes, *operation, takes)?;
+    }
+    Ok(())
+}
+
+/// The same of one operation.
+fn add_one(
+    comes: &mut Vec<u64>,
+    goes: &mut Vec<u64>,
+    operation: Operation,
+    takes: &BTreeMap<u64, u64>,
+) -> Result<(), AllocError>
+    ensures stays { OnOk result ((gap : ℕ) → count_by (λ v. not (is_kept_before gap takes.now v)) (values_put_before gap (operation ∷ []))
+        + count_before gap goes.new.items + count_before gap comes.old.items ≡ count_before gap comes.new.items + count_before gap goes.old.items) }
+    ensures few { OnOk result (vec_len comes.new ≤ vec_len comes.old + 1) }
+{
+    match operation.kind {
+        OpKind::Enq(value) => add_stay(comes, goes, operation.ret, ticket_for(takes, value)),
+        _ => Ok(()),
+    }
+}
+
+/// Adds the tickets at which a value comes, and goes if it was taken. It doesn't go before it comes.
+fn add_stay(
+    comes: &mut Vec<u64>,
+    goes: &mut Vec<u64>,
+    put: u64,
+    take: Option<u64>,
+) -> Result<(), AllocError>
+    ensures stays { OnOk result ((gap : ℕ) → (if nat_lt put gap && not (option_map_or (λ t. nat_lt t gap) take false) then 1 else 0)
+        + count_before gap goes.new.items + count_before gap comes.old.items ≡ count_before gap comes.new.items + count_before gap goes.old.items) }
+    ensures few { OnOk result (vec_len comes.new ≤ vec_len comes.old + 1) }
+{
+    comes.push(put)?;
+    if let Some(ticket) = take {
+        goes.push(ticket.max(put))?;
+    }
+    Ok(())
+}

@@ -1,0 +1,72 @@
+ghost use Rattle.std.specs.Prelude.{IfOk};
+ghost use Rattle.history_stats.specs.Statistics.{AreStatisticsOf};
+
+use crate::counting::{
+    change_count, dequeued_count, empty_count, enqueued_count, refused_count, thread_count,
+};
+use crate::overlapping::{overlapping_count, tenths_of_percent};
+use crate::pending::most_pending;
+use crate::queued::most_queued;
+use history_merge::History;
+use std::alloc::{AllocError, Global};
+
+/// What a history is like, in numbers.
+#[derive(Clone, Copy, Debug, PartialEq, Eq)]
+pub struct Statistics {
+    /// The events.
+    pub events: usize,
+    /// The operations.
+    pub operations: usize,
+    /// The threads that have an event.
+    pub threads: usize,
+    /// The enqueues that the queue took.
+    pub enqueued: usize,
+    /// The enqueues that the queue refused.
+    pub refused: usize,
+    /// The dequeues that gave a value.
+    pub dequeued: usize,
+    /// The dequeues that found the queue empty.
+    pub empty: usize,
+    /// The values that the queue holds before the first event.
+    pub initial: usize,
+    /// The events that are of another thread than the event before.
+    pub thread_changes: usize,
+    /// The operations that overlap another one.
+    pub overlapping: usize,
+    /// The share of these among the operations in tenths of a percent, rounded down; 0 of no operations.
+    pub overlapping_tenths: usize,
+    /// The most operations that were pending at once.
+    pub most_pending: usize,
+    /// The most values that surely were in the queue at once.
+    pub most_queued: usize,
+}
+
+/// The statistics of a history.
+///
+/// `AllocError` comes only where a growth was refused. Takes time O(n log n) for n events and initial values, and memory in
+/// proportion to them.
+pub fn statistics_of(alloc: Global, history: &History) -> Result<Statistics, AllocError>
+    ensures { IfOk result (AreStatisticsOf history.now) }
+{
+    let events = history.events();
+    let operations = history.operations();
+    let initial = history.initial();
+    let most_pending = most_pending(alloc, operations)?;
+    let most_queued = most_queued(alloc, initial, operations)?;
+    let overlapping = overlapping_count(operations);
+    Ok(Statistics {
+        events: events.len(),
+        operations: operations.len(),
+        threads: thread_count(events),
+        enqueued: enqueued_count(operations),
+        refused: refused_count(operations),
+        dequeued: dequeued_count(operations),
+        empty: empty_count(operations),
+        initial: initial.len(),
+        thread_changes: change_count(events),
+        overlapping,
+        overlapping_tenths: tenths_of_percent(overlapping, operations.len()),
+        most_pending,
+        most_queued,
+    })
+}

@@ -1,0 +1,72 @@
+//! Writing statistics.
+ghost use Rattle.std.specs.Prelude.{◌≡◌, ◌+◌, ◌≤◌, ◌||◌, ◌++◌, OnOk, OnErr, codes, decimal, is_err, length, []};
+ghost use Rattle.std.specs.Io.KnownBytes.{Appends};
+ghost use Rattle.text_lines.specs.Writing.{AppendsFront, IsWritten, IsRefused};
+ghost use Rattle.history_stats.specs.Text.{decimal_of_tenths, statistic_line, statistics_text};
+
+use crate::statistics::Statistics;
+use text_lines::{Kept, TextSink, WriteFault, write_piece};
+
+/// Writes the lines of statistics, each a name, a space and a value. The writer isn't flushed.
+pub fn write_statistics<W: TextSink>(
+    statistics: &Statistics,
+    writer: &mut W,
+) -> Result<(), WriteFault>
+    ensures ok { OnOk result (Appends (W.contents writer.old) (W.contents writer.new) (statistics_text statistics.now)) }
+    ensures err { OnErr result (AppendsFront (W.contents writer.old) (W.contents writer.new) (statistics_text statistics.now)) }
+    ensures refused { W.has_refused writer.new ≡ (W.has_refused writer.old || is_err result) }
+    ensures written { OnOk result (IsWritten W.goes writer.old writer.new) }
+    ensures stopped { OnErr result (IsRefused W.goes writer.old writer.new) }
+{
+    let mut kept = Kept::new();
+    push_statistics(&mut kept, statistics);
+    write_piece(kept.as_slice(), writer)
+}
+
+/// All lines.
+fn push_statistics(kept: &mut Kept, statistics: &Statistics)
+    requires { kept.old ≡ [] }
+    ensures { kept.new ≡ statistics_text statistics.now }
+{
+    push_line(kept, b"events", statistics.events);
+    push_line(kept, b"operations", statistics.operations);
+    push_line(kept, b"threads", statistics.threads);
+    push_line(kept, b"enqueued", statistics.enqueued);
+    push_line(kept, b"refused", statistics.refused);
+    push_line(kept, b"dequeued", statistics.dequeued);
+    push_line(kept, b"empty", statistics.empty);
+    push_line(kept, b"initial", statistics.initial);
+    push_line(kept, b"thread-changes", statistics.thread_changes);
+    push_line(kept, b"overlapping", statistics.overlapping);
+    push_tenths_line(kept, b"overlapping-percent", statistics.overlapping_tenths);
+    push_line(kept, b"most-pending", statistics.most_pending);
+    push_line(kept, b"most-in-queue", statistics.most_queued);
+}
+
+/// The line of a number.
+fn push_line(kept: &mut Kept, name: &[u8], value: usize)
+    requires room { length kept.old + 64 ≤ 4096 }
+    requires short_name { length name.now ≤ 20 }
+    ensures line { kept.new ≡ kept.old ++ statistic_line name.now (decimal value) }
+    ensures short { length kept.new ≤ length kept.old + 64 }
+{
+    kept.push(name);
+    kept.push(b" ");
+    kept.push_number(value as u64);
+    kept.push(b"\n");
+}
+
+/// The line of a number of tenths.
+fn push_tenths_line(kept: &mut Kept, name: &[u8], tenths: usize)
+    requires room { length kept.old + 64 ≤ 4096 }
+    requires short_name { length name.now ≤ 20 }
+    ensures line { kept.new ≡ kept.old ++ statistic_line name.now (decimal_of_tenths tenths) }
+    ensures short { length kept.new ≤ length kept.old + 64 }
+{
+    kept.push(name);
+    kept.push(b" ");
+    kept.push_number((tenths / 10) as u64);
+    kept.push(b".");
+    kept.push_number((tenths % 10) as u64);
+    kept.push(b"\n");
+}
