@@ -131,6 +131,7 @@ def cases():
         Case(["verify"], violated + claim),
         Case(["draw"], violated + claim),
         Case(["draw", "--text"], violated + claim),
+        Case(["stats"], violated),
         Case(["sim"], example("full-ring.schedule")),
         Case(["stress", "--queue", "locked", "--threads", "3", "--ops", "20", "--ring", "2"], is_run=True),
         Case(["stress", "--queue", "seg", "--threads", "2", "--ops", "20"], is_run=True),

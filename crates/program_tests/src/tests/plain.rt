@@ -1,4 +1,4 @@
-//! A judged history and a run of a queue in this process, with ample memory.
+//! A judged history, a counted one and a run of a queue in this process, with ample memory.
 use super::answers;
 use commands::Shelved;
 use history_text::MemorySource;
@@ -9,6 +9,22 @@ const OVERTAKEN: &str =
     "fifo-history 1\n0 0 call-enq 7\n1 0 ret-enq\n2 0 call-enq 9\n3 0 ret-enq\n4 0 call-deq\n5 0 ret-deq 9\nend 6\n";
 
 const VERDICT: &str = "NO VOrd\n0 1 0 enq 7\n2 3 0 enq 9\n4 5 0 deq 9\n";
+
+/// Three operations of one thread, behind the second of which two values are in the queue.
+const STATISTICS: &str = "events 6
+operations 3
+threads 1
+enqueued 2
+refused 0
+dequeued 1
+empty 0
+initial 0
+thread-changes 0
+overlapping 0
+overlapping-percent 0.0
+most-pending 1
+most-in-queue 2
+";
 
 /// What is written of a run of one worker's two enqueues.
 const TWO_ENQUEUES: &str = "fifo-history 1
@@ -41,5 +57,12 @@ fn a_history_is_judged_and_a_queue_is_run(rt: HostRuntime) -> Result<(), Fail> {
     shelf.push(Shelved { name, queue })?;
     let nothing = MemorySource::new(b"");
     assert!(rt; answers(&rt, &ENQUEUING, nothing, &shelf, TWO_ENQUEUES, 0)?);
+    Ok(())
+}
+
+#[test]
+fn a_history_is_counted(rt: HostRuntime) -> Result<(), Fail> {
+    let source = MemorySource::new(OVERTAKEN.as_bytes());
+    assert!(rt; answers(&rt, &["fifobench", "stats"], source, &[], STATISTICS, 0)?);
     Ok(())
 }
