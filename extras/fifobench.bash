@@ -1,38 +1,55 @@
 # Completions of fifobench for bash. Source this file, or put it into the folder of bash-completion under the name fifobench.
 
+# Gives the words of the first argument that begin as the second does.
+_fifobench_words() {
+    mapfile -t COMPREPLY < <(compgen -W "$1" -- "$2")
+}
+
 _fifobench() {
-    local word=$2 before=$3 command=${COMP_WORDS[1]}
+    local word=$2 before=$3 command=${COMP_WORDS[1]} value=
+    local queues='locked two-lock array seg lifo doubling inventing shy losing'
     COMPREPLY=()
+    # Behind < and > stands a file, which bash itself completes; elsewhere none does.
+    case $before in
+        *[\<\>]) return ;;
+    esac
+    compopt +o default 2>/dev/null
+    # Where = parts words, --queue=NAME is three of them.
+    if [ "$before" = = ] && [ "$COMP_CWORD" -ge 2 ]; then
+        before=${COMP_WORDS[COMP_CWORD - 2]} value=1
+    elif [ "${COMP_WORDS[COMP_CWORD]}" = = ]; then
+        value=1
+    fi
     if [ "$COMP_CWORD" -eq 1 ]; then
-        mapfile -t COMPREPLY < <(compgen -W 'check shrink verify draw convert stats sim stress help -h --help -V --version' -- "$word")
+        _fifobench_words 'check shrink verify draw convert stats sim stress help -h --help -V --version' "$word"
         return
     fi
     case $command in
         help)
             if [ "$COMP_CWORD" -eq 2 ]; then
-                mapfile -t COMPREPLY < <(compgen -W 'check shrink verify draw convert stats sim stress help' -- "$word")
+                _fifobench_words 'check shrink verify draw convert stats sim stress help' "$word"
             fi
             ;;
         check | shrink | verify | convert | stats | sim)
-            mapfile -t COMPREPLY < <(compgen -W '-h --help' -- "$word")
+            _fifobench_words '-h --help' "$word"
             ;;
         draw)
-            mapfile -t COMPREPLY < <(compgen -W '--text -h --help' -- "$word")
+            _fifobench_words '--text -h --help' "$word"
             ;;
         stress)
             case $before in
-                --queue)
-                    mapfile -t COMPREPLY < <(compgen -W \
-                        'locked two-lock array seg lifo doubling inventing shy losing' -- "$word")
-                    ;;
+                --queue) _fifobench_words "$queues" "$word" ;;
                 --threads | --ops | --seed | --percent | --ring | --initial) ;;
                 *)
-                    mapfile -t COMPREPLY < <(compgen -W \
-                        '--queue --threads --ops --seed --percent --ring --initial -h --help' -- "$word")
+                    if [[ $word == --queue=* ]]; then
+                        _fifobench_words "--queue=${queues// / --queue=}" "$word"
+                    elif [ -z "$value" ]; then
+                        _fifobench_words '--queue --threads --ops --seed --percent --ring --initial -h --help' "$word"
+                    fi
                     ;;
             esac
             ;;
     esac
 }
 
-complete -F _fifobench fifobench
+complete -o bashdefault -o default -F _fifobench fifobench

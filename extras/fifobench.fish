@@ -14,8 +14,16 @@ complete -c fifobench -n __fish_use_subcommand -a stress -d 'Run threads on a bu
 complete -c fifobench -n __fish_use_subcommand -a help -d 'Print a help'
 complete -c fifobench -n '__fish_seen_subcommand_from help' -a 'check shrink verify draw convert stats sim stress help'
 complete -c fifobench -n '__fish_seen_subcommand_from draw' -l text -d 'Draw in lines of characters, and not as SVG'
-complete -c fifobench -n '__fish_seen_subcommand_from stress' -l queue -x -d 'Name of the queue' \
-    -a 'locked two-lock array seg lifo doubling inventing shy losing'
+complete -c fifobench -n '__fish_seen_subcommand_from stress' -l queue -x -d 'Name of the queue' -a "
+    locked\t'A list under one lock'
+    two-lock\t'An inbox and an outbox, each under a lock of its own'
+    array\t'ArrayQueue of crossbeam, with room for 1024 values'
+    seg\t'SegQueue of crossbeam'
+    lifo\t'Faulty: a dequeue takes the last value'
+    doubling\t'Faulty: a value is left in place when it is dequeued'
+    inventing\t'Faulty: a dequeue gives a value that was never in'
+    shy\t'Faulty: a dequeue answers empty without looking'
+    losing\t'Faulty: a value is taken and dropped'"
 complete -c fifobench -n '__fish_seen_subcommand_from stress' -l threads -x -d 'Workers, 1 to 32'
 complete -c fifobench -n '__fish_seen_subcommand_from stress' -l ops -x -d 'Operations of each worker, 0 to 100000'
 complete -c fifobench -n '__fish_seen_subcommand_from stress' -l seed -x -d 'Seed of the plan, 0 to 4294967295'

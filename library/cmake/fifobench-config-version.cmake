@@ -1,0 +1,25 @@
+# Before 1.0.0 a minor version may change calls, so a version serves those who ask for its own minor version, or an older patch
+# of it; from 1.0.0 on those who ask for its own major version. The libraries are for 64-bit programs.
+set(PACKAGE_VERSION "@VERSION@")
+string(REGEX MATCH "^([0-9]+)\\.([0-9]+)" _fifobench_minor "${PACKAGE_VERSION}")
+set(_fifobench_major "${CMAKE_MATCH_1}")
+set(PACKAGE_VERSION_COMPATIBLE FALSE)
+if(NOT PACKAGE_FIND_VERSION VERSION_GREATER PACKAGE_VERSION)
+  if(PACKAGE_FIND_VERSION_COUNT EQUAL 0)
+    set(PACKAGE_VERSION_COMPATIBLE TRUE)
+  elseif(NOT PACKAGE_FIND_VERSION_MAJOR EQUAL _fifobench_major)
+    set(PACKAGE_VERSION_COMPATIBLE FALSE)
+  elseif(_fifobench_major GREATER 0 OR PACKAGE_FIND_VERSION_COUNT EQUAL 1
+      OR "${PACKAGE_FIND_VERSION_MAJOR}.${PACKAGE_FIND_VERSION_MINOR}" STREQUAL _fifobench_minor)
+    set(PACKAGE_VERSION_COMPATIBLE TRUE)
+  endif()
+endif()
+# As CMake compares them: 0.1 asks for what 0.1.0 is.
+if(PACKAGE_FIND_VERSION VERSION_EQUAL PACKAGE_VERSION)
+  set(PACKAGE_VERSION_EXACT TRUE)
+endif()
+if(CMAKE_SIZEOF_VOID_P AND NOT CMAKE_SIZEOF_VOID_P EQUAL 8)
+  set(PACKAGE_VERSION_UNSUITABLE TRUE)
+endif()
+unset(_fifobench_minor)
+unset(_fifobench_major)
