@@ -4,9 +4,9 @@ use Rattle.history_merge.specs.declared.fault.HistoryFault.{HistoryFault}
 use Rattle.history_merge.specs.declared.fault.HistoryFault.TheVariants.{TicketOrder, BadThread, CallWhilePending, ReturnWithoutCall, WrongReturn}
 use Rattle.history_merge.specs.declared.fault.HistoryFault.TheVariants.{DuplicateValue, Pending, Memory, InitialTwice}
 use Rattle.history_merge.specs.declared.preloaded.HistoryParts.{HistoryParts}
-use Rattle.history_merge.specs.declared.preloaded.PreloadedBuilder.{PreloadedBuilder}
+use Rattle.history_merge.specs.declared.builder.HistoryBuilder.{HistoryBuilder}
 use Rattle.history_merge.specs.Faults.{IsFirstFaultFrom}
-use Rattle.history_merge.specs.Gathering.{HasGatheredFrom}
+use Rattle.history_merge.specs.Gathering.{HasGathered}
 use Rattle.history_merge.specs.Initial.{HistoryView, IsCompleteFrom}
 use Rattle.history_merge.specs.Operations.{operations_of}
 use Rattle.event_records.specs.declared.limits.TheConstants.{MAX_INITIAL}
@@ -66,14 +66,14 @@ gathered_has text parts has complete same =
     history_has (said_by text) parts.initial.items parts.operations.items same.0 same.1 complete (few_values text has) has.events.few
 
 -- and what was gathered of a history at all
-pub gathered_operations : (history : HistoryView) (builder : PreloadedBuilder) (parts : HistoryParts) → IsGathered history builder
+pub gathered_operations : (history : HistoryView) (builder : HistoryBuilder) (parts : HistoryParts) → IsGathered history builder
     → IsCompleteFrom history.initial history.events → (parts.initial.items ≡ history.initial) × (parts.operations.items ≡ operations_of history.events)
     → HasOperationsFrom parts.initial.items parts.operations.items
 gathered_operations history builder parts is complete same =
     history_has history parts.initial.items parts.operations.items same.0 same.1 complete is.few_initial is.few_events
 
 -- a text has no more values and events than a history may have
-pub gathered_of_text : (text : HistoryText) (builder : PreloadedBuilder) → HasText text → HasGatheredFrom text.initial text.events builder
+pub gathered_of_text : (text : HistoryText) (builder : HistoryBuilder) → HasText text → HasGathered text.initial text.events builder
     → IsGathered (said_by text) builder
 gathered_of_text text builder has gathered = record { gathered = gathered; few_initial = few_values text has; few_events = has.events.few }
 

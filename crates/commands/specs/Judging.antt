@@ -4,9 +4,9 @@ use Rattle.event_records.specs.declared.event.Event.{Event}
 use Rattle.history_merge.specs.declared.fault.HistoryFault.{HistoryFault}
 use Rattle.history_merge.specs.declared.fault.HistoryFault.TheVariants.{Memory}
 use Rattle.event_records.specs.declared.limits.TheConstants.{MAX_EVENTS, MAX_INITIAL}
-use Rattle.history_merge.specs.declared.preloaded.PreloadedBuilder.{PreloadedBuilder}
+use Rattle.history_merge.specs.declared.builder.HistoryBuilder.{HistoryBuilder}
 use Rattle.history_merge.specs.Faults.{IsFirstFaultFrom}
-use Rattle.history_merge.specs.Gathering.{HasGatheredFrom}
+use Rattle.history_merge.specs.Gathering.{HasGathered}
 use Rattle.history_merge.specs.Initial.{HistoryView, IsCompleteFrom}
 use Rattle.history_merge.specs.Complete.{IsCompleteHistory}
 use Rattle.history_merge.specs.Legal.{IsLinearizableFrom}
@@ -86,8 +86,8 @@ abbrev pub Judges : HistoryText → Reply → Type 0
 Judges text answer = JudgesHistory (said_by text) answer
 
 -- the initial values and the events of this history were gathered, and there are no more than a history may have
-pub record IsGathered (history : HistoryView) (builder : PreloadedBuilder) : Type 0 where
-  pub gathered : HasGatheredFrom history.initial history.events builder
+pub record IsGathered (history : HistoryView) (builder : HistoryBuilder) : Type 0 where
+  pub gathered : HasGathered history.initial history.events builder
   pub few_initial : length history.initial ≤ MAX_INITIAL
   pub few_events : length history.events ≤ MAX_EVENTS
 

@@ -1,6 +1,6 @@
 //! `check`: the verdict on a history.
 ghost use Rattle.std.specs.Prelude.{IfSome};
-ghost use Rattle.history_merge.specs.Gathering.{HasGatheredFrom};
+ghost use Rattle.history_merge.specs.Gathering.{HasGathered};
 ghost use Rattle.history_text.specs.declared.version.HistoryText.{HistoryText};
 ghost use Rattle.history_text.specs.Versions.{HasText};
 ghost use Rattle.commands.specs.Inputs.{IsHistoryOf, IsFaultOfHistoryInput};
@@ -9,7 +9,7 @@ ghost use Rattle.commands.specs.Outcomes.{answer_of, NamesPlaces};
 
 use crate::input::gathered_of;
 use crate::outcome::{Found, Outcome};
-use history_merge::PreloadedBuilder;
+use history_merge::HistoryBuilder;
 use history_text::TextSource;
 use std::alloc::Global;
 use std::thread::Threads;
@@ -31,9 +31,9 @@ where
 }
 
 /// What `check` finds in the history that a history in the making was given.
-fn judge<R: Threads + Sync>(rt: &R, alloc: Global, builder: PreloadedBuilder) -> Outcome
-    requires { (text : HistoryText) × HasGatheredFrom text.initial text.events builder × HasText text }
-    ensures found { (text : HistoryText) → HasText text → HasGatheredFrom text.initial text.events builder → AnswersOrNoMemory Judges text (answer_of result) }
+fn judge<R: Threads + Sync>(rt: &R, alloc: Global, builder: HistoryBuilder) -> Outcome
+    requires { (text : HistoryText) × HasGathered text.initial text.events builder × HasText text }
+    ensures found { (text : HistoryText) → HasText text → HasGathered text.initial text.events builder → AnswersOrNoMemory Judges text (answer_of result) }
     ensures places { NamesPlaces result }
 {
     let parts = builder.finish()?;

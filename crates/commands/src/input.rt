@@ -1,6 +1,6 @@
 //! What a command reads.
 ghost use Rattle.std.specs.Prelude.{◌≡◌, IfOk, IfErr, IfSome};
-ghost use Rattle.history_merge.specs.Gathering.{HasGatheredFrom};
+ghost use Rattle.history_merge.specs.Gathering.{HasGathered};
 ghost use Rattle.history_text.specs.declared.version.HistoryText.{HistoryText};
 ghost use Rattle.history_merge.specs.Initial.{IsCompleteFrom};
 ghost use Rattle.history_text.specs.Versions.{HasText, said_in};
@@ -11,7 +11,7 @@ ghost use Rattle.commands.specs.Judging.{IsFaulty, AnswersFor, AnswersOrNoMemory
 ghost use Rattle.commands.specs.Outcomes.{answer_of_fault};
 
 use crate::outcome::Fault;
-use history_merge::{History, PreloadedBuilder, history_from};
+use history_merge::{History, HistoryBuilder, history_from};
 use history_text::{
     HistoryText, Schedule, TextFault, TextReader, TextSource, Version, at_end, gather_any,
     is_at_end, read_any, read_schedule, read_verdict,
@@ -34,8 +34,8 @@ fn text_of<S: TextSource + Drop>(alloc: Global, reader: S) -> Result<HistoryText
 pub fn gathered_of<S: TextSource + Drop>(
     alloc: Global,
     reader: S,
-) -> Result<PreloadedBuilder, TextFault>
-    ensures text { IfOk result (λ builder. (text : HistoryText) × HasGatheredFrom text.initial text.events builder × HasText text
+) -> Result<HistoryBuilder, TextFault>
+    ensures text { IfOk result (λ builder. (text : HistoryText) × HasGathered text.initial text.events builder × HasText text
         × IfSome (S.ahead reader) (λ input. IsHistoryOf input text)) }
     ensures fault { IfErr result (λ fault. IfSome (S.ahead reader) (λ input. IsFaultOfHistoryInput input fault)) }
 {

@@ -13,7 +13,7 @@ use crate::outcome::{Found, Outcome};
 use crate::print::write_outcome;
 use crate::shrink::shrink;
 use crate::verify::verify;
-use history_merge::PreloadedBuilder;
+use history_merge::HistoryBuilder;
 use history_text::{MemorySource, Watched};
 use std::alloc::{AllocError, Global};
 use verdicts::decide_from;
@@ -44,7 +44,7 @@ pub fn verify_text(alloc: Global, text: &[u8]) -> Outcome
 }
 
 /// What `check` finds in the history that a history in the making was given.
-pub fn judge_gathered(alloc: Global, builder: PreloadedBuilder) -> Outcome
+pub fn judge_gathered(alloc: Global, builder: HistoryBuilder) -> Outcome
     requires { (history : HistoryView) × IsGathered history builder }
     ensures found { (history : HistoryView) → IsGathered history builder → AnswersOrNoMemory JudgesHistory history (answer_of result) }
     ensures places { NamesPlaces result }

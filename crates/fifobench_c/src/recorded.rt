@@ -1,11 +1,11 @@
 //! Events as plain structs, and the events that they are.
 ghost use Rattle.std.specs.Prelude.{◌≡◌, ◌≤◌, List, [], IfErr, IfOk, length};
 ghost use Rattle.event_records.specs.declared.event.Event.{Event};
-ghost use Rattle.history_merge.specs.Gathering.{HasGatheredFrom};
+ghost use Rattle.history_merge.specs.Gathering.{HasGathered};
 ghost use Rattle.fifobench_c.specs.Recorded.{what_of, event_of, AreEvents, IsFirstUnknown};
 
 use event_records::{Event, MAX_EVENTS, What};
-use history_merge::PreloadedBuilder;
+use history_merge::HistoryBuilder;
 use std::alloc::Global;
 
 /// An enqueue of the value was called.
@@ -71,12 +71,12 @@ fn what_in(kind: u32, value: u64) -> Option<What>
 }
 
 /// A history in the making of these events, of a queue that is empty first; or the place of the first whose kind isn't known.
-pub fn gathered(alloc: Global, structs: &[RecordedEvent]) -> Result<PreloadedBuilder, usize>
+pub fn gathered(alloc: Global, structs: &[RecordedEvent]) -> Result<HistoryBuilder, usize>
     requires { length structs.now ≤ MAX_EVENTS }
-    ensures events { IfOk result (λ builder. (events : List Event) × AreEvents structs.now events × HasGatheredFrom [] events builder) }
+    ensures events { IfOk result (λ builder. (events : List Event) × AreEvents structs.now events × HasGathered [] events builder) }
     ensures unknown { IfErr result (IsFirstUnknown structs.now) }
 {
-    let mut builder = PreloadedBuilder::new(alloc, Vec::new(alloc));
+    let mut builder = HistoryBuilder::new(alloc, Vec::new(alloc));
     for (place, event) in structs.iter().enumerate() {
         match event.event() {
             Some(event) => builder.add(event),

@@ -1,6 +1,7 @@
 -- The way of the argument, from one thread's events to complete histories and their operations:
 -- Turns: calls and returns of one thread, event by event.
 -- Tracking, KnownValues, Gathered: what a walk over events keeps (pending calls, called values, operations), and one more event.
+-- TheirEvents: the operations and the places of those that returned tell the events.
 -- NextEvents: the same walk from the last event to the first.
 -- Completeness, Distinct: what the operations of a complete history have in common, and what tells them apart.
 -- FirstFaults, ExactFaults: a list of events is a complete history exactly where it has no fault. FaultKinds: the kinds of faults.
@@ -12,6 +13,7 @@
 -- Runs, Places: what a run of the sequential queue enqueued and dequeued, and where.
 -- DistinctValues: values that no two calls share.
 pub mod Gathered
+pub mod TheirEvents
 pub mod KnownValues
 pub mod MetFaults
 pub mod Formed

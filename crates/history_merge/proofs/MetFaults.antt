@@ -8,9 +8,9 @@ use Rattle.std.proofs.lemmas.List.{take-append-le}
 use Rattle.std.proofs.lemmas.Option.{slice_get_within}
 use Rattle.event_records.specs.declared.event.Event.{Event}
 use Rattle.history_merge.specs.declared.fault.HistoryFault.{HistoryFault}
-use Rattle.history_merge.specs.declared.builder.HistoryBuilder.{HistoryBuilder}
+use Rattle.history_merge.specs.declared.gathering.OperationsBuilder.{OperationsBuilder}
 use Rattle.history_merge.specs.Faults.{fault_at, NoFaultBefore, IsFirstFault}
-use Rattle.history_merge.specs.Gathering.{HasGathered, HasMetFault, IsForming}
+use Rattle.history_merge.specs.Gathering.{HasGatheredEvents, HasMetFault, IsForming}
 use Rattle.history_merge.specs.Complete.{IsCompleteHistory}
 use Rattle.history_merge.specs.declared.fault.HistoryFault.TheVariants.{Memory, Pending}
 use Rattle.history_merge.specs.Faults.{IsLeastPending}
@@ -69,8 +69,8 @@ met_fault_is_first events fault (inl memory) = subst (IsFirstFault events) (sym 
 met_fault_is_first events fault (inr (i, (none, (e, here, found)))) = first_fault_at events i e fault none here found
 
 -- after a fault was met, events are passed over
-pub gathered_after_fault : (events : List Event) (e : Event) (builder : HistoryBuilder) → true ≡ is_some builder.fault → HasGathered events builder
-    → HasGathered (events ++ e ∷ []) builder
+pub gathered_after_fault : (events : List Event) (e : Event) (builder : OperationsBuilder) → true ≡ is_some builder.fault → HasGatheredEvents events builder
+    → HasGatheredEvents (events ++ e ∷ []) builder
 gathered_after_fault events e builder some gathered = join builder.fault some gathered
   where
     join : (fault : Option HistoryFault) → true ≡ is_some fault → MatchOption fault (IsForming events builder) (HasMetFault events)
@@ -79,7 +79,7 @@ gathered_after_fault events e builder some gathered = join builder.fault some ga
     join (Some fault) h known = met_fault-append events (e ∷ []) fault known
 
 -- while none was met, the events have none
-pub none_met : (events : List Event) (builder : HistoryBuilder) → false ≡ is_some builder.fault → HasGathered events builder → IsForming events builder
+pub none_met : (events : List Event) (builder : OperationsBuilder) → false ≡ is_some builder.fault → HasGatheredEvents events builder → IsForming events builder
 none_met events builder none gathered = join builder.fault none gathered
   where
     join : (fault : Option HistoryFault) → false ≡ is_some fault → MatchOption fault (IsForming events builder) (HasMetFault events) → IsForming events builder
@@ -87,8 +87,8 @@ none_met events builder none gathered = join builder.fault none gathered
     join (Some fault) h known = cc
 
 -- events without a fault so far were gathered
-pub gathered_without_fault : (events : List Event) (builder : HistoryBuilder) → false ≡ is_some builder.fault → IsForming events builder
-    → HasGathered events builder
+pub gathered_without_fault : (events : List Event) (builder : OperationsBuilder) → false ≡ is_some builder.fault → IsForming events builder
+    → HasGatheredEvents events builder
 gathered_without_fault events builder none known = join builder.fault none
   where
     join : (fault : Option HistoryFault) → false ≡ is_some fault → MatchOption fault (IsForming events builder) (HasMetFault events)
@@ -96,18 +96,18 @@ gathered_without_fault events builder none known = join builder.fault none
     join (Some fault) h = cc
 
 -- where no fault is kept, the events have none so far
-pub still_forming : (events : List Event) (builder : HistoryBuilder) → builder.fault ≡ None → HasGathered events builder → IsForming events builder
+pub still_forming : (events : List Event) (builder : OperationsBuilder) → builder.fault ≡ None → HasGatheredEvents events builder → IsForming events builder
 still_forming events builder none gathered = subst (λ fault. MatchOption fault (IsForming events builder) (HasMetFault events)) none gathered
 
 -- a fault that is kept was met
-pub kept_is_met : (events : List Event) (builder : HistoryBuilder) (fault : HistoryFault) → builder.fault ≡ Some fault → HasGathered events builder
+pub kept_is_met : (events : List Event) (builder : OperationsBuilder) (fault : HistoryFault) → builder.fault ≡ Some fault → HasGatheredEvents events builder
     → HasMetFault events fault
 kept_is_met events builder fault kept gathered = subst (λ kept. MatchOption kept (IsForming events builder) (HasMetFault events)) kept gathered
 
 -- a call that is left pending where no fault is kept: then the history isn't complete
-pub left_pending : (builder : HistoryBuilder) (ticket : ℕ) (events : List Event) → builder.fault ≡ None
+pub left_pending : (builder : OperationsBuilder) (ticket : ℕ) (events : List Event) → builder.fault ≡ None
     → ((before : List Event) → HasTracked before builder.progress → IsLeastPending before ticket)
-    → HasGathered events builder → IsCompleteHistory events → Pending ticket ≡ Memory
+    → HasGatheredEvents events builder → IsCompleteHistory events → Pending ticket ≡ Memory
 left_pending builder ticket events none least gathered complete =
     let known = still_forming events builder none gathered in
     complete_has_no_fault events (Pending ticket) (known.no_fault, least events known.tracked) complete

@@ -4,18 +4,19 @@ use Rattle.std.specs.Prelude.{option_map, slice_get, slice_index_or, Option, Som
 use Rattle.std.specs.Ordering.{nat_cmp}
 use Rattle.std.specs.BTreeSet.{contains}
 use Rattle.event_records.specs.declared.event.Event.{Event}
-use Rattle.event_records.specs.declared.limits.TheConstants.{MAX_THREAD, MAX_THREADS, NAMES_OF_A_THREAD}
+use Rattle.event_records.specs.declared.limits.TheConstants.{MAX_EVENTS, MAX_INITIAL, MAX_THREAD, MAX_THREADS, NAMES_OF_A_THREAD}
 use Rattle.history_merge.specs.declared.fault.HistoryFault.{HistoryFault}
 use Rattle.history_merge.specs.declared.fault.HistoryFault.TheVariants.{Memory, InitialTwice}
 use Rattle.history_merge.specs.declared.called.CalledValues.{CalledValues}
 use Rattle.history_merge.specs.declared.forming.Forming.{Forming}
-use Rattle.history_merge.specs.declared.builder.HistoryBuilder.{HistoryBuilder}
+use Rattle.history_merge.specs.declared.gathering.OperationsBuilder.{OperationsBuilder}
 use Rattle.history_merge.specs.declared.initial_values.InitialValues.{InitialValues}
 use Rattle.history_merge.specs.declared.initial_values.InitialCalls.{InitialCalls}
-use Rattle.history_merge.specs.declared.preloaded.PreloadedBuilder.{PreloadedBuilder}
+use Rattle.history_merge.specs.declared.builder.HistoryBuilder.{HistoryBuilder}
 use Rattle.history_merge.specs.Complete.{AreDistinct}
 use Rattle.history_merge.specs.Faults.{was_called, pending_call, NoFaultBefore, IsFirstFaultAt, calls_initial, is_initial, IsFirstTwice}
 use Rattle.history_merge.specs.Forming.{operations_so_far, waiting}
+use Rattle.history_merge.specs.Inner.Forming.{AreReturned}
 use Rattle.history_merge.specs.Progress.{HasTracked}
 
 -- the thread, of all that there may be, in the upper half of a value's bits
@@ -28,15 +29,16 @@ pub record KnowsCalled (events : List Event) (values : CalledValues) : Type 0 wh
   pub known : MatchOption values.others ((v : ℕ) → was_called events v ≡ true → v < slice_index_or values.least (name_in v) 0)
       (λ others. (v : ℕ) → contains nat_cmp others v ≡ was_called events v)
 
--- the operations of the events are there, and the place of each call that waits for its return
+-- the operations of the events are there, the places of those that returned, and that of each call that waits for its return
 pub record HasFormed (events : List Event) (forming : Forming) : Type 0 where
-  pub operations : forming.operations.items ≡ operations_so_far events
+  pub operations : forming.formed.operations.items ≡ operations_so_far events
+  pub returned : AreReturned events forming.formed.operations.items forming.formed.by_return.items
   pub one_per_thread : length forming.places ≡ MAX_THREAD + 1
   pub waits : (thread : ℕ) → option_map (λ found. found.1) (waiting thread events) ≡ pending_call thread events
   pub places : (thread : ℕ) → thread ≤ MAX_THREAD → MatchOption (waiting thread events) ⊤ (λ found. slice_index_or forming.places thread 0 ≡ found.0)
 
 -- the events have no fault so far, and all that a next event is judged by is there
-pub record IsForming (events : List Event) (builder : HistoryBuilder) : Type 0 where
+pub record IsForming (events : List Event) (builder : OperationsBuilder) : Type 0 where
   pub tracked : HasTracked events builder.progress
   pub called : KnowsCalled events builder.called
   pub formed : HasFormed events builder.forming
@@ -48,8 +50,8 @@ abbrev pub HasMetFault : List Event → HistoryFault → Type 0
 HasMetFault events fault = (fault ≡ Memory) ⊎ ((i : ℕ) × IsFirstFaultAt events i fault)
 
 -- these events were added, one after another
-abbrev pub HasGathered : List Event → HistoryBuilder → Type 0
-HasGathered events builder = MatchOption builder.fault (IsForming events builder) (HasMetFault events)
+abbrev pub HasGatheredEvents : List Event → OperationsBuilder → Type 0
+HasGatheredEvents events builder = MatchOption builder.fault (IsForming events builder) (HasMetFault events)
 
 -- ---- of a queue that holds some values first
 
@@ -86,7 +88,9 @@ AreJudged initial events judged =
     MatchResult judged (λ calls. AreDistinct initial × MatchOption calls (initial ≡ []) (HasWatched initial events)) (HasRefusedInitial initial)
 
 -- the builder started with these initial values, and these events were added, one after another
-pub record HasGatheredFrom (initial : List ℕ) (events : List Event) (builder : PreloadedBuilder) : Type 0 where
+pub record HasGathered (initial : List ℕ) (events : List Event) (builder : HistoryBuilder) : Type 0 where
+  pub few_initial : length initial ≤ MAX_INITIAL
+  pub few_events : length events ≤ MAX_EVENTS
   pub started : builder.initial.items ≡ initial
   pub judged : AreJudged initial events builder.calls
-  pub gathered : HasGathered events builder.events
+  pub gathered : HasGatheredEvents events builder.events

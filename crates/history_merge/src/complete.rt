@@ -1,11 +1,15 @@
-ghost use Rattle.std.specs.Prelude.{◌≡◌, ◌≤◌, length};
+ghost use Rattle.std.specs.Prelude.{◌≡◌, ◌≤◌, List, length};
+ghost use Rattle.event_records.specs.declared.event.Event.{Event};
 ghost use Rattle.event_records.specs.declared.limits.TheConstants.{MAX_EVENTS, MAX_INITIAL};
 ghost use Rattle.history_merge.specs.Complete.{IsCompleteHistory};
 ghost use Rattle.history_merge.specs.Initial.{IsCompleteFrom};
+ghost use Rattle.history_merge.specs.Inner.Forming.{IsFormedOf};
 ghost use Rattle.history_merge.specs.Operations.{operations_of};
 
+use crate::events::Events;
+use crate::forming::Formed;
 use crate::operation::Operation;
-use event_records::{Event, MAX_EVENTS, MAX_INITIAL};
+use event_records::{MAX_EVENTS, MAX_INITIAL};
 use std::marker::Model;
 
 /// A complete history of distinct values (Herlihy and Wing 1990, section 2.1), seen as what its queue holds first and the list
@@ -13,41 +17,34 @@ use std::marker::Model;
 ///
 /// Each value of this type is one: tickets rise, each thread's calls and returns take turns, no call is without return, no two
 /// calls enqueue one value, and the initial values are distinct and enqueued by no call.
+///
+/// It keeps the initial values and the operations, which tell the events: some six words for each operation.
 #[derive(Debug, Drop)]
 pub struct History {
     initial: Vec<u64>,
-    events: Vec<Event>,
-    operations: Vec<Operation>,
+    formed: Formed,
 }
 
 impl Model for History {
-    ghost use Rattle.std.specs.Prelude.{◌≡◌, ◌≤◌, length};
-    ghost use Rattle.event_records.specs.declared.limits.TheConstants.{MAX_EVENTS, MAX_INITIAL};
-    ghost use Rattle.history_merge.specs.Initial.{HistoryView, IsCompleteFrom};
-    ghost use Rattle.history_merge.specs.Operations.{operations_of};
+    ghost use Rattle.history_merge.specs.Initial.{HistoryView};
+    ghost use Rattle.history_merge.specs.Inner.History.{IsKept, events_in};
 
     ghost Value = { HistoryView };
 
-    ghost view = { λ a. record { initial = a.initial.items; events = a.events.items } };
+    ghost view = { λ a. record { initial = a.initial.items; events = events_in a.formed } };
 
-    ghost invariant = { λ a. IsCompleteFrom a.initial.items a.events.items × (a.operations.items ≡ operations_of a.events.items)
-        × (length a.events.items ≤ MAX_EVENTS) × (length a.initial.items ≤ MAX_INITIAL) };
+    ghost invariant = { λ a. IsKept a.initial.items a.formed };
 }
 
 impl History {
-    /// The history of these events behind these initial values, with its operations.
-    pub(crate) fn new(initial: Vec<u64>, events: Vec<Event>, operations: Vec<Operation>) -> History
-        requires complete { IsCompleteFrom initial.items events.items }
-        requires operations { operations.items ≡ operations_of events.items }
-        requires few_events { length events.items ≤ MAX_EVENTS }
+    /// The history of these initial values and the events whose operations were formed.
+    pub(crate) fn new(initial: Vec<u64>, formed: Formed) -> History
+        requires formed { (events : List Event) × IsFormedOf events formed × IsCompleteFrom initial.items events × (length events ≤ MAX_EVENTS) }
         requires few_initial { length initial.items ≤ MAX_INITIAL }
-        ensures { result ≡ record { initial = initial.items; events = events.items } }
+        ensures initial { result.initial ≡ initial.items }
+        ensures events { (events : List Event) → IsFormedOf events formed → result.events ≡ events }
     {
-        History {
-            initial,
-            events,
-            operations,
-        }
+        History { initial, formed }
     }
 
     /// The values that the queue holds before the first event, front first.
@@ -59,14 +56,17 @@ impl History {
         self.initial.as_slice()
     }
 
-    /// The events, by rising ticket.
-    pub fn events(&self) -> &[Event]
-        ensures events { result.now ≡ self.now.events }
+    /// The events, by rising ticket, put together from the operations. It takes no memory.
+    pub fn events(&self) -> Events<'_>
+        ensures events { result ≡ self.now.events }
         ensures complete { IsCompleteHistory self.now.events }
         ensures from { IsCompleteFrom self.now.initial self.now.events }
         ensures few { length self.now.events ≤ MAX_EVENTS }
     {
-        self.events.as_slice()
+        Events::new(
+            self.formed.operations.as_slice(),
+            self.formed.by_return.as_slice(),
+        )
     }
 
     /// The operations, in the order of their calls. The place of one in this list is its [`crate::OpId`].
@@ -77,21 +77,6 @@ impl History {
         ensures few { length result.now ≤ MAX_EVENTS }
         ensures few_events { length self.now.events ≤ MAX_EVENTS }
     {
-        self.operations.as_slice()
-    }
-
-    /// The operations alone, in the order of their calls. The memory of the events is given back.
-    pub fn into_operations(self) -> Vec<Operation>
-        ensures operations { result.items ≡ operations_of self.events }
-        ensures complete { IsCompleteHistory self.events }
-        ensures from { IsCompleteFrom self.initial self.events }
-        ensures few { length result.items ≤ MAX_EVENTS }
-    {
-        let History {
-            initial: _initial,
-            events: _events,
-            operations,
-        } = self;
-        operations
+        self.formed.operations.as_slice()
     }
 }

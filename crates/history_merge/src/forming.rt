@@ -5,7 +5,7 @@ ghost use Rattle.event_records.specs.Turns.{is_call};
 ghost use Rattle.history_merge.specs.Faults.{pending_call};
 ghost use Rattle.history_merge.specs.Forming as judged;
 ghost use Rattle.history_merge.specs.Forming.{operations_so_far};
-ghost use Rattle.history_merge.specs.Inner.Forming.{FitsTurn};
+ghost use Rattle.history_merge.specs.Inner.Forming.{AreReturned, Follows};
 ghost use Rattle.history_merge.specs.Gathering.{HasFormed};
 
 use crate::matching::is_call;
@@ -13,11 +13,18 @@ use crate::operation::{OpKind, Operation};
 use event_records::{Event, MAX_THREAD, MAX_THREADS, What};
 use std::alloc::{AllocError, Global};
 
-/// The operations of the events so far, by call; and where that of each thread's last call stands.
+/// Operations by call, and the places of those that returned, by return.
+#[derive(Debug, Drop)]
+pub struct Formed {
+    pub operations: Vec<Operation>,
+    pub by_return: Vec<u32>,
+}
+
+/// The operations of the events so far, and where that of each thread's last call stands.
 #[derive(Drop)]
 pub struct Forming {
-    operations: Vec<Operation>,
-    places: [usize; MAX_THREADS],
+    formed: Formed,
+    places: [u32; MAX_THREADS],
 }
 
 impl Forming {
@@ -25,7 +32,10 @@ impl Forming {
         ensures { HasFormed [] result }
     {
         Forming {
-            operations: Vec::new(alloc),
+            formed: Formed {
+                operations: Vec::new(alloc),
+                by_return: Vec::new(alloc),
+            },
             places: [0; MAX_THREADS],
         }
     }
@@ -34,31 +44,31 @@ impl Forming {
     pub fn operations(&self) -> &[Operation]
         ensures { (events : List Event) → HasFormed events self.now → result.now ≡ operations_so_far events }
     {
-        self.operations.as_slice()
+        self.formed.operations.as_slice()
     }
 
-    pub fn into_operations(self) -> Vec<Operation>
-        ensures { (events : List Event) → HasFormed events self → result.items ≡ operations_so_far events }
+    pub fn into_formed(self) -> Formed
+        ensures operations { (events : List Event) → HasFormed events self → result.operations.items ≡ operations_so_far events }
+        ensures returned { (events : List Event) → HasFormed events self → AreReturned events result.operations.items result.by_return.items }
     {
         let Forming {
-            operations,
+            formed,
             places: _places,
         } = self;
-        operations
+        formed
     }
 
     /// Goes on past an event that may come next in its thread.
     #[inline(always)]
     pub fn add(&mut self, event: Event) -> Result<(), AllocError>
         requires { event.thread ≤ MAX_THREAD }
-        ensures { (events : List Event) → FitsTurn (pending_call event.thread events) event → HasFormed events self.old
+        ensures { (events : List Event) → Follows events event → HasFormed events self.old
             → IfOk result (λ _. HasFormed (events ++ event ∷ []) self.new) }
     {
         if is_call(event.what) {
             self.call(event)
         } else {
-            self.answer(event);
-            Ok(())
+            self.answer(event)
         }
     }
 
@@ -69,8 +79,11 @@ impl Forming {
         ensures { (events : List Event) → is_call event.what ≡ true → pending_call event.thread events ≡ None → HasFormed events self.old
             → IfOk result (λ _. HasFormed (events ++ event ∷ []) self.new) }
     {
-        let place = self.operations.len();
-        self.operations.push(Operation {
+        // More operations than a place can name have no memory.
+        let Ok(place) = u32::try_from(self.formed.operations.len()) else {
+            return Err(AllocError);
+        };
+        self.formed.operations.push(Operation {
             call: event.ticket,
             ret: 0,
             thread: event.thread,
@@ -82,22 +95,24 @@ impl Forming {
 
     /// Goes on past the return of its thread's pending call.
     #[inline(always)]
-    fn answer(&mut self, event: Event)
+    fn answer(&mut self, event: Event) -> Result<(), AllocError>
         requires { event.thread ≤ MAX_THREAD }
         ensures { (events : List Event) (call : Event) → is_call event.what ≡ false → pending_call event.thread events ≡ Some call
-            → HasFormed events self.old → HasFormed (events ++ event ∷ []) self.new }
+            → Follows events event → HasFormed events self.old → IfOk result (λ _. HasFormed (events ++ event ∷ []) self.new) }
     {
         let place = self.places[usize::from(event.thread)];
-        if place >= self.operations.len() {
-            return;
+        if place as usize >= self.formed.operations.len() {
+            return Ok(());
         }
-        let pending = self.operations[place];
-        self.operations[place] = Operation {
+        self.formed.by_return.push(place)?;
+        let pending = self.formed.operations[place as usize];
+        self.formed.operations[place as usize] = Operation {
             call: pending.call,
             ret: event.ticket,
             thread: pending.thread,
             kind: answered(pending.kind, event.what),
         };
+        Ok(())
     }
 }
 

@@ -1,5 +1,6 @@
 ghost use Rattle.std.specs.Prelude.{◌≡◌};
 
+use event_records::{Event, What};
 use std::marker::Model;
 
 /// What an operation did.
@@ -16,6 +17,7 @@ pub enum OpKind {
 }
 
 impl OpKind {
+    ghost use Rattle.history_merge.specs.Events.{answered_by, called_by};
     ghost use Rattle.history_merge.specs.Operations.{enqueued_value};
 
     /// The value that the operation called to enqueue, taken or not.
@@ -26,6 +28,30 @@ impl OpKind {
         match self {
             OpKind::Enq(value) | OpKind::Not(value) => Some(value),
             OpKind::Deq(_) | OpKind::Empty => None,
+        }
+    }
+
+    /// What was called.
+    #[inline(always)]
+    pub fn called(self) -> What
+        ensures { result ≡ called_by self }
+    {
+        match self {
+            OpKind::Enq(value) | OpKind::Not(value) => What::CallEnq(value),
+            OpKind::Deq(_) | OpKind::Empty => What::CallDeq,
+        }
+    }
+
+    /// What was answered.
+    #[inline(always)]
+    pub fn answered(self) -> What
+        ensures { result ≡ answered_by self }
+    {
+        match self {
+            OpKind::Enq(_) => What::RetEnq,
+            OpKind::Not(_) => What::RetNot,
+            OpKind::Deq(value) => What::RetDeq(value),
+            OpKind::Empty => What::RetEmpty,
         }
     }
 }
@@ -43,6 +69,34 @@ pub struct Operation {
     pub thread: u8,
     /// What was called and answered.
     pub kind: OpKind,
+}
+
+impl Operation {
+    ghost use Rattle.history_merge.specs.Events.{call_event, return_event};
+
+    /// The event of its call.
+    #[inline(always)]
+    pub fn call_event(&self) -> Event
+        ensures { result ≡ call_event self.now }
+    {
+        Event {
+            ticket: self.call,
+            thread: self.thread,
+            what: self.kind.called(),
+        }
+    }
+
+    /// The event of its return.
+    #[inline(always)]
+    pub fn return_event(&self) -> Event
+        ensures { result ≡ return_event self.now }
+    {
+        Event {
+            ticket: self.ret,
+            thread: self.thread,
+            what: self.kind.answered(),
+        }
+    }
 }
 
 /// The place of an operation in the list of a history's operations, from 0, seen as that number.

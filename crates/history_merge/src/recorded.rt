@@ -1,4 +1,4 @@
-ghost use Rattle.std.specs.Prelude.{◌≡◌, ◌≤◌, List, [], IfOk, flat_map, length, vec_len};
+ghost use Rattle.std.specs.Prelude.{◌≡◌, ◌≤◌, List, [], IfOk, flat_map, length};
 ghost use Rattle.event_records.specs.declared.event.Event.{Event};
 ghost use Rattle.event_records.specs.declared.limits.TheConstants.{MAX_INITIAL};
 ghost use Rattle.history_merge.specs.Complete.{IsCompleteHistory};
@@ -23,7 +23,8 @@ pub fn merged_history(alloc: Global, lists: &Lists) -> Result<History, AllocErro
     ensures merged { IfOk result (λ whole. IsMerged lists.now whole.events) }
     ensures complete { IfOk result (λ whole. IsCompleteHistory whole.events) }
 {
-    complete_history(alloc, merge(alloc, lists)?)
+    let events = merge(alloc, lists)?;
+    complete_history(alloc, events.as_slice())
 }
 
 /// The same of a queue that holds these values first, its front first. `AllocError` comes only where a growth was refused.
@@ -38,17 +39,17 @@ pub fn merged_from(alloc: Global, initial: &[u64], lists: &Lists) -> Result<Hist
     let events = merge(alloc, lists)?;
     let initial = Vec::from_slice(alloc, initial)?;
     // A complete history is refused for want of memory alone.
-    history_from(alloc, initial, events).map_err(|_| AllocError)
+    history_from(alloc, initial, events.as_slice()).map_err(|_| AllocError)
 }
 
 /// The history of events that are known to be those of a complete one, of a queue that is empty first.
 ///
 /// Time and memory are those of [`history`]. `AllocError` comes only where a growth was refused.
-pub fn complete_history(alloc: Global, events: Vec<Event>) -> Result<History, AllocError>
-    requires few { vec_len events ≤ MAX_EVENTS }
-    requires complete { IsCompleteHistory events.items }
+pub fn complete_history(alloc: Global, events: &[Event]) -> Result<History, AllocError>
+    requires few { length events.now ≤ MAX_EVENTS }
+    requires complete { IsCompleteHistory events.now }
     ensures initial { IfOk result (λ whole. whole.initial ≡ []) }
-    ensures events { IfOk result (λ whole. whole.events ≡ events.items) }
+    ensures events { IfOk result (λ whole. whole.events ≡ events.now) }
     ensures complete { IfOk result (λ whole. IsCompleteHistory whole.events) }
 {
     match history(alloc, events) {

@@ -93,12 +93,3 @@ event_format = record { fields = event_fields; HasLine = HasEventLine; most = MA
 -- which lists of events have a text
 abbrev pub HasHistoryText : List Event → Type 0
 HasHistoryText events = HaveLines event_format events
-
--- the first line isn't right, or some events are each in their line, and the line after them has this fault
-abbrev pub IsHistoryTextFault : ℕ → Ending → List ℕ → TextFault → Type 0
-IsHistoryTextFault lines ending bytes fault =
-    (header_fault header ending (front_of bytes) ≡ Some fault) ⊎ After (line header) (ItemFault event_format (lines + 2) ending fault) bytes
-
--- the first line is right, and some events are each in their line; there was no room to keep the last
-abbrev pub NoRoomFor : List ℕ → Type 0
-NoRoomFor bytes = After (line header) (NoRoom event_format) bytes

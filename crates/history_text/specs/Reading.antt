@@ -4,7 +4,6 @@ use Rattle.text_lines.specs.declared.fault.TextFault.{TextFault}
 use Rattle.text_lines.specs.declared.fault.TextFault.TheVariants.{Read, Trailing}
 use Rattle.text_lines.specs.Faults.{MemoryOr}
 use Rattle.text_lines.specs.Input.{Ahead, Ending, EndOfInput, Failure, IsOver}
-use Rattle.history_text.specs.Histories.{IsHistoryTextFault, NoRoomFor}
 use Rattle.history_text.specs.Versions.{IsTextFault, NoRoomForText}
 use Rattle.history_text.specs.Schedules.{IsScheduleTextFault, NoRoomForSchedule}
 use Rattle.history_text.specs.Claims.{IsVerdictTextFault, NoRoomForVerdict}
@@ -25,10 +24,6 @@ abbrev pub HasFirstFault : (Ending → List ℕ → TextFault → Type 0) → (L
 HasFirstFault IsFault LacksRoom left fault = IfSome left (λ a. MemoryOr (LacksRoom a.bytes) (IsFault a.ending a.bytes) fault)
 
 -- the first fault of a history's text
-abbrev pub HasHistoryTextFault : ℕ → Option Ahead → TextFault → Type 0
-HasHistoryTextFault lines left fault = HasFirstFault (IsHistoryTextFault lines) NoRoomFor left fault
-
--- the first fault of a history's text of either version
 abbrev pub HasTextFault : ℕ → Option Ahead → TextFault → Type 0
 HasTextFault lines left fault = HasFirstFault (IsTextFault lines) NoRoomForText left fault
 

@@ -4,6 +4,8 @@ use Rattle.std.specs.Prelude.{List, [], ◌∷◌, ◌++◌, length, codes, deci
 use Rattle.std.specs.declared.result.Result.{Result}
 use Rattle.event_records.specs.declared.event.Event.{Event}
 use Rattle.event_records.specs.declared.limits.TheConstants.{MAX_INITIAL}
+use Rattle.history_merge.specs.declared.builder.HistoryBuilder.{HistoryBuilder}
+use Rattle.history_merge.specs.Gathering.{HasGathered}
 use Rattle.history_merge.specs.Initial.{HistoryView}
 use Rattle.text_lines.specs.declared.fault.TextFault.{TextFault}
 use Rattle.text_lines.specs.declared.fault.TextFault.TheVariants.{Line}
@@ -11,10 +13,16 @@ use Rattle.text_lines.specs.Input.{Ending}
 use Rattle.text_lines.specs.Lines.{line, spaced, greatest_value, Front, front_of, header_fault, After}
 use Rattle.history_text.specs.declared.version.Version.{Version}
 use Rattle.history_text.specs.declared.version.Version.TheVariants.{One, Two}
-use Rattle.history_text.specs.declared.version.HistoryText.{HistoryText}
 use Rattle.text_lines.specs.Forms.{Table, Word, Number}
 use Rattle.history_text.specs.Items.{Format, HaveLines, lines_of, LineFault, ItemFault, NoRoom, FaultAmong, NoRoomAmong, a_value, read_by}
 use Rattle.history_text.specs.Histories.{header, lines_to_end, event_format, HasHistoryText}
+
+-- what the text of a history says: its version, what the queue holds first, which is nothing in version 1, and the events. Any values
+-- and events may stand in it
+pub record HistoryText : Type 0 where
+  pub version : Version
+  pub initial : List ℕ
+  pub events : List Event
 
 -- ---- initial values
 
@@ -107,6 +115,11 @@ pub record HasText (t : HistoryText) : Type 0 where
   pub events : HasHistoryText t.events
 
 -- ---- what is read
+
+-- the text is of this version, and its values and events were gathered by the builder
+pub record IsReadAs (text : HistoryText) (version : Version) (builder : HistoryBuilder) : Type 0 where
+  pub same_version : version ≡ text.version
+  pub gathered : HasGathered text.initial text.events builder
 
 -- the input begins with the first line of no version, and this is its fault
 abbrev pub NoVersionFault : Ending → TextFault → Front → Type 0

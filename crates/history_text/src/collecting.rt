@@ -2,11 +2,11 @@
 ghost use Rattle.std.specs.Prelude.{◌≡◌, ◌<◌, ◌++◌, ◌∷◌, [], List, ℕ, OnOk, length};
 ghost use Rattle.event_records.specs.declared.event.Event.{Event};
 ghost use Rattle.event_records.specs.declared.limits.TheConstants.{MAX_EVENTS};
-ghost use Rattle.history_merge.specs.Gathering.{HasGatheredFrom};
+ghost use Rattle.history_merge.specs.Gathering.{HasGathered};
 ghost use Rattle.std.proofs.Common.{sym, append-nil};
 
 use event_records::Event;
-use history_merge::PreloadedBuilder;
+use history_merge::HistoryBuilder;
 use std::alloc::AllocError;
 
 /// What takes the items of a text, one after another.
@@ -36,14 +36,14 @@ impl<T: Drop> Collects<T> for Vec<T> {
     }
 }
 
-impl Collects<Event> for PreloadedBuilder {
-    ghost Adds = { λ first now events. (initial : List ℕ) → HasGatheredFrom initial [] first → HasGatheredFrom initial events now };
+impl Collects<Event> for HistoryBuilder {
+    ghost Adds = { λ first now events. (initial : List ℕ) → HasGathered initial [] first → HasGathered initial events now };
 
     ghost none = { λ first initial begun. begun };
 
     #[inline(always)]
     fn add(&mut self, item: Event) -> Result<(), AllocError> {
-        PreloadedBuilder::add(self, item);
+        HistoryBuilder::add(self, item);
         Ok(())
     }
 }

@@ -13,7 +13,7 @@ ghost use Rattle.text_lines.specs.Writing.{AppendsFront, Puts, IsWritten, IsRefu
 use crate::lines::{Lines, put_each};
 use crate::version::Version;
 use event_records::{Event, What};
-use history_merge::History;
+use history_merge::{Events, History};
 use text_lines::{Kept, TextSink, WriteFault, make_room, write_piece};
 
 fn push_what(kept: &mut Kept, what: What)
@@ -38,22 +38,37 @@ fn push_what(kept: &mut Kept, what: What)
     }
 }
 
-/// The lines of events.
-#[derive(Clone, Copy)]
-struct EventLines;
+/// The line of an event.
+#[inline(always)]
+fn push_event(kept: &mut Kept, event: Event)
+    requires { length kept.old + 96 ≤ 4096 }
+    ensures line { kept.new ≡ kept.old ++ event_line event }
+    ensures fits { HasValueInRange event.what }
+{
+    kept.push_field(event.ticket);
+    kept.push_field(u64::from(event.thread));
+    push_what(kept, event.what);
+    kept.push(b"\n");
+}
 
-impl Lines<Event> for EventLines {
-    ghost line = { λ _. event_line };
-
-    ghost Fits = { λ _ event. HasValueInRange event.what };
-
-    #[inline(always)]
-    fn push(&self, event: &Event, kept: &mut Kept) {
-        kept.push_field(event.ticket);
-        kept.push_field(u64::from(event.thread));
-        push_what(kept, event.what);
-        kept.push(b"\n");
+/// The lines of events, of which a last part may be kept back.
+fn put_events<W: TextSink>(
+    events: Events<'_>,
+    kept: &mut Kept,
+    writer: &mut W,
+) -> Result<(), WriteFault>
+    ensures ok { OnOk result (Puts (W.contents writer.old) (W.contents writer.new) kept.old kept.new (flat_map event_line events)) }
+    ensures err { OnErr result (AppendsFront (W.contents writer.old) (W.contents writer.new) (kept.old ++ flat_map event_line events)) }
+    ensures refused { W.has_refused writer.new ≡ (W.has_refused writer.old || is_err result) }
+    ensures written { OnOk result (IsWritten W.goes writer.old writer.new) }
+    ensures stopped { OnErr result (IsRefused W.goes writer.old writer.new) }
+    ensures fits { OnOk result (All (λ e. HasValueInRange e.what) events) }
+{
+    for event in events {
+        make_room(kept, writer)?;
+        push_event(kept, event);
     }
+    Ok(())
 }
 
 /// The lines of initial values.
@@ -119,83 +134,33 @@ fn put_end<W: TextSink>(count: usize, kept: &mut Kept, writer: &mut W) -> Result
 /// The whole text, of which a last part may be kept back.
 fn put_text<W: TextSink>(
     version: Version,
-    initial: &[u64],
-    events: &[Event],
+    history: &History,
     kept: &mut Kept,
     writer: &mut W,
 ) -> Result<(), WriteFault>
     requires { kept.old ≡ [] }
-    ensures ok { OnOk result (Puts (W.contents writer.old) (W.contents writer.new) [] kept.new (text_by version initial.now events.now)) }
-    ensures err { OnErr result (AppendsFront (W.contents writer.old) (W.contents writer.new) (text_by version initial.now events.now)) }
+    ensures ok { OnOk result (Puts (W.contents writer.old) (W.contents writer.new) [] kept.new (text_by version history.now.initial history.now.events)) }
+    ensures err { OnErr result (AppendsFront (W.contents writer.old) (W.contents writer.new) (text_by version history.now.initial history.now.events)) }
     ensures refused { W.has_refused writer.new ≡ (W.has_refused writer.old || is_err result) }
     ensures written { OnOk result (IsWritten W.goes writer.old writer.new) }
     ensures stopped { OnErr result (IsRefused W.goes writer.old writer.new) }
-    ensures values_fit { version ≡ Two → OnOk result (All (λ v. v ≤ greatest_value) initial.now) }
-    ensures events_fit { OnOk result (All (λ e. HasValueInRange e.what) events.now) }
+    ensures values_fit { version ≡ Two → OnOk result (All (λ v. v ≤ greatest_value) history.now.initial) }
+    ensures events_fit { OnOk result (All (λ e. HasValueInRange e.what) history.now.events) }
 {
-    put_before_events(version, initial, kept, writer)?;
-    put_each(&EventLines, events, kept, writer)?;
-    put_end(events.len(), kept, writer)
+    put_before_events(version, history.initial(), kept, writer)?;
+    put_events(history.events(), kept, writer)?;
+    put_end(history.events().len(), kept, writer)
 }
 
-/// Writes the text of these values and events. In version 1 the values are left out.
-fn write_text<W: TextSink>(
-    version: Version,
-    initial: &[u64],
-    events: &[Event],
-    writer: &mut W,
-) -> Result<(), WriteFault>
-    ensures values_fit { version ≡ Two → OnOk result (All (λ v. v ≤ greatest_value) initial.now) }
-    ensures ok { OnOk result (Appends (W.contents writer.old) (W.contents writer.new) (text_by version initial.now events.now)) }
-    ensures err { OnErr result (AppendsFront (W.contents writer.old) (W.contents writer.new) (text_by version initial.now events.now)) }
-    ensures refused { W.has_refused writer.new ≡ (W.has_refused writer.old || is_err result) }
-    ensures written { OnOk result (IsWritten W.goes writer.old writer.new) }
-    ensures stopped { OnErr result (IsRefused W.goes writer.old writer.new) }
-    ensures events_fit { OnOk result (All (λ e. HasValueInRange e.what) events.now) }
-{
-    let mut kept = Kept::new();
-    put_text(version, initial, events, &mut kept, writer)?;
-    write_piece(kept.as_slice(), writer)
-}
-
-/// Writes the text of a history of a queue that is empty first, in version 1. It takes no memory, and its time is linear in
-/// the text.
+/// Writes the text of a history in a version. It takes no memory, and its time is linear in the text.
 ///
 /// The bytes go out in pieces of up to 4,096. The writer isn't flushed.
-pub fn write_history<W: TextSink>(history: &History, writer: &mut W) -> Result<(), WriteFault>
-    requires { history.now.initial ≡ [] }
-    ensures ok { OnOk result (Appends (W.contents writer.old) (W.contents writer.new) (history_text history.now.events)) }
-    ensures err { OnErr result (AppendsFront (W.contents writer.old) (W.contents writer.new) (history_text history.now.events)) }
-    ensures refused { W.has_refused writer.new ≡ (W.has_refused writer.old || is_err result) }
-    ensures written { OnOk result (IsWritten W.goes writer.old writer.new) }
-    ensures stopped { OnErr result (IsRefused W.goes writer.old writer.new) }
-
-    // What is written is read again, since `read_history` reads each text that stands at the front of its input.
-    ensures readable { OnOk result (HasHistoryText history.now.events) }
-{
-    write_text(Version::One, history.initial(), history.events(), writer)
-}
-
-/// Writes the text of a history in version 2, with what its queue holds first. For the rest it is as [`write_history`].
-pub fn write_history_2<W: TextSink>(history: &History, writer: &mut W) -> Result<(), WriteFault>
-    ensures ok { OnOk result (Appends (W.contents writer.old) (W.contents writer.new) (history_text_2 history.now.initial history.now.events)) }
-    ensures err { OnErr result (AppendsFront (W.contents writer.old) (W.contents writer.new) (history_text_2 history.now.initial history.now.events)) }
-    ensures refused { W.has_refused writer.new ≡ (W.has_refused writer.old || is_err result) }
-    ensures written { OnOk result (IsWritten W.goes writer.old writer.new) }
-    ensures stopped { OnErr result (IsRefused W.goes writer.old writer.new) }
-
-    // What is written is read again, since `read_any` reads each text that stands at the front of its input.
-    ensures readable { OnOk result (HasText (said_in Two history.now)) }
-{
-    write_text(Version::Two, history.initial(), history.events(), writer)
-}
-
-/// Writes the text of a history in a version, as [`write_history`] or [`write_history_2`] does.
-pub fn write_history_text<W: TextSink>(
+pub fn write_history<W: TextSink>(
     version: Version,
     history: &History,
     writer: &mut W,
 ) -> Result<(), WriteFault>
+    // In version 1 stands no initial value.
     requires { version ≡ One → history.now.initial ≡ [] }
     ensures ok { OnOk result (Appends (W.contents writer.old) (W.contents writer.new) (text_of (said_in version history.now))) }
     ensures err { OnErr result (AppendsFront (W.contents writer.old) (W.contents writer.new) (text_of (said_in version history.now))) }
@@ -203,8 +168,10 @@ pub fn write_history_text<W: TextSink>(
     ensures written { OnOk result (IsWritten W.goes writer.old writer.new) }
     ensures stopped { OnErr result (IsRefused W.goes writer.old writer.new) }
 
-    // What is written is read again, since `read_any` reads each text that stands at the front of its input.
+    // What is written is read again, since `read_history` reads each text that stands at the front of its input.
     ensures readable { OnOk result (HasText (said_in version history.now)) }
 {
-    write_text(version, history.initial(), history.events(), writer)
+    let mut kept = Kept::new();
+    put_text(version, history, &mut kept, writer)?;
+    write_piece(kept.as_slice(), writer)
 }

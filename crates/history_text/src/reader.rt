@@ -1,22 +1,18 @@
 //! Reading texts line by line.
 ghost use Rattle.std.specs.Prelude.{◌≡◌, ◌+◌, ◌<◌, ◌^◌, ◌≤◌, ◌∷◌, true, false, IfOk, IfErr, OnErr, OnOk, MatchResult, IfNone, IfSome};
 ghost use Rattle.std.specs.Prelude.{option_to_list, is_err, not, Err, Ok, length, List, []};
-ghost use Rattle.event_records.specs.declared.event.Event.{Event};
 ghost use Rattle.event_records.specs.declared.limits.TheConstants.{MAX_INITIAL};
-ghost use Rattle.history_merge.specs.Gathering.{HasGatheredFrom};
 ghost use Rattle.verdicts.specs.declared.verifying.Claimed.{Claimed};
 ghost use Rattle.history_text.specs.declared.schedule.Schedule.{Schedule};
-ghost use Rattle.history_text.specs.declared.version.HistoryText.{HistoryText};
 ghost use Rattle.text_lines.specs.Input.{EndOfInput, Failure, Takes, IsOver};
 ghost use Rattle.text_lines.specs.Lines.{line, spaced};
 ghost use Rattle.history_text.specs.Items.{line_of, lines_of, HaveLines};
-ghost use Rattle.history_text.specs.Histories.{history_text, HasHistoryText};
 ghost use Rattle.history_text.specs.Versions.{value_format, count_fields, count_in as judged_count, lines_of_initial, header_of};
-ghost use Rattle.history_text.specs.Versions.{lines_before_events, count_before_events, text_of, line_count, HaveValueLines, HasText};
+ghost use Rattle.history_text.specs.Versions.{lines_before_events, count_before_events, text_of, line_count, HaveValueLines, HasText, HistoryText, IsReadAs};
 ghost use Rattle.history_text.specs.Schedules.{schedule_text, setting_fields, setting_in as judged_setting, HasScheduleText, IsSetting};
 ghost use Rattle.history_text.specs.Verdicts.{verdict_text};
 ghost use Rattle.history_text.specs.Claims.{claim_length, HasVerdictText, first_line};
-ghost use Rattle.history_text.specs.Reading.{HasHistoryTextFault, HasTextFault, HasScheduleTextFault, HasVerdictTextFault, HasEndFault, TellsEnd};
+ghost use Rattle.history_text.specs.Reading.{HasTextFault, HasScheduleTextFault, HasVerdictTextFault, HasEndFault, TellsEnd};
 ghost use Rattle.history_text.specs.Reading.{BeginsWith, IsAll};
 ghost use Rattle.history_text.specs.Inner.Taking.{TakesLine, StopsInLine, TakesItem, TakesItems, HasNoLine, HasHeaderFault, HasNoVersion};
 ghost use Rattle.history_text.specs.Inner.Taking.{HasLineFault, HasFirstLineFault, HasItemFault, HasItemsFault, HasFaultAmong};
@@ -29,9 +25,8 @@ use crate::operation_line::answer_in;
 use crate::schedule::{Schedule, Steps};
 use crate::step_line::setting_in;
 use crate::value_line::{count_in, version_in};
-use crate::version::{Events, HistoryText, InitialValues, Version};
-use event_records::Event;
-use history_merge::PreloadedBuilder;
+use crate::version::Version;
+use history_merge::HistoryBuilder;
 use std::alloc::Global;
 use std::marker::Model;
 use text_lines::{LONGEST_LINE, Line, ReadFailed, TextFault, TextSource};
@@ -353,18 +348,6 @@ impl<R: TextSource> TextReader<R> {
         Ok(items)
     }
 
-    /// The events of the history that the input begins with.
-    fn history(&mut self, alloc: Global) -> Result<Vec<Event>, TextFault>
-        requires { self.old.lines < 2 ^ 63 }
-        ensures events { IfOk result (λ v. HasHistoryText v.items × Takes self.old.left self.new.left (history_text v.items)) }
-        ensures fault { IfErr result (HasHistoryTextFault self.old.lines self.old.left) }
-        ensures lines { IfOk result (λ v. self.new.lines ≡ self.old.lines + 2 + length v.items) }
-        ensures is_stopped { self.new.is_stopped ≡ self.old.is_stopped }
-    {
-        self.header_line(b"fifo-history 1")?;
-        self.items(alloc)
-    }
-
     /// How many initial values there are, by the next line.
     fn initial_count(&mut self) -> Result<usize, TextFault>
         requires { self.old.lines + 1 < 2 ^ 64 }
@@ -407,36 +390,19 @@ impl<R: TextSource> TextReader<R> {
         Ok((version, initial))
     }
 
-    /// The history, of either version, that the input begins with.
-    fn any_history(&mut self, alloc: Global) -> Result<HistoryText, TextFault>
+    /// The version of the history's text that the input begins with, and its initial values and events, as those of a history in
+    /// the making.
+    fn history(&mut self, alloc: Global) -> Result<(Version, HistoryBuilder), TextFault>
         requires { self.old.lines < 2 ^ 63 }
-        ensures text { IfOk result (λ t. HasText t × Takes self.old.left self.new.left (text_of t)) }
+        ensures text { IfOk result (λ read. (text : HistoryText) × HasText text × Takes self.old.left self.new.left (text_of text)
+            × ((self.new.lines ≡ self.old.lines + line_count text) × IsReadAs text read.0 read.1)) }
         ensures fault { IfErr result (HasTextFault self.old.lines self.old.left) }
-        ensures lines { IfOk result (λ t. self.new.lines ≡ self.old.lines + line_count t) }
         ensures is_stopped { self.new.is_stopped ≡ self.old.is_stopped }
     {
         let (version, initial) = self.before_events(alloc)?;
-        let events = self.items(alloc)?;
-        Ok(HistoryText {
-            version,
-            initial: InitialValues::from_vec(initial),
-            events: Events::from_vec(events),
-        })
-    }
-
-    /// The initial values and the events of the history, of either version, that the input begins with are those of a history
-    /// in the making.
-    fn any_gathered(&mut self, alloc: Global) -> Result<PreloadedBuilder, TextFault>
-        requires { self.old.lines < 2 ^ 63 }
-        ensures text { IfOk result (λ builder. (text : HistoryText) × HasText text × Takes self.old.left self.new.left (text_of text)
-            × ((self.new.lines ≡ self.old.lines + line_count text) × HasGatheredFrom text.initial text.events builder)) }
-        ensures fault { IfErr result (HasTextFault self.old.lines self.old.left) }
-        ensures is_stopped { self.new.is_stopped ≡ self.old.is_stopped }
-    {
-        let (_version, initial) = self.before_events(alloc)?;
-        let mut builder = PreloadedBuilder::new(alloc, initial);
+        let mut builder = HistoryBuilder::new(alloc, initial);
         self.collect_items(&mut builder)?;
-        Ok(builder)
+        Ok((version, builder))
     }
 
     /// The setting in the next line.
@@ -556,89 +522,33 @@ pub fn is_at_end<R: TextSource>(reader: &mut TextReader<R>) -> Result<bool, Text
     result
 }
 
-/// Reads the text of a history that the input begins with, up to the line feed of its last line, and gives its events.
+/// Reads the text of a history, of either version, that the input begins with, up to the line feed of its last line: its version,
+/// and a history in the making that starts with its initial values and to which its events were added.
 ///
-/// Whether they make a complete history isn't judged here. The time is linear in the bytes read. Memory is taken for the
-/// events alone, and `Memory` is answered only at a line that, like those before it, is whole and without fault.
+/// Whether they make a complete history is for [`HistoryBuilder::finish`] to answer. The time is linear in the bytes read, beside
+/// that of the adding. Memory is taken for the initial values and by the history in the making, and `Memory` is answered only at a
+/// line that, like those before it, is whole and without fault.
 pub fn read_history<R: TextSource>(
     alloc: Global,
     reader: &mut TextReader<R>,
-) -> Result<Vec<Event>, TextFault>
+) -> Result<(Version, HistoryBuilder), TextFault>
     requires running { reader.old.is_stopped ≡ false }
     requires lines { reader.old.lines < 2 ^ 63 }
 
-    // What is read is the text of these events, and nothing else is taken.
-    ensures events { IfOk result (λ v. HasHistoryText v.items × Takes reader.old.left reader.new.left (history_text v.items)) }
+    // What is read is the text of this version, some values and events, nothing else is taken, and just these are gathered.
+    ensures text { IfOk result (λ read. (text : HistoryText) × HasText text × Takes reader.old.left reader.new.left (text_of text)
+        × ((reader.new.lines ≡ reader.old.lines + line_count text) × IsReadAs text read.0 read.1)) }
 
-    // Where the text of some events stands at the front it is read, unless memory is refused.
-    ensures whole { (events : List Event) → HasHistoryText events → BeginsWith reader.old.left (history_text events)
-        → MatchResult result (λ v. v.items ≡ events) (λ fault. fault ≡ TextFault.Memory) }
+    // Where a text of either version stands at the front it is read, unless memory is refused.
+    ensures whole { (text : HistoryText) → HasText text → BeginsWith reader.old.left (text_of text)
+        → MatchResult result (λ read. IsReadAs text read.0 read.1) (λ fault. fault ≡ TextFault.Memory) }
 
     // A fault is the first one.
-    ensures fault { IfErr result (HasHistoryTextFault reader.old.lines reader.old.left) }
+    ensures fault { IfErr result (HasTextFault reader.old.lines reader.old.left) }
 
-    ensures lines { IfOk result (λ v. reader.new.lines ≡ reader.old.lines + 2 + length v.items) }
     ensures stopped { reader.new.is_stopped ≡ is_err result }
 {
     let result = reader.history(alloc);
-    reader.is_stopped = result.is_err();
-    result
-}
-
-/// Reads the text of a history of either version, as [`read_history`] reads that of version 1.
-///
-/// Whether its values and events make a complete history isn't judged here. The time is linear in the bytes read. Memory is
-/// taken for the values and the events alone, and `Memory` is answered only at a line of one of these that, like those before
-/// it, is whole and without fault.
-pub fn read_any<R: TextSource>(
-    alloc: Global,
-    reader: &mut TextReader<R>,
-) -> Result<HistoryText, TextFault>
-    requires running { reader.old.is_stopped ≡ false }
-    requires lines { reader.old.lines < 2 ^ 63 }
-
-    // What is read is the text of this version, these values and these events, and nothing else is taken.
-    ensures text { IfOk result (λ t. HasText t × Takes reader.old.left reader.new.left (text_of t)) }
-
-    // Where a text of either version stands at the front it is read, unless memory is refused.
-    ensures whole { (text : HistoryText) → HasText text → BeginsWith reader.old.left (text_of text)
-        → MatchResult result (λ t. t ≡ text) (λ fault. fault ≡ TextFault.Memory) }
-
-    // A fault is the first one.
-    ensures fault { IfErr result (HasTextFault reader.old.lines reader.old.left) }
-
-    ensures lines { IfOk result (λ t. reader.new.lines ≡ reader.old.lines + line_count t) }
-    ensures stopped { reader.new.is_stopped ≡ is_err result }
-{
-    let result = reader.any_history(alloc);
-    reader.is_stopped = result.is_err();
-    result
-}
-
-/// Reads the text of a history of either version as [`read_any`] does, and answers a history in the making that starts with its
-/// initial values and to which its events were added. It keeps none of these. The time is linear in the bytes read, beside that
-/// of the adding.
-pub fn gather_any<R: TextSource>(
-    alloc: Global,
-    reader: &mut TextReader<R>,
-) -> Result<PreloadedBuilder, TextFault>
-    requires running { reader.old.is_stopped ≡ false }
-    requires lines { reader.old.lines < 2 ^ 63 }
-
-    // What is read is the text of some values and events, nothing else is taken, and just these are gathered.
-    ensures text { IfOk result (λ builder. (text : HistoryText) × HasText text × Takes reader.old.left reader.new.left (text_of text)
-        × ((reader.new.lines ≡ reader.old.lines + line_count text) × HasGatheredFrom text.initial text.events builder)) }
-
-    // Where a text of either version stands at the front it is read, unless memory is refused.
-    ensures whole { (text : HistoryText) → HasText text → BeginsWith reader.old.left (text_of text)
-        → MatchResult result (HasGatheredFrom text.initial text.events) (λ fault. fault ≡ TextFault.Memory) }
-
-    // A fault is the first one.
-    ensures fault { IfErr result (HasTextFault reader.old.lines reader.old.left) }
-
-    ensures stopped { reader.new.is_stopped ≡ is_err result }
-{
-    let result = reader.any_gathered(alloc);
     reader.is_stopped = result.is_err();
     result
 }

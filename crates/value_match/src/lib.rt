@@ -25,5 +25,5 @@ pub use places::Places;
 pub use settling::settle;
 pub use table::{Front, LongestTable, fronts_of};
 pub use unfilling::{unfilled_cover, unfilled_place, unfilled_source};
-pub use values::{match_from, match_values};
+pub use values::match_values;
 pub use violation::{Cover, CoverStep, Source, Violation};

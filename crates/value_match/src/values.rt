@@ -1,8 +1,6 @@
-ghost use Rattle.std.specs.Prelude.{◌≡◌, ◌<◌, ◌≤◌, ◌^◌, IfOk, IfSome, List, length};
-ghost use Rattle.event_records.specs.declared.event.Event.{Event};
-ghost use Rattle.event_records.specs.declared.limits.TheConstants.{MAX_EVENTS, MAX_INITIAL};
+ghost use Rattle.std.specs.Prelude.{◌≡◌, ◌<◌, ◌≤◌, ◌^◌, IfOk, IfSome, length};
 ghost use Rattle.history_merge.specs.Complete.{AreComplete};
-ghost use Rattle.history_merge.specs.Initial.{IsCompleteFrom, filled};
+ghost use Rattle.history_merge.specs.Initial.{filled};
 ghost use Rattle.history_merge.specs.Operations.{operations_of};
 ghost use Rattle.value_match.specs.Outcome.{IsMatchedFrom};
 ghost use Rattle.value_match.specs.Inner.Found.{IsFoundOf};
@@ -47,20 +45,8 @@ pub(crate) enum Found {
 pub fn match_values(alloc: Global, history: &History) -> Result<Matched<'_>, AllocError>
     ensures { IfOk result (IsMatchedFrom history.now.initial (operations_of history.now.events)) }
 {
-    match_from(alloc, history.initial(), history.operations())
-}
-
-/// The same of the initial values and the operations of a history, where its events aren't kept.
-pub fn match_from<'a>(
-    alloc: Global,
-    initial: &'a [u64],
-    operations: &'a [Operation],
-) -> Result<Matched<'a>, AllocError>
-    requires history { (events : List Event) × IsCompleteFrom initial.now events × (operations.now ≡ operations_of events) }
-    requires few_initial { length initial.now ≤ MAX_INITIAL }
-    requires few { length operations.now ≤ MAX_EVENTS }
-    ensures { IfOk result (IsMatchedFrom initial.now operations.now) }
-{
+    let initial = history.initial();
+    let operations = history.operations();
     if initial.is_empty() {
         let found = find(alloc, operations)?;
         return matched(

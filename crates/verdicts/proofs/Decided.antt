@@ -21,7 +21,7 @@ use Rattle.linearizer.specs.Order.{AreChosenAndLegalFrom}
 use Rattle.verdicts.specs.declared.shown.LinePlace.TheVariants as place
 use Rattle.verdicts.specs.declared.verdict.Verdict.TheVariants.{Yes, No}
 use Rattle.verdicts.specs.Claiming.{IsPlaceWithin}
-use Rattle.verdicts.specs.Inner.Decided.{IsDecidedFrom}
+use Rattle.verdicts.specs.Decided.{IsDecidedFrom}
 use Rattle.verdicts.specs.Shown.{places_of}
 use Rattle.verdicts.specs.Verdicts.{IsChosenFrom}
 use Rattle.verdicts.proofs.Excludes.{breach_excludes_order}

@@ -4,4 +4,5 @@ pub mod Laws
 pub mod Selection
 pub mod Shown
 pub mod Claiming
+pub mod Decided
 pub mod Inner

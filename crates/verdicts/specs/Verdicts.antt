@@ -1,10 +1,8 @@
 -- What a verdict says of a history, and what is evidence for it.
-use Rattle.std.specs.Prelude.{◌≡◌, ℕ, ◌≤◌, List, length}
-use Rattle.event_records.specs.declared.event.Event.{Event}
-use Rattle.event_records.specs.declared.limits.TheConstants.{MAX_EVENTS, MAX_INITIAL}
+use Rattle.std.specs.Prelude.{ℕ, List, length}
 use Rattle.history_merge.specs.declared.operation.Operation.{Operation}
 use Rattle.history_merge.specs.Legal.{IsLegalOrderFrom, IsLinearizableFrom, ArePlacesOf}
-use Rattle.history_merge.specs.Initial.{HistoryView, IsCompleteFrom, filled}
+use Rattle.history_merge.specs.Initial.{HistoryView, filled}
 use Rattle.history_merge.specs.Operations.{operations_of}
 use Rattle.value_match.specs.declared.violation.Violation.{Violation}
 use Rattle.value_match.specs.Violations.{Breach, IsBreachOf}
@@ -39,11 +37,3 @@ IsExactFrom initial operations (No violation) = ¬ (IsLinearizableFrom initial o
 -- the operations of a history's filled history
 abbrev pub filled_of : HistoryView → List Operation
 filled_of history = filled history.initial (operations_of history.events)
-
--- these are the operations of a history with these initial values, within its limits
-pub record HasOperationsFrom (initial : List ℕ) (operations : List Operation) : Type 0 where
-  pub events : List Event
-  pub complete : IsCompleteFrom initial events
-  pub are : operations ≡ operations_of events
-  pub few_initial : length initial ≤ MAX_INITIAL
-  pub few : length events ≤ MAX_EVENTS

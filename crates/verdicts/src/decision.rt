@@ -1,22 +1,19 @@
 ghost use Rattle.std.specs.Prelude.{◌≡◌, ◌≤◌, IfOk};
-ghost use Rattle.history_merge.specs.Operations.{operations_of};
 ghost use Rattle.value_match.specs.Filling.{filled_operations};
 ghost use Rattle.value_match.specs.Violations.{IsClear, NoOrderViolation};
 ghost use Rattle.empty_witness.specs.Answers.{IsWitnessAnswerFrom};
 ghost use Rattle.parallel_finders.specs.declared.TheConstants.{MAX_PIECES};
-ghost use Rattle.verdicts.specs.Claiming.{IsWithin};
-ghost use Rattle.verdicts.specs.Inner.Decided.{IsDecidedFrom};
-ghost use Rattle.verdicts.specs.Verdicts.{HasOperationsFrom, IsEvidenceFrom, IsExactFrom, IsVerdictFrom};
+ghost use Rattle.verdicts.specs.Decided.{IsDecided, IsDecidedFrom};
 
 use crate::verdict::{Order, Verdict};
 use empty_witness::{WitnessAnswer, find_witness};
-use history_merge::{History, Operation};
+use history_merge::History;
 use linearizer::linearize;
 use order_violation::{OrderPair, find_order};
 use parallel_finders::{find_order_par, find_witness_par};
 use std::alloc::{AllocError, Global};
 use std::thread::Threads;
-use value_match::{Matched, Matching, Violation, match_from};
+use value_match::{Matched, Matching, Violation, match_values};
 
 /// Whether a history has a legal order (Herlihy and Wing 1990) for a queue that holds the initial values first: yes with the
 /// chosen order, no with the chosen violation, which is of the first kind that is present: a value that was not there, a
@@ -25,27 +22,9 @@ use value_match::{Matched, Matching, Violation, match_from};
 /// An order and a violation name operations and initial values by their own places, from 0. The four kinds are this project's
 /// own. `AllocError` comes only where a growth was refused.
 pub fn decide(alloc: Global, history: &History) -> Result<Verdict, AllocError>
-    ensures chosen { IfOk result (λ verdict. IsVerdictFrom history.now.initial (operations_of history.now.events) verdict) }
-    ensures evidence { IfOk result (λ verdict. IsEvidenceFrom history.now.initial (operations_of history.now.events) verdict) }
-    ensures exact { IfOk result (λ verdict. IsExactFrom history.now.initial (operations_of history.now.events) verdict) }
-    ensures places { IfOk result (λ verdict. IsWithin history.now.initial (operations_of history.now.events) verdict) }
+    ensures { IfOk result (IsDecided history.now) }
 {
-    decide_from(alloc, history.initial(), history.operations())
-}
-
-/// The same of the initial values and the operations of a history, where its events aren't kept.
-pub fn decide_from(
-    alloc: Global,
-    initial: &[u64],
-    operations: &[Operation],
-) -> Result<Verdict, AllocError>
-    requires complete { HasOperationsFrom initial.now operations.now }
-    ensures chosen { IfOk result (λ verdict. IsVerdictFrom initial.now operations.now verdict) }
-    ensures evidence { IfOk result (λ verdict. IsEvidenceFrom initial.now operations.now verdict) }
-    ensures exact { IfOk result (λ verdict. IsExactFrom initial.now operations.now verdict) }
-    ensures places { IfOk result (λ verdict. IsWithin initial.now operations.now verdict) }
-{
-    match match_from(alloc, initial, operations)? {
+    match match_values(alloc, history)? {
         Matched::Clear(matching) => decide_matching(alloc, &matching),
         Matched::Fresh(violation) | Matched::Repeat(violation) => Ok(Verdict::No(violation)),
     }
@@ -62,31 +41,10 @@ pub fn decide_par<R: Threads + Sync>(
     history: &History,
     pieces: usize,
 ) -> Result<Verdict, AllocError>
-    requires pieces { (1 ≤ pieces) × (pieces ≤ MAX_PIECES) }
-    ensures chosen { IfOk result (λ verdict. IsVerdictFrom history.now.initial (operations_of history.now.events) verdict) }
-    ensures evidence { IfOk result (λ verdict. IsEvidenceFrom history.now.initial (operations_of history.now.events) verdict) }
-    ensures exact { IfOk result (λ verdict. IsExactFrom history.now.initial (operations_of history.now.events) verdict) }
-    ensures places { IfOk result (λ verdict. IsWithin history.now.initial (operations_of history.now.events) verdict) }
+    requires { (1 ≤ pieces) × (pieces ≤ MAX_PIECES) }
+    ensures { IfOk result (IsDecided history.now) }
 {
-    decide_from_par(rt, alloc, history.initial(), history.operations(), pieces)
-}
-
-/// The same of the initial values and the operations of a history, where its events aren't kept.
-pub fn decide_from_par<R: Threads + Sync>(
-    rt: &R,
-    alloc: Global,
-    initial: &[u64],
-    operations: &[Operation],
-    pieces: usize,
-) -> Result<Verdict, AllocError>
-    requires complete { HasOperationsFrom initial.now operations.now }
-    requires pieces { (1 ≤ pieces) × (pieces ≤ MAX_PIECES) }
-    ensures chosen { IfOk result (λ verdict. IsVerdictFrom initial.now operations.now verdict) }
-    ensures evidence { IfOk result (λ verdict. IsEvidenceFrom initial.now operations.now verdict) }
-    ensures exact { IfOk result (λ verdict. IsExactFrom initial.now operations.now verdict) }
-    ensures places { IfOk result (λ verdict. IsWithin initial.now operations.now verdict) }
-{
-    match match_from(alloc, initial, operations)? {
+    match match_values(alloc, history)? {
         Matched::Clear(matching) => decide_matching_par(rt, alloc, &matching, pieces),
         Matched::Fresh(violation) | Matched::Repeat(violation) => Ok(Verdict::No(violation)),
     }

@@ -1,12 +1,13 @@
 ghost use Rattle.std.specs.Prelude.{◌≡◌, ◌↔◌, ℕ, Contains, IsTrue, filter, filter_map, IfOk};
 ghost use Rattle.std.specs.Ordering.{nat_cmp};
 ghost use Rattle.std.specs.BTreeSet.{contains};
+ghost use Rattle.history_merge.specs.Operations.{operations_of};
 ghost use Rattle.verdicts.specs.Selection.{value_of, selects};
 ghost use Rattle.verdicts.specs.Inner.Selecting.{call_in, holds_ticket, value_in, SelectsNamed};
 
 use crate::verifying::ClaimLine;
 use event_records::Event;
-use history_merge::{OpKind, Operation};
+use history_merge::{Events, History, OpKind, Operation};
 use std::alloc::{AllocError, Global};
 use std::collections::BTreeSet;
 
@@ -38,18 +39,13 @@ impl Selection {
             .collect(alloc)
     }
 
-    /// The events of the selected ones of these operations, in their order.
-    pub fn events(
-        &self,
-        alloc: Global,
-        operations: &[Operation],
-        events: &[Event],
-    ) -> Result<Vec<Event>, AllocError>
-        ensures { IfOk result (λ kept. kept.items ≡ filter (λ e. holds_ticket
-            (filter (selects (contains nat_cmp self.now.values) (contains nat_cmp self.now.calls)) operations.now) e.ticket) events.now) }
+    /// The events of the selected ones of a history's operations, in their order.
+    pub fn events(&self, alloc: Global, history: &History) -> Result<Vec<Event>, AllocError>
+        ensures { IfOk result (λ kept. kept.items ≡ filter (λ e. holds_ticket (filter (selects (contains nat_cmp self.now.values)
+            (contains nat_cmp self.now.calls)) (operations_of history.now.events)) e.ticket) history.now.events) }
     {
-        let tickets = self.tickets(alloc, operations)?;
-        events_at(alloc, events, &tickets)
+        let tickets = self.tickets(alloc, history.operations())?;
+        events_at(alloc, history.events(), &tickets)
     }
 
     /// The tickets of the selected operations.
@@ -123,14 +119,12 @@ fn calls_of(alloc: Global, lines: &[ClaimLine]) -> Result<BTreeSet<u64>, AllocEr
 /// The events at these tickets, in their order.
 fn events_at(
     alloc: Global,
-    events: &[Event],
+    events: Events<'_>,
     tickets: &BTreeSet<u64>,
 ) -> Result<Vec<Event>, AllocError>
-    ensures { IfOk result (λ kept. kept.items ≡ filter (λ e. contains nat_cmp tickets.now e.ticket) events.now) }
+    ensures { IfOk result (λ kept. kept.items ≡ filter (λ e. contains nat_cmp tickets.now e.ticket) events) }
 {
     events
-        .iter()
         .filter(|event| tickets.contains(&event.ticket))
-        .copied()
         .collect(alloc)
 }

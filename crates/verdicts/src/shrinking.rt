@@ -1,4 +1,4 @@
-ghost use Rattle.std.specs.Prelude.{◌≡◌, ◌≤◌, IfOk, vec_len};
+ghost use Rattle.std.specs.Prelude.{◌≡◌, ◌≤◌, IfOk, length, vec_len};
 ghost use Rattle.event_records.specs.declared.limits.TheConstants.{MAX_EVENTS, MAX_INITIAL};
 ghost use Rattle.history_merge.specs.Initial.{IsCompleteFrom};
 ghost use Rattle.history_merge.specs.Operations.{operations_of};
@@ -39,16 +39,16 @@ pub fn shrink(
     let lines = violation_lines(alloc, history, violation)?;
     let selection = Selection::named_by(alloc, lines.as_slice())?;
     let initial = selection.initial(alloc, history.initial())?;
-    let events = selection.events(alloc, history.operations(), history.events())?;
-    history_of(alloc, initial, events)
+    let events = selection.events(alloc, history)?;
+    history_of(alloc, initial, events.as_slice())
 }
 
 /// The history of initial values and events that are known to be those of a complete one.
-fn history_of(alloc: Global, initial: Vec<u64>, events: Vec<Event>) -> Result<History, AllocError>
+fn history_of(alloc: Global, initial: Vec<u64>, events: &[Event]) -> Result<History, AllocError>
     requires few_initial { vec_len initial ≤ MAX_INITIAL }
-    requires few_events { vec_len events ≤ MAX_EVENTS }
-    requires complete { IsCompleteFrom initial.items events.items }
-    ensures { IfOk result (λ whole. (whole.initial ≡ initial.items) × (whole.events ≡ events.items)) }
+    requires few_events { length events.now ≤ MAX_EVENTS }
+    requires complete { IsCompleteFrom initial.items events.now }
+    ensures { IfOk result (λ whole. (whole.initial ≡ initial.items) × (whole.events ≡ events.now)) }
 {
     // A complete history is refused for want of memory alone.
     history_from(alloc, initial, events).map_err(|_| AllocError)

@@ -4,7 +4,7 @@ ghost use Rattle.std.specs.Prelude.{◌≤◌, length};
 use super::small_histories::{at, by};
 use event_records::{Event, MAX_EVENTS, MAX_INITIAL, What};
 use history_merge::{
-    History, HistoryFault, HistoryParts, OpKind, Operation, PreloadedBuilder, fill, history_from,
+    History, HistoryFault, HistoryParts, OpKind, Operation, HistoryBuilder, fill, history_from,
 };
 use std::alloc::{AllocError, Global};
 use std::test::Fail;
@@ -30,7 +30,7 @@ fn gathered(
     initial: &[u64],
     events: &[Event],
 ) -> Result<Result<HistoryParts, HistoryFault>, AllocError> {
-    let mut builder = PreloadedBuilder::new(alloc, initial.to_vec(alloc)?);
+    let mut builder = HistoryBuilder::new(alloc, initial.to_vec(alloc)?);
     for event in events {
         builder.add(*event);
     }

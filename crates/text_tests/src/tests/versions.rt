@@ -1,7 +1,7 @@
 use super::outcomes::{check_fronts, known};
 use super::texts;
 use event_records::{Event, What};
-use history_merge::{HistoryParts, PreloadedBuilder, history, history_from};
+use history_merge::{HistoryParts, HistoryBuilder, history, history_from};
 use history_text::{
     HistoryText, MemorySource, TextFault, TextReader, Version, Watched, WriteFault, at_end,
     gather_any, read_any, read_history, write_history, write_history_2, write_history_text,
@@ -147,7 +147,7 @@ fn one_history_in_both_versions(rt: HostRuntime) -> Result<(), Fail> {
 #[test]
 fn gathers_values_and_events(rt: HostRuntime) -> Result<(), Fail> {
     let mut reader = TextReader::new(MemorySource::new(TEXT));
-    let builder: PreloadedBuilder = gather_any(rt.alloc(), &mut reader)?;
+    let builder: HistoryBuilder = gather_any(rt.alloc(), &mut reader)?;
     let HistoryParts {
         initial,
         operations,

@@ -1,8 +1,8 @@
 use Rattle.std.proofs.Common.{List, [], take}
 use Rattle.event_records.specs.declared.event.Event.{Event}
-use Rattle.history_merge.specs.Gathering.{HasGatheredFrom}
+use Rattle.history_merge.specs.Gathering.{HasGathered}
 use Rattle.fifobench_c.specs.Recorded.{AreEvents}
 use Rattle.fifobench_c.proofs.recorded.gathered.Given as goal
 
 abbrev pub invariant-loop-place : goal.invariant-loop-place
-invariant-loop-place l = (events : List Event) × AreEvents (take l.place l.structs) events × HasGatheredFrom [] events l.builder
+invariant-loop-place l = (events : List Event) × AreEvents (take l.place l.structs) events × HasGathered [] events l.builder

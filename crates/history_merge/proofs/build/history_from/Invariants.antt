@@ -1,6 +1,6 @@
 use Rattle.std.proofs.Common.{take}
-use Rattle.history_merge.specs.Gathering.{HasGatheredFrom}
+use Rattle.history_merge.specs.Gathering.{HasGathered}
 use Rattle.history_merge.proofs.build.history_from.Given as goal
 
 abbrev pub invariant-loop-event : goal.invariant-loop-event
-invariant-loop-event l = HasGatheredFrom l.fn.initial.items (take l.event-index l.event-items) l.builder
+invariant-loop-event l = HasGathered l.fn.initial.items (take l.event-index l.events) l.builder

@@ -2,7 +2,7 @@ use Rattle.std.proofs.Common.{length, subst, sym}
 use Rattle.history_merge.specs.Initial.{filled}
 use Rattle.order_violation.specs.Pairs.{IsOrderAnswerFrom, filled_pair}
 use Rattle.verdicts.specs.declared.verdict.Verdict.TheVariants.{No}
-use Rattle.verdicts.specs.Inner.Decided.{IsDecidedFrom}
+use Rattle.verdicts.specs.Decided.{IsDecidedFrom}
 use Rattle.verdicts.proofs.Decided.{no_is_decided, order_is_absent, pair_is_chosen}
 use Rattle.verdicts.proofs.decision.decide_matching_par.Goals as goal
 

@@ -4,6 +4,6 @@ use Rattle.history_merge.proofs.forming.Forming.call.Goals as goal
 
 pub returns : goal.returns
 returns c = λ events call none known.
-    formed_after_call events c.args.event c.args.self.now _ c.len-place.result
-    (omega (arith, c.len-place.ensures, c.args.self.now.operations.ok.0)) c.requires call none known
-    (rw (c.in_ok-push.ensures.items, c.begun.ensures) refl) (rw c.from.ensures refl)
+    formed_after_call events c.args.event c.args.self.now _ c.in-Ok.place
+    (omega (arith, c.len.ensures, c.try_from.ensures)) c.requires call none known
+    (rw (c.in_ok-push.ensures.items, c.begun.ensures) refl) refl (rw c.from.ensures refl)

@@ -1,7 +1,7 @@
 use Rattle.std.proofs.Common.{sym, ap, ◌∙◌}
 use Rattle.std.specs.Prelude.{is_some}
 use Rattle.history_merge.proofs.MetFaults.{gathered_after_fault, gathered_without_fault, none_met}
-use Rattle.history_merge.proofs.builder.HistoryBuilder.add.Goals as goal
+use Rattle.history_merge.proofs.gathering.OperationsBuilder.add.Goals as goal
 
 pub returns-then-is_some : goal.returns-then-is_some
 returns-then-is_some c = λ events gathered few. gathered_after_fault events c.args.event c.args.self.now c.if-is_some.ensures gathered

@@ -2,7 +2,7 @@ use Rattle.std.proofs.Common.{◌≡◌, sym, refl, ◌∙◌, arith, subst, Som
 use Rattle.history_merge.specs.Faults.{fault_at}
 use Rattle.history_merge.proofs.FirstFaults.{may_follow}
 use Rattle.history_merge.proofs.MetFaults.{met_fault-push, no_fault-push}
-use Rattle.history_merge.proofs.builder.HistoryBuilder.follow.Goals as goal
+use Rattle.history_merge.proofs.gathering.OperationsBuilder.follow.Goals as goal
 
 pub returns-in-Some-clause-judged : goal.returns-in-Some-clause-judged
 returns-in-Some-clause-judged c = λ events known few.
@@ -16,11 +16,11 @@ returns-clause-judged c = λ events known few.
     let e = c.args.event in
     let note = c.in_ok-repeats.ensures events e refl known.called (c.operations.ensures events known.formed) in
     let none = sym (c.fault_of.ensures.fault events known.tracked note.0) ∙ c.in_default.is in
-    let fits = (may_follow events _ e none).fits in
+    let may = may_follow events _ e none in
     record {
       tracked = c.add-2.ensures events known.tracked;
       called = note.1;
-      formed = c.in_ok-add.ensures events fits known.formed;
+      formed = c.in_ok-add.ensures events (record { rises = may.rises; fits = may.fits }) known.formed;
       count = simp length-append (omega (arith, known.count, few, c.saturating_add-self.ensures));
       no_fault = no_fault-push events e (subst (λ n. fault_at events n e ≡ None) known.count none) known.no_fault;
     }

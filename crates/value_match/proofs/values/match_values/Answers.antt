@@ -1,6 +1,6 @@
 use Rattle.std.proofs.Common.{◌∙◌, ap, arith, length, sym}
 use Rattle.value_match.proofs.FilledOperations.{length_filled, no_elements, none_filled}
-use Rattle.value_match.proofs.values.match_from.Goals as goal
+use Rattle.value_match.proofs.values.match_values.Goals as goal
 
 pub matched-requires-clause-all : goal.matched-requires-clause-all
 matched-requires-clause-all c =
