@@ -4,10 +4,10 @@ use Rattle.value_match.proofs.values.match_values.Goals as goal
 
 pub matched-requires-clause-all : goal.matched-requires-clause-all
 matched-requires-clause-all c =
-    sym (none_filled c.args.initial.now c.args.operations.now (no_elements c.args.initial.now c.if-is_empty.ensures))
+    sym (none_filled c.initial-initial.result.now c.operations-operations.result.now (no_elements c.initial-initial.result.now c.if-is_empty.ensures))
 
 pub find-requires-2-clause-few : goal.find-requires-2-clause-few
 find-requires-2-clause-few c =
     let all = ap length (c.as_slice.ensures.value ∙ c.in_ok-filled.ensures.filled) in
-    let long = length_filled c.args.initial.now c.args.operations.now in
-    omega (arith, all, long, c.requires.few_initial, c.requires.few)
+    let long = length_filled c.initial-initial.result.now c.operations-operations.result.now in
+    omega (arith, all, long, ap length c.initial-initial.ensures.initial, c.initial-initial.ensures.few, c.operations-operations.ensures.few)
