@@ -7,7 +7,7 @@ use Rattle.text_lines.specs.declared.fault.TextFault.TheVariants as text
 use Rattle.verdicts.specs.declared.verifying.Claimed.{Claimed}
 use Rattle.history_text.specs.declared.version.Version.{Version}
 use Rattle.history_text.specs.declared.version.Version.TheVariants.{One, Two}
-use Rattle.history_text.specs.declared.version.HistoryText.{HistoryText}
+use Rattle.history_text.specs.Versions.{HistoryText}
 use Rattle.history_text.specs.Items.{HaveLines}
 use Rattle.history_text.specs.Versions.{text_of, HasText, HaveValueLines, value_format}
 use Rattle.history_text.specs.Claims.{HasVerdictText}

@@ -10,7 +10,7 @@ use Rattle.verdicts.specs.Verdicts.{IsEvidenceFrom, IsExactFrom, IsVerdictFrom}
 use Rattle.verdicts.proofs.TrueClaims.{evidence_is_true}
 use Rattle.drawing.specs.Claim.{count_of_lines}
 use Rattle.drawing.specs.declared.columns.TheConstants.{MOST_DRAWN}
-use Rattle.history_text.specs.declared.version.HistoryText.{HistoryText}
+use Rattle.history_text.specs.Versions.{HistoryText}
 use Rattle.command_words.specs.declared.options.PictureForm.{PictureForm}
 use Rattle.commands.specs.Answers.{Reply, refused_size}
 use Rattle.commands.specs.Inputs.{drawable}

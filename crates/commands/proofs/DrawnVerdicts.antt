@@ -4,7 +4,7 @@ use Rattle.verdicts.specs.declared.verifying.Claimed.{Claimed}
 use Rattle.command_words.specs.declared.options.PictureForm.{PictureForm}
 use Rattle.text_lines.specs.Input.{Ahead}
 use Rattle.text_lines.proofs.MemoryOrNot.{is_memory}
-use Rattle.history_text.specs.declared.version.HistoryText.{HistoryText}
+use Rattle.history_text.specs.Versions.{HistoryText}
 use Rattle.history_text.specs.Versions.{text_of}
 use Rattle.history_text.specs.Verdicts.{verdict_text}
 use Rattle.commands.specs.Answers.{Reply}

@@ -3,27 +3,23 @@ use Rattle.std.proofs.Common.{◌≡◌, ◌∙◌, ℕ, ◌≤◌, ◌⊎◌, L
 use Rattle.history_merge.specs.declared.fault.HistoryFault.{HistoryFault}
 use Rattle.history_merge.specs.declared.fault.HistoryFault.TheVariants.{TicketOrder, BadThread, CallWhilePending, ReturnWithoutCall, WrongReturn}
 use Rattle.history_merge.specs.declared.fault.HistoryFault.TheVariants.{DuplicateValue, Pending, Memory, InitialTwice}
-use Rattle.history_merge.specs.declared.preloaded.HistoryParts.{HistoryParts}
-use Rattle.history_merge.specs.declared.builder.HistoryBuilder.{HistoryBuilder}
 use Rattle.history_merge.specs.Faults.{IsFirstFaultFrom}
-use Rattle.history_merge.specs.Gathering.{HasGathered}
 use Rattle.history_merge.specs.Initial.{HistoryView, IsCompleteFrom}
 use Rattle.history_merge.specs.Operations.{operations_of}
 use Rattle.event_records.specs.declared.limits.TheConstants.{MAX_INITIAL}
-use Rattle.history_text.specs.declared.version.HistoryText.{HistoryText}
+use Rattle.history_text.specs.Versions.{HistoryText}
 use Rattle.history_text.specs.declared.version.Version.{Version}
 use Rattle.history_text.specs.declared.version.Version.TheVariants.{One, Two}
 use Rattle.history_text.specs.Versions.{HasText, HaveValueLines}
 use Rattle.verdicts.specs.declared.verdict.Verdict.{Verdict}
 use Rattle.verdicts.specs.Claiming.{claim_of}
-use Rattle.verdicts.specs.Verdicts.{HasOperationsFrom, IsEvidenceFrom, IsExactFrom, IsVerdictFrom}
+use Rattle.verdicts.specs.Verdicts.{IsEvidenceFrom, IsExactFrom, IsVerdictFrom}
 use Rattle.std.specs.Prelude.{filter}
 use Rattle.verdicts.specs.Selection.{ArePartOf}
-use Rattle.verdicts.proofs.DecidedFrom.{history_has}
 use Rattle.commands.specs.Answers.{Reply, memory_fault, answer_of_history_fault}
 use Rattle.text_lines.specs.declared.fault.TextFault.{TextFault}
 use Rattle.text_lines.specs.Input.{Ahead}
-use Rattle.commands.specs.Judging.{IsFaulty, IsShrunk, IsVerdictClaim, AnswersFor, AnswersOrNoMemory, IsGathered, Shrinks, from_none, said_by}
+use Rattle.commands.specs.Judging.{IsFaulty, IsShrunk, IsVerdictClaim, AnswersFor, AnswersOrNoMemory, Shrinks, from_none, said_by}
 
 -- the first fault is answered, and want of memory as such
 pub fault_found : (history : HistoryView) (fault : HistoryFault) → IsFirstFaultFrom history.initial history.events fault
@@ -57,25 +53,6 @@ few_of_version Two initial have = have.few
 -- a text has no more initial values than a history may have
 pub few_values : (text : HistoryText) → HasText text → length text.initial ≤ MAX_INITIAL
 few_values text has = few_of_version text.version text.initial has.initial
-
--- what was gathered from a text are the operations of a history
-pub gathered_has : (text : HistoryText) (parts : HistoryParts) → HasText text → IsCompleteFrom text.initial text.events
-    → (parts.initial.items ≡ text.initial) × (parts.operations.items ≡ operations_of text.events)
-    → HasOperationsFrom parts.initial.items parts.operations.items
-gathered_has text parts has complete same =
-    history_has (said_by text) parts.initial.items parts.operations.items same.0 same.1 complete (few_values text has) has.events.few
-
--- and what was gathered of a history at all
-pub gathered_operations : (history : HistoryView) (builder : HistoryBuilder) (parts : HistoryParts) → IsGathered history builder
-    → IsCompleteFrom history.initial history.events → (parts.initial.items ≡ history.initial) × (parts.operations.items ≡ operations_of history.events)
-    → HasOperationsFrom parts.initial.items parts.operations.items
-gathered_operations history builder parts is complete same =
-    history_has history parts.initial.items parts.operations.items same.0 same.1 complete is.few_initial is.few_events
-
--- a text has no more values and events than a history may have
-pub gathered_of_text : (text : HistoryText) (builder : HistoryBuilder) → HasText text → HasGathered text.initial text.events builder
-    → IsGathered (said_by text) builder
-gathered_of_text text builder has gathered = record { gathered = gathered; few_initial = few_values text has; few_events = has.events.few }
 
 -- what is decided of a history is the claim of its verdict
 pub decided_claim : (history : HistoryView) (verdict : Verdict) → IsVerdictFrom history.initial (operations_of history.events) verdict

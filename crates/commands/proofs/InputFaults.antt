@@ -1,6 +1,6 @@
 -- From the faults of calls on the reader to the fault of the input.
 use Rattle.std.proofs.Common.{◌≡◌, ◌≢◌, ℕ, List, [], ◌∷◌, ◌++◌, ◌⊎◌, Option, Some, None, inl, inr, ap, sym, ◌∙◌, refl, append-nil, IfSome, subst}
-use Rattle.history_text.specs.declared.version.HistoryText.{HistoryText}
+use Rattle.history_text.specs.Versions.{HistoryText}
 use Rattle.text_lines.specs.declared.fault.TextFault.{TextFault}
 use Rattle.text_lines.specs.declared.fault.TextFault.TheVariants.{Read, Header, Line, Number, Limit, Count, Cut, Trailing, Memory}
 use Rattle.text_lines.proofs.MemoryOrNot.{follows, is_memory, known_fault}

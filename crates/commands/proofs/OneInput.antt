@@ -6,7 +6,7 @@ use Rattle.text_lines.specs.Input.{Ahead, Ending, EndOfInput, Failure}
 use Rattle.text_lines.proofs.MemoryOrNot.{known_fault}
 use Rattle.verdicts.specs.declared.verifying.Claimed.{Claimed}
 use Rattle.verdicts.specs.declared.verifying.Claimed.TheVariants.{Yes, No}
-use Rattle.history_text.specs.declared.version.HistoryText.{HistoryText}
+use Rattle.history_text.specs.Versions.{HistoryText}
 use Rattle.history_text.specs.Versions.{text_of, line_count, HasText, IsTextFault, NoRoomForText}
 use Rattle.history_text.specs.Verdicts.{verdict_text}
 use Rattle.history_text.specs.Claims.{IsVerdictTextFault, NoRoomForVerdict}

@@ -17,7 +17,7 @@ use Rattle.text_lines.specs.declared.fault.TextFault.{TextFault}
 use Rattle.text_lines.specs.declared.fault.TextFault.TheVariants as text
 use Rattle.text_lines.specs.Lines.{greatest_value}
 use Rattle.text_lines.specs.Input.{Ahead, EndOfInput, Failure}
-use Rattle.history_text.specs.declared.version.HistoryText.{HistoryText}
+use Rattle.history_text.specs.Versions.{HistoryText}
 use Rattle.history_text.specs.declared.version.Version.{Version}
 use Rattle.history_text.specs.declared.version.Version.TheVariants.{One, Two}
 use Rattle.history_text.specs.Histories.{HasHistoryText, HasEventLine}

@@ -6,7 +6,7 @@ use Rattle.text_lines.specs.declared.fault.TextFault.{TextFault}
 use Rattle.text_lines.specs.declared.fault.TextFault.TheVariants as text
 use Rattle.text_lines.specs.Faults as text_names
 use Rattle.text_lines.specs.Lines.{line}
-use Rattle.history_text.specs.declared.version.HistoryText.{HistoryText}
+use Rattle.history_text.specs.Versions.{HistoryText}
 use Rattle.history_text.specs.Histories.{history_text}
 use Rattle.history_text.specs.Versions.{text_of}
 use Rattle.history_text.specs.Verdicts.{verdict_text}

@@ -1,6 +1,6 @@
 -- What one command writes, and what another answers of it: every answer is evidence.
 use Rattle.std.specs.Prelude.{◌≡◌, ℕ, List, ◌++◌, ◌⊎◌, true}
-use Rattle.history_text.specs.declared.version.HistoryText.{HistoryText}
+use Rattle.history_text.specs.Versions.{HistoryText}
 use Rattle.verdicts.specs.declared.verifying.Claimed.{Claimed}
 use Rattle.text_lines.specs.Input.{Ahead, EndOfInput}
 use Rattle.command_words.specs.declared.options.PictureForm.{PictureForm}

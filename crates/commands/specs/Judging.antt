@@ -3,7 +3,6 @@ use Rattle.std.specs.Prelude.{◌≡◌, ◌≢◌, ◌≤◌, Bool, false, IsTr
 use Rattle.event_records.specs.declared.event.Event.{Event}
 use Rattle.history_merge.specs.declared.fault.HistoryFault.{HistoryFault}
 use Rattle.history_merge.specs.declared.fault.HistoryFault.TheVariants.{Memory}
-use Rattle.event_records.specs.declared.limits.TheConstants.{MAX_EVENTS, MAX_INITIAL}
 use Rattle.history_merge.specs.declared.builder.HistoryBuilder.{HistoryBuilder}
 use Rattle.history_merge.specs.Faults.{IsFirstFaultFrom}
 use Rattle.history_merge.specs.Gathering.{HasGathered}
@@ -25,7 +24,7 @@ use Rattle.verdicts.specs.Claims.{IsTrueClaim}
 use Rattle.verdicts.specs.Claiming.{claim_of}
 use Rattle.verdicts.specs.Verdicts.{IsChosenFrom, IsEvidenceFrom, IsExactFrom, IsVerdictFrom}
 use Rattle.verdicts.specs.Selection.{KeepsViolation, StaysChosen, IsMinimal, HasShortestCover, ArePartOf, contents_of}
-use Rattle.history_text.specs.declared.version.HistoryText.{HistoryText}
+use Rattle.history_text.specs.Versions.{HistoryText}
 use Rattle.history_text.specs.declared.version.Version.TheVariants.{Two}
 use Rattle.history_text.specs.Versions.{said_in}
 use Rattle.command_words.specs.declared.options.PictureForm.{PictureForm}
@@ -85,11 +84,9 @@ JudgesHistory history answer = IsFaulty history answer ⊎ IsJudged history answ
 abbrev pub Judges : HistoryText → Reply → Type 0
 Judges text answer = JudgesHistory (said_by text) answer
 
--- the initial values and the events of this history were gathered, and there are no more than a history may have
-pub record IsGathered (history : HistoryView) (builder : HistoryBuilder) : Type 0 where
-  pub gathered : HasGathered history.initial history.events builder
-  pub few_initial : length history.initial ≤ MAX_INITIAL
-  pub few_events : length history.events ≤ MAX_EVENTS
+-- the initial values and the events of this history were gathered
+abbrev pub IsGathered : HistoryView → HistoryBuilder → Type 0
+IsGathered history builder = HasGathered history.initial history.events builder
 
 -- it is a complete history that isn't linearizable; of the chosen violation the initial values and the events are shown, with their own
 -- verdict. They are a complete history: values with all their operations, and an empty answer; nothing can be left out of them, and no

@@ -17,7 +17,7 @@ use Rattle.commands.specs.Answers.{refused_queue, refused_limit, memory_fault, r
 
 -- the answer that is printed of what was found: of a verdict what it claims, of the rest the same
 abbrev pub answer_of_found : Found → Reply
-answer_of_found (Judged parts verdict) = judged (claim_of parts.initial.items parts.operations.items verdict)
+answer_of_found (Judged history verdict) = judged (claim_of history.initial (operations_of history.events) verdict)
 answer_of_found (Shown version history verdict) =
     shown (said_in version history) (claim_of history.initial (operations_of history.events) verdict)
 answer_of_found (LeftOpen rejections) = left_open rejections
@@ -62,7 +62,7 @@ place_in _ = None
 
 -- a verdict names places of its own history, and a history is shown in a version that has a text for it
 abbrev pub HasPlaces : Found → Type 0
-HasPlaces (Judged parts verdict) = IsWithin parts.initial.items parts.operations.items verdict
+HasPlaces (Judged history verdict) = IsWithin history.initial (operations_of history.events) verdict
 HasPlaces (Shown version history verdict) =
     IsWithin history.initial (operations_of history.events) verdict × (version ≡ One → history.initial ≡ [])
 HasPlaces (Played rejections history verdict) = IsWithin history.initial (operations_of history.events) verdict × (history.initial ≡ [])

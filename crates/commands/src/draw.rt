@@ -24,8 +24,8 @@ pub fn draw<S: TextSource + Drop>(alloc: Global, reader: S, form: PictureForm) -
     ensures found { IfSome (S.ahead reader) (λ input. AnswersFor IsDrawableOf IsFaultOfDrawableInput (Draws form) input (answer_of result)) }
     ensures places { NamesPlaces result }
 {
-    let (text, claimed) = drawable_of(alloc, reader)?;
-    let (_version, history) = history_of(alloc, text)?;
+    let (gathered, claimed) = drawable_of(alloc, reader)?;
+    let (_version, history) = history_of(gathered)?;
     draw_history(alloc, &history, &claimed, form)
 }
 

@@ -2,7 +2,7 @@
 ghost use Rattle.std.specs.Prelude.{◌≡◌};
 ghost use Rattle.commands.specs.declared.outcome.Fault.TheVariants as made;
 
-use history_merge::{History, HistoryFault, HistoryParts};
+use history_merge::{History, HistoryFault};
 use history_stats::Statistics;
 use history_text::{TextFault, Version};
 use simulation::Rejections;
@@ -17,8 +17,8 @@ pub type Outcome = Result<Found, Fault>;
 /// What a command found.
 #[derive(Debug, Drop)]
 pub enum Found {
-    /// The verdict on a history, with its initial values and its operations.
-    Judged(HistoryParts, Verdict),
+    /// A history, of which the verdict alone is to be shown.
+    Judged(History, Verdict),
     /// A history to be shown in a version, with its verdict.
     Shown(Version, History, Verdict),
     /// The refused steps of a schedule, after which the machine isn't done.

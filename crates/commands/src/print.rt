@@ -12,7 +12,7 @@ use crate::faults::write_fault;
 use crate::outcome::{Found, Outcome};
 use crate::show::{write_left_open, write_played, write_shown};
 use history_stats::write_statistics;
-use history_text::{TextSink, WriteFault, write_history_2, write_piece, write_verdict_on};
+use history_text::{TextSink, Version, WriteFault, write_history, write_piece, write_verdict};
 use verdicts::Verdict;
 
 /// Writes what a command found, or why it found nothing.
@@ -25,9 +25,7 @@ pub fn write_outcome<W: TextSink>(outcome: &Outcome, writer: &mut W) -> Result<(
     ensures stopped { OnErr result (IsRefused W.goes writer.old writer.new) }
 {
     match outcome {
-        Ok(Found::Judged(parts, verdict)) => {
-            return write_verdict_on(&parts.initial, &parts.operations, verdict, writer);
-        }
+        Ok(Found::Judged(history, verdict)) => return write_verdict(history, verdict, writer),
         Ok(Found::Shown(version, history, verdict)) => {
             return write_shown(*version, history, verdict, writer);
         }
@@ -35,7 +33,7 @@ pub fn write_outcome<W: TextSink>(outcome: &Outcome, writer: &mut W) -> Result<(
         Ok(Found::Played(rejections, history, verdict)) => {
             return write_played(rejections, history, verdict, writer);
         }
-        Ok(Found::Converted(history)) => return write_history_2(history, writer),
+        Ok(Found::Converted(history)) => return write_history(Version::Two, history, writer),
         Ok(Found::Verified(true)) => return write_piece(b"VALID\n", writer),
         Ok(Found::Verified(false)) => return write_piece(b"INVALID\n", writer),
         Ok(Found::Counted(statistics)) => return write_statistics(statistics, writer),

@@ -12,7 +12,7 @@ ghost use Rattle.commands.specs.Answers.{rejection_line, rejection_lines};
 ghost use Rattle.verdicts.specs.Claiming.{IsWithin, claim_of};
 
 use history_merge::History;
-use history_text::{TextSink, Version, WriteFault, write_history_text, write_piece, write_verdict};
+use history_text::{TextSink, Version, WriteFault, write_history, write_piece, write_verdict};
 use simulation::{Rejection, Rejections};
 use text_lines::Kept;
 use verdicts::Verdict;
@@ -34,7 +34,7 @@ pub fn write_shown<W: TextSink>(
     ensures written { OnOk result (IsWritten W.goes writer.old writer.new) }
     ensures stopped { OnErr result (IsRefused W.goes writer.old writer.new) }
 {
-    write_history_text(version, history, writer)?;
+    write_history(version, history, writer)?;
     write_verdict(history, verdict, writer)
 }
 

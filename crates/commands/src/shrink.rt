@@ -1,5 +1,5 @@
 //! `shrink`: what shows that a history is not linearizable, and no more.
-ghost use Rattle.std.specs.Prelude.{◌≡◌, [], IfOk, IfSome};
+ghost use Rattle.std.specs.Prelude.{◌≡◌, [], IfSome};
 ghost use Rattle.history_merge.specs.Initial.{IsCompleteFrom};
 ghost use Rattle.history_merge.specs.Legal.{IsLinearizableFrom};
 ghost use Rattle.history_merge.specs.Operations.{operations_of};
@@ -12,9 +12,9 @@ ghost use Rattle.commands.specs.Outcomes.{answer_of, NamesPlaces};
 
 use crate::input::given_history;
 use crate::outcome::{Found, Outcome};
-use history_merge::{History, HistoryParts};
+use history_merge::History;
 use history_text::{TextSource, Version};
-use std::alloc::{AllocError, Global};
+use std::alloc::Global;
 use value_match::Violation;
 use verdicts::{Verdict, decide};
 
@@ -35,24 +35,9 @@ fn shrink_history(alloc: Global, version: Version, history: History) -> Outcome
     ensures places { NamesPlaces result }
 {
     match decide(alloc, &history)? {
-        Verdict::Yes(order) => {
-            let parts = parts_of(alloc, history)?;
-            Ok(Found::Judged(parts, Verdict::Yes(order)))
-        }
+        Verdict::Yes(order) => Ok(Found::Judged(history, Verdict::Yes(order))),
         Verdict::No(violation) => shrink_violation(alloc, version, &history, &violation),
     }
-}
-
-/// The initial values and the operations of a history.
-fn parts_of(alloc: Global, history: History) -> Result<HistoryParts, AllocError>
-    ensures { IfOk result (λ parts. (parts.initial.items ≡ history.initial) × (parts.operations.items ≡ operations_of history.events)) }
-{
-    let initial = Vec::from_slice(alloc, history.initial())?;
-    let operations = history.into_operations();
-    Ok(HistoryParts {
-        initial,
-        operations,
-    })
 }
 
 /// What shows the chosen violation of a history, of a text of this version.
@@ -64,12 +49,11 @@ fn shrink_violation(
 ) -> Outcome
     requires version { version ≡ One → history.now.initial ≡ [] }
     requires chosen { IsChosenFrom history.now.initial (operations_of history.now.events) violation.now }
+    requires complete { IsCompleteFrom history.now.initial history.now.events }
     requires no { ¬ (IsLinearizableFrom history.now.initial (operations_of history.now.events)) }
     ensures found { AnswersOrNoMemory IsShrunk (said_in version history.now) (answer_of result) }
     ensures places { NamesPlaces result }
 {
-    // A history is complete, as its accessor says.
-    let _events = history.events();
     let small = verdicts::shrink(alloc, history, violation)?;
     let verdict = decide(alloc, &small)?;
     Ok(Found::Shown(version, small, verdict))

@@ -3,7 +3,7 @@ ghost use Rattle.std.specs.Prelude.{IfSome};
 ghost use Rattle.history_text.specs.declared.version.Version.{Version};
 ghost use Rattle.history_text.specs.Versions.{said_in};
 ghost use Rattle.commands.specs.Inputs.{IsHistoryOf, IsFaultOfHistoryInput};
-ghost use Rattle.commands.specs.Judging.{AnswersFor, AnswersOrNoMemory, Counts};
+ghost use Rattle.commands.specs.Judging.{AnswersFor, AnswersOrNoMemory, Counts, IsSound};
 ghost use Rattle.commands.specs.Outcomes.{answer_of, NamesPlaces};
 
 use crate::input::given_history;
@@ -24,11 +24,10 @@ pub fn stats<S: TextSource + Drop>(alloc: Global, reader: S) -> Outcome
 
 /// The statistics of the history.
 fn count(alloc: Global, history: &History) -> Outcome
+    requires { IsSound history.now }
     ensures found { (version : Version) → AnswersOrNoMemory Counts (said_in version history.now) (answer_of result) }
     ensures places { NamesPlaces result }
 {
-    // A history is complete, as its accessor says.
-    let _events = history.events();
     let statistics = statistics_of(alloc, history)?;
     Ok(Found::Counted(statistics))
 }

@@ -8,7 +8,7 @@ ghost use Rattle.commands.specs.Judging.{JudgesHistory, IsGathered, AnswersOrNoM
 ghost use Rattle.commands.specs.Outcomes.{answer_of, NamesPlaces};
 ghost use Rattle.commands.specs.Running.{AnswersOf};
 
-use crate::input::gathered_of;
+use crate::input::given_history;
 use crate::outcome::{Found, Outcome};
 use crate::print::write_outcome;
 use crate::shrink::shrink;
@@ -16,15 +16,16 @@ use crate::verify::verify;
 use history_merge::HistoryBuilder;
 use history_text::{MemorySource, Watched};
 use std::alloc::{AllocError, Global};
-use verdicts::decide_from;
+use verdicts::decide;
 
 /// What `check` finds in a text. Time and memory as of the command in one thread.
 pub fn check_text(alloc: Global, text: &[u8]) -> Outcome
     ensures found { AnswersOf check (input_of text.now) (answer_of result) }
     ensures places { NamesPlaces result }
 {
-    let builder = gathered_of(alloc, MemorySource::new(text))?;
-    judge_gathered(alloc, builder)
+    let (_version, history) = given_history(alloc, MemorySource::new(text))?;
+    let verdict = decide(alloc, &history)?;
+    Ok(Found::Judged(history, verdict))
 }
 
 /// What `shrink` finds in a text.
@@ -49,9 +50,9 @@ pub fn judge_gathered(alloc: Global, builder: HistoryBuilder) -> Outcome
     ensures found { (history : HistoryView) → IsGathered history builder → AnswersOrNoMemory JudgesHistory history (answer_of result) }
     ensures places { NamesPlaces result }
 {
-    let parts = builder.finish()?;
-    let verdict = decide_from(alloc, &parts.initial, &parts.operations)?;
-    Ok(Found::Judged(parts, verdict))
+    let history = builder.finish()?;
+    let verdict = decide(alloc, &history)?;
+    Ok(Found::Judged(history, verdict))
 }
 
 /// The text that a command prints of what it found, or why it found nothing. `AllocError` comes only where a growth was refused.

@@ -3,12 +3,19 @@ ghost use Rattle.std.specs.Prelude.{◌≡◌, ◌+◌, ◌≤◌, ◌<◌, IfOk
 ghost use Rattle.drawing.specs.Layout.{digits, label, initial_label, has_events, threads_of, last_ticket, initial_width, label_width, columns_of, lanes_of};
 
 use event_records::{Event, MAX_THREAD, MAX_THREADS};
-use history_merge::{OpKind, Operation};
+use history_merge::{History, OpKind, Operation};
 use itoa::Buffer;
 use std::alloc::{AllocError, Global};
 
 /// The most initial values and the most operations of a history, and the most lines of a claim, that are drawn.
 pub const MOST_DRAWN: usize = 400;
+
+/// The events of a history, in a list of their own.
+pub fn events_of(alloc: Global, history: &History) -> Result<Vec<Event>, AllocError>
+    ensures { IfOk result (λ events. events.items ≡ history.now.events) }
+{
+    history.events().collect(alloc)
+}
 
 /// The greatest column where bands, or the order of a yes, stand.
 pub(crate) const MAX_BESIDE: usize = 51 + 22 * MAX_THREADS;

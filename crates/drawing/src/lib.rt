@@ -16,7 +16,9 @@ mod writing;
 pub use bands::{Band, Head, bands_of, form_words, head_words, push_head};
 pub use captions::{claim_words, headline, push_caption};
 pub use claim::{count_of_lines, order_of};
-pub use columns::{Columns, Lane, MOST_DRAWN, digits, label_width, last_ticket, threads_of};
+pub use columns::{
+    Columns, Lane, MOST_DRAWN, digits, events_of, label_width, last_ticket, threads_of,
+};
 pub use initial::{initial_label, push_initial_label};
 pub use laws::{
     bars_are_the_operations, effects_rise_within_bars, lanes_stand_apart,

@@ -16,7 +16,7 @@ use crate::bands::{Band, Head, bands_of, form, head_words, holds_gap};
 use crate::captions::{headline, push_caption, push_legend};
 use crate::claim::{count_of_lines, order_of, shown_by};
 use crate::columns::{
-    Columns, Lane, MOST_DRAWN, columns_of, digits, label_width, lanes_of, threads_of,
+    Columns, Lane, MOST_DRAWN, columns_of, digits, events_of, label_width, lanes_of, threads_of,
 };
 use crate::initial::push_initial_rows;
 use crate::line::{Added, Piece, place, push_all, push_line};
@@ -379,7 +379,13 @@ fn name_bytes(sheet: &Sheet<'_>) -> Result<Vec<u8>, AllocError>
 }
 
 #[tactic(auto, unfolding(crate::specs::Terminal::rows))]
-fn push_rows(text: &mut Vec<u8>, sheet: &Sheet<'_>, history: &History) -> Added
+fn push_rows(
+    text: &mut Vec<u8>,
+    sheet: &Sheet<'_>,
+    history: &History,
+    events: &[Event],
+) -> Added
+    requires { events.now ≡ history.now.events }
     ensures { OnOk result (text.new.items ≡ text.old.items
         ++ rows sheet.now.columns sheet.now.lanes.now sheet.now.bands.now history.now sheet.now.operations.now sheet.now.claimed.now) }
 {
@@ -389,7 +395,7 @@ fn push_rows(text: &mut Vec<u8>, sheet: &Sheet<'_>, history: &History) -> Added
     let names = name_bytes(sheet)?;
     push_line(text, names.as_slice())?;
     push_initial_rows(text, sheet, history.initial())?;
-    push_events(text, sheet, history.events())
+    push_events(text, sheet, events)
 }
 
 /// Adds what stands above the rows: what the picture shows, and how to read it.
@@ -420,12 +426,12 @@ pub fn terminal_picture(
     requires { count_of_lines claimed.now ≤ MOST_DRAWN }
     ensures { IfOk result (λ text. text.items ≡ terminal_picture history.now claimed.now) }
 {
-    let events = history.events();
+    let events = events_of(alloc, history)?;
     let operations = history.operations();
-    let threads = threads_of(alloc, events)?;
+    let threads = threads_of(alloc, events.as_slice())?;
     let widest_label = label_width(history.initial(), operations);
     let columns = columns_of(
-        events,
+        events.as_slice(),
         threads.as_slice(),
         widest_label,
         count_of_lines(claimed),
@@ -442,6 +448,6 @@ pub fn terminal_picture(
     };
     let mut text = Vec::new(alloc);
     push_words(&mut text, history.initial(), claimed)?;
-    push_rows(&mut text, &sheet, history)?;
+    push_rows(&mut text, &sheet, history, events.as_slice())?;
     Ok(text)
 }

@@ -7,6 +7,7 @@ use crate::counting::{
 use crate::overlapping::{overlapping_count, tenths_of_percent};
 use crate::pending::most_pending;
 use crate::queued::most_queued;
+use event_records::Event;
 use history_merge::History;
 use std::alloc::{AllocError, Global};
 
@@ -48,7 +49,7 @@ pub struct Statistics {
 pub fn statistics_of(alloc: Global, history: &History) -> Result<Statistics, AllocError>
     ensures { IfOk result (AreStatisticsOf history.now) }
 {
-    let events = history.events();
+    let events: Vec<Event> = history.events().collect(alloc)?;
     let operations = history.operations();
     let initial = history.initial();
     let most_pending = most_pending(alloc, operations)?;
@@ -57,13 +58,13 @@ pub fn statistics_of(alloc: Global, history: &History) -> Result<Statistics, All
     Ok(Statistics {
         events: events.len(),
         operations: operations.len(),
-        threads: thread_count(events),
+        threads: thread_count(events.as_slice()),
         enqueued: enqueued_count(operations),
         refused: refused_count(operations),
         dequeued: dequeued_count(operations),
         empty: empty_count(operations),
         initial: initial.len(),
-        thread_changes: change_count(events),
+        thread_changes: change_count(events.as_slice()),
         overlapping,
         overlapping_tenths: tenths_of_percent(overlapping, operations.len()),
         most_pending,

@@ -8,7 +8,7 @@ use Rattle.text_lines.specs.Inner.Lines.{IsPartOfLine}
 use Rattle.text_lines.specs.Lines.{line, spaced, front_of}
 use Rattle.history_text.specs.declared.version.Version.{Version}
 use Rattle.history_text.specs.declared.version.Version.TheVariants.{One, Two}
-use Rattle.history_text.specs.declared.version.HistoryText.{HistoryText}
+use Rattle.history_text.specs.Versions.{HistoryText}
 use Rattle.history_text.specs.Items.{lines_of, HaveLines, ItemFault}
 use Rattle.history_text.specs.Histories.{header, lines_to_end, event_format, HasHistoryText}
 use Rattle.history_text.specs.Versions.{value_format, count_fields, count_in, lines_of_initial, header_of, lines_before_events, text_of, HaveValueLines}

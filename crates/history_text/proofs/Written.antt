@@ -1,5 +1,5 @@
 -- What is written of a history, and that it has a text.
-use Rattle.std.proofs.Common.{◌≡◌, ℕ, ◌≤◌, List, [], ◌++◌, length, Option, Ok, Err, subst, append_assoc}
+use Rattle.std.proofs.Common.{◌≡◌, ℕ, ◌≤◌, List, [], ◌++◌, length, Option, refl, subst, append_assoc}
 use Rattle.std.specs.List.{All}
 use Rattle.std.specs.Prelude.{OnOk, OnErr}
 use Rattle.std.specs.declared.result.Result.{Result}
@@ -10,7 +10,8 @@ use Rattle.event_records.specs.declared.event.Event.{Event}
 use Rattle.event_records.specs.declared.limits.TheConstants.{MAX_EVENTS, MAX_INITIAL}
 use Rattle.history_merge.specs.Complete.{IsCompleteHistory}
 use Rattle.text_lines.specs.Lines.{greatest_value}
-use Rattle.history_text.specs.declared.version.Version.TheVariants.{Two}
+use Rattle.history_text.specs.declared.version.Version.{Version}
+use Rattle.history_text.specs.declared.version.Version.TheVariants.{One, Two}
 use Rattle.history_text.specs.Histories.{HasEventLine, HasHistoryText, HasValueInRange}
 use Rattle.history_text.specs.Versions.{HasText}
 use Rattle.text_lines.specs.Writing.{AppendsFront, Puts}
@@ -50,16 +51,18 @@ complete_has_text events complete values few = record {
   few = few;
 }
 
--- what was written of a complete history in version 2 has a text, where its values and events fit
-pub written_has_text : {T E : Type 0} (r : Result T E) (initial : List ℕ) (events : List Event) → length initial ≤ MAX_INITIAL
-    → IsCompleteHistory events → length events ≤ MAX_EVENTS → OnOk r (All (λ v. v ≤ greatest_value) initial)
-    → OnOk r (All (λ e. HasValueInRange e.what) events)
-    → OnOk r (HasText (record { version = Two; initial = initial; events = events }))
-written_has_text (Ok x) initial events few_initial complete few values_fit events_fit = record {
-  initial = record { each = recursion_from_All (λ v. v ≤ greatest_value) initial values_fit; few = few_initial };
+-- a complete history has a text of this version, where its values and events fit
+pub written_has_text : (version : Version) (initial : List ℕ) (events : List Event) → (version ≡ One → initial ≡ []) → length initial ≤ MAX_INITIAL
+    → IsCompleteHistory events → length events ≤ MAX_EVENTS → (version ≡ Two → All (λ v. v ≤ greatest_value) initial)
+    → All (λ e. HasValueInRange e.what) events → HasText (record { version = version; initial = initial; events = events })
+written_has_text One initial events none few_initial complete few values_fit events_fit = record {
+  initial = none refl;
   events = complete_has_text events complete events_fit few;
 }
-written_has_text (Err e) initial events few_initial complete few values_fit events_fit = tt
+written_has_text Two initial events none few_initial complete few values_fit events_fit = record {
+  initial = record { each = recursion_from_All (λ v. v ≤ greatest_value) initial (values_fit refl); few = few_initial };
+  events = complete_has_text events complete events_fit few;
+}
 
 -- ---- what is kept back goes out last
 

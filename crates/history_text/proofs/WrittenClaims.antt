@@ -24,7 +24,7 @@ use Rattle.verdicts.specs.declared.shown.LinePlace.TheVariants as place
 use Rattle.verdicts.specs.Claiming.{line_at}
 use Rattle.history_text.specs.declared.version.Version.{Version}
 use Rattle.history_text.specs.declared.version.Version.TheVariants.{One, Two}
-use Rattle.history_text.specs.declared.version.HistoryText.{HistoryText}
+use Rattle.history_text.specs.Versions.{HistoryText}
 use Rattle.history_text.specs.Histories.{HasValueInRange, HasEventLine, HasHistoryText}
 use Rattle.history_text.specs.Versions.{HaveValueLines, HasText}
 use Rattle.history_text.specs.Verdicts.{places_of, places_of_violation, claim_of}

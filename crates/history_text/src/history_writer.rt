@@ -2,12 +2,11 @@
 ghost use Rattle.std.specs.Prelude.{◌≡◌, ◌+◌, ◌≤◌, ◌||◌, ◌++◌, [], length, is_err, OnOk, OnErr, All};
 ghost use Rattle.std.specs.List.{flat_map};
 ghost use Rattle.std.specs.Io.KnownBytes.{Appends};
-ghost use Rattle.event_records.specs.declared.limits.TheConstants.{MAX_EVENTS};
 ghost use Rattle.text_lines.specs.Lines.{spaced, end_line, greatest_value};
 ghost use Rattle.history_text.specs.declared.version.Version.TheVariants.{One, Two};
 ghost use Rattle.history_text.specs.Items.{line_of, lines_of};
-ghost use Rattle.history_text.specs.Histories.{what_fields, event_line, history_text, HasHistoryText, HasValueInRange};
-ghost use Rattle.history_text.specs.Versions.{value_format, lines_before_events, text_by, history_text_2, text_of, said_in, HasText};
+ghost use Rattle.history_text.specs.Histories.{what_fields, event_line, HasValueInRange};
+ghost use Rattle.history_text.specs.Versions.{value_format, lines_before_events, text_by, text_of, said_in, HasText};
 ghost use Rattle.text_lines.specs.Writing.{AppendsFront, Puts, IsWritten, IsRefused};
 
 use crate::lines::{Lines, put_each};
@@ -57,12 +56,12 @@ fn put_events<W: TextSink>(
     kept: &mut Kept,
     writer: &mut W,
 ) -> Result<(), WriteFault>
-    ensures ok { OnOk result (Puts (W.contents writer.old) (W.contents writer.new) kept.old kept.new (flat_map event_line events)) }
-    ensures err { OnErr result (AppendsFront (W.contents writer.old) (W.contents writer.new) (kept.old ++ flat_map event_line events)) }
+    ensures ok { OnOk result (Puts (W.contents writer.old) (W.contents writer.new) kept.old kept.new (flat_map event_line events.entry)) }
+    ensures err { OnErr result (AppendsFront (W.contents writer.old) (W.contents writer.new) (kept.old ++ flat_map event_line events.entry)) }
     ensures refused { W.has_refused writer.new ≡ (W.has_refused writer.old || is_err result) }
     ensures written { OnOk result (IsWritten W.goes writer.old writer.new) }
     ensures stopped { OnErr result (IsRefused W.goes writer.old writer.new) }
-    ensures fits { OnOk result (All (λ e. HasValueInRange e.what) events) }
+    ensures fits { OnOk result (All (λ e. HasValueInRange e.what) events.entry) }
 {
     for event in events {
         make_room(kept, writer)?;
@@ -138,14 +137,14 @@ fn put_text<W: TextSink>(
     kept: &mut Kept,
     writer: &mut W,
 ) -> Result<(), WriteFault>
-    requires { kept.old ≡ [] }
+    requires kept { kept.old ≡ [] }
+    requires version { version ≡ One → history.now.initial ≡ [] }
     ensures ok { OnOk result (Puts (W.contents writer.old) (W.contents writer.new) [] kept.new (text_by version history.now.initial history.now.events)) }
     ensures err { OnErr result (AppendsFront (W.contents writer.old) (W.contents writer.new) (text_by version history.now.initial history.now.events)) }
     ensures refused { W.has_refused writer.new ≡ (W.has_refused writer.old || is_err result) }
     ensures written { OnOk result (IsWritten W.goes writer.old writer.new) }
     ensures stopped { OnErr result (IsRefused W.goes writer.old writer.new) }
-    ensures values_fit { version ≡ Two → OnOk result (All (λ v. v ≤ greatest_value) history.now.initial) }
-    ensures events_fit { OnOk result (All (λ e. HasValueInRange e.what) history.now.events) }
+    ensures readable { OnOk result (HasText (said_in version history.now)) }
 {
     put_before_events(version, history.initial(), kept, writer)?;
     put_events(history.events(), kept, writer)?;

@@ -2,37 +2,23 @@
 ghost use Rattle.std.specs.Prelude.{◌≡◌, ◌≤◌, ◌++◌, ℕ, List, [], length};
 ghost use Rattle.event_records.specs.declared.limits.TheConstants.{MAX_CLAIM_LINES};
 ghost use Rattle.history_merge.specs.Operations.{operations_of};
-ghost use Rattle.event_records.specs.declared.event.Event.{Event};
 ghost use Rattle.verdicts.specs.declared.verifying.Claimed.{Claimed};
 ghost use Rattle.verdicts.specs.declared.verdict.Verdict.{Verdict};
 ghost use Rattle.text_lines.specs.declared.fault.TextFault.{TextFault};
 ghost use Rattle.history_text.specs.declared.schedule.Schedule.{Schedule};
 ghost use Rattle.history_text.specs.Verdicts.{claim_of, places_of, verdict_text};
 ghost use Rattle.history_text.specs.Claims.{HasVerdictText, IsVerdictTextFault};
-ghost use Rattle.history_text.specs.Histories.{HasHistoryText, history_text, IsHistoryTextFault};
-ghost use Rattle.history_text.specs.declared.version.HistoryText.{HistoryText};
-ghost use Rattle.history_text.specs.Versions.{HasText, text_of, IsTextFault};
+ghost use Rattle.history_text.specs.Versions.{HasText, HistoryText, text_of, IsTextFault};
 ghost use Rattle.history_text.specs.Schedules.{HasScheduleText, schedule_text, IsScheduleTextFault};
 ghost use Rattle.text_lines.specs.Input.{Ending, EndOfInput};
 
-/// A text is the text of one list of events.
+/// A text of a history says one thing: it has one version, one list of initial values, and one of events.
 pub fn a_text_has_one_history()
-    ensures { (first second : List Event) → HasHistoryText first → HasHistoryText second → history_text first ≡ history_text second → first ≡ second }
-{}
-
-/// No text of a history is a proper front of another.
-pub fn no_text_begins_another()
-    ensures { (first second : List Event) (more : List ℕ) → HasHistoryText first → HasHistoryText second
-        → history_text first ++ more ≡ history_text second → more ≡ [] }
-{}
-
-/// A text of either version says one thing: it has one version, one list of initial values, and one of events.
-pub fn a_text_of_either_version_has_one_history()
     ensures { (first second : HistoryText) → HasText first → HasText second → text_of first ≡ text_of second → first ≡ second }
 {}
 
 /// No text of a history is a proper front of another, whatever their versions.
-pub fn no_text_of_either_version_begins_another()
+pub fn no_text_begins_another()
     ensures { (first second : HistoryText) (more : List ℕ) → HasText first → HasText second → text_of first ++ more ≡ text_of second → more ≡ [] }
 {}
 
@@ -60,11 +46,9 @@ pub fn a_claim_on_a_text_has_a_text()
         → HasVerdictText (claim_of text.initial (operations_of text.events) verdict) }
 {}
 
-/// An input has one first fault, as the text of a history of version 1 or of either version, of a schedule or of a verdict.
+/// An input has one first fault, as the text of a history, of a schedule or of a verdict.
 pub fn one_first_fault()
-    ensures history { (lines : ℕ) (ending : Ending) (bytes : List ℕ) (f g : TextFault) → IsHistoryTextFault lines ending bytes f
-        → IsHistoryTextFault lines ending bytes g → f ≡ g }
-    ensures either { (lines : ℕ) (ending : Ending) (bytes : List ℕ) (f g : TextFault)
+    ensures history { (lines : ℕ) (ending : Ending) (bytes : List ℕ) (f g : TextFault)
         → IsTextFault lines ending bytes f → IsTextFault lines ending bytes g → f ≡ g }
     ensures schedule { (lines : ℕ) (ending : Ending) (bytes : List ℕ) (f g : TextFault) → IsScheduleTextFault lines ending bytes f
         → IsScheduleTextFault lines ending bytes g → f ≡ g }
@@ -73,11 +57,9 @@ pub fn one_first_fault()
 {}
 
 /// Where a text stands at the front of the input, that has no fault of such a text; for a verdict, where the text is all of the
-/// input. So `read_history`, `read_any`, `read_schedule` and `read_verdict` answer a fault exactly where no text stands, or want of memory.
+/// input. So `read_history`, `read_schedule` and `read_verdict` answer a fault exactly where no text stands, or want of memory.
 pub fn a_text_has_no_fault()
-    ensures history { (lines : ℕ) (ending : Ending) (events : List Event) (rest : List ℕ) (fault : TextFault) → HasHistoryText events
-        → IsHistoryTextFault lines ending (history_text events ++ rest) fault → ⊥ }
-    ensures either { (lines : ℕ) (ending : Ending) (text : HistoryText) (rest : List ℕ) (fault : TextFault) → HasText text
+    ensures history { (lines : ℕ) (ending : Ending) (text : HistoryText) (rest : List ℕ) (fault : TextFault) → HasText text
         → IsTextFault lines ending (text_of text ++ rest) fault → ⊥ }
     ensures schedule { (lines : ℕ) (ending : Ending) (schedule : Schedule) (rest : List ℕ) (fault : TextFault) → HasScheduleText schedule
         → IsScheduleTextFault lines ending (schedule_text schedule ++ rest) fault → ⊥ }

@@ -21,20 +21,19 @@ mod verdict_writer;
 mod version;
 
 pub use event_records::MAX_STEPS;
-pub use history_writer::{write_history, write_history_2, write_history_text};
+pub use history_writer::write_history;
 pub use laws::{
     a_claim_on_a_text_has_a_text, a_text_has_no_fault, a_text_has_one_claim,
-    a_text_has_one_history, a_text_has_one_schedule, a_text_of_either_version_has_one_history,
-    no_schedule_text_begins_another, no_text_begins_another,
-    no_text_of_either_version_begins_another, one_first_fault,
+    a_text_has_one_history, a_text_has_one_schedule, no_schedule_text_begins_another,
+    no_text_begins_another, one_first_fault,
 };
 pub use reader::{
-    TextReader, at_end, gather_any, is_at_end, read_any, read_history, read_schedule, read_verdict,
+    TextReader, at_end, is_at_end, read_history, read_schedule, read_verdict,
 };
 pub use schedule::{MOST_DRAINED, Schedule, Steps};
 pub use text_lines::{
     Buffered, MemorySource, ReadFailed, TextFault, TextSink, TextSource, Watched, WriteFault,
     write_piece,
 };
-pub use verdict_writer::{write_verdict, write_verdict_on};
-pub use version::{Events, HistoryText, InitialValues, Version};
+pub use verdict_writer::write_verdict;
+pub use version::Version;

@@ -313,26 +313,13 @@ pub fn write_verdict<W: TextSink>(
     ensures written { OnOk result (IsWritten W.goes writer.old writer.new) }
     ensures stopped { OnErr result (IsRefused W.goes writer.old writer.new) }
 {
-    write_verdict_on(history.initial(), history.operations(), verdict, writer)
-}
-
-/// The same of a verdict on operations, where the events of their history aren't kept.
-pub fn write_verdict_on<W: TextSink>(
-    initial: &[u64],
-    operations: &[Operation],
-    verdict: &Verdict,
-    writer: &mut W,
-) -> Result<(), WriteFault>
-    // The verdict's places are those of these values and operations.
-    requires { IsWithin initial.now operations.now verdict.now }
-
-    ensures ok { OnOk result (Appends (W.contents writer.old) (W.contents writer.new) (verdict_text (claim_of initial.now operations.now verdict.now))) }
-    ensures err { OnErr result (AppendsFront (W.contents writer.old) (W.contents writer.new) (verdict_text (claim_of initial.now operations.now verdict.now))) }
-    ensures refused { W.has_refused writer.new ≡ (W.has_refused writer.old || is_err result) }
-    ensures written { OnOk result (IsWritten W.goes writer.old writer.new) }
-    ensures stopped { OnErr result (IsRefused W.goes writer.old writer.new) }
-{
     let mut kept = Kept::new();
-    put_verdict(initial, operations, verdict, &mut kept, writer)?;
+    put_verdict(
+        history.initial(),
+        history.operations(),
+        verdict,
+        &mut kept,
+        writer,
+    )?;
     write_piece(kept.as_slice(), writer)
 }

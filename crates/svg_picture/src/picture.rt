@@ -21,8 +21,9 @@ use crate::sheet::{Measures, Sheet};
 use crate::words::{legend, push_style};
 use drawing::{
     Added, Band, MOST_DRAWN, bands_of, count_of_lines, digits, headline, label_width, last_ticket,
-    order_of, push_caption, threads_of,
+    events_of, order_of, push_caption, threads_of,
 };
+use event_records::Event;
 use history_merge::{History, Operation};
 use std::alloc::{AllocError, Global};
 use verdicts::Claimed;
@@ -142,16 +143,17 @@ fn points_of(alloc: Global, order: &[Operation]) -> Result<Vec<u64>, AllocError>
 fn measures_of(
     alloc: Global,
     history: &History,
+    events: &[Event],
     threads: &[u8],
     claimed: &Claimed,
     bands: &[Band],
 ) -> Result<Measures, AllocError>
+    requires events { events.now ≡ history.now.events }
     requires few { count_of_lines claimed.now ≤ MOST_DRAWN }
     requires threads { threads.now ≡ threads_of history.now.events }
     requires bands { bands.now ≡ bands_of claimed.now }
     ensures { IfOk result (λ m. m ≡ measures_of history.now claimed.now) }
 {
-    let events = history.events();
     let caption = caption_of(alloc, claimed)?;
     let legend = legend(alloc, history.initial(), claimed)?;
     Ok(Measures {
@@ -185,12 +187,14 @@ pub fn svg_picture(
     requires { count_of_lines claimed.now ≤ MOST_DRAWN }
     ensures { IfOk result (λ text. text.items ≡ svg_picture history.now claimed.now) }
 {
-    let threads = threads_of(alloc, history.events())?;
+    let events = events_of(alloc, history)?;
+    let threads = threads_of(alloc, events.as_slice())?;
     let bands = bands_of(alloc, claimed)?;
     let points = points_of(alloc, order_of(claimed))?;
     let measures = measures_of(
         alloc,
         history,
+        events.as_slice(),
         threads.as_slice(),
         claimed,
         bands.as_slice(),
@@ -199,7 +203,7 @@ pub fn svg_picture(
         alloc,
         measures,
         initial: history.initial(),
-        events: history.events(),
+        events: events.as_slice(),
         operations: history.operations(),
         threads: threads.as_slice(),
         claimed,

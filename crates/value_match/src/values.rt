@@ -43,7 +43,8 @@ pub(crate) enum Found {
 /// each operation, and two more for each call or dequeue that is sorted. Where there are initial values the answer holds the
 /// filled history's operations.
 pub fn match_values(alloc: Global, history: &History) -> Result<Matched<'_>, AllocError>
-    ensures { IfOk result (IsMatchedFrom history.now.initial (operations_of history.now.events)) }
+    ensures matched { IfOk result (IsMatchedFrom history.now.initial (operations_of history.now.events)) }
+    ensures complete { AreComplete (filled history.now.initial (operations_of history.now.events)) }
 {
     let initial = history.initial();
     let operations = history.operations();

@@ -1,6 +1,6 @@
 -- The way of the argument, from what is found to what is claimed, verified and shrunk:
 -- Excludes: beside a violation no order is legal. Linearizable, Exactly: without one there is a legal order.
--- DecidedFrom, Chosen, Decided, OneVerdict: the chosen violation or order of a history decides, and is the only one.
+-- Chosen, Decided, OneVerdict: the chosen violation or order of a history decides, and is the only one.
 -- NoneTold: with no initial values what is told is what is found.
 -- Lookups, ClaimedBreaches, ClaimedCovers, ClaimedOrders: when the lines of a claim are evidence.
 -- NamedLines, NamedPlaces, TrueClaims, FewLines: what a verdict claims, and that this is true.
@@ -17,7 +17,6 @@ pub mod Linearizable
 pub mod Exactly
 pub mod Chosen
 pub mod Decided
-pub mod DecidedFrom
 pub mod Lookups
 pub mod ClaimedLines
 pub mod ClaimedBreaches

@@ -407,13 +407,12 @@ pub record AreSelected (whole : HistoryView) (values calls : ℕ → Bool) (init
   pub has_tickets : events ≡ filter (λ e. holds_ticket (filter (selects values calls) (operations_of whole.events)) e.ticket) whole.events
 
 -- what the steps of the selection give
-pub are_selected : (whole : HistoryView) (values calls : ℕ → Bool) (initial first : List ℕ) (events read : List Event) (operations : List Operation)
-    → first ≡ whole.initial → operations ≡ operations_of whole.events → read ≡ whole.events → initial ≡ filter values first
-    → events ≡ filter (λ e. holds_ticket (filter (selects values calls) operations) e.ticket) read → AreSelected whole values calls initial events
-are_selected whole values calls initial first events read operations same_initial same_operations same_events kept_initial kept_events = record {
-  has_values = kept_initial ∙ ap (filter values) same_initial;
-  has_tickets = kept_events ∙ (λ i. filter (λ e. holds_ticket (filter (selects values calls) (same_operations i)) e.ticket) (same_events i));
-}
+pub are_selected : (whole : HistoryView) (values calls : ℕ → Bool) (initial first : List ℕ) (events : List Event)
+    → first ≡ whole.initial → initial ≡ filter values first
+    → events ≡ filter (λ e. holds_ticket (filter (selects values calls) (operations_of whole.events)) e.ticket) whole.events
+    → AreSelected whole values calls initial events
+are_selected whole values calls initial first events same_initial kept_initial kept_events =
+    record { has_values = kept_initial ∙ ap (filter values) same_initial; has_tickets = kept_events }
 
 -- they are a complete history
 pub are_complete : (whole : HistoryView) (values calls : ℕ → Bool) (initial : List ℕ) (events : List Event) → IsCompleteFrom whole.initial whole.events

@@ -1,12 +1,13 @@
-ghost use Rattle.std.specs.Prelude.{◌≡◌, ◌↔◌, ℕ, Contains, IsTrue, filter, filter_map, IfOk};
+ghost use Rattle.std.specs.Prelude.{◌≡◌, ◌↔◌, ◌≤◌, ℕ, Contains, IsTrue, filter, filter_map, length, IfOk};
 ghost use Rattle.std.specs.Ordering.{nat_cmp};
 ghost use Rattle.std.specs.BTreeSet.{contains};
+ghost use Rattle.event_records.specs.declared.limits.TheConstants.{MAX_EVENTS};
 ghost use Rattle.history_merge.specs.Operations.{operations_of};
 ghost use Rattle.verdicts.specs.Selection.{value_of, selects};
 ghost use Rattle.verdicts.specs.Inner.Selecting.{call_in, holds_ticket, value_in, SelectsNamed};
 
 use crate::verifying::ClaimLine;
-use event_records::Event;
+use event_records::{Event, MAX_EVENTS};
 use history_merge::{Events, History, OpKind, Operation};
 use std::alloc::{AllocError, Global};
 use std::collections::BTreeSet;
@@ -41,8 +42,9 @@ impl Selection {
 
     /// The events of the selected ones of a history's operations, in their order.
     pub fn events(&self, alloc: Global, history: &History) -> Result<Vec<Event>, AllocError>
-        ensures { IfOk result (λ kept. kept.items ≡ filter (λ e. holds_ticket (filter (selects (contains nat_cmp self.now.values)
+        ensures kept { IfOk result (λ kept. kept.items ≡ filter (λ e. holds_ticket (filter (selects (contains nat_cmp self.now.values)
             (contains nat_cmp self.now.calls)) (operations_of history.now.events)) e.ticket) history.now.events) }
+        ensures few { length history.now.events ≤ MAX_EVENTS }
     {
         let tickets = self.tickets(alloc, history.operations())?;
         events_at(alloc, history.events(), &tickets)
@@ -122,7 +124,7 @@ fn events_at(
     events: Events<'_>,
     tickets: &BTreeSet<u64>,
 ) -> Result<Vec<Event>, AllocError>
-    ensures { IfOk result (λ kept. kept.items ≡ filter (λ e. contains nat_cmp tickets.now e.ticket) events) }
+    ensures { IfOk result (λ kept. kept.items ≡ filter (λ e. contains nat_cmp tickets.now e.ticket) events.entry) }
 {
     events
         .filter(|event| tickets.contains(&event.ticket))

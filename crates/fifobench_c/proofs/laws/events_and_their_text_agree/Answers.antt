@@ -1,6 +1,6 @@
 use Rattle.std.proofs.Common.{List, inl, inr, refl}
 use Rattle.event_records.specs.declared.event.Event.{Event}
-use Rattle.history_text.specs.declared.version.HistoryText.{HistoryText}
+use Rattle.history_text.specs.Versions.{HistoryText}
 use Rattle.history_text.specs.declared.version.Version.TheVariants.{One}
 use Rattle.history_text.specs.Histories.{history_text}
 use Rattle.history_text.specs.Versions.{said_in}

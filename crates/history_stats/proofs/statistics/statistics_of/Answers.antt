@@ -1,5 +1,7 @@
 use Rattle.std.proofs.Common.{◌<◌, ◌++◌, ◌∙◌, List, ap, length, subst, sym, ℕ}
 use Rattle.std.specs.Prelude.{All, AllPairs}
+use Rattle.std.proofs.lemmas.Iterator.{items_from_collect}
+use Rattle.std.proofs.lemmas.Iterator.Consumers.{YieldsList-from_first}
 use Rattle.history_merge.proofs.Completeness.{calls_before_returns}
 use Rattle.history_merge.proofs.Distinct.{calls_rise}
 use Rattle.history_merge.specs.declared.operation.Operation.{Operation}
@@ -10,20 +12,20 @@ use Rattle.history_stats.proofs.statistics.statistics_of.Goals as goal
 
 pub most_pending-requires-clause-forward : goal.most_pending-requires-clause-forward
 most_pending-requires-clause-forward c = subst (All (λ (o : Operation). o.call < o.ret)) (sym c.operations-operations.ensures.operations)
-    (calls_before_returns c.args.history.now.events c.events-events.ensures.complete.tickets_rise)
+    (calls_before_returns c.args.history.now.events c.events.ensures.complete.tickets_rise)
 
 pub overlapping_count-overlapping-requires-clause-calls_rise : goal.overlapping_count-overlapping-requires-clause-calls_rise
 overlapping_count-overlapping-requires-clause-calls_rise c =
     subst (AllPairs (λ (x y : Operation). x.call < y.call)) (sym c.operations-operations.ensures.operations)
-    (calls_rise c.args.history.now.events c.events-events.ensures.complete.tickets_rise)
+    (calls_rise c.args.history.now.events c.events.ensures.complete.tickets_rise)
 
 pub overlapping_count-overlapping-requires-clause-forward : goal.overlapping_count-overlapping-requires-clause-forward
 overlapping_count-overlapping-requires-clause-forward c = subst (All (λ (o : Operation). o.call < o.ret)) (sym c.operations-operations.ensures.operations)
-    (calls_before_returns c.args.history.now.events c.events-events.ensures.complete.tickets_rise)
+    (calls_before_returns c.args.history.now.events c.events.ensures.complete.tickets_rise)
 
 pub returns : goal.returns
 returns c =
-    let events = c.events-events.ensures.events in
+    let events = items_from_collect _ c.collect.ensures.ran (YieldsList-from_first (λ e. e) (λ rest. rest) c.args.history.now.events c.events.ensures.events) in
     let operations = c.operations-operations.ensures.operations in
     let initial = c.initial-initial.ensures.initial in
     let overlapping = c.overlapping_count-overlapping.ensures.exact ∙ ap overlapping_count operations in

@@ -11,32 +11,32 @@ use Rattle.history_text.proofs.history_writer.put_text.Goals as goal
 
 pub returns-in_err-put_before_events-clause-err : goal.returns-in_err-put_before_events-clause-err
 returns-in_err-put_before_events-clause-err g c =
-    on_err c.from_residual.result _ (front_first _ _ (lines_before_events c.args.version c.args.initial.now) (lines_to_end c.args.events.now)
+    on_err c.from_residual.result _ (front_first _ _ (lines_before_events c.args.version c.args.history.now.initial) (lines_to_end c.args.history.now.events)
     c.in_err-put_before_events.ensures.err)
 
-pub returns-in_err-put_each-clause-err : goal.returns-in_err-put_each-clause-err
-returns-in_err-put_each-clause-err g c =
-    on_err c.from_residual-in_err-put_each.result _ (stops_second _ _ _ _ (lines_before_events c.args.version c.args.initial.now)
-    (flat_map event_line c.args.events.now) (end_line (length c.args.events.now)) c.in_ok-put_before_events.ensures.ok c.in_err-put_each.ensures.err)
+pub returns-in_err-put_events-clause-err : goal.returns-in_err-put_events-clause-err
+returns-in_err-put_events-clause-err g c =
+    on_err c.from_residual-in_err-put_events.result _ (stops_second _ _ _ _ (lines_before_events c.args.version c.args.history.now.initial)
+    (flat_map event_line c.args.history.now.events) (end_line (length c.args.history.now.events)) c.in_ok-put_before_events.ensures.ok c.in_err-put_events.ensures.err)
 
-pub returns-in_err-put_each-clause-stopped : goal.returns-in_err-put_each-clause-stopped
-returns-in_err-put_each-clause-stopped g c = on_err c.from_residual-in_err-put_each.result _
-    (refused_then g.W.TextSink.goes _ _ _ c.in_ok-put_before_events.ensures.written c.in_err-put_each.ensures.stopped)
+pub returns-in_err-put_events-clause-stopped : goal.returns-in_err-put_events-clause-stopped
+returns-in_err-put_events-clause-stopped g c = on_err c.from_residual-in_err-put_events.result _
+    (refused_then g.W.TextSink.goes _ _ _ c.in_ok-put_before_events.ensures.written c.in_err-put_events.ensures.stopped)
 
 pub returns-clause-ok : goal.returns-clause-ok
 returns-clause-ok g c =
-    on_ok_weaker c.put_end.result (all_put _ _ _ _ (lines_before_events c.args.version c.args.initial.now) (flat_map event_line c.args.events.now)
-    (end_line (length c.args.events.now)) _ _ _ c.in_ok-put_before_events.ensures.ok c.in_ok-put_each.ensures.ok) c.put_end.ensures.ok
+    on_ok_weaker c.put_end.result (all_put _ _ _ _ (lines_before_events c.args.version c.args.history.now.initial) (flat_map event_line c.args.history.now.events)
+    (end_line (length c.args.history.now.events)) _ _ _ c.in_ok-put_before_events.ensures.ok c.in_ok-put_events.ensures.ok) c.put_end.ensures.ok
 
 pub returns-clause-err : goal.returns-clause-err
 returns-clause-err g c =
-    on_err_weaker c.put_end.result (stops_third _ _ _ _ (lines_before_events c.args.version c.args.initial.now) (flat_map event_line c.args.events.now)
-    (end_line (length c.args.events.now)) _ _ c.in_ok-put_before_events.ensures.ok c.in_ok-put_each.ensures.ok) c.put_end.ensures.err
+    on_err_weaker c.put_end.result (stops_third _ _ _ _ (lines_before_events c.args.version c.args.history.now.initial) (flat_map event_line c.args.history.now.events)
+    (end_line (length c.args.history.now.events)) _ _ c.in_ok-put_before_events.ensures.ok c.in_ok-put_events.ensures.ok) c.put_end.ensures.err
 
 pub returns-clause-written : goal.returns-clause-written
 returns-clause-written g c = both_written g.W.TextSink.goes c.put_end.result _
-    (written_then g.W.TextSink.goes _ _ _ c.in_ok-put_before_events.ensures.written c.in_ok-put_each.ensures.written) c.put_end.ensures.written
+    (written_then g.W.TextSink.goes _ _ _ c.in_ok-put_before_events.ensures.written c.in_ok-put_events.ensures.written) c.put_end.ensures.written
 
 pub returns-clause-stopped : goal.returns-clause-stopped
 returns-clause-stopped g c = second_refused g.W.TextSink.goes c.put_end.result _
-    (written_then g.W.TextSink.goes _ _ _ c.in_ok-put_before_events.ensures.written c.in_ok-put_each.ensures.written) c.put_end.ensures.stopped
+    (written_then g.W.TextSink.goes _ _ _ c.in_ok-put_before_events.ensures.written c.in_ok-put_events.ensures.written) c.put_end.ensures.stopped

@@ -1,5 +1,4 @@
-use Rattle.history_text.proofs.OneText as history
-use Rattle.history_text.proofs.OneHistory as either
+use Rattle.history_text.proofs.OneHistory as history
 use Rattle.history_text.proofs.OneSchedule as schedule
 use Rattle.history_text.proofs.OneVerdict as verdict
 use Rattle.history_text.proofs.laws.a_text_has_no_fault.Goals as goal
@@ -7,7 +6,6 @@ use Rattle.history_text.proofs.laws.a_text_has_no_fault.Goals as goal
 pub returns : goal.returns
 returns c = record {
   history = history.text_has_no_fault;
-  either = either.text_has_no_fault;
   schedule = schedule.text_has_no_fault;
   verdict = verdict.text_has_no_fault;
 }

@@ -1,9 +1,8 @@
-use Rattle.history_text.proofs.OneText as history
-use Rattle.history_text.proofs.OneHistory as either
+use Rattle.history_text.proofs.OneHistory as history
 use Rattle.history_text.proofs.OneSchedule as schedule
 use Rattle.history_text.proofs.OneVerdict as verdict
 use Rattle.history_text.proofs.laws.one_first_fault.Goals as goal
 
 pub returns : goal.returns
 returns c =
-    record { history = history.one_first_fault; either = either.one_first_fault; schedule = schedule.one_first_fault; verdict = verdict.one_first_fault }
+    record { history = history.one_first_fault; schedule = schedule.one_first_fault; verdict = verdict.one_first_fault }

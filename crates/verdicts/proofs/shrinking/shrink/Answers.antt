@@ -20,20 +20,18 @@ pub history_of-requires-clause-few_events : goal.history_of-requires-clause-few_
 history_of-requires-clause-few_events c =
     let selection = c.in_ok-selection.selection in
     let are = are_selected c.args.history.now (contains nat_cmp selection.values) (contains nat_cmp selection.calls) c.in_ok-initial.initial.items
-    c.initial.result.now c.in_ok-events.events.items c.events.result.now c.operations.result.now c.initial.ensures.initial
-    c.operations.ensures.operations c.events.ensures.events c.in_ok-initial.ensures c.in_ok-events.ensures in
+    c.initial.result.now c.in_ok-events.events.items c.initial.ensures.initial c.in_ok-initial.ensures c.in_ok-events.ensures.kept in
     let few = few_events c.args.history.now (contains nat_cmp selection.values) (contains nat_cmp selection.calls) c.in_ok-initial.initial.items
-    c.in_ok-events.events.items c.events.ensures.few are in
+    c.in_ok-events.events.items c.in_ok-events.ensures.few are in
     omega arith
 
 pub history_of-requires-clause-complete : goal.history_of-requires-clause-complete
 history_of-requires-clause-complete c =
     let selection = c.in_ok-selection.selection in
-    are_complete c.args.history.now (contains nat_cmp selection.values) (contains nat_cmp selection.calls) c.in_ok-initial.initial.items
+    rw c.as_slice-2.ensures.value (are_complete c.args.history.now (contains nat_cmp selection.values) (contains nat_cmp selection.calls) c.in_ok-initial.initial.items
     c.in_ok-events.events.items c.initial.ensures.complete
     (are_selected c.args.history.now (contains nat_cmp selection.values) (contains nat_cmp selection.calls) c.in_ok-initial.initial.items
-    c.initial.result.now c.in_ok-events.events.items c.events.result.now c.operations.result.now c.initial.ensures.initial
-    c.operations.ensures.operations c.events.ensures.events c.in_ok-initial.ensures c.in_ok-events.ensures)
+    c.initial.result.now c.in_ok-events.events.items c.initial.ensures.initial c.in_ok-initial.ensures c.in_ok-events.ensures.kept))
 
 pub returns : goal.returns
 returns c =
@@ -47,12 +45,12 @@ returns c =
     let is_whole : IsWhole whole = record { complete = c.initial.ensures.complete; few = c.initial.ensures.few } in
     let named : SelectsNamed (violation_lines whole violation) values calls =
     subst (λ lines. SelectsNamed lines values calls) (c.as_slice.ensures.value ∙ c.in_ok-lines.ensures) c.in_ok-selection.ensures in
-    let are = are_selected whole values calls initial c.initial.result.now events c.events.result.now c.operations.result.now c.initial.ensures.initial
-    c.operations.ensures.operations c.events.ensures.events c.in_ok-initial.ensures c.in_ok-events.ensures in
+    let are = are_selected whole values calls initial c.initial.result.now events c.initial.ensures.initial c.in_ok-initial.ensures
+    c.in_ok-events.ensures.kept in
     let small = c.history_of.result in
-    let shrunk = IfOk-weaker small (λ s. (s.initial ≡ initial) × (s.events ≡ events)) (IsShrunk whole violation)
+    let shrunk = IfOk-weaker small (λ s. (s.initial ≡ initial) × (s.events ≡ c.as_slice-2.result.now)) (IsShrunk whole violation)
     (λ s same. are_shrunk whole violation values calls s is_whole c.requires named
-    (record { has_values = same.0 ∙ are.has_values; has_tickets = same.1 ∙ are.has_tickets })) c.history_of.ensures in
+    (record { has_values = same.0 ∙ are.has_values; has_tickets = same.1 ∙ c.as_slice-2.ensures.value ∙ are.has_tickets })) c.history_of.ensures in
     record {
       kept = IfOk-weaker small (IsShrunk whole violation) _ (λ s is. is.kept) shrunk;
       same_violation = IfOk-weaker small (IsShrunk whole violation) _ (λ s is. is.same_violation) shrunk;

@@ -1,9 +1,21 @@
-use Rattle.std.proofs.Common.{arith}
-use Rattle.history_text.proofs.FirstFaults.{faults_by}
-use Rattle.history_text.proofs.Histories.{event_is_first}
+use Rattle.std.proofs.Common.{arith, refl}
+use Rattle.std.proofs.lemmas.Result.{err_from_is_err_and}
+use Rattle.text_lines.proofs.Consuming.{Takes-append}
+use Rattle.history_text.proofs.Versions.{event_is_first}
 use Rattle.history_text.proofs.reader.TextReader.history.Goals as goal
 
-pub returns-clause-fault : goal.returns-clause-fault
-returns-clause-fault g c =
-    faults_by c.items.result _ _ (λ fault. event_is_first c.args.self.now.lines _ _ _ fault
-    (omega (arith, c.in_ok-header_line.ensures.lines)) c.in_ok-header_line.ensures.ok) c.items.ensures.fault
+pub returns-in_err-collect_items-clause-fault : goal.returns-in_err-collect_items-clause-fault
+returns-in_err-collect_items-clause-fault g c =
+    let p = err_from_is_err_and c.from_residual-in_err-collect_items.result c.from_residual-in_err-collect_items.ensures.1 in
+    rw (p.1, p.2) (event_is_first c.in_ok-version.version c.in_ok-version.initial.items c.args.self.now.lines _ _ _ c.in_err-collect_items.field-0.0
+    (omega (arith, c.in_ok-version.ensures.lines)) c.in_ok-version.ensures.values.0 c.in_ok-version.ensures.values.1 c.in_err-collect_items.ensures.fault)
+
+pub returns-clause-text : goal.returns-clause-text
+returns-clause-text g c =
+    let first = c.in_ok-version in
+    let got = c.in_ok-collect_items.ensures.collected in (
+      record { version = first.version; initial = first.initial.items; events = got.0 },
+      record { initial = first.ensures.values.0; events = got.1 },
+      Takes-append _ _ _ _ _ first.ensures.values.1 (Takes-append _ _ _ _ _ got.2.1 got.2.2),
+      (omega (arith, first.ensures.lines, got.3), record { same_version = refl; gathered = got.4 first.initial.items c.new-builder.ensures }),
+    )

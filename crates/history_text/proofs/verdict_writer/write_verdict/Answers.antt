@@ -1,6 +1,6 @@
 use Rattle.text_lines.proofs.Asking.{both_written, second_refused}
 use Rattle.history_text.proofs.Written.{all_out, front_out}
-use Rattle.history_text.proofs.verdict_writer.write_verdict_on.Goals as goal
+use Rattle.history_text.proofs.verdict_writer.write_verdict.Goals as goal
 
 pub returns-clause-written : goal.returns-clause-written
 returns-clause-written g c = both_written g.W.TextSink.goes c.write_piece.result _ c.in_ok-put_verdict.ensures.written c.write_piece.ensures.written

@@ -3,7 +3,7 @@ use Rattle.std.specs.Prelude.{is_err}
 use Rattle.std.proofs.Math.Bool.{or-false}
 use Rattle.text_lines.proofs.Asking.{both_written, second_refused}
 use Rattle.history_text.proofs.Written.{all_out, front_out}
-use Rattle.history_text.proofs.history_writer.write_text.Goals as goal
+use Rattle.history_text.proofs.history_writer.write_history.Goals as goal
 
 pub returns-clause-ok : goal.returns-clause-ok
 returns-clause-ok g c = all_out c.write_piece.result _ _ _ _ _ c.in_ok-put_text.ensures.ok (rw c.as_slice.ensures at c.write_piece.ensures.ok)

@@ -1,0 +1,12 @@
+use Rattle.std.proofs.Common.{inl}
+use Rattle.std.proofs.lemmas.Result.{err_from_is_err_and}
+use Rattle.commands.specs.Inputs.{IsHistoryOf, IsFaultOfHistoryInput}
+use Rattle.commands.specs.Judging.{IsFaulty, Judges, said_by}
+use Rattle.commands.proofs.Findings.{answers_more}
+use Rattle.commands.proofs.check.check.Goals as goal
+
+pub returns-in_err-_version-clause-found : goal.returns-in_err-_version-clause-found
+returns-in_err-_version-clause-found g c =
+    let p = err_from_is_err_and c.from_residual.result c.from_residual.ensures.1 in
+    rw (p.1, p.2) (answers_more IsHistoryOf IsFaultOfHistoryInput (λ text. IsFaulty (said_by text)) Judges (g.S.TextSource.ahead c.args.reader) _
+    (λ text faulty. inl faulty) c.in_err-_version.ensures.fault)

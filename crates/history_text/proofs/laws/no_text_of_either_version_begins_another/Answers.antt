@@ -1,7 +1,0 @@
-use Rattle.std.proofs.Common.{[], ◌∙◌, sym, append-nil}
-use Rattle.history_text.specs.Versions.{text_of}
-use Rattle.history_text.proofs.OneHistory.{texts_agree}
-use Rattle.history_text.proofs.laws.no_text_of_either_version_begins_another.Goals as goal
-
-pub returns : goal.returns
-returns c = λ first second more text_1 text_2 same. (texts_agree first second more [] text_1 text_2 (same ∙ sym (append-nil (text_of second)))).1
