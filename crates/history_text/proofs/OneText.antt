@@ -9,9 +9,8 @@ use Rattle.text_lines.specs.declared.fault.TextFault.{TextFault}
 use Rattle.text_lines.specs.declared.fault.TextFault.TheVariants.{Memory}
 use Rattle.text_lines.specs.Lines.{line, end_line, front_of, header_fault}
 use Rattle.history_text.specs.Items.{lines_of, item_at_front, ItemFault}
-use Rattle.history_text.specs.Histories.{header, lines_to_end, history_text, event_format, HasHistoryText, IsHistoryTextFault, NoRoomFor}
+use Rattle.history_text.specs.Histories.{header, lines_to_end, event_format, HasHistoryText}
 use Rattle.text_lines.specs.Input.{Ahead, Ending, EndOfInput, Takes}
-use Rattle.history_text.specs.Reading.{HasHistoryTextFault, BeginsWith}
 use Rattle.history_text.proofs.ReadTexts as texts
 use Rattle.history_text.proofs.ItemFronts.{end_front, header_front}
 use Rattle.history_text.proofs.EventLines.{event_front}

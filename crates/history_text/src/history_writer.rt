@@ -50,6 +50,25 @@ fn push_event(kept: &mut Kept, event: Event)
     kept.push(b"\n");
 }
 
+/// The line of an event, of which a last part may be kept back.
+#[inline(always)]
+fn put_event<W: TextSink>(
+    event: Event,
+    kept: &mut Kept,
+    writer: &mut W,
+) -> Result<(), WriteFault>
+    ensures ok { OnOk result (Puts (W.contents writer.old) (W.contents writer.new) kept.old kept.new (event_line event)) }
+    ensures err { OnErr result (AppendsFront (W.contents writer.old) (W.contents writer.new) kept.old) }
+    ensures refused { W.has_refused writer.new ≡ (W.has_refused writer.old || is_err result) }
+    ensures written { OnOk result (IsWritten W.goes writer.old writer.new) }
+    ensures stopped { OnErr result (IsRefused W.goes writer.old writer.new) }
+    ensures fits { OnOk result (HasValueInRange event.what) }
+{
+    make_room(kept, writer)?;
+    push_event(kept, event);
+    Ok(())
+}
+
 /// The lines of events, of which a last part may be kept back.
 fn put_events<W: TextSink>(
     events: Events<'_>,
@@ -64,8 +83,7 @@ fn put_events<W: TextSink>(
     ensures fits { OnOk result (All (λ e. HasValueInRange e.what) events.entry) }
 {
     for event in events {
-        make_room(kept, writer)?;
-        push_event(kept, event);
+        put_event(event, kept, writer)?;
     }
     Ok(())
 }
