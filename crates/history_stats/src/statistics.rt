@@ -1,4 +1,5 @@
-ghost use Rattle.std.specs.Prelude.{IfOk};
+ghost use Rattle.std.specs.Prelude.{◌≡◌, IfOk};
+ghost use Rattle.history_merge.specs.Complete.{IsCompleteHistory};
 ghost use Rattle.history_stats.specs.Statistics.{AreStatisticsOf};
 
 use crate::counting::{
@@ -42,6 +43,14 @@ pub struct Statistics {
     pub most_queued: usize,
 }
 
+/// The events of a history, in a list of their own.
+fn listed_events(alloc: Global, history: &History) -> Result<Vec<Event>, AllocError>
+    ensures listed { IfOk result (λ events. events.items ≡ history.now.events) }
+    ensures complete { IsCompleteHistory history.now.events }
+{
+    history.events().collect(alloc)
+}
+
 /// The statistics of a history.
 ///
 /// `AllocError` comes only where a growth was refused. Takes time O(n log n) for n events and initial values, and memory in
@@ -49,7 +58,7 @@ pub struct Statistics {
 pub fn statistics_of(alloc: Global, history: &History) -> Result<Statistics, AllocError>
     ensures { IfOk result (AreStatisticsOf history.now) }
 {
-    let events: Vec<Event> = history.events().collect(alloc)?;
+    let events = listed_events(alloc, history)?;
     let operations = history.operations();
     let initial = history.initial();
     let most_pending = most_pending(alloc, operations)?;

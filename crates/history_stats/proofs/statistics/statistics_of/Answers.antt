@@ -1,7 +1,5 @@
-use Rattle.std.proofs.Common.{◌<◌, ◌++◌, ◌∙◌, List, ap, length, subst, sym, ℕ}
+use Rattle.std.proofs.Common.{arith, ◌<◌, ◌++◌, ◌∙◌, List, ap, length, subst, sym, ℕ}
 use Rattle.std.specs.Prelude.{All, AllPairs}
-use Rattle.std.proofs.lemmas.Iterator.{items_from_collect}
-use Rattle.std.proofs.lemmas.Iterator.Consumers.{YieldsList-from_first}
 use Rattle.history_merge.proofs.Completeness.{calls_before_returns}
 use Rattle.history_merge.proofs.Distinct.{calls_rise}
 use Rattle.history_merge.specs.declared.operation.Operation.{Operation}
@@ -12,35 +10,34 @@ use Rattle.history_stats.proofs.statistics.statistics_of.Goals as goal
 
 pub most_pending-requires-clause-forward : goal.most_pending-requires-clause-forward
 most_pending-requires-clause-forward c = subst (All (λ (o : Operation). o.call < o.ret)) (sym c.operations-operations.ensures.operations)
-    (calls_before_returns c.args.history.now.events c.events.ensures.complete.tickets_rise)
+    (calls_before_returns c.args.history.now.events c.in_ok-events.ensures.complete.tickets_rise)
 
 pub overlapping_count-overlapping-requires-clause-calls_rise : goal.overlapping_count-overlapping-requires-clause-calls_rise
 overlapping_count-overlapping-requires-clause-calls_rise c =
     subst (AllPairs (λ (x y : Operation). x.call < y.call)) (sym c.operations-operations.ensures.operations)
-    (calls_rise c.args.history.now.events c.events.ensures.complete.tickets_rise)
+    (calls_rise c.args.history.now.events c.in_ok-events.ensures.complete.tickets_rise)
 
 pub overlapping_count-overlapping-requires-clause-forward : goal.overlapping_count-overlapping-requires-clause-forward
 overlapping_count-overlapping-requires-clause-forward c = subst (All (λ (o : Operation). o.call < o.ret)) (sym c.operations-operations.ensures.operations)
-    (calls_before_returns c.args.history.now.events c.events.ensures.complete.tickets_rise)
+    (calls_before_returns c.args.history.now.events c.in_ok-events.ensures.complete.tickets_rise)
 
 pub returns : goal.returns
 returns c =
-    let events = items_from_collect _ c.collect.ensures.ran (YieldsList-from_first (λ e. e) (λ rest. rest) c.args.history.now.events c.events.ensures.events) in
     let operations = c.operations-operations.ensures.operations in
     let initial = c.initial-initial.ensures.initial in
     let overlapping = c.overlapping_count-overlapping.ensures.exact ∙ ap overlapping_count operations in
     let queued = subst (λ (os : List Operation). IsMost (λ gap. stay_count gap os (c.initial-initial.result.now ++ values_put_before gap os))
     c.in_ok-most_queued.most_queued) operations c.in_ok-most_queued.ensures in
     record {
-      events = ap length events;
+      events = omega (arith, c.len.ensures, c.in_ok-events.events.ok.0, ap length c.in_ok-events.ensures.listed);
       operations = ap length operations;
-      threads = c.thread_count.ensures ∙ ap thread_count events;
+      threads = c.thread_count.ensures ∙ ap thread_count (c.as_slice.ensures.value ∙ c.in_ok-events.ensures.listed);
       enqueued = c.enqueued_count.ensures ∙ ap (kind_count is_enqueued) operations;
       refused = c.refused_count.ensures ∙ ap (kind_count is_refused) operations;
       dequeued = c.dequeued_count.ensures ∙ ap (kind_count is_dequeued) operations;
       empty = c.empty_count.ensures ∙ ap (kind_count is_empty) operations;
       initial = ap length initial;
-      thread_changes = c.change_count.ensures ∙ ap change_count events;
+      thread_changes = c.change_count.ensures ∙ ap change_count (c.as_slice-2.ensures.value ∙ c.in_ok-events.ensures.listed);
       overlapping = overlapping;
       overlapping_tenths = c.tenths_of_percent.ensures ∙ (λ i. tenths_of_percent (overlapping i) (length (operations i)));
       most_pending = subst (λ (os : List Operation). IsMost (pending_at os) c.in_ok-most_pending.most_pending) operations c.in_ok-most_pending.ensures;
