@@ -10,16 +10,17 @@ use Rattle.event_records.specs.declared.limits.TheConstants.{MAX_INITIAL}
 use Rattle.history_text.specs.Versions.{HistoryText}
 use Rattle.history_text.specs.declared.version.Version.{Version}
 use Rattle.history_text.specs.declared.version.Version.TheVariants.{One, Two}
-use Rattle.history_text.specs.Versions.{HasText, HaveValueLines}
+use Rattle.history_text.specs.Versions.{HasText, HaveValueLines, said_in}
 use Rattle.verdicts.specs.declared.verdict.Verdict.{Verdict}
 use Rattle.verdicts.specs.Claiming.{claim_of}
+use Rattle.verdicts.specs.Decided.{IsDecided}
 use Rattle.verdicts.specs.Verdicts.{IsEvidenceFrom, IsExactFrom, IsVerdictFrom}
 use Rattle.std.specs.Prelude.{filter}
 use Rattle.verdicts.specs.Selection.{ArePartOf}
-use Rattle.commands.specs.Answers.{Reply, memory_fault, answer_of_history_fault}
+use Rattle.commands.specs.Answers.{Reply, judged, memory_fault, answer_of_history_fault}
 use Rattle.text_lines.specs.declared.fault.TextFault.{TextFault}
 use Rattle.text_lines.specs.Input.{Ahead}
-use Rattle.commands.specs.Judging.{IsFaulty, IsShrunk, IsVerdictClaim, AnswersFor, AnswersOrNoMemory, Shrinks, from_none, said_by}
+use Rattle.commands.specs.Judging.{IsFaulty, IsShrunk, IsVerdictClaim, AnswersFor, AnswersOrNoMemory, IsSound, Judges, Shrinks, from_none, said_by}
 
 -- the first fault is answered, and want of memory as such
 pub fault_found : (history : HistoryView) (fault : HistoryFault) → IsFirstFaultFrom history.initial history.events fault
@@ -61,6 +62,16 @@ pub decided_claim : (history : HistoryView) (verdict : Verdict) → IsVerdictFro
     → IsVerdictClaim history (claim_of history.initial (operations_of history.events) verdict)
 decided_claim history verdict chosen evidence exact =
     record { verdict = verdict; chosen = chosen; evidence = evidence; exact = exact; claim = refl }
+
+-- what is decided of a history that a text says is what `check` answers
+pub judged_text : (version : Version) (history : HistoryView) (verdict : Verdict) → IsSound history → IsDecided history verdict
+    → AnswersOrNoMemory Judges (said_in version history) (judged (claim_of history.initial (operations_of history.events) verdict))
+judged_text version history verdict complete decided = inl (inr (record {
+  complete = complete;
+  claimed = claim_of history.initial (operations_of history.events) verdict;
+  right = decided_claim history verdict decided.chosen decided.evidence decided.exact;
+  is = refl;
+}))
 
 -- a history of a queue that is empty first, by its events
 pub is_from_none : (history : HistoryView) → history.initial ≡ [] → history ≡ from_none history.events

@@ -1,8 +1,9 @@
 use Rattle.std.proofs.Common.{inl}
 use Rattle.std.proofs.lemmas.Result.{err_from_is_err_and}
+use Rattle.history_text.specs.Versions.{said_in}
 use Rattle.commands.specs.Inputs.{IsHistoryOf, IsFaultOfHistoryInput}
 use Rattle.commands.specs.Judging.{IsFaulty, Judges, said_by}
-use Rattle.commands.proofs.Findings.{answers_more}
+use Rattle.commands.proofs.Findings.{answers_more, judged_text, of_value}
 use Rattle.commands.proofs.check.check.Goals as goal
 
 pub returns-in_err-_version-clause-found : goal.returns-in_err-_version-clause-found
@@ -10,3 +11,10 @@ returns-in_err-_version-clause-found g c =
     let p = err_from_is_err_and c.from_residual.result c.from_residual.ensures.1 in
     rw (p.1, p.2) (answers_more IsHistoryOf IsFaultOfHistoryInput (λ text. IsFaulty (said_by text)) Judges (g.S.TextSource.ahead c.args.reader) _
     (λ text faulty. inl faulty) c.in_err-_version.ensures.fault)
+
+pub returns-clause-found : goal.returns-clause-found
+returns-clause-found g c =
+    let version = c.in_ok-_version._version in
+    let history = c.in_ok-_version.history in
+    of_value IsHistoryOf IsFaultOfHistoryInput Judges (g.S.TextSource.ahead c.args.reader) (said_in version history) _ c.in_ok-_version.ensures.history
+    (judged_text version history c.in_ok-verdict.verdict c.in_ok-_version.ensures.complete c.in_ok-verdict.ensures)

@@ -9,7 +9,7 @@ returns-clause-found c =
     let small = c.in_ok-small.small in
     let verdict = c.in_ok-verdict.verdict in
     inl (record {
-      complete = c.events-events.ensures.from;
+      complete = c.requires.complete;
       not_linearizable = c.requires.no;
       violation = c.args.violation.now;
       chosen = c.requires.chosen;
