@@ -10,7 +10,7 @@ ghost use Rattle.std.specs.Prelude.{◌≡◌, []};
 mod two_stacks;
 
 use anyhow::{Result, bail};
-use history_text::{Watched, write_history, write_verdict};
+use history_text::{Version, Watched, write_history, write_verdict};
 use std::alloc::Global;
 use std::process::ExitCode;
 use std::{env, io};
@@ -50,7 +50,7 @@ fn show<R: Print>(rt: &R, alloc: Global, history: &History) -> Result<Verdict>
 {
     let verdict = decide(alloc, history)?;
     let mut output = Watched::new(io::writer(rt));
-    write_history(history, &mut output)?;
+    write_history(Version::One, history, &mut output)?;
     write_verdict(history, &verdict, &mut output)?;
     Ok(verdict)
 }

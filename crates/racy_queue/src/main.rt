@@ -11,7 +11,7 @@ ghost use Rattle.std.specs.Prelude.{◌≡◌, []};
 mod sized_apart;
 
 use anyhow::{Result, bail};
-use history_text::{Watched, write_history, write_verdict};
+use history_text::{Version, Watched, write_history, write_verdict};
 use queue_interface::TestQueue;
 use sized_apart::SizedApart;
 use std::alloc::Global;
@@ -59,9 +59,9 @@ fn shows_violation<R: Print>(rt: &R, alloc: Global, history: &History) -> Result
     let small = shrink(alloc, history, violation)?;
     let small_verdict = decide(alloc, &small)?;
     let mut output = Watched::new(io::writer(rt));
-    write_history(history, &mut output)?;
+    write_history(Version::One, history, &mut output)?;
     write_verdict(history, &verdict, &mut output)?;
-    write_history(&small, &mut output)?;
+    write_history(Version::One, &small, &mut output)?;
     write_verdict(&small, &small_verdict, &mut output)?;
     Ok(true)
 }

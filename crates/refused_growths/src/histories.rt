@@ -47,7 +47,7 @@ fn history_or_none(
     if events.len() > MAX_EVENTS {
         return Err(AllocError);
     }
-    match history(alloc, events) {
+    match history(alloc, &events) {
         Err(HistoryFault::Memory) => Err(AllocError),
         judged => Ok(judged),
     }

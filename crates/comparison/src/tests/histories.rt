@@ -136,7 +136,7 @@ fn collected_history(alloc: Global, machine: &Machine, threads: u8) -> Result<Hi
     if events.len() > MAX_EVENTS {
         return Err("too many events")?;
     }
-    Ok(history(alloc, events)?)
+    Ok(history(alloc, &events)?)
 }
 
 /// What all threads ask in this round: two rounds of enqueues, then two of dequeues.

@@ -10,7 +10,7 @@ use std::test::Fail;
 fn judged(alloc: Global, events: &[Event]) -> Result<Result<History, HistoryFault>, AllocError>
     requires { length events.now ≤ MAX_EVENTS }
 {
-    match history(alloc, events.to_vec(alloc)?) {
+    match history(alloc, events) {
         Err(HistoryFault::Memory) => Err(AllocError),
         judgement => Ok(judgement),
     }

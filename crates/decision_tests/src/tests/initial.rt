@@ -4,7 +4,7 @@ ghost use Rattle.std.specs.Prelude.{◌≤◌, length};
 use super::small_histories::{at, by};
 use event_records::{Event, MAX_EVENTS, MAX_INITIAL, What};
 use history_merge::{
-    History, HistoryFault, HistoryParts, OpKind, Operation, HistoryBuilder, fill, history_from,
+    History, HistoryBuilder, HistoryFault, OpKind, Operation, fill, history_from,
 };
 use std::alloc::{AllocError, Global};
 use std::test::Fail;
@@ -18,7 +18,7 @@ fn judged(
     requires initial { length initial.now ≤ MAX_INITIAL }
     requires events { length events.now ≤ MAX_EVENTS }
 {
-    match history_from(alloc, initial.to_vec(alloc)?, events.to_vec(alloc)?) {
+    match history_from(alloc, initial.to_vec(alloc)?, events) {
         Err(HistoryFault::Memory) => Err(AllocError),
         judgement => Ok(judgement),
     }
@@ -29,7 +29,10 @@ fn gathered(
     alloc: Global,
     initial: &[u64],
     events: &[Event],
-) -> Result<Result<HistoryParts, HistoryFault>, AllocError> {
+) -> Result<Result<History, HistoryFault>, AllocError>
+    requires initial { length initial.now ≤ MAX_INITIAL }
+    requires events { length events.now ≤ MAX_EVENTS }
+{
     let mut builder = HistoryBuilder::new(alloc, initial.to_vec(alloc)?);
     for event in events {
         builder.add(*event);
@@ -58,8 +61,17 @@ fn names_the_first_fault_of_initial_values_and_events(rt: HostRuntime) -> Result
 }
 
 /// Whether a history shows these initial values, events and operations.
-fn shows(history: &History, initial: &[u64], events: &[Event], operations: &[Operation]) -> bool {
-    history.initial() == initial && history.events() == events && history.operations() == operations
+fn shows(
+    alloc: Global,
+    history: &History,
+    initial: &[u64],
+    events: &[Event],
+    operations: &[Operation],
+) -> Result<bool, AllocError> {
+    let shown: Vec<Event> = history.events().collect(alloc)?;
+    Ok(history.initial() == initial
+        && shown.as_slice() == events
+        && history.operations() == operations)
 }
 
 /// Three initial values, and the events of two operations.
@@ -85,16 +97,15 @@ fn operations_of_two() -> [Operation; 2] {
 fn shows_its_parts(rt: HostRuntime) -> Result<(), Fail> {
     let (values, given) = overlapping_two();
     let history = judged(rt.alloc(), &values, &given)?.expect(&rt, "a complete history");
-    assert!(rt; shows(&history, &values, &given, &operations_of_two()));
+    assert!(rt; shows(rt.alloc(), &history, &values, &given, &operations_of_two())?);
     Ok(())
 }
 
 #[test]
 fn gives_its_parts_back(rt: HostRuntime) -> Result<(), Fail> {
     let (values, given) = overlapping_two();
-    let parts = gathered(rt.alloc(), &values, &given)?.expect(&rt, "a complete history");
-    assert_eq!(rt; parts.initial.as_slice(), values.as_slice());
-    assert_eq!(rt; parts.operations.as_slice(), operations_of_two().as_slice());
+    let history = gathered(rt.alloc(), &values, &given)?.expect(&rt, "a complete history");
+    assert!(rt; shows(rt.alloc(), &history, &values, &given, &operations_of_two())?);
     Ok(())
 }
 

@@ -1,25 +1,18 @@
-use Rattle.std.proofs.Common.{◌≤◌, arith, length, subst, sym}
-use Rattle.event_records.specs.declared.limits.TheConstants.{MAX_EVENTS}
-use Rattle.commands.specs.Judging.{AnswersOrNoMemory, IsGathered, JudgesHistory, from_none}
+use Rattle.std.proofs.Common.{subst}
+use Rattle.commands.specs.Judging.{AnswersOrNoMemory, JudgesHistory, from_none}
 use Rattle.commands.specs.Outcomes.{answer_of}
-use Rattle.fifobench_c.proofs.Structs.{as_many, none_unknown, one_first, one_list}
+use Rattle.fifobench_c.proofs.Structs.{none_unknown, one_first, one_list}
 use Rattle.fifobench_c.proofs.Telling.{told_one}
 use Rattle.fifobench_c.proofs.fifobench_check_events.Goals as goal
 
 pub judge_gathered-requires : goal.judge_gathered-requires
-judge_gathered-requires c =
-    let read = c.in-Ok.ensures.events in
-    let few : length read.0 ≤ MAX_EVENTS = omega (arith, as_many c.args.events.now read.0 read.1, c.if-events-gt-MAX_EVENTS.false) in
-    (from_none read.0, record { gathered = read.2; few_initial = omega arith; few_events = few })
+judge_gathered-requires c = let read = c.in-Ok.ensures.events in (from_none read.0, read.2)
 
 pub returns-in-Ok-clause-judged : goal.returns-in-Ok-clause-judged
 returns-in-Ok-clause-judged c = λ list are few.
     let read = c.in-Ok.ensures.events in
     let same = one_list c.args.events.now read.0 list read.1 are in
-    let few_read = subst (λ events. length events ≤ MAX_EVENTS) (sym same) few in
-    let gathered : IsGathered (from_none read.0) c.in-Ok.builder =
-    record { gathered = read.2; few_initial = omega arith; few_events = few_read } in
-    let answered = c.judge_gathered.ensures.found (from_none read.0) gathered in
+    let answered = c.judge_gathered.ensures.found (from_none read.0) read.2 in
     let found = subst (λ events. AnswersOrNoMemory JudgesHistory (from_none events) (answer_of c.judge_gathered.result)) same answered in
     told_one JudgesHistory (from_none list) _ _ _ _ _ found c.tell-in-Ok.ensures
 

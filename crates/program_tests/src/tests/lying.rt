@@ -179,8 +179,11 @@ fn faulty_queues_are_caught(rt: HostRuntime) -> Result<(), Fail> {
 
 /// Whether the dequeue of thread 1 returned before the first call of thread 0.
 fn dequeued_before_any_call(history: &History) -> bool {
-    let events = history.events();
-    events.len() > 1 && events[0].thread == 1 && events[1].thread == 1
+    let mut events = history.events();
+    match (events.next(), events.next()) {
+        (Some(first), Some(second)) => first.thread == 1 && second.thread == 1,
+        _ => false,
+    }
 }
 
 // Both threads dequeue the one value: whichever comes first, the answer is a no.

@@ -2,7 +2,7 @@ ghost use Rattle.std.specs.Prelude.{◌≡◌, [], IfOk};
 
 use super::run;
 use commands::built_ins;
-use history_text::{MemorySource, Watched, write_history};
+use history_text::{MemorySource, Version, Watched, write_history};
 use queue_interface::{LockedQueue, TestQueue};
 use std::alloc::{AllocError, Global};
 use std::process::Abort;
@@ -20,7 +20,7 @@ fn checked<R: AllocGlobal + Threads + Sync>(
 {
     let history = recorded.history(rt.alloc())?;
     let mut text = Watched::new(Vec::new(rt.alloc()));
-    write_history(&history, &mut text)?;
+    write_history(Version::One, &history, &mut text)?;
     let text = text.into_inner();
     let source = MemorySource::new(text.as_slice());
     Ok(run(rt, &["fifobench", "check"], source, &[])?)

@@ -173,7 +173,7 @@ fn thirty_two_workers_are_recorded(rt: HostRuntime) -> Result<(), Fail> {
 // The tickets of the history of a run.
 fn tickets_of(alloc: Global, recorded: &Recorded) -> Result<Vec<u64>, Fail> {
     let history = recorded.history(alloc)?;
-    let tickets = history.events().iter().map(|event| event.ticket);
+    let tickets = history.events().map(|event| event.ticket);
     Ok(tickets.collect(alloc)?)
 }
 

@@ -1,7 +1,8 @@
 use super::outcomes::known;
 use super::texts;
-use event_records::{Event, MAX_THREAD, MAX_TICKET, What};
-use history_text::{MemorySource, TextFault, TextReader, at_end, read_history};
+use event_records::{Event, MAX_EVENTS, MAX_THREAD, MAX_TICKET, What};
+use history_merge::{History, HistoryFault, history};
+use history_text::{MemorySource, TextFault, TextReader, Version, at_end, read_history};
 use std::alloc::{AllocError, Global};
 use std::test::Fail;
 
@@ -111,13 +112,34 @@ fn plain_text(alloc: Global, events: &[Event]) -> Result<String, AllocError> {
     Ok(text)
 }
 
-/// The events of the one history in this input, if it is one. Want of memory is an error of its own.
-fn read(alloc: Global, text: &[u8]) -> Result<Option<Vec<Event>>, AllocError> {
-    let mut reader = TextReader::new(MemorySource::new(text));
-    match known(read_history(alloc, &mut reader))? {
-        Ok(events) => Ok(at_end(&mut reader).is_ok().then_some(events)),
-        Err(_) => Ok(None),
+/// The events of a complete history, or the first fault. Want of memory is an error of its own.
+type Judged = Result<Vec<Event>, HistoryFault>;
+
+fn judged(alloc: Global, answer: Result<History, HistoryFault>) -> Result<Judged, AllocError> {
+    match answer {
+        Ok(history) => Ok(Ok(history.events().collect(alloc)?)),
+        Err(HistoryFault::Memory) => Err(AllocError),
+        Err(fault) => Ok(Err(fault)),
     }
+}
+
+/// What the one history in this input is, if it is one, of version 1.
+fn read(alloc: Global, text: &[u8]) -> Result<Option<Judged>, AllocError> {
+    let mut reader = TextReader::new(MemorySource::new(text));
+    let Ok((version, builder)) = known(read_history(alloc, &mut reader))? else {
+        return Ok(None);
+    };
+    let found = judged(alloc, builder.finish())?;
+    let is_alone = at_end(&mut reader).is_ok();
+    Ok((is_alone && version == Version::One).then_some(found))
+}
+
+/// What the events are that were read plainly.
+fn judged_plainly(alloc: Global, events: &[Event]) -> Result<Judged, AllocError> {
+    if events.len() > MAX_EVENTS {
+        return Err(AllocError);
+    }
+    judged(alloc, history(alloc, events))
 }
 
 #[test]
@@ -136,15 +158,15 @@ fn what_was_read_before_a_failure_is_judged(rt: HostRuntime) -> Result<(), Fail>
     Ok(())
 }
 
-/// Whether this reader takes a text exactly where the plain one does, with the same events, and these print as it.
+/// Whether this reader takes a text exactly where the plain one does, with the same events, or the same first fault of these, and
+/// they print as it.
 fn is_read_plainly(alloc: Global, text: &[u8]) -> Result<bool, Fail> {
-    let plain = plain_history(alloc, text)?;
-    if let Some(events) = &plain {
-        if plain_text(alloc, events)?.as_bytes() != text {
-            return Ok(false);
-        }
-    }
-    Ok(read(alloc, text)? == plain)
+    let found = read(alloc, text)?;
+    let Some(events) = plain_history(alloc, text)? else {
+        return Ok(found.is_none());
+    };
+    let is_printed = plain_text(alloc, &events)?.as_bytes() == text;
+    Ok(is_printed && found == Some(judged_plainly(alloc, &events)?))
 }
 
 #[test]

@@ -4,8 +4,8 @@ ghost use Rattle.drawing.specs.Claim.{count_of_lines};
 ghost use Rattle.drawing.specs.declared.columns.TheConstants.{MOST_DRAWN};
 
 use drawing::{MOST_DRAWN, count_of_lines, write_terminal_picture};
-use history_merge::{History, history_from};
-use history_text::{HistoryText, MemorySource, TextReader, Watched, read_any, read_verdict};
+use history_merge::History;
+use history_text::{MemorySource, TextReader, Watched, read_history, read_verdict};
 use std::alloc::Global;
 use std::process::Abort;
 use std::test::Fail;
@@ -36,12 +36,8 @@ fn read(alloc: Global, text: &[u8]) -> Result<(History, Claimed), Fail>
     ensures { IfOk result (λ read. count_of_lines read.1 ≤ MOST_DRAWN) }
 {
     let mut reader = TextReader::new(MemorySource::new(text));
-    let HistoryText {
-        initial,
-        events,
-        ..
-    } = read_any(alloc, &mut reader)?;
-    let history = history_from(alloc, initial.into_vec(), events.into_vec())?;
+    let (_, builder) = read_history(alloc, &mut reader)?;
+    let history = builder.finish()?;
     let claimed = read_verdict(alloc, &mut reader)?;
     if count_of_lines(&claimed) > MOST_DRAWN {
         return Err(Fail::from("a long claim"));

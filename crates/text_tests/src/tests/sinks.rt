@@ -191,7 +191,8 @@ fn reading_a_history_stops_at_its_last_line(rt: HostRuntime) -> Result<(), Fail>
         let source = MemorySource::new(HISTORY).in_pieces(most);
         let mut counted = Counted { source, reads: 0 };
         let mut reader = TextReader::new(&mut counted);
-        assert_eq!(rt; read_history(rt.alloc(), &mut reader)?.len(), 2);
+        let (_, builder) = read_history(rt.alloc(), &mut reader)?;
+        assert_eq!(rt; builder.finish()?.events().len(), 2);
         drop(reader);
         assert_eq!(rt; counted.reads, HISTORY.len() / most);
         assert_eq!(rt; at_end(&mut TextReader::new(&mut counted)), Ok(()));
@@ -244,7 +245,8 @@ fn looking_for_the_end_takes_nothing(rt: HostRuntime) -> Result<(), Fail> {
         let source = MemorySource::new(text).in_pieces(most);
         let mut reader = TextReader::new(source);
         assert_eq!(rt; is_at_end(&mut reader), Ok(false));
-        assert_eq!(rt; read_history(rt.alloc(), &mut reader)?.len(), 0);
+        let (_, builder) = read_history(rt.alloc(), &mut reader)?;
+        assert_eq!(rt; builder.finish()?.events().len(), 0);
         assert_eq!(rt; is_at_end(&mut reader), Ok(false));
         assert_eq!(rt; is_at_end(&mut reader), Ok(false));
         let claimed = read_verdict(rt.alloc(), &mut reader)?;
@@ -261,14 +263,16 @@ fn looking_for_the_end_asks_where_nothing_is_left(rt: HostRuntime) -> Result<(),
         let mut counted = Counted { source, reads: 0 };
         let mut reader = TextReader::new(&mut counted);
         assert_eq!(rt; is_at_end(&mut reader), Ok(false));
-        assert_eq!(rt; read_history(rt.alloc(), &mut reader)?.len(), 2);
+        let (_, builder) = read_history(rt.alloc(), &mut reader)?;
+        assert_eq!(rt; builder.finish()?.events().len(), 2);
         assert_eq!(rt; is_at_end(&mut reader), Ok(true));
         drop(reader);
         assert_eq!(rt; counted.reads, HISTORY.len() / most + 1);
     }
     let mut failing = TextReader::new(MemorySource::failing(HISTORY));
     assert_eq!(rt; is_at_end(&mut failing), Ok(false));
-    assert_eq!(rt; read_history(rt.alloc(), &mut failing)?.len(), 2);
+    let (_, builder) = read_history(rt.alloc(), &mut failing)?;
+    assert_eq!(rt; builder.finish()?.events().len(), 2);
     assert_eq!(rt; is_at_end(&mut failing), Err(TextFault::Read));
     Ok(())
 }

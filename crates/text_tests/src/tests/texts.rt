@@ -5,26 +5,28 @@ ghost use Rattle.verdicts.specs.declared.shown.LinePlace.TheVariants.{Op};
 
 use super::outcomes::{check_fronts, known};
 use event_records::{Event, What};
-use history_merge::{History, OpId, history, history_from};
+use history_merge::{History, OpId, history_from};
 use history_text::{
-    MemorySource, TextFault, TextReader, Watched, WriteFault, at_end, read_history, write_history,
-    write_verdict,
+    MemorySource, TextFault, TextReader, Version, Watched, WriteFault, at_end, read_history,
+    write_history, write_verdict,
 };
 use std::alloc::{AllocError, Global};
 use std::test::Fail;
 use value_match::{Cover, CoverStep, Source, Violation};
 use verdicts::{Order, Verdict};
 
-/// How many events a history alone in its input has, or the fault of that input. Want of memory is an error of its own.
+/// How many events a complete history alone in its input has, or the fault of that input. Want of memory is an error of its own.
 pub(crate) fn outcome(
     alloc: Global,
     source: MemorySource<'_>,
 ) -> Result<Result<usize, TextFault>, AllocError> {
     let mut reader = TextReader::new(source);
-    match known(read_history(alloc, &mut reader))? {
-        Ok(events) => Ok(at_end(&mut reader).map(|()| events.len())),
-        Err(fault) => Ok(Err(fault)),
-    }
+    let (_, builder) = match known(read_history(alloc, &mut reader))? {
+        Ok(read) => read,
+        Err(fault) => return Ok(Err(fault)),
+    };
+    let history = builder.finish().map_err(|_| AllocError)?;
+    Ok(at_end(&mut reader).map(|()| history.events().len()))
 }
 
 const TEXT: &[u8] = b"fifo-history 1\n0 0 call-enq 7\n1 0 ret-enq\n2 1 call-deq\n3 1 ret-deq 7\n\
@@ -33,7 +35,7 @@ const TEXT: &[u8] = b"fifo-history 1\n0 0 call-enq 7\n1 0 ret-enq\n2 1 call-deq\
 #[test]
 fn reads_each_word(rt: HostRuntime) -> Result<(), Fail> {
     let mut reader = TextReader::new(MemorySource::new(TEXT));
-    let events = read_history(rt.alloc(), &mut reader)?;
+    let (_, builder) = read_history(rt.alloc(), &mut reader)?;
     let expected = [
         (0, 0, What::CallEnq(7)),
         (1, 0, What::RetEnq),
@@ -49,6 +51,7 @@ fn reads_each_word(rt: HostRuntime) -> Result<(), Fail> {
         thread,
         what,
     });
+    let events: Vec<Event> = builder.finish()?.events().collect(rt.alloc())?;
     assert_eq!(rt; events.as_slice(), expected.as_slice());
     assert_eq!(rt; at_end(&mut reader), Ok(()));
     Ok(())
@@ -62,7 +65,8 @@ fn any_pieces_and_any_failure(rt: HostRuntime) -> Result<(), Fail> {
         check_fronts(&rt, rt.alloc(), TEXT, most, TextFault::Read, outcome)?;
     }
     let mut reader = TextReader::new(MemorySource::failing(TEXT));
-    let count = read_history(rt.alloc(), &mut reader)?.len();
+    let (_, builder) = read_history(rt.alloc(), &mut reader)?;
+    let count = builder.finish()?.events().len();
     assert_eq!(rt; (count, at_end(&mut reader)), (8, Err(TextFault::Read)));
     Ok(())
 }
@@ -71,13 +75,11 @@ fn any_pieces_and_any_failure(rt: HostRuntime) -> Result<(), Fail> {
 fn lines_count_on(rt: HostRuntime) -> Result<(), Fail> {
     let text = b"fifo-history 1\nend 0\nfifo-history 1\n0 0 ret-enq\nend 2 \n";
     let mut reader = TextReader::new(MemorySource::new(text));
-    assert_eq!(rt; read_history(rt.alloc(), &mut reader)?.len(), 0);
+    let (_, builder) = read_history(rt.alloc(), &mut reader)?;
+    assert_eq!(rt; builder.finish()?.events().len(), 0);
     match read_history(rt.alloc(), &mut reader) {
         Err(TextFault::Memory) => return Err(Fail::from("want of memory")),
-        answer => assert_eq!(rt;
-            answer.map(|events| events.len()),
-            Err(TextFault::Number(5))
-        ),
+        answer => assert_eq!(rt; answer.err(), Some(TextFault::Number(5))),
     }
     Ok(())
 }
@@ -87,8 +89,12 @@ fn history_of(alloc: Global, text: &[u8]) -> Result<History, Fail>
     ensures { IfOk result (λ whole. whole.initial ≡ []) }
 {
     let mut reader = TextReader::new(MemorySource::new(text));
-    let events = read_history(alloc, &mut reader)?;
-    Ok(history(alloc, events)?)
+    let (_, builder) = read_history(alloc, &mut reader)?;
+    let history = builder.finish()?;
+    if !history.initial().is_empty() {
+        return Err(Fail::from("initial values"));
+    }
+    Ok(history)
 }
 
 /// The text of a verdict on a history.
@@ -140,9 +146,9 @@ fn writes_what_it_reads(rt: HostRuntime) -> Result<(), Fail> {
     for text in texts {
         let history = history_of(rt.alloc(), text)?;
         let mut writer = Watched::new(Vec::new(rt.alloc()));
-        write_history(&history, &mut writer)?;
+        write_history(Version::One, &history, &mut writer)?;
         let mut few = [0u8; 20];
-        let refused = write_history(&history, &mut Watched::new(&mut few[..]));
+        let refused = write_history(Version::One, &history, &mut Watched::new(&mut few[..]));
         assert!(rt; writer.into_inner().as_slice() == text, "{text:?}");
         assert!(rt;
             refused == Err(WriteFault::Write) && text.starts_with(&few),
@@ -189,11 +195,7 @@ fn one_dequeue(alloc: Global, initial: [u64; 2], value: u64) -> Result<History, 
         thread: 0,
         what,
     });
-    let whole = history_from(
-        alloc,
-        Vec::from_array(alloc, initial)?,
-        Vec::from_array(alloc, events)?,
-    )?;
+    let whole = history_from(alloc, Vec::from_array(alloc, initial)?, &events)?;
     if whole.operations().len() != 1 {
         return Err(Fail::from("another count of operations"));
     }
