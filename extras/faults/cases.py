@@ -3,7 +3,8 @@
 cases.py PROGRAM LIBRARY FOLDER EXAMPLES
 
 Of a refused growth the program may answer as with ample memory, or `FAULT Memory` with status 3; a run may also answer with one of
-its faults, or with another history, which `verify` then has to answer with VALID. Of a refused write a front of the text is there,
+its faults (with `Preload` only where its queue is given values first), or with another history, which `verify` then has to answer
+with VALID. Of a refused write a front of the text is there,
 the status is 3, and nothing is written after it. Of a refused read the answer is `FAULT Read`, status 3. Where a thread can't be
 started a run answers with a history, or with a stall, and a check as with threads.
 """
@@ -27,6 +28,7 @@ LANES = max(2, len(os.sched_getaffinity(0)))
 MEMORY = (3, b"FAULT Memory\n")
 READ = (3, b"FAULT Read\n")
 RUN_FAULT = re.compile(rb"FAULT (Memory|Stalled \d+|CloseLost \d+)\n\Z")
+PRELOAD_FAULT = re.compile(rb"FAULT Preload \d+\n\Z")
 
 
 class Case:
@@ -87,6 +89,8 @@ def wrong_growth(case, answer, after):
         return ""
     if case.is_run and answer[0] == 3 and RUN_FAULT.match(answer[1]):
         return ""
+    if "--initial" in case.words and answer[0] == 3 and PRELOAD_FAULT.match(answer[1]):
+        return ""
     if case.is_run and is_history_with_verdict(answer):
         return ""
     return "neither the answer of ample memory nor a fault"
@@ -121,6 +125,8 @@ JUDGES = {"growth": wrong_growth, "write": wrong_write, "read": wrong_read, "thr
 def cases():
     history, violated = example("hidden-order.history"), example("never-empty.history")
     claim = started(Case(["check"], violated))[1]
+    filled = example("initial-content.history")
+    filled_claim = started(Case(["check"], filled))[1]
     return [
         Case(["check"], history),
         Case(["check"], violated),
@@ -131,11 +137,17 @@ def cases():
         Case(["verify"], violated + claim),
         Case(["draw"], violated + claim),
         Case(["draw", "--text"], violated + claim),
+        Case(["convert"], violated),
         Case(["stats"], violated),
+        *[Case([command], filled) for command in ("check", "shrink", "convert", "stats")],
+        Case(["verify"], filled + filled_claim),
+        Case(["draw"], filled + filled_claim),
+        Case(["draw", "--text"], filled + filled_claim),
         Case(["sim"], example("full-ring.schedule")),
         # Each ring has room for all events of its worker: without a collector a full one stalls, after ten seconds or more.
         Case(["stress", "--queue", "locked", "--threads", "3", "--ops", "20", "--ring", "64"], is_run=True),
         Case(["stress", "--queue", "seg", "--threads", "2", "--ops", "20"], is_run=True),
+        Case(["stress", "--queue", "locked", "--threads", "2", "--ops", "20", "--ring", "64", "--initial", "40"], is_run=True),
         Case(["stress", "--queue", "none"]),
         Case(["help"]),
         Case(["help", "stress"]),

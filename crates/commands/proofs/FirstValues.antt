@@ -18,7 +18,9 @@ use Rattle.stress_run.specs.Crew.{SizesView}
 use Rattle.stress_run.specs.Failed.{IsFaultOfRun}
 use Rattle.stress_run.specs.Faults.{IsWithinLimits}
 use Rattle.stress_run.specs.Operations.{IsRun}
+use Rattle.stress_run.specs.Preloaded.{AreTaken, IsFirstRefused}
 use Rattle.stress_run.specs.declared.faults.RunFault.{RunFault}
+use Rattle.stress_run.specs.declared.faults.RunFault.TheVariants.{Preload}
 use Rattle.stress_run.specs.Recorded.{RecordedView}
 use Rattle.verdicts.specs.declared.verifying.Claimed.{Claimed}
 use Rattle.verdicts.specs.declared.verdict.Verdict.{Verdict}
@@ -70,7 +72,7 @@ none_in_version_1 count is = by_test (count == 0) refl is
 
 -- ---- what a run gives
 
-module _ (may : Question → Answer → Type 0) (settings : Settings) (history : HistoryView) (verdict : Verdict) where
+module _ (may : Question → Answer → Type 0) (may_preload : ℕ → Bool → Type 0) (settings : Settings) (history : HistoryView) (verdict : Verdict) where
   -- the claim of the verdict
   abbrev claim : Claimed
   claim = claim_of history.initial (operations_of history.events) verdict
@@ -83,10 +85,11 @@ module _ (may : Question → Answer → Type 0) (settings : Settings) (history :
       → (recorded : RecordedView) → IsRun may plan recorded.lists recorded.total → AreRecorded recorded.lists
       → (given : List ℕ) → given ≡ first_values settings.initial → Replays settings.ring given recorded.lists → IsMerged recorded.lists history.events
       → IsCompleteFrom history.initial history.events → history.initial ≡ given → IsVerdictClaim history claim
-      → (version : Version) → version ≡ run_version settings.initial
-      → RunsOrFails may settings (shown (said_in version history) claim)
-  recorded_run plan seeded recorded run are_recorded given first replays merged complete same right version is_version =
+      → (version : Version) → version ≡ run_version settings.initial → AreTaken may_preload given
+      → RunsOrFails may may_preload settings (shown (said_in version history) claim)
+  recorded_run plan seeded recorded run are_recorded given first replays merged complete same right version is_version taken =
       inl (record {
+        preloaded = subst (AreTaken may_preload) first taken;
         plan = plan;
         seeded = seeded;
         lists = recorded.lists;
@@ -103,17 +106,18 @@ module _ (may : Question → Answer → Type 0) (settings : Settings) (history :
       })
 
 -- a fault of a run on a queue that was given these values is what `stress` answers
-pub failed_run : (may : Question → Answer → Type 0) (settings : Settings) (plan : List (List Kind)) (fault : RunFault) → IsWithinRanges settings
+pub failed_run : (may : Question → Answer → Type 0) (may_preload : ℕ → Bool → Type 0) (settings : Settings) (plan : List (List Kind)) (fault : RunFault) → IsWithinRanges settings
     → IsSeeded settings.seed settings.threads settings.operations settings.percent plan
     → (given : List ℕ) → given ≡ first_values settings.initial → IsFaultOfRun may given plan (record { ring = settings.ring; tries = TRIES }) fault
-    → RunsOrFails may settings (run_fault fault)
-failed_run may settings plan fault ranges seeded given first is_fault = inr (inl (record {
+    → ((place : ℕ) → fault ≡ Preload place → IsFirstRefused may_preload given place) → RunsOrFails may may_preload settings (run_fault fault)
+failed_run may may_preload settings plan fault ranges seeded given first is_fault is_refused = inr (inl (record {
   plan = plan;
   seeded = seeded;
   fault = fault;
   of_run = of_run;
   within = λ limit. subst (IsFaultOfRun may (first_values settings.initial) plan sizes) limit of_run
       (within_limits, first_values_are_names settings.initial ranges.initial);
+  refused = λ place is. subst (λ values. IsFirstRefused may_preload values place) first (is_refused place is);
   is = refl;
 }))
   where

@@ -61,7 +61,7 @@ pub claim_is_written : (t : HistoryText) (claimed : Claimed) → IsWritten t cla
 claim_is_written t claimed is =
     let few_initial = few_values t is.history in
     let few = verdict_has_few_lines t.initial t.events is.right.verdict is.complete few_initial is.history.events.few is.right.chosen in
-    subst HasVerdictText (sym is.right.claim) (claim_has_text t is.right.verdict is.history (omega arith))
+    subst HasVerdictText (sym is.right.claim) (claim_has_text t is.right.verdict is.history (omega (arith, few.1)))
 
 claim_is_true : (t : HistoryText) (claimed : Claimed) → IsWritten t claimed → IsTrueClaim t.initial (operations_of t.events) claimed
 claim_is_true t claimed is = subst (IsTrueClaim t.initial (operations_of t.events)) (sym is.right.claim)

@@ -1,5 +1,5 @@
 -- What `stress` answers: it reads nothing, and runs the first queue of a name.
-use Rattle.std.specs.Prelude.{◌≡◌, ◌≢◌, ℕ, ◌*◌, ◌==◌, ◌<◌, ◌≤◌, if◌then◌else◌, List, ◌∷◌, ◌++◌, All, ◌⊎◌}
+use Rattle.std.specs.Prelude.{◌≡◌, ◌≢◌, ℕ, ◌*◌, ◌==◌, ◌<◌, ◌≤◌, if◌then◌else◌, Bool, List, ◌∷◌, ◌++◌, All, ◌⊎◌}
 use Rattle.std.specs.List.{range_with_len}
 use Rattle.event_records.specs.declared.event.Event.{Event}
 use Rattle.event_records.specs.declared.kind.Kind.{Kind}
@@ -14,9 +14,10 @@ use Rattle.history_text.specs.Versions.{said_in}
 use Rattle.recorder_core.specs.Replay.{AreRecorded, Replays}
 use Rattle.workloads.specs.Seeds.{IsSeeded}
 use Rattle.stress_run.specs.declared.faults.RunFault.{RunFault}
-use Rattle.stress_run.specs.declared.faults.RunFault.TheVariants.{Limit}
+use Rattle.stress_run.specs.declared.faults.RunFault.TheVariants.{Limit, Preload}
 use Rattle.stress_run.specs.Operations.{IsRun}
 use Rattle.stress_run.specs.Failed.{IsFaultOfRun}
+use Rattle.stress_run.specs.Preloaded.{AreTaken, IsFirstRefused}
 use Rattle.verdicts.specs.declared.verifying.Claimed.{Claimed}
 use Rattle.command_words.specs.Options.{Settings}
 use Rattle.commands.specs.declared.stress.TheConstants.{TRIES}
@@ -43,8 +44,9 @@ run_history count events = record { initial = first_values count; events = event
 abbrev pub run_version : ℕ → Version
 run_version count = if count == 0 then One else Two
 
--- a run of the seed's plan on a queue that may answer so: its lists by ticket, with their verdict
-pub record IsRecordedRun (may : Question → Answer → Type 0) (settings : Settings) (answer : Reply) : Type 0 where
+-- a run of the seed's plan on a queue that may answer so and took the first values: its lists by ticket, with their verdict
+pub record IsRecordedRun (may : Question → Answer → Type 0) (may_preload : ℕ → Bool → Type 0) (settings : Settings) (answer : Reply) : Type 0 where
+  pub preloaded : AreTaken may_preload (first_values settings.initial)
   pub plan : List (List Kind)
   pub seeded : IsSeeded settings.seed settings.threads settings.operations settings.percent plan
   pub lists : List (List Event)
@@ -59,27 +61,30 @@ pub record IsRecordedRun (may : Question → Answer → Type 0) (settings : Sett
   pub right : IsVerdictClaim (run_history settings.initial events) claimed
   pub is : answer ≡ shown (said_in (run_version settings.initial) (run_history settings.initial events)) claimed
 
--- no history: a fault that a run of the seed's plan may have, on a queue that may answer so, with rings and tries of these sizes
-pub record IsFailedRun (may : Question → Answer → Type 0) (settings : Settings) (answer : Reply) : Type 0 where
+-- no history: a fault that a run of the seed's plan may have, on a queue that may answer so, with rings and tries of these sizes; the place
+-- that it names is that of the first value which the queue refused
+pub record IsFailedRun (may : Question → Answer → Type 0) (may_preload : ℕ → Bool → Type 0) (settings : Settings) (answer : Reply) : Type 0 where
   pub plan : List (List Kind)
   pub seeded : IsSeeded settings.seed settings.threads settings.operations settings.percent plan
   pub fault : RunFault
   pub of_run : IsFaultOfRun may (first_values settings.initial) plan (record { ring = settings.ring; tries = TRIES }) fault
   pub within : fault ≢ Limit
+  pub refused : (place : ℕ) → fault ≡ Preload place → IsFirstRefused may_preload (first_values settings.initial) place
   pub is : answer ≡ run_fault fault
 
 -- a run and its verdict, or a fault that a run may have, or want of memory
-abbrev pub RunsOrFails : (Question → Answer → Type 0) → Settings → Reply → Type 0
-RunsOrFails may settings answer = IsRecordedRun may settings answer ⊎ (IsFailedRun may settings answer ⊎ (answer ≡ memory_fault))
+abbrev pub RunsOrFails : (Question → Answer → Type 0) → (ℕ → Bool → Type 0) → Settings → Reply → Type 0
+RunsOrFails may may_preload settings answer =
+    IsRecordedRun may may_preload settings answer ⊎ (IsFailedRun may may_preload settings answer ⊎ (answer ≡ memory_fault))
 
 -- what is answered of a queue that may answer so: too many operations are refused, and no others
-abbrev pub StressesQueue : (Question → Answer → Type 0) → Settings → Reply → Type 0
-StressesQueue may settings answer =
+abbrev pub StressesQueue : (Question → Answer → Type 0) → (ℕ → Bool → Type 0) → Settings → Reply → Type 0
+StressesQueue may may_preload settings answer =
     ((MAX_OPERATIONS < settings.threads * settings.operations) × (answer ≡ refused_limit))
-    ⊎ ((settings.threads * settings.operations ≤ MAX_OPERATIONS) × RunsOrFails may settings answer)
+    ⊎ ((settings.threads * settings.operations ≤ MAX_OPERATIONS) × RunsOrFails may may_preload settings answer)
 
 -- `stress` on a shelf of queues with names: the first of the name is run, and a name that none has is refused
-abbrev pub Stresses : {X : Type 0} → (X → List ℕ) → (X → Question → Answer → Type 0) → List X → Settings → Reply → Type 0
-Stresses {X} name_of may_of shelf settings answer =
+abbrev pub Stresses : {X : Type 0} → (X → List ℕ) → (X → Question → Answer → Type 0) → (X → ℕ → Bool → Type 0) → List X → Settings → Reply → Type 0
+Stresses {X} name_of may_of may_preload_of shelf settings answer =
     (All (λ x. name_of x ≢ settings.queue) shelf × (answer ≡ refused_queue))
-    ⊎ ((x : X) × IsFirstNamed name_of settings.queue shelf x × StressesQueue (may_of x) settings answer)
+    ⊎ ((x : X) × IsFirstNamed name_of settings.queue shelf x × StressesQueue (may_of x) (may_preload_of x) settings answer)

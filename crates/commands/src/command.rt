@@ -55,8 +55,8 @@ where
 
     // Words that are `stress`: what a run on the shelf gives is printed.
     ensures stresses { (settings : Settings) → faults_in (map T.text words.entry.now) ≡ [] → request_in (map T.text words.entry.now) ≡ Some (stress settings)
-        → PrintsOneOf (AnswersOrNoMemory (Stresses (λ s. s.name.now) (λ s. may s.queue) shelf.now) settings) (W.contents writer.old)
-        (W.contents writer.new) (W.has_refused writer.new) result }
+        → PrintsOneOf (AnswersOrNoMemory (Stresses (λ s. s.name.now) (λ s. may s.queue) (λ s. may_preload s.queue) shelf.now) settings)
+        (W.contents writer.old) (W.contents writer.new) (W.has_refused writer.new) result }
 
     // Other words are answered by a text about the use of the program.
     ensures usage { (faults_in (map T.text words.entry.now) ≢ [])
@@ -102,7 +102,7 @@ where
     requires { IsInRange (request_of task) }
     ensures reads { IfSome (S.ahead reader) (λ input. AnswersOf (request_of task.entry) input (answer_of result)) }
     ensures stresses { (settings : Settings) → request_of task.entry ≡ stress settings
-        → Stresses (λ s. s.name.now) (λ s. may s.queue) shelf.now settings (answer_of result) }
+        → Stresses (λ s. s.name.now) (λ s. may s.queue) (λ s. may_preload s.queue) shelf.now settings (answer_of result) }
     ensures places { NamesPlaces result }
 {
     match task {

@@ -37,7 +37,7 @@ pub fn stress<'a, R: Threads + Sync>(
     options: &StressOptions<'a>,
 ) -> Outcome
     requires { IsWithinRanges (settings_of options.now) }
-    ensures found { Stresses (λ s. s.name.now) (λ s. may s.queue) shelf.now (settings_of options.now) (answer_of result) }
+    ensures found { Stresses (λ s. s.name.now) (λ s. may s.queue) (λ s. may_preload s.queue) shelf.now (settings_of options.now) (answer_of result) }
     ensures places { NamesPlaces result }
 {
     let Some(shelved) = find(shelf, options.queue) else {
@@ -67,7 +67,7 @@ fn stress_shelved<'a, R: Threads + Sync>(
     options: &StressOptions<'a>,
 ) -> Outcome
     requires { IsWithinRanges (settings_of options.now) }
-    ensures found { StressesQueue (may shelved.now.queue) (settings_of options.now) (answer_of result) }
+    ensures found { StressesQueue (may shelved.now.queue) (may_preload shelved.now.queue) (settings_of options.now) (answer_of result) }
     ensures places { NamesPlaces result }
 {
     if options.threads as u64 * options.operations as u64 > MAX_OPERATIONS {
@@ -85,7 +85,7 @@ fn run_plan<'a, R: Threads + Sync>(
 ) -> Outcome
     requires ranges { IsWithinRanges (settings_of options.now) }
     requires few { options.now.threads * options.now.operations ≤ MAX_OPERATIONS }
-    ensures found { RunsOrFails (may queue.now) (settings_of options.now) (answer_of result) }
+    ensures found { RunsOrFails (may queue.now) (may_preload queue.now) (settings_of options.now) (answer_of result) }
     ensures places { NamesPlaces result }
 {
     let plan = Plan::from_seed(

@@ -61,6 +61,12 @@ impl ValueList for Stack {
         self.values.push_back(value).is_ok()
     }
 
+    fn preload(&mut self, value: u64) -> bool
+        ensures { self.new ≡ (if result then self.old ++ value ∷ [] else self.old) }
+    {
+        self.put(value)
+    }
+
     fn take(&mut self) -> Option<u64>
         ensures last { self.old ≡ self.new ++ option_to_list result }
         ensures none { IfNone result (self.old ≡ []) }
@@ -106,6 +112,14 @@ impl ValueList for DoublingList {
         ensures uncounted { self.new.count ≡ self.old.count }
     {
         self.fifo.put(value)
+    }
+
+    fn preload(&mut self, value: u64) -> bool
+        ensures last { PutsLast self.old.values value result self.new.values }
+        ensures uncounted { self.new.count ≡ self.old.count }
+    {
+        // No value is found.
+        self.put(value)
     }
 
     fn take(&mut self) -> Option<u64>
@@ -169,6 +183,15 @@ impl ValueList for InventingList {
         self.fifo.put(value)
     }
 
+    fn preload(&mut self, value: u64) -> bool
+        ensures last { PutsLast self.old.list.values value result self.new.list.values }
+        ensures uncounted { self.new.list.count ≡ self.old.list.count }
+        ensures none { self.new.invented ≡ self.old.invented }
+    {
+        // Nothing is given out, nor made up.
+        self.put(value)
+    }
+
     fn take(&mut self) -> Option<u64>
         ensures counted { CountsCall self.old.list self.new.list }
         ensures invented { IsFourth self.new.list → (result ≡ Some (invention self.old.invented)) × (self.new.invented ≡ next self.old.invented) }
@@ -221,6 +244,14 @@ impl ValueList for ShyList {
         ensures uncounted { self.new.count ≡ self.old.count }
     {
         self.fifo.put(value)
+    }
+
+    fn preload(&mut self, value: u64) -> bool
+        ensures last { PutsLast self.old.values value result self.new.values }
+        ensures uncounted { self.new.count ≡ self.old.count }
+    {
+        // Nothing is given out.
+        self.put(value)
     }
 
     fn take(&mut self) -> Option<u64>

@@ -17,10 +17,8 @@ pub trait ValueList: Drop + Send {
     /// Takes a value in, and tells whether it did. False for want of memory.
     fn put(&mut self, value: u64) -> bool;
 
-    /// The same before a run, as no call that is counted.
-    fn preload(&mut self, value: u64) -> bool {
-        self.put(value)
-    }
+    /// Puts a value last before a run, and tells whether it did. It is no call by whose count a list breaks the order.
+    fn preload(&mut self, value: u64) -> bool;
 
     /// Gives a value out, or none.
     fn take(&mut self) -> Option<u64>;
@@ -106,6 +104,12 @@ impl ValueList for Fifo {
         ensures { self.new ≡ (if result then self.old ++ value ∷ [] else self.old) }
     {
         self.values.push_back(value).is_ok()
+    }
+
+    fn preload(&mut self, value: u64) -> bool
+        ensures { self.new ≡ (if result then self.old ++ value ∷ [] else self.old) }
+    {
+        self.put(value)
     }
 
     fn take(&mut self) -> Option<u64>

@@ -1,16 +1,20 @@
--- A verdict shows each operation once, so it has at most half as many lines as the history has events.
+-- A verdict shows each operation once, so it names at most half as many as the history has events; its other lines are initial values.
 use Rattle.std.proofs.Common.{◌*◌, ◌≡◌, ℕ, zero, suc, ◌+◌, ◌<◌, ◌≤◌, ◌⊎◌, Bool, true}
 use Rattle.std.proofs.Common.{false, List, [], ◌∷◌, ◌++◌, length, map, Option, Some, None, refl}
-use Rattle.std.proofs.Common.{sym, ◌∙◌, ap, subst, inl, inr, arith}
-use Rattle.std.specs.Prelude.{AllPairs, Contains, MatchOption, nat_eq, flat_map, option_to_list, ⊤}
-use Rattle.std.specs.List.{AllByRecursion, IsDistinct}
+use Rattle.std.proofs.Common.{sym, ◌∙◌, ap, subst, inl, inr, arith, cond, ◌-◌}
+use Rattle.std.specs.Prelude.{AllPairs, Contains, MatchOption, nat_eq, nat_lt, filter, flat_map, option_map, option_to_list, slice_get, not, ⊤}
+use Rattle.std.specs.List.{AllByRecursion, AllZip, IsDistinct}
 use Rattle.std.specs.Set.{is_member}
 use Rattle.std.specs.Cmp.{unsigned_Decides, nat_eq_equiv}
 use Rattle.std.proofs.lemmas.Map.Made.{is_member-Decides, length-le_from_is_member}
-use Rattle.std.proofs.lemmas.List.{length-map}
+use Rattle.std.proofs.lemmas.Bool.{ltb-false, not-true}
+use Rattle.std.proofs.lemmas.List.{length-append, length-map}
+use Rattle.std.proofs.lemmas.List.Elements.{Contains-append_cases, Contains-append_left}
 use Rattle.std.proofs.lemmas.List.Sorted.{length_permutation}
+use Rattle.std.proofs.lemmas.List.Sums.{count_by-le-length, length-filter}
+use Rattle.std.proofs.lemmas.Option.{slice_get_within}
 use Rattle.event_records.specs.declared.event.Event.{Event}
-use Rattle.event_records.specs.declared.limits.TheConstants.{MAX_CLOCK, MAX_OPERATIONS}
+use Rattle.event_records.specs.declared.limits.TheConstants.{MAX_CLOCK, MAX_EVENTS, MAX_INITIAL, MAX_OPERATIONS}
 use Rattle.history_merge.specs.declared.operation.Operation.{Operation}
 use Rattle.history_merge.specs.declared.operation.OpKind.TheVariants.{Enq, Deq, Empty}
 use Rattle.history_merge.specs.Complete.{AreComplete, IsCompleteUpTo}
@@ -18,27 +22,32 @@ use Rattle.history_merge.specs.Legal.{ArePlacesOf}
 use Rattle.history_merge.specs.Operations.{Did, NoneDid, operations_of}
 use Rattle.history_merge.proofs.Distinct.{contains_cons, not_in_none, place_of, contains_at, pairs_at, traced, same_call, same_return}
 use Rattle.history_merge.proofs.Distinct.{return_differs_from_call, call_before_return}
-use Rattle.history_merge.specs.Initial.{filled, filled_events, filling_events_from, event_later_by}
+use Rattle.history_merge.specs.Initial.{IsCompleteFrom, event_later_by, filled, filled_events, filling_events_from, filling_from, later_by}
 use Rattle.history_merge.proofs.Filled.{filled_is_complete, filled_operations}
 use Rattle.verdicts.specs.Laws.{VerdictHasFewLines}
 use Rattle.value_match.specs.declared.life.Life.{Life}
 use Rattle.value_match.specs.Lives.{IsLife, IsCovered, dequeue_call, call_or_never, dequeue_of, enqueue_of, operations_of_life}
 use Rattle.value_match.specs.Violations.{Breach, fresh, repeat, order, witness, IsClear, lines_of}
 use Rattle.value_match.specs.Choice.{IsChosenBreach, IsChosenCoverFrom}
-use Rattle.value_match.proofs.Lists.{one_deeper, mapped_to}
+use Rattle.value_match.proofs.FilledLines.{filling_place}
+use Rattle.value_match.proofs.Lists.{one_deeper, mapped_to, passed_filter}
 use Rattle.value_match.proofs.Lives.{one_life_of_enqueue}
 use Rattle.linearizer.proofs.Keys.{AllPairs-tail}
 use Rattle.linearizer.proofs.OneOrder.{operations_rise}
 use Rattle.linearizer.specs.Order.{IsChosenOrder}
+use Rattle.verdicts.specs.declared.shown.LinePlace.{LinePlace}
 use Rattle.verdicts.specs.declared.shown.LinePlace.TheVariants as place
+use Rattle.verdicts.specs.declared.verifying.ClaimLine.{ClaimLine}
+use Rattle.verdicts.specs.declared.verifying.ClaimLine.TheVariants as line
 use Rattle.verdicts.specs.declared.verdict.Verdict.{Verdict}
 use Rattle.verdicts.specs.declared.verdict.Verdict.TheVariants.{Yes, No}
-use Rattle.verdicts.specs.Claiming.{places_of}
+use Rattle.verdicts.specs.Claiming.{is_operation, line_at, operations_named, places_of}
 use Rattle.verdicts.specs.Shown.{places_of as places_of_violation}
 use Rattle.verdicts.specs.Verdicts.{IsVerdictFrom}
 use Rattle.verdicts.proofs.CoverGaps.{IsCalledInside, chosen_are_lives, handover, all_stay}
-use Rattle.value_match.proofs.FilledOperations.{length_filled}
+use Rattle.value_match.proofs.FilledOperations.{length_filled, length_filling}
 use Rattle.verdicts.proofs.NamedPlaces.{IsShownAt, each_shown, zip_lengths}
+use Rattle.verdicts.proofs.ShownLines.{accepted_value, line_of}
 
 -- ---- operations apart
 
@@ -240,10 +249,11 @@ two_events_each events complete = few_apart events (operations_of events) comple
 
 -- ---- verdicts
 
-module _ (events : List Event) (complete : IsCompleteUpTo MAX_CLOCK events) (most : ℕ) (some : 4 ≤ most) (few : length events ≤ most + most) where
-  witness_lines : (empty : Operation) (cover : List Life) → IsChosenBreach (operations_of events) (witness empty cover)
-      → length (lines_of (witness empty cover)) + length (lines_of (witness empty cover)) ≤ length events
-  witness_lines empty cover chosen =
+module _ (events : List Event) (complete : IsCompleteUpTo MAX_CLOCK events) where
+  -- the lines of an empty-witness violation are operations of the history, each once
+  pub witness_apart : (empty : Operation) (cover : List Life) → IsChosenBreach (operations_of events) (witness empty cover)
+      → ((o : Operation) → Contains (lines_of (witness empty cover)) o → Contains (operations_of events) o) × Apart (lines_of (witness empty cover))
+  witness_apart empty cover chosen =
       let operations = operations_of events in
       let whole : AreComplete operations = (events, complete, refl) in
       let clear : IsClear operations = record { complete = whole; no_fresh = chosen.0; no_repeat = chosen.1 } in
@@ -253,11 +263,18 @@ module _ (events : List Event) (complete : IsCompleteUpTo MAX_CLOCK events) (mos
       let inside : IsCalledInside operations empty clear did covered empty = record { among = did.0; after_call = omega arith; before_return = window } in
       let apart = cover_apart operations empty clear did covered cover empty inside chosen.3.cover_is_chosen in
       let are = λ (y : Life) (among : Contains cover y). chosen_are_lives operations empty cover empty.call y chosen.3.cover_is_chosen among in
-      let lines = among_lines operations empty clear did covered cover are in
-      few_apart events (lines_of (witness empty cover)) complete
-      (λ o among. elim (contains_cons empty (flat_map operations_of_life cover) o among)
-      [ inl same ↦ subst (Contains operations) same did.0 | inr later ↦ (lines o later).0 ])
-      (λ among. (lines empty among).1 did.1, apart)
+      let lines = among_lines operations empty clear did covered cover are in (
+        λ o among. elim (contains_cons empty (flat_map operations_of_life cover) o among)
+            [ inl same ↦ subst (Contains operations) same did.0 | inr later ↦ (lines o later).0 ],
+        (λ among. (lines empty among).1 did.1, apart),
+      )
+
+module _ (events : List Event) (complete : IsCompleteUpTo MAX_CLOCK events) (most : ℕ) (some : 4 ≤ most) (few : length events ≤ most + most) where
+  witness_lines : (empty : Operation) (cover : List Life) → IsChosenBreach (operations_of events) (witness empty cover)
+      → length (lines_of (witness empty cover)) + length (lines_of (witness empty cover)) ≤ length events
+  witness_lines empty cover chosen =
+      let lines = witness_apart events complete empty cover chosen in
+      few_apart events (lines_of (witness empty cover)) complete lines.0 lines.1
 
   -- a chosen violation has few lines
   pub few_chosen : (breach : Breach) → IsChosenBreach (operations_of events) breach → length (lines_of breach) ≤ most
@@ -289,7 +306,137 @@ length_filling_events : (clock : ℕ) (values : List ℕ) (later : List Event)
 length_filling_events clock [] later = omega arith
 length_filling_events clock (v ∷ values) later = let rest = length_filling_events (clock + 2) values later in omega arith
 
--- the chosen verdict on a history has few lines
+-- ---- the operations among the lines
+
+-- the operation is none of the enqueues that fill the queue up to this clock
+abbrev is_own : ℕ → Operation → Bool
+is_own n o = not (nat_lt o.call n)
+
+apart_front : (xs ys : List Operation) → Apart (xs ++ ys) → Apart xs
+apart_front [] ys apart = tt
+apart_front (x ∷ xs) ys apart = (λ among. apart.0 (Contains-append_left xs ys x among), apart_front xs ys apart.1)
+
+apart_both : (xs ys : List Operation) → Apart xs → Apart ys → ((o : Operation) → Contains xs o → Contains ys o → ⊥) → Apart (xs ++ ys)
+apart_both [] ys first rest none = rest
+apart_both (x ∷ xs) ys first rest none = (
+  λ among. elim (Contains-append_cases xs ys x among) [ inl here ↦ first.0 here | inr there ↦ none x (zero, omega arith, refl) there ],
+  apart_both xs ys first.1 rest (λ o here there. none o (one_deeper x xs o here) there),
+)
+
+apart_filter : (p : Operation → Bool) (xs : List Operation) → Apart xs → Apart (filter p xs)
+apart_filter p [] apart = tt
+apart_filter p (x ∷ xs) apart = pick (apart_filter p xs apart.1) (p x)
+  where
+    pick : Apart (filter p xs) → (b : Bool) → Apart (cond b (x ∷ filter p xs) (filter p xs))
+    pick rest true = (λ among. apart.0 (passed_filter p xs x among).0, rest)
+    pick rest false = rest
+
+shorter : {X : Type 0} (p : X → Bool) (xs : List X) → length (filter p xs) ≤ length xs
+shorter p xs = let counted = length-filter p xs in let few = count_by-le-length p xs in omega arith
+
+-- the line is that of an operation
+abbrev line_is_operation : ClaimLine → Bool
+line_is_operation (line.Op o) = true
+line_is_operation (line.Initial v) = false
+
+module _ (initial : List ℕ) (operations : List Operation) where
+  of_place : (p : LinePlace) (l : ClaimLine) → line_at initial operations p ≡ Some l → is_operation p ≡ line_is_operation l
+  of_place (place.Op p) l at = held (slice_get operations p) at
+    where
+      held : (o : Option Operation) → option_map line.Op o ≡ Some l → true ≡ line_is_operation l
+      held None at' = cc
+      held (Some o) at' = let same : line.Op o ≡ l = cc in ap line_is_operation same
+  of_place (place.Initial p) l at = held (slice_get initial p) at
+    where
+      held : (v : Option ℕ) → option_map line.Initial v ≡ Some l → false ≡ line_is_operation l
+      held None at' = cc
+      held (Some v) at' = let same : line.Initial v ≡ l = cc in ap line_is_operation same
+
+  of_line : (n : ℕ) (o : Operation) → line_is_operation (line_of n o) ≡ is_own n o
+  of_line n o = pick (nat_lt o.call n) (accepted_value o.kind) (record { call = o.call - n; ret = o.ret - n; thread = o.thread; kind = o.kind })
+    where
+      pick : (early : Bool) (v : ℕ) (x : Operation) → line_is_operation (cond early (line.Initial v) (line.Op x)) ≡ not early
+      pick true v x = refl
+      pick false v x = refl
+
+  -- the places of operations are those of the history's own
+  counted : (places : List LinePlace) (listed : List Operation) → AllZip (IsShownAt initial operations) places listed
+      → length (filter is_operation places) ≡ length (filter (is_own (2 * length initial)) listed)
+  counted [] [] each = refl
+  counted [] (o ∷ listed) each = absurd each
+  counted (p ∷ places) [] each = absurd each
+  counted (p ∷ places) (o ∷ listed) each =
+      both (counted places listed each.1) (is_operation p) (is_own (2 * length initial) o)
+      (of_place p (line_of (2 * length initial) o) each.0.0 ∙ of_line (2 * length initial) o)
+    where
+      both : length (filter is_operation places) ≡ length (filter (is_own (2 * length initial)) listed) → (a b : Bool) → a ≡ b
+          → length (cond a (p ∷ filter is_operation places) (filter is_operation places))
+          ≡ length (cond b (o ∷ filter (is_own (2 * length initial)) listed) (filter (is_own (2 * length initial)) listed))
+      both rest true true same = ap suc rest
+      both rest false false same = rest
+      both rest true false same = cc
+      both rest false true same = cc
+
+module _ (initial : List ℕ) (events : List Event) (whole : IsCompleteFrom initial events) (few_initial : length initial ≤ MAX_INITIAL)
+    (few_events : length events ≤ MAX_EVENTS) where
+  abbrev n : ℕ
+  n = 2 * length initial
+
+  abbrev filling : List Operation
+  filling = filling_from 0 initial
+
+  -- of operations of the filled history, each once, at most half as many are the history's own as it has events
+  few_own : (listed : List Operation) → ((o : Operation) → Contains listed o → Contains (operations_of (filled_events initial events)) o) → Apart listed
+      → length (filter (is_own n) listed) ≤ MAX_OPERATIONS
+  few_own listed among apart =
+      let complete = filled_is_complete initial events whole few_initial in
+      let both = few_apart (filled_events initial events) (filling ++ own) complete in_all
+      (apart_both filling own (filling_apart complete) (apart_filter (is_own n) listed apart) none_filling) in
+      let parts = length-append filling own in
+      let front = length_filling 0 initial in
+      let many = length_filling_events 0 initial (map (event_later_by n) events) in
+      let same : length (map (event_later_by n) events) ≡ length events = simp length-map in
+      omega (arith, both, parts, front, many, same, few_events)
+    where
+      own : List Operation
+      own = filter (is_own n) listed
+
+      in_filled : (o : Operation) → Contains filling o → Contains (operations_of (filled_events initial events)) o
+      in_filled o here = subst (λ os. Contains os o) (sym (filled_operations initial events))
+          (Contains-append_left filling (map (later_by n) (operations_of events)) o here)
+
+      in_all : (o : Operation) → Contains (filling ++ filter (is_own n) listed) o → Contains (operations_of (filled_events initial events)) o
+      in_all o both = elim (Contains-append_cases filling (filter (is_own n) listed) o both) [
+        | inl here ↦ in_filled o here
+        | inr there ↦ among o (passed_filter (is_own n) listed o there).0
+      ]
+
+      filling_apart : IsCompleteUpTo MAX_CLOCK (filled_events initial events) → Apart filling
+      filling_apart complete = apart_front filling (map (later_by n) (operations_of events))
+          (subst Apart (filled_operations initial events) (apart_from_rise (operations_of (filled_events initial events))
+          (operations_rise (operations_of (filled_events initial events)) (filled_events initial events, complete, refl))))
+
+      none_filling : (o : Operation) → Contains filling o → Contains (filter (is_own n) listed) o → ⊥
+      none_filling o here there =
+          let found = filling_place initial o here in
+          let call : 2 * found.0 ≡ o.call = ap (λ (x : Operation). x.call) found.3 in
+          let within = slice_get_within initial found.0 found.1 found.2 in
+          let late = ltb-false o.call n (not-true (nat_lt o.call n) (passed_filter (is_own n) listed o there).1) in
+          absurd (omega (arith, call, within, late))
+
+  -- a chosen violation shows few operations of the history
+  few_own_shown : (breach : Breach) → IsChosenBreach (operations_of (filled_events initial events)) breach
+      → length (filter (is_own n) (lines_of breach)) ≤ MAX_OPERATIONS
+  few_own_shown (fresh deq None) chosen = let few = shorter (is_own n) (lines_of (fresh deq None)) in omega arith
+  few_own_shown (fresh deq (Some enq)) chosen = let few = shorter (is_own n) (lines_of (fresh deq (Some enq))) in omega arith
+  few_own_shown (repeat enq first second) chosen = let few = shorter (is_own n) (lines_of (repeat enq first second)) in omega arith
+  few_own_shown (order a b d None) chosen = let few = shorter (is_own n) (lines_of (order a b d None)) in omega arith
+  few_own_shown (order a b d (Some e)) chosen = let few = shorter (is_own n) (lines_of (order a b d (Some e))) in omega arith
+  few_own_shown (witness empty cover) chosen =
+      let lines = witness_apart (filled_events initial events) (filled_is_complete initial events whole few_initial) empty cover chosen in
+      few_own (lines_of (witness empty cover)) lines.0 lines.1
+
+-- the chosen verdict on a history names few operations, and has few lines
 pub verdict_has_few_lines : VerdictHasFewLines
 verdict_has_few_lines initial events verdict whole few_initial few_events chosen = by_verdict verdict chosen
   where
@@ -305,18 +452,23 @@ verdict_has_few_lines initial events verdict whole few_initial few_events chosen
     in_filled : (listed : List Operation) → length (filled initial listed) ≡ length initial + length listed
     in_filled listed = length_filled initial listed
 
-    by_verdict : (verdict : Verdict) → IsVerdictFrom initial (operations_of events) verdict → length (places_of verdict) ≤ most
+    by_verdict : (verdict : Verdict) → IsVerdictFrom initial (operations_of events) verdict
+        → (length (operations_named verdict) ≤ MAX_OPERATIONS) × (length (places_of verdict) ≤ most)
     by_verdict (Yes places) is =
-        let shorter = few_in_order (filled_events initial events) (filled_is_complete initial events whole few_initial) most (omega arith) few
+        let shorter_order = few_in_order (filled_events initial events) (filled_is_complete initial events whole few_initial) most (omega arith) few
         (filled initial is.0)
         (subst (λ os. IsChosenOrder os (filled initial is.0)) (sym (filled_operations initial events)) is.2) in
         let long = in_filled is.0 in
         let many = as_many (operations_of events) places is.0 is.1 in
         let shown : length (map (λ p. place.Op p) places) ≡ length places = simp length-map in
-        omega arith
+        let named = shorter is_operation (map (λ p. place.Op p) places) in
+        (omega (arith, named, shown, many, long, shorter_order), omega arith)
     by_verdict (No violation) is =
+        let chosen_there = subst (λ os. IsChosenBreach os is.0) (sym (filled_operations initial events)) is.2 in
         let lines = few_chosen (filled_events initial events) (filled_is_complete initial events whole few_initial) most (omega arith) few is.0
-        (subst (λ os. IsChosenBreach os is.0) (sym (filled_operations initial events)) is.2) in
-        let many = zip_lengths (IsShownAt initial (operations_of events)) (places_of_violation violation) (lines_of is.0)
-        (each_shown initial (operations_of events) violation is.0 is.1) in
-        omega (arith, many, lines)
+        chosen_there in
+        let shown = each_shown initial (operations_of events) violation is.0 is.1 in
+        let many = zip_lengths (IsShownAt initial (operations_of events)) (places_of_violation violation) (lines_of is.0) shown in
+        let named = counted initial (operations_of events) (places_of_violation violation) (lines_of is.0) shown in
+        let own = few_own_shown initial events whole few_initial few_events is.0 chosen_there in
+        (omega (arith, named, own), omega (arith, many, lines))

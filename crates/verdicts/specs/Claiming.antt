@@ -1,5 +1,5 @@
 -- The claim of a verdict: its kind, and the lines at its places.
-use Rattle.std.specs.Prelude.{ℕ, ◌<◌, ◌++◌, List, All, length, map, filter_map, option_map, slice_get, Option}
+use Rattle.std.specs.Prelude.{ℕ, ◌<◌, ◌++◌, Bool, true, false, List, All, length, map, filter, filter_map, option_map, slice_get, Option}
 use Rattle.history_merge.specs.declared.operation.Operation.{Operation}
 use Rattle.value_match.specs.declared.violation.Violation.{Violation}
 use Rattle.value_match.specs.declared.violation.Violation.TheVariants.{Fresh, Repeat, Order, Witness}
@@ -19,6 +19,15 @@ use Rattle.verdicts.specs.Shown.{places_of as places_of_violation}
 abbrev pub places_of : Verdict → List LinePlace
 places_of (Yes places) = map place.Op places
 places_of (No violation) = places_of_violation violation
+
+-- the place is that of an operation
+abbrev pub is_operation : LinePlace → Bool
+is_operation (place.Op p) = true
+is_operation (place.Initial p) = false
+
+-- the places of the operations that a verdict names
+abbrev pub operations_named : Verdict → List LinePlace
+operations_named verdict = filter is_operation (places_of verdict)
 
 -- the place is that of an operation, or of an initial value
 abbrev pub IsPlaceWithin : List ℕ → List Operation → LinePlace → Type 0

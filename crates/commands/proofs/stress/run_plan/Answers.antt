@@ -10,10 +10,11 @@ returns-clause-found g c =
     let history = c.in_ok-history.history in
     let verdict = c.in_ok-verdict.verdict in
     let decided = decided_claim history verdict c.in_ok-verdict.ensures.chosen c.in_ok-verdict.ensures.evidence c.in_ok-verdict.ensures.exact in
-    recorded_run _ (settings_of c.args.options.now) history verdict c.in_ok-plan.plan c.in_ok-plan.ensures c.in_ok-recorded.recorded
+    recorded_run _ _ (settings_of c.args.options.now) history verdict c.in_ok-plan.plan c.in_ok-plan.ensures c.in_ok-recorded.recorded
     c.in_ok-recorded.ensures.recorded c.in_ok-recorded.ensures.lists c.deref.result.now (c.deref.ensures.value ∙ c.in_ok-initial.ensures)
     c.in_ok-recorded.ensures.replays c.in_ok-history.ensures.merged c.in_ok-history.ensures.complete
     (c.in_ok-history.ensures.initial ∙ c.in_ok-recorded.ensures.initial) decided c.run_version.result c.run_version.ensures
+    c.in_ok-recorded.ensures.preloaded
 
 pub returns-clause-places : goal.returns-clause-places
 returns-clause-places g c =
@@ -24,5 +25,6 @@ returns-clause-places g c =
 pub returns-in_err-recorded-clause-found : goal.returns-in_err-recorded-clause-found
 returns-in_err-recorded-clause-found g c =
     let p = err_from_is_err_and c.from_residual-in_err-recorded.result c.from_residual-in_err-recorded.ensures.1 in
-    rw (p.1, p.2) (failed_run _ (settings_of c.args.options.now) c.in_ok-plan.plan _ c.requires.ranges c.in_ok-plan.ensures c.deref.result.now
-    (c.deref.ensures.value ∙ c.in_ok-initial.ensures) c.in_err-recorded.ensures.fault)
+    rw (p.1, p.2) (failed_run _ _ (settings_of c.args.options.now) c.in_ok-plan.plan _ c.requires.ranges c.in_ok-plan.ensures c.deref.result.now
+    (c.deref.ensures.value ∙ c.in_ok-initial.ensures) c.in_err-recorded.ensures.fault
+    (λ place is. c.in_err-recorded.ensures.refused place (cc)))
