@@ -6,6 +6,7 @@
 #include "../recorders/c/recorder.h"
 #include "fifobench.h"
 
+#include <errno.h>
 #include <string.h>
 
 enum { CAPACITY = 1024 };
@@ -150,10 +151,28 @@ static int judge(struct recorder *recorder)
     return status;
 }
 
+/* Whether the word is a number in digits, which is left in `number`; else it is told that this isn't one. */
+static bool is_number(const char *name, const char *word, size_t *number)
+{
+    char *end = NULL;
+    errno = 0;
+    *number = strtoul(word, &end, 10);
+    if (*word >= '0' && *word <= '9' && *end == '\0' && errno == 0) {
+        return true;
+    }
+    fprintf(stderr, "queue: %s has to be a number, and is '%s'\n", name, word);
+    return false;
+}
+
 int main(int count, char **words)
 {
     if (count != 4 || (strcmp(words[1], "good") != 0 && strcmp(words[1], "wrong") != 0)) {
         fputs("usage: queue good|wrong THREADS OPERATIONS\n", stderr);
+        return 2;
+    }
+    size_t threads = 0;
+    size_t operations = 0;
+    if (!is_number("THREADS", words[2], &threads) || !is_number("OPERATIONS", words[3], &operations)) {
         return 2;
     }
     static struct queue queue;
@@ -161,8 +180,8 @@ int main(int count, char **words)
         return 3;
     }
     queue.wrong = strcmp(words[1], "wrong") == 0;
-    struct test test = {&queue, strtoul(words[3], NULL, 10)};
-    struct recorder *recorder = recorder_run((unsigned)strtoul(words[2], NULL, 10), test.operations, work, &test);
+    struct test test = {&queue, operations};
+    struct recorder *recorder = recorder_run(threads <= 64 ? (unsigned)threads : 65, operations, work, &test);
     if (recorder == NULL) {
         fputs("queue: 1 to 64 threads, and at most 1000000 operations together\n", stderr);
         return 2;

@@ -6,6 +6,7 @@
 #include "../recorders/cpp/recorder.hpp"
 #include "fifobench.hpp"
 
+#include <charconv>
 #include <cstring>
 #include <deque>
 #include <iostream>
@@ -64,6 +65,18 @@ std::string recorded(Queue& queue, unsigned threads, std::size_t operations) {
     return text.str();
 }
 
+// The number in digits that a word is; else it is told that this isn't one.
+std::optional<std::size_t> number_in(const char* name, const std::string& word) {
+    std::size_t number = 0;
+    const char* const end = word.data() + word.size();
+    const auto read = std::from_chars(word.data(), end, number);
+    if (read.ec == std::errc() && read.ptr == end) {
+        return number;
+    }
+    std::cerr << "queue: " << name << " has to be a number, and is '" << word << "'\n";
+    return std::nullopt;
+}
+
 }    // namespace
 
 int main(int count, char** words) {
@@ -71,8 +84,17 @@ int main(int count, char** words) {
         std::cerr << "usage: queue good|wrong THREADS OPERATIONS\n";
         return 2;
     }
+    const auto threads = number_in("THREADS", words[2]);
+    const auto operations = threads ? number_in("OPERATIONS", words[3]) : std::nullopt;
+    if (!operations) {
+        return 2;
+    }
+    if (*threads < 1 || *threads > 64 || *operations > 1000000 / *threads) {
+        std::cerr << "queue: 1 to 64 threads, and at most 1000000 operations together\n";
+        return 2;
+    }
     Queue queue(std::strcmp(words[1], "wrong") == 0);
-    const std::string text = recorded(queue, static_cast<unsigned>(std::stoul(words[2])), std::stoul(words[3]));
+    const std::string text = recorded(queue, static_cast<unsigned>(*threads), *operations);
     const fifobench::Answer verdict = fifobench::check(text);
     if (verdict.status == fifobench::Status::no) {
         const fifobench::Answer shrunk = fifobench::shrink(text);

@@ -45,18 +45,28 @@ impl Queue {
 /// Which operations are enqueues, from the thread's number on and over and over.
 const PLAN: &[u8; 8] = b"EEDDDEED";
 
-/// Whether the queue is the wrong one, threads, and operations of each.
-fn words() -> Option<(bool, usize, usize)> {
+/// The number that a word is, or what is wrong with it.
+fn number_in(name: &str, word: &str) -> Result<usize, String> {
+    word.parse().map_err(|_| format!("queue: {name} has to be a number, and is '{word}'"))
+}
+
+/// Whether the queue is the wrong one, threads, and operations of each; or what is wrong with the words.
+fn words() -> Result<(bool, usize, usize), String> {
     let words: Vec<String> = env::args().collect();
+    let usage = "usage: queue good|wrong THREADS OPERATIONS";
     let [_, queue, threads, operations] = &words[..] else {
-        return None;
+        return Err(usage.to_owned());
     };
     let is_wrong = match queue.as_str() {
         "good" => false,
         "wrong" => true,
-        _ => return None,
+        _ => return Err(usage.to_owned()),
     };
-    Some((is_wrong, threads.parse().ok()?, operations.parse().ok()?))
+    let (threads, operations) = (number_in("THREADS", threads)?, number_in("OPERATIONS", operations)?);
+    if !(1..=64).contains(&threads) || operations > 1_000_000 / threads {
+        return Err("queue: 1 to 64 threads, and at most 1000000 operations together".to_owned());
+    }
+    Ok((is_wrong, threads, operations))
 }
 
 /// The text of what the threads did with the queue.
@@ -90,9 +100,12 @@ fn judge(text: &str) -> Result<bool, Error> {
 }
 
 fn main() -> ExitCode {
-    let Some((is_wrong, threads, operations)) = words() else {
-        eprintln!("usage: queue good|wrong THREADS OPERATIONS");
-        return ExitCode::from(2);
+    let (is_wrong, threads, operations) = match words() {
+        Ok(words) => words,
+        Err(mistake) => {
+            eprintln!("{mistake}");
+            return ExitCode::from(2);
+        }
     };
     let queue = Queue { values: Mutex::default(), is_wrong };
     match judge(&recorded(&queue, threads, operations)) {

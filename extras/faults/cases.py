@@ -4,8 +4,8 @@ cases.py PROGRAM LIBRARY FOLDER EXAMPLES
 
 Of a refused growth the program may answer as with ample memory, or `FAULT Memory` with status 3; a run may also answer with one of
 its faults (with `Preload` only where its queue is given values first), or with another history, which `verify` then has to answer
-with VALID. Of a refused write a front of the text is there,
-the status is 3, and nothing is written after it. Of a refused read the answer is `FAULT Read`, status 3. Where a thread can't be
+with VALID. Of a refused write a front of the text is there, the status is 3, and nothing is written after it. A refused write to
+standard error changes nothing. Of a refused read the answer is `FAULT Read`, status 3. Where a thread can't be
 started a run answers with a history, or with a stall, and a check as with threads.
 """
 
@@ -34,7 +34,7 @@ PRELOAD_FAULT = re.compile(rb"FAULT Preload \d+\n\Z")
 class Case:
     """A command with its words and its input, and what it answers of these with ample memory."""
 
-    def __init__(self, words, text=b"", is_run=False, kinds=("growth", "write", "read", "thread")):
+    def __init__(self, words, text=b"", is_run=False, kinds=("growth", "write", "told", "read", "thread")):
         self.words, self.text, self.is_run, self.kinds = words, text, is_run, kinds
         self.plain = None
 
@@ -107,6 +107,12 @@ def wrong_write(case, answer, after):
     return ""
 
 
+def wrong_told(case, answer, after):
+    if after:
+        return "something is told after a refused write"
+    return "" if answer == case.plain else "a refused write to standard error changes the answer"
+
+
 def wrong_read(case, answer, after):
     return "" if answer == READ else "a refused read is no fault"
 
@@ -119,7 +125,8 @@ def wrong_thread(case, answer, after):
     return "" if is_history_with_verdict(answer) else "neither a history nor a fault of a run"
 
 
-JUDGES = {"growth": wrong_growth, "write": wrong_write, "read": wrong_read, "thread": wrong_thread}
+WRITES = ("full", "broken", "interrupted", "nothing")
+JUDGES = {"growth": wrong_growth, "write": wrong_write, "told": wrong_told, "read": wrong_read, "thread": wrong_thread}
 
 
 def cases():
@@ -162,7 +169,7 @@ def tries_of(case):
         # A run makes another number of calls each time: some more places are tried.
         last = min(calls + 20 if case.is_run and calls else calls, MOST_CALLS)
         for at in range(1, last + 1):
-            for how in {"write": ("full", "broken", "interrupted", "nothing"), "read": ("broken", "interrupted")}.get(kind, ("",)):
+            for how in {"write": WRITES, "told": WRITES, "read": ("broken", "interrupted")}.get(kind, ("",)):
                 yield kind, at, False, how
                 if kind != "read":
                     yield kind, at, True, how

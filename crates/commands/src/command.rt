@@ -1,5 +1,5 @@
 //! A run of the program.
-ghost use Rattle.std.specs.Prelude.{◌≡◌, ◌≢◌, IfSome, Some, [], false, map};
+ghost use Rattle.std.specs.Prelude.{◌≡◌, ◌≢◌, ◌≤◌, IfSome, Some, [], false, map};
 ghost use Rattle.command_words.specs.Commands.{Request, stress, request_in, request_of, faults_in, IsInRange};
 ghost use Rattle.command_words.specs.Options.{Settings};
 ghost use Rattle.commands.specs.Judging.{AnswersOrNoMemory};
@@ -9,10 +9,12 @@ ghost use Rattle.commands.specs.Inner.Running.{Explains};
 ghost use Rattle.commands.specs.Stressing.{Stresses};
 ghost use Rattle.clap.specs.Values.{kind_of};
 
+use crate::beside::{Terminals, greet, say_how_to_keep, say_mistake, say_why};
 use crate::check::check;
 use crate::convert::convert;
 use crate::draw::draw;
 use crate::outcome::{Fault, Outcome};
+use crate::pipes::{Muted, Piped};
 use crate::print::{print_outcome, print_text};
 use crate::shrink::shrink;
 use crate::sim::sim;
@@ -23,22 +25,26 @@ use clap::Error;
 use clap::error::ErrorKind;
 use command_words::{Task, task_in};
 use history_text::{Buffered, TextSink, TextSource, Watched};
+use messages::FrontKept;
 use std::alloc::Global;
 use std::convert::AsStr;
 use std::io::{Read, Write};
+use std::sync::atomic::AtomicBool;
 use std::thread::Threads;
 
 /// Runs the command that the words name and answers the status.
 ///
 /// The first word is the program's name. `stress` runs a queue of the shelf, the first of its name, and reads nothing; the
 /// other commands read their input whole. Everything is computed before the first byte is written, and the writer is flushed
-/// once, at the end. Two commands wait: `check` for the threads of its searches, `stress` for these and for its workers, and so
+/// once, at the end. Then standard error is told why, where the status is 2 or 3; what it takes of that changes nothing. Two commands wait: `check` for the threads of its searches, `stress` for these and for its workers, and so
 /// for the queue.
-pub fn run_command<'a, R, T, S, W>(
+pub fn run_command<'a, R, T, S, W, E>(
     rt: &R,
     words: &'a [T],
     reader: S,
     writer: &mut W,
+    errors: &mut E,
+    terminals: Terminals,
     shelf: &[Shelved<'a>],
 ) -> u8
 where
@@ -46,6 +52,7 @@ where
     T: AsStr,
     S: TextSource + Drop,
     W: TextSink,
+    E: TextSink,
     requires fresh { W.has_refused writer.old ≡ false }
 
     // Words that are a command which reads: what it answers of the input is printed, or want of memory for the words.
@@ -67,31 +74,63 @@ where
 
     // So where it refused nothing, it holds nothing back.
     ensures passed_on { W.has_refused writer.new ≡ false → W.holds_back writer.new ≡ false }
+
+    // Of a yes, a no, a help and what else has the status 0 or 1 nothing is said on standard error, unless a terminal is there.
+    ensures silent { terminals.input ≡ false → terminals.output ≡ false → result ≤ 1 → errors.new ≡ errors.old }
 {
     match task_in(rt.alloc(), words) {
         Ok(task) => {
-            let outcome = outcome_of(rt, task, reader, shelf);
-            print_outcome(&outcome, writer)
+            greet(rt.alloc(), &task, terminals, errors);
+            let mut kept = FrontKept::new(rt.alloc(), reader);
+            let outcome = outcome_of(rt, task, &mut kept, shelf);
+            let status = print_outcome(&outcome, writer);
+            say_why(rt.alloc(), &task, &outcome, status, &kept, shelf, errors);
+            say_how_to_keep(rt.alloc(), &task, &outcome, terminals, errors);
+            status
         }
-        Err(error) => explain(rt.alloc(), &error, writer),
+        Err(error) => {
+            let status = explain(rt.alloc(), &error, writer);
+            say_mistake(rt.alloc(), words, &error, status, terminals, errors);
+            status
+        }
     }
 }
 
-/// Runs the command over a reader and a writer of std, as [`run_command`] does, and answers the status.
-pub fn run_over<'a, R, I, O>(
+/// Runs the command over a reader and writers of std, as [`run_command`] does, and answers the status. Where the reader of the output
+/// has left, standard error is told nothing.
+pub fn run_over<'a, R, I, O, E>(
     rt: &R,
     words: &'a [String],
     input: I,
     output: O,
+    errors: E,
+    terminals: Terminals,
     shelf: &[Shelved<'a>],
 ) -> u8
 where
     R: AllocGlobal + Threads + Sync,
     I: Read + Drop,
     O: Write + Drop,
+    E: Write + Drop,
 {
-    let mut writer = Buffered::new(Watched::new(output));
-    run_command(rt, words, Watched::new(input), &mut writer, shelf)
+    let is_broken = AtomicBool::new(false);
+    let output = Piped {
+        inner: output,
+        is_broken: &is_broken,
+    };
+    let errors = Muted {
+        inner: errors,
+        is_broken: &is_broken,
+    };
+    run_command(
+        rt,
+        words,
+        Watched::new(input),
+        &mut Buffered::new(Watched::new(output)),
+        &mut Watched::new(errors),
+        terminals,
+        shelf,
+    )
 }
 
 /// What a command finds, in the input or on the shelf.

@@ -1,6 +1,7 @@
 //! What the commands answer, over any reader, writer and shelf of queues: the program without its `main`.
 #![tactic(auto)]
 
+mod beside;
 mod check;
 mod command;
 mod conversion;
@@ -11,6 +12,7 @@ mod faults;
 mod input;
 mod laws;
 mod outcome;
+mod pipes;
 mod print;
 mod shelf;
 mod show;
@@ -22,6 +24,7 @@ mod texts;
 mod verify;
 mod words;
 
+pub use beside::Terminals;
 pub use command::{run_command, run_over};
 pub use conversion::conversion_keeps_answers;
 pub use evidence::{
@@ -32,5 +35,7 @@ pub use outcome::{Fault, Found, Outcome};
 pub use print::status_of;
 pub use shelf::{BuiltIn, built_ins};
 pub use stress::{Shelved, TRIES};
-pub use texts::{check_text, judge_gathered, shrink_text, text_of_outcome, verify_text};
+pub use texts::{
+    check_text, draw_text, judge_gathered, shrink_text, stats_text, text_of_outcome, verify_text,
+};
 pub use words::{StartFault, print_start_fault, words_of};

@@ -1,18 +1,21 @@
 //! What the commands find in a text in memory, all in the caller's thread: nothing is read, printed or started.
 ghost use Rattle.std.specs.Prelude.{◌≡◌, IfOk};
 ghost use Rattle.history_merge.specs.Initial.{HistoryView};
-ghost use Rattle.command_words.specs.Commands.{check, shrink, verify};
+ghost use Rattle.command_words.specs.Commands.{check, draw, shrink, stats, verify};
 ghost use Rattle.commands.specs.Answers.{answer_text};
 ghost use Rattle.commands.specs.Evidence.{input_of};
 ghost use Rattle.commands.specs.Judging.{JudgesHistory, IsGathered, AnswersOrNoMemory};
 ghost use Rattle.commands.specs.Outcomes.{answer_of, NamesPlaces};
 ghost use Rattle.commands.specs.Running.{AnswersOf};
 
+use crate::draw::draw;
 use crate::input::given_history;
 use crate::outcome::{Found, Outcome};
 use crate::print::write_outcome;
 use crate::shrink::shrink;
+use crate::stats::stats;
 use crate::verify::verify;
+use command_words::PictureForm;
 use history_merge::HistoryBuilder;
 use history_text::{MemorySource, Watched};
 use std::alloc::{AllocError, Global};
@@ -42,6 +45,22 @@ pub fn verify_text(alloc: Global, text: &[u8]) -> Outcome
     ensures places { NamesPlaces result }
 {
     verify(alloc, MemorySource::new(text))
+}
+
+/// What `draw` finds in a text, for a picture in this form.
+pub fn draw_text(alloc: Global, text: &[u8], form: PictureForm) -> Outcome
+    ensures found { AnswersOf (draw form) (input_of text.now) (answer_of result) }
+    ensures places { NamesPlaces result }
+{
+    draw(alloc, MemorySource::new(text), form)
+}
+
+/// What `stats` finds in a text.
+pub fn stats_text(alloc: Global, text: &[u8]) -> Outcome
+    ensures found { AnswersOf stats (input_of text.now) (answer_of result) }
+    ensures places { NamesPlaces result }
+{
+    stats(alloc, MemorySource::new(text))
 }
 
 /// What `check` finds in the history that a history in the making was given.

@@ -4,13 +4,18 @@ ghost use Rattle.commands.specs.Answers.{memory_fault};
 ghost use Rattle.commands.specs.Running.{Prints, PrintsAnswer, WritesAndFlushes, no_text};
 ghost use Rattle.commands.specs.declared.words.StartFault.TheVariants.{NoText, Memory};
 
+use crate::beside::{Terminals, tell};
 use crate::outcome::Fault;
 use crate::print::{print_outcome, print_text};
 use history_text::TextSink;
+use messages::{NO_MEMORY, NOT_WRITTEN};
 use std::env;
 use std::env::Env;
 use std::io::ErrorKind;
 use thiserror::Error;
+
+/// What is said of words that aren't UTF-8.
+const NO_TEXT: &[u8] = b"error: a word is not valid UTF-8\n";
 
 /// Why a command can't begin.
 #[derive(Clone, Copy, Debug, PartialEq, Eq, Error)]
@@ -36,16 +41,28 @@ pub fn words_of<R: Env + AllocGlobal>(rt: &R) -> Result<Vec<String>, StartFault>
     }
 }
 
-/// Writes why a command can't begin, flushes the writer and answers the status.
-pub fn print_start_fault<W: TextSink>(fault: StartFault, writer: &mut W) -> u8
+/// Writes why a command can't begin, flushes the writer and answers the status; and tells standard error too.
+pub fn print_start_fault<W: TextSink, E: TextSink>(
+    fault: StartFault,
+    writer: &mut W,
+    errors: &mut E,
+    terminals: Terminals,
+) -> u8
     requires fresh { W.has_refused writer.old ≡ false }
     ensures no_text { fault ≡ NoText → Prints (W.contents writer.old) (W.contents writer.new) (W.has_refused writer.new) result no_text 2 }
     ensures memory { fault ≡ Memory → PrintsAnswer (W.contents writer.old) (W.contents writer.new) (W.has_refused writer.new) result memory_fault }
     ensures asked { WritesAndFlushes W.goes (W.has_refused writer.new) writer.old writer.new }
     ensures passed_on { W.has_refused writer.new ≡ false → W.holds_back writer.new ≡ false }
 {
-    match fault {
-        StartFault::NoText => print_text(b"error: a word is not valid UTF-8\n", 2, writer),
+    let status = match fault {
+        StartFault::NoText => print_text(NO_TEXT, 2, writer),
         StartFault::Memory => print_outcome(&Err(Fault::Memory), writer),
+    };
+    match (fault, status) {
+        (StartFault::NoText, 2) if terminals.output => {}
+        (StartFault::NoText, 2) => tell(NO_TEXT, errors),
+        (StartFault::NoText, _) => tell(NOT_WRITTEN, errors),
+        (StartFault::Memory, _) => tell(NO_MEMORY, errors),
     }
+    status
 }

@@ -1,34 +1,50 @@
-//! The program: one subcommand over standard input and output, or a run of one of the built-in queues.
+//! The program: one subcommand over the standard streams, or a run of one of the built-in queues.
 #![tactic(auto)]
 
-use commands::{Shelved, StartFault, built_ins, print_start_fault, run_over, words_of};
+use commands::{Shelved, StartFault, Terminals, built_ins, print_start_fault, run_over, words_of};
 use history_text::{Buffered, Watched};
+use std::io::{IsTerminal, Write};
 use std::process::ExitCode;
 
 fn main(rt: HostRuntime) -> ExitCode {
+    let terminals = Terminals {
+        input: rt.stdin().is_terminal(),
+        output: rt.stdout().is_terminal(),
+    };
+    let errors = rt.stderr();
     let words = match words_of(&rt) {
         Ok(words) => words,
-        Err(fault) => return explain_start(&rt, fault),
+        Err(fault) => return explain_start(&rt, fault, errors, terminals),
     };
     let Ok(queues) = built_ins(rt, rt.alloc()) else {
-        return explain_start(&rt, StartFault::Memory);
+        return explain_start(&rt, StartFault::Memory, errors, terminals);
     };
     let mut shelf: Vec<Shelved> = Vec::new(rt.alloc());
     for queue in queues {
         let name = queue.name();
         let Ok(queue) = Box::new(rt.alloc(), queue) else {
-            return explain_start(&rt, StartFault::Memory);
+            return explain_start(&rt, StartFault::Memory, errors, terminals);
         };
         if shelf.push(Shelved { name, queue }).is_err() {
-            return explain_start(&rt, StartFault::Memory);
+            return explain_start(&rt, StartFault::Memory, errors, terminals);
         }
     }
-    let status = run_over(&rt, &words, rt.reader(), std::io::writer(&rt), &shelf);
+    let output = std::io::writer(&rt);
+    let status = run_over(&rt, &words, rt.reader(), output, errors, terminals, &shelf);
     ExitCode::from(status)
 }
 
 /// Says why the command can't begin.
-fn explain_start<R: Print>(rt: &R, fault: StartFault) -> ExitCode {
+fn explain_start<R: Print, E: Write>(
+    rt: &R,
+    fault: StartFault,
+    errors: E,
+    terminals: Terminals,
+) -> ExitCode
+where
+    E: Drop,
+{
     let mut writer = Buffered::new(Watched::new(std::io::writer(rt)));
-    ExitCode::from(print_start_fault(fault, &mut writer))
+    let mut errors = Watched::new(errors);
+    ExitCode::from(print_start_fault(fault, &mut writer, &mut errors, terminals))
 }

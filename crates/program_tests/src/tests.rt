@@ -11,9 +11,10 @@ mod stressing;
 mod words;
 mod writing;
 
-use commands::{Shelved, run_command};
+use commands::{Shelved, Terminals, run_command};
 use history_text::{MemorySource, TextSink, TextSource, Watched};
 use std::alloc::AllocError;
+use std::io;
 use std::thread::Threads;
 
 /// The status of a run of the program without queues that writes to this sink, to which nothing was written before.
@@ -24,7 +25,8 @@ where
     W: TextSink,
     requires { W.has_refused writer.old ≡ false }
 {
-    run_command(rt, words, source, writer, &[])
+    let mut errors = Watched::new(io::sink());
+    run_command(rt, words, source, writer, &mut errors, Terminals::NONE, &[])
 }
 
 /// What a run of the program writes, and its status. Want of memory is an error of its own.
@@ -35,7 +37,16 @@ fn run<'a, R: AllocGlobal + Threads + Sync, S: TextSource + Drop>(
     shelf: &[Shelved<'a>],
 ) -> Result<(Vec<u8>, u8), AllocError> {
     let mut writer = Watched::new(Vec::new(rt.alloc()));
-    let status = run_command(rt, words, source, &mut writer, shelf);
+    let mut errors = Watched::new(io::sink());
+    let status = run_command(
+        rt,
+        words,
+        source,
+        &mut writer,
+        &mut errors,
+        Terminals::NONE,
+        shelf,
+    );
     let written = writer.into_inner();
     if written.as_slice() == b"FAULT Memory\n".as_slice() {
         return Err(AllocError);

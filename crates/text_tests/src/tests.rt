@@ -1,5 +1,6 @@
 mod changed;
 mod errors;
+mod messages;
 mod outcomes;
 mod pictures;
 mod schedules;

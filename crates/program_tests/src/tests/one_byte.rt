@@ -1,5 +1,5 @@
 //! A writer that takes one byte at a time.
-use commands::run_over;
+use commands::{Terminals, run_over};
 use std::io;
 use std::io::{ErrorKind, Write};
 use std::test::Fail;
@@ -56,7 +56,16 @@ fn is_front<R: AllocGlobal + Threads + Sync>(
         most,
         fails,
     };
-    let status = run_over(rt, words, OVERTAKEN.as_bytes(), &mut writer, &[]);
+    let input = OVERTAKEN.as_bytes();
+    let status = run_over(
+        rt,
+        words,
+        input,
+        &mut writer,
+        io::sink(),
+        Terminals::NONE,
+        &[],
+    );
     let wanted = if most < VERDICT.len() { 3 } else { 1 };
     status == wanted && writer.bytes.get(..writer.count) == VERDICT.as_bytes().get(..most)
 }

@@ -1,6 +1,6 @@
 ghost use Rattle.std.specs.Prelude.{◌≤◌, IfOk, length};
 
-use commands::{StartFault, print_start_fault, words_of};
+use commands::{StartFault, Terminals, print_start_fault, words_of};
 use history_text::Watched;
 use std::env::{Env, FillError};
 use std::test::Fail;
@@ -55,7 +55,13 @@ fn words_that_are_no_text_are_a_mistake(rt: HostRuntime) -> Result<(), Fail> {
         Ok(_) => assert!(rt; false),
     }
     let mut writer = Watched::new(Vec::new(rt.alloc()));
-    let status = print_start_fault(StartFault::NoText, &mut writer);
+    let mut errors = Watched::new(Vec::new(rt.alloc()));
+    let status = print_start_fault(
+        StartFault::NoText,
+        &mut writer,
+        &mut errors,
+        Terminals::NONE,
+    );
     let written = writer.into_inner();
     if written.is_empty() {
         return Err(Fail::from("want of memory"));

@@ -1,7 +1,7 @@
 ghost use Rattle.std.specs.Prelude.{None};
 
 use super::run_on;
-use commands::run_over;
+use commands::{Terminals, run_command, run_over};
 use history_text::{MemorySource, ReadFailed, TextSource, Watched};
 use std::io;
 use std::io::{ErrorKind, Write};
@@ -107,9 +107,46 @@ fn a_full_disk_is_noticed_at_the_flush(rt: HostRuntime) -> Result<(), Fail> {
             calls: 0,
             flushes: 0,
         };
-        let status = run_over(&rt, &words, OVERTAKEN.as_bytes(), &mut writer, &[]);
+        let status = run_over(
+            &rt,
+            &words,
+            OVERTAKEN.as_bytes(),
+            &mut writer,
+            io::sink(),
+            Terminals::NONE,
+            &[],
+        );
         assert_eq!(rt; (status, writer.calls, writer.flushes), left);
     }
+    Ok(())
+}
+
+// What standard error refuses is not asked for again, and neither what is written nor the status differs.
+#[test]
+fn a_refused_message_changes_nothing(rt: HostRuntime) -> Result<(), Fail> {
+    let words = ["fifobench", "check"];
+    let source = MemorySource::new(b"fifo-history 1\n\n");
+    let mut errors = Refusing {
+        number: 1,
+        calls: 0,
+        flushes: 0,
+    };
+    let mut writer = Watched::new(Vec::new(rt.alloc()));
+    let mut watched = Watched::new(&mut errors);
+    let status = run_command(
+        &rt,
+        &words,
+        source,
+        &mut writer,
+        &mut watched,
+        Terminals::NONE,
+        &[],
+    );
+    let written = writer.into_inner();
+    if written.as_slice() != b"REFUSED Line 2\n".as_slice() {
+        return Err(Fail::from("want of memory"));
+    }
+    assert_eq!(rt; (status, errors.calls), (2, 1));
     Ok(())
 }
 

@@ -7,22 +7,23 @@ use Rattle.commands.proofs.command.run_command.Goals as goal
 
 pub returns-in-Err-clause-reads : goal.returns-in-Err-clause-reads
 returns-in-Err-clause-reads g c = λ request none asked. reads_out_of_memory request c.in-Err.error _ _ _ _ _ _ none c.in-Err.ensures.err
-    c.explain.ensures.printed
+    c.explain-status.ensures.printed
 
 pub returns-in-Err-clause-stresses : goal.returns-in-Err-clause-stresses
 returns-in-Err-clause-stresses g c = λ settings none asked. record {
   answer = memory_fault;
   right = inr refl;
-  printed = memory_ran_out c.in-Err.error _ _ _ _ _ none c.in-Err.ensures.err c.explain.ensures.printed;
+  printed = memory_ran_out c.in-Err.error _ _ _ _ _ none c.in-Err.ensures.err c.explain-status.ensures.printed;
 }
 
 pub returns-in-Ok-clause-reads : goal.returns-in-Ok-clause-reads
-returns-in-Ok-clause-reads g c = λ request none asked. reads_printed _ _ c.in-Ok.ensures.task _ _ _ _ _ c.print_outcome.ensures.printed request _
-    asked c.outcome_of-outcome.ensures.reads
+returns-in-Ok-clause-reads g c = λ request none asked.
+    let found = rw c.new-kept.ensures at c.outcome_of-outcome.ensures.reads in
+    reads_printed _ _ c.in-Ok.ensures.task _ _ _ _ _ c.print_outcome-status.ensures.printed request _ asked found
 
 pub returns-in-Ok-clause-stresses : goal.returns-in-Ok-clause-stresses
 returns-in-Ok-clause-stresses g c = λ settings none asked. record {
   answer = answer_of c.outcome_of-outcome.result;
   right = inl (c.outcome_of-outcome.ensures.stresses settings (same_Some _ _ (sym c.in-Ok.ensures.task ∙ asked)));
-  printed = c.print_outcome.ensures.printed;
+  printed = c.print_outcome-status.ensures.printed;
 }

@@ -1,0 +1,246 @@
+//! What standard error is told beside the answer.
+ghost use Rattle.std.specs.Prelude.{◌≡◌, ◌≤◌, false};
+
+use crate::outcome::{Fault, Found, Outcome};
+use crate::stress::Shelved;
+use clap::Error;
+use clap::error::ErrorKind;
+use command_words::Task;
+use history_text::{TextSink, write_piece};
+use messages::{Complaint, FrontKept, Given, NO_MEMORY, Reads, greeting, keeping, sentence};
+use std::alloc::{AllocError, Global};
+use std::convert::AsStr;
+
+/// Above how many events a run that is written to a terminal is one to be kept in a file.
+const MANY_EVENTS: usize = 2000;
+
+/// Which of the standard streams are terminals.
+#[derive(Clone, Copy, Debug, PartialEq, Eq)]
+pub struct Terminals {
+    pub input: bool,
+    pub output: bool,
+}
+
+impl Terminals {
+    /// None of them is one.
+    pub const NONE: Terminals = Terminals {
+        input: false,
+        output: false,
+    };
+}
+
+/// Writes these bytes. Where the writer refuses, nothing more is done.
+pub(crate) fn tell<E: TextSink>(bytes: &[u8], errors: &mut E) {
+    if write_piece(bytes, errors).is_ok() {
+        let _passed_on = errors.flush();
+    }
+}
+
+/// Writes a message; or where there was no memory for it, just that.
+fn tell_made<E: TextSink>(message: &Result<String, AllocError>, errors: &mut E) {
+    match message {
+        Ok(message) => tell(message.as_bytes(), errors),
+        Err(_) => tell(NO_MEMORY, errors),
+    }
+}
+
+/// What a command of this name reads.
+fn reads_of(command: &str) -> Option<Reads> {
+    match command {
+        "check" | "shrink" | "convert" | "stats" => Some(Reads::History),
+        "verify" => Some(Reads::Claim),
+        "draw" => Some(Reads::Drawable),
+        "sim" => Some(Reads::Schedule),
+        _ => None,
+    }
+}
+
+/// The command's name.
+fn name_of(task: &Task<'_>) -> &'static str {
+    match task {
+        Task::Check => "check",
+        Task::Shrink => "shrink",
+        Task::Verify => "verify",
+        Task::Draw(_) => "draw",
+        Task::Convert => "convert",
+        Task::Stats => "stats",
+        Task::Sim => "sim",
+        Task::Stress(_) => "stress",
+    }
+}
+
+/// Says to one who sits at the input what is read there.
+pub(crate) fn greet<E: TextSink>(
+    alloc: Global,
+    task: &Task<'_>,
+    terminals: Terminals,
+    errors: &mut E,
+)
+    ensures { terminals.input ≡ false → errors.new ≡ errors.old }
+{
+    if !terminals.input {
+        return;
+    }
+    let command = name_of(task);
+    if let Some(reads) = reads_of(command) {
+        tell_made(&greeting(alloc, command, reads), errors);
+    }
+}
+
+/// The fault that the status tells; none where the answer wasn't written.
+fn fault_told(outcome: &Outcome, status: u8) -> Option<Fault> {
+    match outcome {
+        Err(fault) if fault.status() == status => Some(*fault),
+        _ => None,
+    }
+}
+
+/// What a message says of a fault of `stress`, on a shelf of queues with these names.
+fn complaint_of_run<'a>(fault: Fault, task: &Task<'a>, names: &'a [&'a str]) -> Complaint<'a> {
+    match (fault, task) {
+        (Fault::Queue, Task::Stress(options)) => Complaint::Queue {
+            name: options.queue,
+            names,
+        },
+        (Fault::Limit, Task::Stress(options)) => Complaint::Limit {
+            threads: options.threads as u64,
+            operations: options.operations as u64,
+        },
+        (Fault::Run(fault), _) => Complaint::Run(fault),
+        _ => Complaint::Memory,
+    }
+}
+
+/// What a message says of a fault, where so much of the input is kept.
+fn complaint_of<'a>(
+    fault: Fault,
+    task: &Task<'a>,
+    given: Given<'a>,
+    names: &'a [&'a str],
+) -> Complaint<'a> {
+    match fault {
+        Fault::Text(fault) => Complaint::Text(fault, given),
+        Fault::History(fault) => Complaint::History(fault, given),
+        Fault::Size => Complaint::Size,
+        _ => complaint_of_run(fault, task, names),
+    }
+}
+
+/// The message about a command that ended with this status, which is no verdict's.
+fn message_of<'a, S>(
+    alloc: Global,
+    task: &Task<'a>,
+    outcome: &Outcome,
+    status: u8,
+    kept: &FrontKept<S>,
+    shelf: &[Shelved<'a>],
+) -> Result<String, AllocError> {
+    let Some(fault) = fault_told(outcome, status) else {
+        return sentence(alloc, &Complaint::Write);
+    };
+    let mut names = Vec::new(alloc);
+    for shelved in shelf {
+        names.push(shelved.name)?;
+    }
+    let given = Given {
+        reads: reads_of(name_of(task)).unwrap_or(Reads::History),
+        front: kept.front(),
+        is_whole: kept.is_whole(),
+    };
+    sentence(alloc, &complaint_of(fault, task, given, names.as_slice()))
+}
+
+/// Says why a command found nothing, or that its answer wasn't written; of a verdict nothing.
+pub(crate) fn say_why<'a, S, E: TextSink>(
+    alloc: Global,
+    task: &Task<'a>,
+    outcome: &Outcome,
+    status: u8,
+    kept: &FrontKept<S>,
+    shelf: &[Shelved<'a>],
+    errors: &mut E,
+)
+    ensures { status ≤ 1 → errors.new ≡ errors.old }
+{
+    if status > 1 {
+        tell_made(
+            &message_of(alloc, task, outcome, status, kept, shelf),
+            errors,
+        );
+    }
+}
+
+/// Says to one who sits at the output how a long history is kept.
+pub(crate) fn say_how_to_keep<E: TextSink>(
+    alloc: Global,
+    task: &Task<'_>,
+    outcome: &Outcome,
+    terminals: Terminals,
+    errors: &mut E,
+)
+    ensures { terminals.output ≡ false → errors.new ≡ errors.old }
+{
+    if !terminals.output {
+        return;
+    }
+    if let (Task::Stress(_), Ok(Found::Shown(_, history, _))) = (task, outcome) {
+        let events = history.events().len();
+        if events > MANY_EVENTS {
+            tell_made(&keeping(alloc, events as u64), errors);
+        }
+    }
+}
+
+/// Whether a word is an operand and no option.
+fn is_operand(word: &str) -> bool {
+    !word.is_empty() && !word.starts_with('-')
+}
+
+/// The command that reads among the words, where an operand stands behind it.
+fn command_with_file<'a, T: AsStr>(words: &'a [T]) -> Option<&'a str> {
+    let (_program, others) = words.split_first()?;
+    let (command, operands) = others.split_first()?;
+    if operands.iter().any(|word| is_operand(word.as_str())) {
+        Some(command.as_str())
+    } else {
+        None
+    }
+}
+
+/// Says what is wrong with words that are no command, unless standard output has told the terminal; and how a file is read, where a
+/// command was given its name.
+pub(crate) fn say_mistake<T: AsStr, E: TextSink>(
+    alloc: Global,
+    words: &[T],
+    error: &Error,
+    status: u8,
+    terminals: Terminals,
+    errors: &mut E,
+)
+    ensures { status ≤ 1 → errors.new ≡ errors.old }
+{
+    if status <= 1 {
+        return;
+    }
+    if status > 2 {
+        let complaint = if error.kind() == ErrorKind::OutOfMemory {
+            Complaint::Memory
+        } else {
+            Complaint::Write
+        };
+        tell_made(&sentence(alloc, &complaint), errors);
+        return;
+    }
+    if !terminals.output {
+        tell_made(&format!(in alloc; "{error}"), errors);
+    }
+    if error.kind() == ErrorKind::UnknownArgument
+        && let Some(command) = command_with_file(words)
+        && let Some(reads) = reads_of(command)
+    {
+        tell_made(
+            &sentence(alloc, &Complaint::File { command, reads }),
+            errors,
+        );
+    }
+}

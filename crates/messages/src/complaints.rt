@@ -1,0 +1,51 @@
+//! What a message is about.
+use history_merge::HistoryFault;
+use stress_run::RunFault;
+use text_lines::TextFault;
+
+/// What a command reads.
+#[derive(Clone, Copy, Debug, PartialEq, Eq)]
+pub enum Reads {
+    /// A history, and nothing behind it.
+    History,
+    /// A history and a verdict.
+    Claim,
+    /// A history, and a verdict where anything follows.
+    Drawable,
+    /// A schedule.
+    Schedule,
+}
+
+/// What a command was given, as far as it is kept.
+#[derive(Clone, Copy, Debug, PartialEq, Eq)]
+pub struct Given<'a> {
+    /// What it reads.
+    pub reads: Reads,
+    /// The front of what was read.
+    pub front: &'a [u8],
+    /// Whether that is all that was read.
+    pub is_whole: bool,
+}
+
+/// What a message is about: why a command found nothing, or wrote nothing.
+#[derive(Clone, Copy, Debug, PartialEq, Eq)]
+pub enum Complaint<'a> {
+    /// The input isn't the text that it should be.
+    Text(TextFault, Given<'a>),
+    /// The events of the input are no complete history.
+    History(HistoryFault, Given<'a>),
+    /// The history or the verdict is too large to be drawn.
+    Size,
+    /// None of these queues has this name.
+    Queue { name: &'a str, names: &'a [&'a str] },
+    /// So many threads, with so many operations each, are more than a run may have.
+    Limit { threads: u64, operations: u64 },
+    /// Memory ran out.
+    Memory,
+    /// A run gave no history.
+    Run(RunFault),
+    /// The answer wasn't written whole.
+    Write,
+    /// Some word isn't a word of a command that reads standard input: it may be a file.
+    File { command: &'a str, reads: Reads },
+}

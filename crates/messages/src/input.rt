@@ -1,0 +1,123 @@
+//! The lines of what was read, and what each should be.
+ghost use Rattle.std.specs.Prelude.{◌≡◌};
+
+use crate::complaints::{Given, Reads};
+use event_records::MAX_INITIAL;
+use text_lines::{after_word, number_front};
+
+/// What a line of the input should be.
+#[derive(Clone, Copy, Debug, PartialEq, Eq)]
+pub(crate) enum Part {
+    /// The first line of a history or a schedule.
+    Header,
+    /// How many values the queue holds first.
+    InitialCount,
+    /// One of these values.
+    InitialValue,
+    /// An event of a history.
+    Event,
+    /// The last line of a history or a schedule.
+    End,
+    /// The first line of a verdict.
+    Answer,
+    /// A later line of a verdict.
+    Operation,
+    /// How many threads a schedule has, and how large their rings are.
+    Setting,
+    /// A step of a schedule.
+    Step,
+}
+
+/// The number of the first line, from 1, of which this is so.
+pub(crate) fn first_line<F: Fn(&[u8]) -> bool>(front: &[u8], is_it: F) -> Option<u64>
+    requires { F.IsAlwaysCallable is_it }
+{
+    for (place, line) in front.split(|byte| *byte == b'\n').enumerate() {
+        if is_it(line) {
+            return Some((place as u64).saturating_add(1));
+        }
+    }
+    None
+}
+
+/// A line by its number from 1, where it is kept; the last one as far as it was read.
+pub(crate) fn line_of<'a>(given: &Given<'a>, number: u64) -> Option<&'a [u8]> {
+    let place = number.checked_sub(1)? as usize;
+    let mut lines = given.front.split(|byte| *byte == b'\n');
+    let line = lines.nth(place)?;
+    if lines.next().is_none() && (!given.is_whole || line.is_empty()) {
+        return None;
+    }
+    Some(line)
+}
+
+/// A field of a line, by its place from 0.
+pub(crate) fn field_of(line: &[u8], place: usize) -> Option<&[u8]> {
+    line.split(|byte| *byte == b' ').nth(place)
+}
+
+/// The number that a whole field is.
+pub(crate) fn number_of(field: &[u8]) -> Option<u64> {
+    match number_front(field) {
+        Some((number, [])) => Some(number),
+        _ => None,
+    }
+}
+
+/// How many values the queue holds first.
+fn initial_count(front: &[u8]) -> u64 {
+    let Some(rest) = after_word(front, b"fifo-history 2\ninitial ") else {
+        return 0;
+    };
+    match number_front(rest) {
+        Some((count, _)) => count.min(MAX_INITIAL as u64),
+        None => 0,
+    }
+}
+
+/// How many lines stand before the first event, or before the first step.
+pub(crate) fn lines_before(given: &Given<'_>) -> u64 {
+    if given.reads == Reads::Schedule {
+        return 2;
+    }
+    if given.front.starts_with(b"fifo-history 2\n") {
+        initial_count(given.front).saturating_add(2)
+    } else {
+        1
+    }
+}
+
+/// The number of the last line of the history or the schedule, where it is kept.
+pub(crate) fn end_line(given: &Given<'_>) -> Option<u64> {
+    first_line(given.front, |line| line.starts_with(b"end "))
+}
+
+/// What the line of this number, behind those of the history's initial values, should be.
+fn part_behind(given: &Given<'_>, number: u64) -> Part {
+    let item = if given.reads == Reads::Schedule {
+        Part::Step
+    } else {
+        Part::Event
+    };
+    match end_line(given) {
+        Some(end) if number == end => Part::End,
+        Some(end) if number == end.saturating_add(1) => Part::Answer,
+        Some(end) if number > end => Part::Operation,
+        _ => item,
+    }
+}
+
+/// What the line of this number should be.
+pub(crate) fn part_of(given: &Given<'_>, number: u64) -> Part {
+    if number == 1 {
+        return Part::Header;
+    }
+    if number > lines_before(given) {
+        return part_behind(given, number);
+    }
+    match (given.reads, number) {
+        (Reads::Schedule, _) => Part::Setting,
+        (_, 2) => Part::InitialCount,
+        _ => Part::InitialValue,
+    }
+}

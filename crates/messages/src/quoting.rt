@@ -1,0 +1,52 @@
+//! Bytes as a message shows them.
+ghost use Rattle.std.specs.Prelude.{◌≤◌, ◌<◌, All, IfOk, OnOk, string_bytes};
+ghost use Rattle.messages.specs.Quoting.{IsPrintable};
+
+use std::alloc::{AllocError, Global};
+
+/// The most bytes of a line that a message shows.
+pub const MOST_QUOTED: usize = 60;
+
+/// The digit of a number below 16.
+fn hex_digit(number: u8) -> char
+    requires { number < 16 }
+    ensures printable { IsPrintable result }
+{
+    char::from(if number < 10 {
+        b'0' + number
+    } else {
+        b'a' + (number - 10)
+    })
+}
+
+/// One more byte: itself where it is printable, else its escape.
+fn push_quoted(text: &mut String, byte: u8) -> Result<(), AllocError>
+    requires { All IsPrintable (string_bytes text.old) }
+    ensures { OnOk result (All IsPrintable (string_bytes text.new)) }
+{
+    match byte {
+        b'\r' => text.push_str("\\r"),
+        b'\t' => text.push_str("\\t"),
+        b' '..=b'~' => text.push(char::from(byte)),
+        _ => {
+            text.push_str("\\x")?;
+            text.push(hex_digit(byte / 16))?;
+            text.push(hex_digit(byte % 16))
+        }
+    }
+}
+
+/// The bytes in printable ASCII, at most 60 of them, with three dots behind these where there are more.
+pub fn quoted(alloc: Global, bytes: &[u8]) -> Result<String, AllocError>
+    ensures { IfOk result (λ text. All IsPrintable (string_bytes text)) }
+{
+    let shown = &bytes[..bytes.len().min(MOST_QUOTED)];
+    let mut text = String::new(alloc);
+    for byte in shown {
+        push_quoted(&mut text, *byte)?;
+    }
+    if shown.len() < bytes.len() {
+        text.push_str("...")?;
+    }
+    Ok(text)
+}

@@ -1,0 +1,105 @@
+//! The numbers of a line: their names, and the ranges in which they lie.
+use crate::input::{Part, field_of, number_of};
+use event_records::{MAX_INITIAL, MAX_RING, MAX_THREAD, MAX_THREADS, MAX_TICKET, MIN_RING};
+
+/// A number that a line has to have.
+#[derive(Clone, Copy, Debug, PartialEq, Eq)]
+pub(crate) struct Ranged {
+    /// Its name, as in docs/FORMATS.md.
+    pub name: &'static str,
+    pub least: u64,
+    pub greatest: u64,
+}
+
+/// A number of this name from 0 to the greatest.
+fn up_to(name: &'static str, greatest: u64) -> Option<Ranged> {
+    Some(Ranged {
+        name,
+        least: 0,
+        greatest,
+    })
+}
+
+/// The number at a place of an event.
+fn in_event(place: usize) -> Option<Ranged> {
+    match place {
+        0 => up_to("<ticket>", MAX_TICKET),
+        1 => up_to("<thread>", u64::from(MAX_THREAD)),
+        3 => up_to("<value>", u64::MAX),
+        _ => None,
+    }
+}
+
+/// The number at a place of a verdict's line, of which this is the first word.
+fn in_operation(first: &[u8], place: usize) -> Option<Ranged> {
+    match (first, place) {
+        (b"init", 1) => up_to("<value>", u64::MAX),
+        (b"init", _) => None,
+        (_, 0) => up_to("<call>", MAX_TICKET),
+        (_, 1) => up_to("<return>", MAX_TICKET),
+        (_, 2) => up_to("<thread>", u64::from(MAX_THREAD)),
+        (_, 4) => up_to("<value>", u64::MAX),
+        _ => None,
+    }
+}
+
+/// The number at a place of a schedule's second line.
+fn in_setting(place: usize) -> Option<Ranged> {
+    match place {
+        1 => Some(Ranged {
+            name: "<threads>",
+            least: 1,
+            greatest: MAX_THREADS as u64,
+        }),
+        3 => Some(Ranged {
+            name: "<ring>",
+            least: MIN_RING as u64,
+            greatest: MAX_RING as u64,
+        }),
+        _ => None,
+    }
+}
+
+/// The number at a place of a step, of which this is the first word.
+fn in_step(first: &[u8], place: usize) -> Option<Ranged> {
+    match (first, place) {
+        (_, 1) => up_to("<thread>", u64::from(MAX_THREAD)),
+        (b"drain", 2) => up_to("<k>", MAX_RING as u64),
+        (b"say", 3) => up_to("<value>", u64::MAX),
+        _ => None,
+    }
+}
+
+/// The number at a place of a line, of which this is the first word.
+fn ranged_at(part: Part, first: &[u8], place: usize) -> Option<Ranged> {
+    match (part, place) {
+        (Part::InitialCount, 1) => up_to("<k>", MAX_INITIAL as u64),
+        (Part::InitialValue, 0) => up_to("<value>", u64::MAX),
+        (Part::Event, _) => in_event(place),
+        (Part::Operation, _) => in_operation(first, place),
+        (Part::Setting, _) => in_setting(place),
+        (Part::Step, _) => in_step(first, place),
+        _ => None,
+    }
+}
+
+/// Whether a number field has a fault: it is no number, or is out of its range.
+fn is_wrong(ranged: Ranged, field: &[u8]) -> bool {
+    match number_of(field) {
+        Some(number) => number < ranged.least || number > ranged.greatest,
+        None => true,
+    }
+}
+
+/// The first number field of a line that has a fault.
+pub(crate) fn first_wrong(part: Part, line: &[u8]) -> Option<(Ranged, &[u8])> {
+    let first = field_of(line, 0)?;
+    for (place, field) in line.split(|byte| *byte == b' ').enumerate() {
+        if let Some(ranged) = ranged_at(part, first, place)
+            && is_wrong(ranged, field)
+        {
+            return Some((ranged, field));
+        }
+    }
+    None
+}

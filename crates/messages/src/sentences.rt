@@ -1,0 +1,161 @@
+//! The one function from a fault to its message.
+use crate::complaints::{Complaint, Reads};
+use crate::history_faults::history_message;
+use crate::message::Message;
+use crate::quoting::quoted;
+use crate::text_faults::text_message;
+use event_records::MAX_OPERATIONS;
+use std::alloc::{AllocError, Global};
+use stress_run::RunFault;
+use strsim::levenshtein;
+
+/// The message that memory ran out, which takes none.
+pub const NO_MEMORY: &[u8] = b"fifobench: memory ran out\n";
+
+/// The message that an answer wasn't written whole.
+pub const NOT_WRITTEN: &[u8] = b"fifobench: standard output couldn't be written\n";
+
+/// How many edits lead from a word to one that may have been meant.
+const FEW_EDITS: usize = 2;
+
+/// The first of the names that few edits of this name lead to.
+fn nearest<'a>(
+    alloc: Global,
+    name: &str,
+    names: &[&'a str],
+) -> Result<Option<&'a str>, AllocError> {
+    for other in names {
+        if levenshtein(alloc, name, other)? <= FEW_EDITS {
+            return Ok(Some(other));
+        }
+    }
+    Ok(None)
+}
+
+/// The names in a row.
+fn listed(alloc: Global, names: &[&str]) -> Result<String, AllocError> {
+    let mut text = String::from_str(alloc, "the queues are")?;
+    for (place, name) in names.iter().enumerate() {
+        text.push_str(if place == 0 { " " } else { ", " })?;
+        text.push_str(name)?;
+    }
+    Ok(text)
+}
+
+/// No queue has the name.
+fn queue_message(alloc: Global, name: &str, names: &[&str]) -> Result<Message, AllocError> {
+    let shown = quoted(alloc, name.as_bytes())?;
+    let said = match nearest(alloc, name, names)? {
+        Some(other) => format!(in alloc; "there is no queue '{shown}': did you mean '{other}'?")?,
+        None => format!(in alloc; "there is no queue '{shown}'")?,
+    };
+    let hint = listed(alloc, names)?;
+    Ok(Message { said, hint })
+}
+
+/// A run gave no history.
+fn run_message(alloc: Global, fault: RunFault) -> Result<Message, AllocError> {
+    match fault {
+        RunFault::Memory => return Message::fixed(alloc, "memory ran out", ""),
+        RunFault::Limit => return Message::fixed(alloc, "the run is larger than a run may be", ""),
+        RunFault::Stalled(thread) => {
+            let said = format!(in alloc;
+                "the ring of thread {thread} stayed full: its events weren't collected in time"
+            )?;
+            return Message::with_hint(
+                alloc,
+                said,
+                "give it more room by --ring, or make fewer calls by --ops",
+            );
+        }
+        RunFault::CloseLost(thread) | RunFault::Uncertified(thread) => {
+            let said = format!(in alloc;
+                "the ring of thread {thread} didn't say that it is whole: the run can't be judged"
+            )?;
+            return Ok(Message::alone(alloc, said));
+        }
+        RunFault::Preload(place) => {
+            let said = format!(in alloc;
+                "the queue took {place} of the values that it is to hold first, and refused the next"
+            )?;
+            return Message::with_hint(alloc, said, "let it hold fewer first by --initial");
+        }
+    }
+}
+
+/// What stands in the input of a command.
+fn content(reads: Reads) -> &'static str {
+    match reads {
+        Reads::History => "a history",
+        Reads::Claim => "a history and a verdict",
+        Reads::Drawable => "a history, and a verdict if there is one,",
+        Reads::Schedule => "a schedule",
+    }
+}
+
+/// More operations than a run may have.
+fn limit_message(alloc: Global, threads: u64, operations: u64) -> Result<Message, AllocError> {
+    let count = threads.saturating_mul(operations);
+    let said = format!(in alloc;
+        "--threads {threads} times --ops {operations} is {count} operations: a run has at most {MAX_OPERATIONS}"
+    )?;
+    Ok(Message::alone(alloc, said))
+}
+
+/// The lines of a message, without the program's name.
+fn message_of(alloc: Global, complaint: &Complaint<'_>) -> Result<Message, AllocError> {
+    match complaint {
+        Complaint::Text(fault, given) => return text_message(alloc, *fault, given),
+        Complaint::History(fault, given) => return history_message(alloc, *fault, given),
+        Complaint::Size => {
+            let said =
+                "more than 400 operations, initial values or lines of a verdict aren't drawn";
+            return Message::fixed(
+                alloc,
+                said,
+                "shrink a no first: fifobench shrink < FILE | fifobench draw",
+            );
+        }
+        Complaint::Queue { name, names } => return queue_message(alloc, name, names),
+        Complaint::Limit {
+            threads,
+            operations,
+        } => return limit_message(alloc, *threads, *operations),
+        Complaint::Memory => return Message::fixed(alloc, "memory ran out", ""),
+        Complaint::Run(fault) => return run_message(alloc, *fault),
+        Complaint::Write => return Message::fixed(alloc, "standard output couldn't be written", ""),
+        Complaint::File { command, reads } => {
+            let content = content(*reads);
+            let said = format!(in alloc;
+                "{content} is read from standard input: fifobench {command} < FILE"
+            )?;
+            return Ok(Message::alone(alloc, said));
+        }
+    }
+}
+
+/// What standard error says of a fault: what is wrong, and in a second line what to do, where there is something.
+///
+/// Takes time in proportion to the front of the input that is kept.
+pub fn sentence<'a>(alloc: Global, complaint: &Complaint<'a>) -> Result<String, AllocError> {
+    let Message { said, hint } = message_of(alloc, complaint)?;
+    if hint.is_empty() {
+        return format!(in alloc; "fifobench: {said}\n");
+    }
+    format!(in alloc; "fifobench: {said}\nfifobench: {hint}\n")
+}
+
+/// What a command says that reads from a terminal.
+pub fn greeting(alloc: Global, command: &str, reads: Reads) -> Result<String, AllocError> {
+    let content = content(reads);
+    format!(in alloc;
+        "fifobench: reading {content} from the terminal; Ctrl-D ends it, fifobench {command} < FILE reads a file\n"
+    )
+}
+
+/// What `stress` says that wrote so many events to a terminal.
+pub fn keeping(alloc: Global, events: u64) -> Result<String, AllocError> {
+    format!(in alloc;
+        "fifobench: {events} events were written; fifobench stress .. > FILE keeps them in a file\n"
+    )
+}
