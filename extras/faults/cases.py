@@ -3,7 +3,7 @@
 cases.py PROGRAM LIBRARY FOLDER EXAMPLES
 
 Of a refused growth the program may answer as with ample memory, or `FAULT Memory` with status 3; a run may also answer with one of
-its faults, or with another history, which `verify` then has to answer with VALID. Of a refused write a front of the text is there,
+its faults, or with another history, which `verify` then has to answer with VALID. Of a refused write a prefix of the text is there,
 the status is 3, and nothing is written after it. Of a refused read the answer is `FAULT Read`, status 3. Where a thread can't be
 started a run answers with a history, or with a stall, and a check as with threads.
 """
@@ -41,7 +41,7 @@ class Case:
 
 
 def many_windows():
-    """A history of so many values and empty answers that a check searches in threads; the last empty answer can't be."""
+    """A history of this many values and empty dequeues that a check searches in threads; the last empty dequeue can't be."""
     rounds = 100_000
     lines = [b"fifo-history 1"]
     for i in range(rounds):
