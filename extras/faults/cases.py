@@ -1,11 +1,11 @@
-"""Runs the program with one call of the C library refused, or all from one on, and judges each answer.
+"""Runs the program while one call of the C library fails, or all from one on, and judges what it prints.
 
 cases.py PROGRAM LIBRARY FOLDER EXAMPLES
 
-Of a refused growth the program may answer as with ample memory, or `FAULT Memory` with status 3; a run may also answer with one of
-its faults, or with another history, which `verify` then has to answer with VALID. Of a refused write a prefix of the text is there,
-the status is 3, and nothing is written after it. Of a refused read the answer is `FAULT Read`, status 3. Where a thread can't be
-started a run answers with a history, or with a stall, and a check as with threads.
+If an allocation fails, the program may print what it does with ample memory, or `FAULT Memory` with status 3; a run may also end with one of
+its faults, or with another history, which `verify` then has to find VALID. If a write fails, a prefix of the text is there,
+the status is 3, and nothing is written after it. If a read fails, it prints `FAULT Read`, status 3. If a thread can't be
+started, a run ends with a history or with a stall, and a check as with threads.
 """
 
 import os
@@ -30,7 +30,7 @@ RUN_FAULT = re.compile(rb"FAULT (Memory|Stalled \d+|CloseLost \d+)\n\Z")
 
 
 class Case:
-    """A command with its words and its input, and what it answers of these with ample memory."""
+    """A command with its arguments and its input, and what it prints with ample memory."""
 
     def __init__(self, words, text=b"", is_run=False, kinds=("growth", "write", "read", "thread")):
         self.words, self.text, self.is_run, self.kinds = words, text, is_run, kinds

@@ -1,6 +1,6 @@
-// Refuses one growth, write, read or start of a thread that a program asks the C library for, or all from one on.
+// Makes one allocation, write, read or start of a thread fail that a program asks the C library for, or all from one on.
 //
-// A program is run with this library in LD_PRELOAD and these words in its environment:
+// A program is run with this library in LD_PRELOAD and these variables in its environment:
 //   REFUSE_KIND   growth, write, read or thread
 //   REFUSE_AT     which call of that kind is refused first, from 1; 0 refuses none
 //   REFUSE_REST   1: all later ones are refused too
