@@ -67,7 +67,7 @@ def started(case, kind="", at=0, rest=False, how="", told=""):
 
 
 def counted(case, kind, at=0, rest=False, how=""):
-    """The same, with how many calls of the kind were made, and how many writes came after a refused one."""
+    """What a run answered, how many calls of the kind were made, and how many writes came after a refused one."""
     told = os.path.join(FOLDER, f"told-{kind}-{at}-{int(rest)}-{how}-{id(case)}")
     answer = started(case, kind, at, rest, how, told)
     with open(told, "rb") as file:

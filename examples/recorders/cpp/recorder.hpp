@@ -780,7 +780,7 @@ int search_runs(const Settings& settings, RunOne run_one) {
     }
 }
 
-// The same of runs by patterns, each over a fresh queue: `make()` gives a pointer to it.
+// Searches runs by patterns, each over a fresh queue, to which `make()` returns a pointer.
 template <class Make>
 int search(const Settings& settings, Make make) {
     return search_runs(settings, [&make](const Settings& one) {
