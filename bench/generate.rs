@@ -3,7 +3,7 @@
 //!
 //!     generate KIND EVENTS THREADS SEED
 //!
-//! KIND is `yes`; or a yes of another shape: `names`, with values in no order and gaps between tickets; `wide`, where each of 64
+//! KIND is `yes`; or another linearizable history: `names`, with values in no order and gaps between tickets; `wide`, where each of 64
 //! threads has an operation under way nearly all the time; `never`, enqueues alone; `refused`, enqueues that aren't taken;
 //! `empty`, dequeues that find nothing; `initial`, a queue that holds one value for each 20 events first; or a fault near the end:
 //! `fresh`, `repeat`, `order`, `witness`, and `initial-witness` of such a queue; or `long`, an empty answer over nearly the whole
@@ -154,7 +154,7 @@ fn spoil(history: &mut History, kind: &str) {
     }
 }
 
-/// Two of these dequeues of which one is over before the other, and so are the enqueues of their values, both of which are
+/// Two of these dequeues of which one precedes the other, and so do the enqueues of their values, both of which are
 /// called before either dequeue returns.
 fn apart(history: &History, found: &[usize]) -> Option<(usize, usize)> {
     let mut span = vec![(0, 0); history.operations.len()];
@@ -178,7 +178,7 @@ fn apart(history: &History, found: &[usize]) -> Option<(usize, usize)> {
     pairs.into_iter().find(|&(first, second)| is_apart(found[first], found[second]))
 }
 
-/// For each event whether some value surely is in the queue just after it: its enqueue has returned, and its dequeue isn't
+/// For each event whether some value is definitely in the queue just after it: its enqueue has returned, and its dequeue isn't
 /// called yet.
 fn is_covered(history: &History) -> Vec<bool> {
     let mut dequeue_call = HashMap::new();

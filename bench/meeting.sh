@@ -10,6 +10,6 @@ top=$(cd "$(dirname "${BASH_SOURCE[0]}")/.." && pwd)
 folder=$(mktemp -d)
 trap 'rm -rf "$folder"' EXIT
 rustc --edition 2021 -O "$top/bench/plain_recorder.rs" -o "$folder/plain_recorder"
-# Builds the program where it isn't.
+# Builds the program if it isn't.
 "$top/fifobench" help >/dev/null
 python3 -B "$top/bench/meeting.py" "$top/crates/fifobench/out/fifobench" "$folder/plain_recorder" "${1:-50}"

@@ -9,8 +9,8 @@
 //! The history is a linked list of its events. From the front on, a call that the queue can answer so is linearized: its two
 //! events are lifted out of the list, and the search begins at the front again. At a return whose call is still in the list
 //! it goes back. The memo has what was reached: the set of linearized operations with the content of the queue. Where
-//! published checkers keep both whole, this one keeps 128 bits made of them step by step, so a step takes constant time; a
-//! NO stands up to a clash of these.
+//! published checkers keep both whole, this one keeps 128 bits made of them step by step, so a step takes constant time;
+//! `NO` stands up to a clash of these.
 
 use std::collections::HashSet;
 use std::env;

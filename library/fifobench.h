@@ -1,20 +1,20 @@
-/* Judges histories of FIFO queues in the caller's process: whether a queue that gives values back in the order in which they
- * came in can have answered so. docs/LIBRARY.md tells how to build and link; docs/FORMATS.md has the texts. C99 and C++.
+/* Judges histories of concurrent FIFO queues in the caller's process: are they linearizable? docs/LIBRARY.md says how to
+ * build and link; docs/FORMATS.md has the texts. C99 and C++.
  *
- * Each function judges its input and answers with a text and a status, those of the program `fifobench` on the same bytes:
+ * Each function judges its input and returns a text and a status, those of the program `fifobench` on the same bytes:
  *
  *     0   YES, or VALID of a verified verdict
  *     1   NO, or INVALID
- *     2   REFUSED ...: the input is not a whole, correct history
- *     3   FAULT Memory: malloc or realloc gave no memory; nothing is said of the input
+ *     2   REFUSED ...: the input is no complete history
+ *     3   FAULT Memory: malloc or realloc gave no memory; the input is not judged
  *
  * How each function is called.
  *
  *   - Read: `length` bytes at `text` (or `count` structs at `events`), and nothing else. A text needs no byte 0 at its end.
  *   - Written: `*needed`, always: how many bytes the answer has, whether they fit or not. And the answer, from `answer` on,
- *     where needed <= capacity; what is behind it in the buffer stays, and no byte 0 is added. Where it doesn't fit nothing of
+ *     if needed <= capacity; what follows in the buffer stays, and no byte 0 is added. If it doesn't fit, nothing of
  *     the buffer is written: call again with more room.
- *   - `answer` may be NULL where `capacity` is 0, and `text` or `events` where `length` or `count` is 0. `needed` is never
+ *   - `answer` may be NULL if `capacity` is 0, and `text` or `events` if `length` or `count` is 0. `needed` is never
  *     NULL. Other pointers point to as many bytes (structs) as they are said to; `needed` and `events` are aligned as usual.
  *   - The buffer, `*needed` and the input don't overlap, and no other thread writes to the input, or reads or writes the rest,
  *     until the function returns. No object is larger than PTRDIFF_MAX bytes.
@@ -25,8 +25,8 @@
  *     Not from a signal handler, and not in the forked child of a process with threads.
  *   - No function reads or writes a file, and none ends the process.
  *
- * The functions are proved to keep this for every input, as docs/PROVED.md says; that a caller keeps its part is checked by
- * nobody. */
+ * The functions are proved to keep this for every input (docs/internals/PROVED.md); nobody checks that a caller keeps its
+ * part. */
 #ifndef FIFOBENCH_H
 #define FIFOBENCH_H
 
@@ -44,22 +44,22 @@ extern "C" {
  * as a shared one. */
 uint32_t fifobench_interface(void);
 
-/* `fifobench check`: the text of a history, and nothing behind it. Answers its verdict. */
+/* `fifobench check`: the text of a history, and nothing after it. The answer is its verdict. */
 uint8_t fifobench_check(const uint8_t *text, size_t length, uint8_t *answer, size_t capacity, size_t *needed);
 
-/* `fifobench shrink`: the text of a history. Answers, of a NO, the text of a smaller history that shows it and the verdict on
- * that; else as fifobench_check does. */
+/* `fifobench shrink`: the text of a history. If it isn't linearizable, the answer is a smaller history that shows the violation,
+ * and its verdict; else it is that of fifobench_check. */
 uint8_t fifobench_shrink(const uint8_t *text, size_t length, uint8_t *answer, size_t capacity, size_t *needed);
 
-/* `fifobench verify`: the text of a history, and behind it that of a verdict. Answers VALID where the verdict is evidence in
+/* `fifobench verify`: the text of a history, and after it that of a verdict. The answer is VALID if the verdict is evidence in
  * the history, else INVALID. */
 uint8_t fifobench_verify(const uint8_t *text, size_t length, uint8_t *answer, size_t capacity, size_t *needed);
 
-/* What a thread called, or was answered. */
+/* What happened: a call, or a return. */
 enum fifobench_what {
     FIFOBENCH_CALL_ENQ = 1,  /* an enqueue of the value is called */
-    FIFOBENCH_RET_ENQ = 2,   /* it returned: the value was taken */
-    FIFOBENCH_RET_NOT = 3,   /* it returned: the value was not taken */
+    FIFOBENCH_RET_ENQ = 2,   /* it returned: the enqueue was successful */
+    FIFOBENCH_RET_NOT = 3,   /* it returned: the enqueue failed */
     FIFOBENCH_CALL_DEQ = 4,  /* a dequeue is called */
     FIFOBENCH_RET_DEQ = 5,   /* it returned the value */
     FIFOBENCH_RET_EMPTY = 6  /* it returned: the queue is empty */
@@ -73,7 +73,7 @@ struct fifobench_event {
     uint32_t what;   /* a fifobench_what */
 };
 
-/* Events in place of their text, by ticket. Answers what fifobench_check answers of their text. Any numbers may stand in the
+/* Events in place of their text, by ticket. The answer is that of fifobench_check to their text. Any numbers may stand in the
  * structs; what a text can't say is refused (status 2): more than 2000000 events with REFUSED Limit; else a `what` that is
  * none of the six with REFUSED BadWhat and the place of the first, from 0; else a thread above 63 with REFUSED BadThread and
  * its place, and a ticket above the greatest with REFUSED TicketOrder and its place, as other faults of a history. */

@@ -5,7 +5,7 @@
 //         std::cerr << fifobench::shrink(text).text;
 //     }
 //
-// Where there is no memory for the answer's text a function throws std::bad_alloc, and where there is none for judging the
+// Where there is no memory for the answer's text a function throws std::bad_alloc, and if there is none for judging the
 // status is Status::fault. All of them may be called from several threads at once.
 #ifndef FIFOBENCH_HPP
 #define FIFOBENCH_HPP
@@ -66,10 +66,10 @@ inline Answer judge(Judge* function, std::string_view text) {
 // The verdict on the text of a history.
 inline Answer check(std::string_view text) { return detail::judge(fifobench_check, text); }
 
-// Of a no a smaller history that shows it, and the verdict on that; else the verdict.
+// A smaller history that shows the violation, and its verdict; the verdict only if the history is linearizable.
 inline Answer shrink(std::string_view text) { return detail::judge(fifobench_shrink, text); }
 
-// Whether the verdict behind the history is evidence: VALID or INVALID.
+// Whether the verdict after the history is evidence: VALID or INVALID.
 inline Answer verify(std::string_view text) { return detail::judge(fifobench_verify, text); }
 
 // The verdict on events by ticket.

@@ -2,7 +2,8 @@
  *
  *     queue good|wrong THREADS OPERATIONS
  *
- * The status is the verdict's: 0 yes, 1 no. Of a no the few operations that show it are printed. C11 with atomics. */
+ * The status is the verdict's, 0 `YES` or 1 `NO`. For a `NO` the few operations that show the violation are printed. C11 with
+ * atomics. */
 #include "../recorders/c/recorder.h"
 #include "fifobench.h"
 
@@ -109,7 +110,7 @@ static char *text_of(struct recorder *recorder, size_t *length)
     return text;
 }
 
-/* Prints what shows the no: the first call tells how much room the answer needs, the second fills it. */
+/* Prints the operations that show a violation: the first call says how much room the answer needs, the second fills it. */
 static int print_shrunk(struct recorder *recorder)
 {
     size_t length = 0;

@@ -2,7 +2,7 @@
 //
 //     queue good|wrong THREADS OPERATIONS
 //
-// The status is the verdict's: 0 yes, 1 no. Of a no the few operations that show it are printed.
+// The status is the verdict's, 0 `YES` or 1 `NO`; for a `NO` the few operations that show the violation are printed.
 #include "../recorders/cpp/recorder.hpp"
 #include "fifobench.hpp"
 

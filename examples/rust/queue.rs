@@ -2,7 +2,7 @@
 //!
 //!     queue good|wrong THREADS OPERATIONS
 //!
-//! The status is the verdict's: 0 yes, 1 no. Of a no the few operations that show it are printed.
+//! The status is the verdict's, 0 `YES` or 1 `NO`; for a `NO` the few operations that show the violation are printed.
 
 #[path = "../recorders/rust/recorder.rs"]
 mod recorder;
@@ -85,7 +85,7 @@ fn recorded(queue: &Queue, threads: usize, operations: usize) -> String {
     String::from_utf8(text).expect("a history is ASCII")
 }
 
-/// Prints the verdict, or what shows a no; and whether it is a yes.
+/// Prints the verdict, or the operations that show a violation; and whether the history is linearizable.
 fn judge(text: &str) -> Result<bool, Error> {
     let verdict = fifobench::check(text)?;
     if verdict.is_yes {

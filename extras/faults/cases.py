@@ -1,12 +1,12 @@
-"""Runs the program with one call of the C library refused, or all from one on, and judges each answer.
+"""Runs the program while one call of the C library fails, or all from one on, and judges what it prints.
 
 cases.py PROGRAM LIBRARY FOLDER EXAMPLES
 
-Of a refused growth the program may answer as with ample memory, or `FAULT Memory` with status 3; a run may also answer with one of
-its faults (with `Preload` only where its queue is given values first), or with another history, which `verify` then has to answer
-with VALID. Of a refused write a front of the text is there, the status is 3, and nothing is written after it. A refused write to
-standard error changes nothing. Of a refused read the answer is `FAULT Read`, status 3. Where a thread can't be
-started a run answers with a history, or with a stall, and a check as with threads.
+If an allocation fails, the program may print what it does with ample memory, or `FAULT Memory` with status 3; a run may also end with
+one of its faults (with `Preload` only if its queue is given values first), or with another history, which `verify` then has to find
+VALID. If a write fails, a prefix of the text is there, the status is 3, and nothing is written after it. A write to standard error
+that fails changes nothing. If a read fails, it prints `FAULT Read`, status 3. If a thread can't be
+started, a run ends with a history or with a stall, and a check as with threads.
 """
 
 import os
@@ -32,7 +32,7 @@ PRELOAD_FAULT = re.compile(rb"FAULT Preload \d+\n\Z")
 
 
 class Case:
-    """A command with its words and its input, and what it answers of these with ample memory."""
+    """A command with its arguments and its input, and what it prints with ample memory."""
 
     def __init__(self, words, text=b"", is_run=False, kinds=("growth", "write", "told", "read", "thread")):
         self.words, self.text, self.is_run, self.kinds = words, text, is_run, kinds
@@ -43,7 +43,7 @@ class Case:
 
 
 def many_windows():
-    """A history of so many values and empty answers that a check searches in threads; the last empty answer can't be."""
+    """A history of this many values and empty dequeues that a check searches in threads; the last empty dequeue can't be."""
     rounds = 100_000
     lines = [b"fifo-history 1"]
     for i in range(rounds):
@@ -69,7 +69,7 @@ def started(case, kind="", at=0, rest=False, how="", told=""):
 
 
 def counted(case, kind, at=0, rest=False, how=""):
-    """The same, with how many calls of the kind were made, and how many writes came after a refused one."""
+    """What a run answered, how many calls of the kind were made, and how many writes came after a refused one."""
     told = os.path.join(FOLDER, f"told-{kind}-{at}-{int(rest)}-{how}-{id(case)}")
     answer = started(case, kind, at, rest, how, told)
     with open(told, "rb") as file:

@@ -1,7 +1,7 @@
-// Refuses one growth, write, read or start of a thread that a program asks the C library for, or all from one on. A write to
-// standard error is of a kind of its own, told.
+// Makes one allocation, write, read or start of a thread fail that a program asks the C library for, or all from one on.
+// A write to standard error is of a kind of its own, told.
 //
-// A program is run with this library in LD_PRELOAD and these words in its environment:
+// A program is run with this library in LD_PRELOAD and these variables in its environment:
 //   REFUSE_KIND   growth, write, told, read or thread
 //   REFUSE_AT     which call of that kind is refused first, from 1; 0 refuses none
 //   REFUSE_REST   1: all later ones are refused too

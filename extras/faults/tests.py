@@ -19,7 +19,7 @@ MOST_GROWTHS = 2000
 SECONDS = 60
 # As many at once as processors that this process may use.
 LANES = len(os.sched_getaffinity(0))
-# So many are refused before it is asked whether there are more.
+# This many are refused before it is asked whether there are more.
 STRIDE = 4 * LANES
 
 

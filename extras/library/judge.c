@@ -1,13 +1,13 @@
 /* Calls the library on files, for extras/library/compare. The words are
  *
- *     judge make SEED COUNT FOLDER       writes so many texts, and large.text
+ *     judge make SEED COUNT FOLDER       writes this many texts, and large.text
  *     judge answers COMMAND FILE ..      prints of each file its name, the status and the answer
  *     judge events FILE ..               judges each file that is a history as structs too: the answers are one
- *     judge threads COUNT FILE ..        so many threads judge all files at once: the answers are those of one thread
- *     judge memory COUNT FILE ..         so many calls, and what memory is held after each
- *     judge refuse FILE ..               each growth of each call is refused in turn: the answer is that one, or want of memory
+ *     judge threads COUNT FILE ..        this many threads judge all files at once: the answers are those of one thread
+ *     judge memory COUNT FILE ..         this many calls, and what memory is held after each
+ *     judge refuse FILE ..               each allocation of each call fails in turn: the answer is that one, or out of memory
  *
- * The status is 0 where all is so. It is linked with --wrap for malloc, realloc and free, which count here. */
+ * The status is 0 if all is so. It is linked with --wrap for malloc, realloc and free, which count here. */
 #include "fifobench.h"
 
 #include <inttypes.h>
@@ -90,7 +90,7 @@ static struct text read_text(const char *name)
         text.length += count;
     }
     fclose(file);
-    /* A block of just the length, so that a read behind it is seen by those who look for such reads. */
+    /* A block of just the length, so that a read past it is seen by those who look for such reads. */
     text.bytes = realloc(text.bytes, text.length == 0 ? 1 : text.length);
     return text;
 }
@@ -342,7 +342,7 @@ static int measure(int calls, char **names, int count)
     return used <= half_used ? 0 : 1;
 }
 
-/* ---- want of memory */
+/* ---- out of memory */
 
 static const char want[] = "FAULT Memory\n";
 

@@ -96,7 +96,7 @@ def within(a, b):
 
 
 def faults(picture, operations, held):
-    """What is wrong with a picture of so many operations, and of so many values that the queue holds first."""
+    """What is wrong with a picture, by its numbers of operations and of initial values."""
     root = tree.fromstring(picture)
     whole = (0, 0, int(root.get("width")), int(root.get("height")))
     found = []

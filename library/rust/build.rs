@@ -1,4 +1,4 @@
-//! Tells Cargo where `libfifobench.a` lies: in the folder that `FIFOBENCH_DIR` names, else in that of the same installation.
+//! Shows Cargo where `libfifobench.a` lies: in the folder that `FIFOBENCH_DIR` names, else in that of the same installation.
 
 use std::env;
 use std::path::Path;

@@ -26,7 +26,7 @@
 //     bool found = queue_pop(queue, &value);
 //     recorder_return_dequeue(thread, found, value);
 //
-// docs/RECORDING.md tells the rules that this file keeps, kinds.c how queues of other kinds are called.
+// docs/RECORDING.md has the rules that this file keeps, kinds.c how queues of other kinds are called.
 #ifndef FIFOBENCH_RECORDER_H
 #define FIFOBENCH_RECORDER_H
 
@@ -473,7 +473,7 @@ static inline _Noreturn void recorder_end_hung(struct recorder *recorder)
     _Exit(2);
 }
 
-// Until so many threads have ended. A run in which no ticket is drawn for the time of the settings hangs.
+// Until this many threads have ended. A run in which no ticket is drawn for the time of the settings hangs.
 static inline void recorder_wait(struct recorder *recorder, unsigned threads)
 {
     uint64_t seen = atomic_load(&recorder->tickets);
@@ -761,7 +761,7 @@ static inline int recorder_search_one(const struct recorder_settings *one, const
 }
 
 // Runs the pattern of the settings over a fresh queue for one seed after another, until a run shows a violation. 0:
-// none shows one; 1: one does; 2: something is wrong, which standard error tells.
+// none shows one; 1: one does; 2: something is wrong, which standard error names.
 static inline int recorder_search(const struct recorder_settings *settings, const struct recorder_queue *calls)
 {
     struct recorder_settings one = *settings;

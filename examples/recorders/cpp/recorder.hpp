@@ -28,7 +28,7 @@
 //     });
 //     history.write(std::cout);
 //
-// docs/RECORDING.md tells the rules that this header keeps, kinds.cpp how queues of other kinds are called.
+// docs/RECORDING.md has the rules that this header keeps, kinds.cpp how queues of other kinds are called.
 #ifndef FIFOBENCH_RECORDER_HPP
 #define FIFOBENCH_RECORDER_HPP
 
@@ -215,7 +215,7 @@ public:
 
     unsigned number() const { return number_; }    // from 0
 
-    // Calls `call(value)` with a value that no other call has. It tells whether the queue took the value: false if
+    // Calls `call(value)` with a value that no other call has. It returns whether the queue took the value: false if
     // the queue was full or had no memory. A call without an answer took it.
     template <class Call>
     bool enqueue(Call&& call) {
@@ -531,7 +531,7 @@ private:
         return false;
     }
 
-    // Until so many threads have ended. A run in which no ticket is drawn for the time of the settings hangs.
+    // Until this many threads have ended. A run in which no ticket is drawn for the time of the settings hangs.
     void wait(std::size_t threads) {
         using clock = std::chrono::steady_clock;
         std::uint64_t seen = tickets_.load();
@@ -619,7 +619,7 @@ Hooks hooks_of(Queue& queue, const Settings& settings) {
 
 // Runs `work(thread)` in each of the threads, which begin together, and gives what they recorded. Memory is taken ahead
 // for the operations of the settings; more are recorded too. An exception that leaves `work` ends its thread alone:
-// History::notes tells it. A run that hangs ends the process with status 2, and leaves a pending text. Throws
+// History::notes has it. A run that hangs ends the process with status 2, and leaves a pending text. Throws
 // std::invalid_argument if the settings are out of range, std::runtime_error if a thread can't be started.
 template <class Work>
 History record(const Settings& settings, Work work) {
@@ -769,7 +769,7 @@ private:
 }    // namespace detail
 
 // Judges what `run_one(settings)` records, for one seed after another, until one run shows a violation; the settings
-// are those of the one run. 0: none shows one; 1: one does; 2: something is wrong, which standard error tells.
+// are those of the one run. 0: none shows one; 1: one does; 2: something is wrong, which standard error names.
 template <class RunOne>
 int search_runs(const Settings& settings, RunOne run_one) {
     try {
@@ -780,7 +780,7 @@ int search_runs(const Settings& settings, RunOne run_one) {
     }
 }
 
-// The same of runs by patterns, each over a fresh queue: `make()` gives a pointer to it.
+// Searches runs by patterns, each over a fresh queue, to which `make()` returns a pointer.
 template <class Make>
 int search(const Settings& settings, Make make) {
     return search_runs(settings, [&make](const Settings& one) {

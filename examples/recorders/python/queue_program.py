@@ -74,7 +74,7 @@ class Queue:
 
 
 class Refused(Exception):
-    """What is wrong with the words."""
+    """What is wrong with the arguments."""
 
 
 def number(name, word, least, most):

@@ -111,12 +111,12 @@ pub fn check(text: &str) -> Result<Verdict, Error> {
     judge(fifobench_check, text)
 }
 
-/// Of a no a smaller history that shows it, and the verdict on that; else the verdict.
+/// A smaller history that shows the violation, and its verdict; the verdict only if the history is linearizable.
 pub fn shrink(text: &str) -> Result<Verdict, Error> {
     judge(fifobench_shrink, text)
 }
 
-/// Whether the verdict behind the history is evidence.
+/// Whether the verdict after the history is evidence.
 pub fn verify(text: &str) -> Result<Verdict, Error> {
     judge(fifobench_verify, text)
 }
