@@ -152,7 +152,7 @@ static int judge(struct recorder *recorder)
     return status;
 }
 
-/* Whether the word is a number in digits, which is left in `number`; else it is told that this isn't one. */
+/* Whether the word is a number in digits, which is left in `number`; else a message says that this isn't one. */
 static bool is_number(const char *name, const char *word, size_t *number)
 {
     char *end = NULL;

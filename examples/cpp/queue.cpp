@@ -65,7 +65,7 @@ std::string recorded(Queue& queue, unsigned threads, std::size_t operations) {
     return text.str();
 }
 
-// The number in digits that a word is; else it is told that this isn't one.
+// The number in digits that a word is; else a message says that this isn't one.
 std::optional<std::size_t> number_in(const char* name, const std::string& word) {
     std::size_t number = 0;
     const char* const end = word.data() + word.size();
