@@ -379,12 +379,7 @@ fn name_bytes(sheet: &Sheet<'_>) -> Result<Vec<u8>, AllocError>
 }
 
 #[tactic(auto, unfolding(crate::specs::Terminal::rows))]
-fn push_rows(
-    text: &mut Vec<u8>,
-    sheet: &Sheet<'_>,
-    history: &History,
-    events: &[Event],
-) -> Added
+fn push_rows(text: &mut Vec<u8>, sheet: &Sheet<'_>, history: &History, events: &[Event]) -> Added
     requires { events.now ≡ history.now.events }
     ensures { OnOk result (text.new.items ≡ text.old.items
         ++ rows sheet.now.columns sheet.now.lanes.now sheet.now.bands.now history.now sheet.now.operations.now sheet.now.claimed.now) }

@@ -52,11 +52,7 @@ fn push_event(kept: &mut Kept, event: Event)
 
 /// The line of an event, of which a last part may be kept back.
 #[inline(always)]
-fn put_event<W: TextSink>(
-    event: Event,
-    kept: &mut Kept,
-    writer: &mut W,
-) -> Result<(), WriteFault>
+fn put_event<W: TextSink>(event: Event, kept: &mut Kept, writer: &mut W) -> Result<(), WriteFault>
     ensures ok { OnOk result (Puts (W.contents writer.old) (W.contents writer.new) kept.old kept.new (event_line event)) }
     ensures err { OnErr result (AppendsFront (W.contents writer.old) (W.contents writer.new) kept.old) }
     ensures refused { W.has_refused writer.new ≡ (W.has_refused writer.old || is_err result) }

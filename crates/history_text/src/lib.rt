@@ -27,9 +27,7 @@ pub use laws::{
     a_text_has_one_history, a_text_has_one_schedule, no_schedule_text_begins_another,
     no_text_begins_another, one_first_fault,
 };
-pub use reader::{
-    TextReader, at_end, is_at_end, read_history, read_schedule, read_verdict,
-};
+pub use reader::{TextReader, at_end, is_at_end, read_history, read_schedule, read_verdict};
 pub use schedule::{MOST_DRAINED, Schedule, Steps};
 pub use text_lines::{
     Buffered, MemorySource, ReadFailed, TextFault, TextSink, TextSource, Watched, WriteFault,

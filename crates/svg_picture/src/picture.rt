@@ -20,8 +20,8 @@ use crate::rows::{push_background, push_threads, push_tickets};
 use crate::sheet::{Measures, Sheet};
 use crate::words::{legend, push_style};
 use drawing::{
-    Added, Band, MOST_DRAWN, bands_of, count_of_lines, digits, headline, label_width, last_ticket,
-    events_of, order_of, push_caption, threads_of,
+    Added, Band, MOST_DRAWN, bands_of, count_of_lines, digits, events_of, headline, label_width,
+    last_ticket, order_of, push_caption, threads_of,
 };
 use event_records::Event;
 use history_merge::{History, Operation};

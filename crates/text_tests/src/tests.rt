@@ -1,8 +1,8 @@
 mod changed;
 mod errors;
-mod messages;
 mod outcomes;
 mod pictures;
+mod said_on_errors;
 mod schedules;
 mod sinks;
 mod texts;

@@ -3,9 +3,7 @@ ghost use Rattle.std.specs.Prelude.{◌≤◌, length};
 
 use super::small_histories::{at, by};
 use event_records::{Event, MAX_EVENTS, MAX_INITIAL, What};
-use history_merge::{
-    History, HistoryBuilder, HistoryFault, OpKind, Operation, fill, history_from,
-};
+use history_merge::{History, HistoryBuilder, HistoryFault, OpKind, Operation, fill, history_from};
 use std::alloc::{AllocError, Global};
 use std::test::Fail;
 
@@ -69,9 +67,11 @@ fn shows(
     operations: &[Operation],
 ) -> Result<bool, AllocError> {
     let shown: Vec<Event> = history.events().collect(alloc)?;
-    Ok(history.initial() == initial
-        && shown.as_slice() == events
-        && history.operations() == operations)
+    Ok(
+        history.initial() == initial
+            && shown.as_slice() == events
+            && history.operations() == operations,
+    )
 }
 
 /// Three initial values, and the events of two operations.

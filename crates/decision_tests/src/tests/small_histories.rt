@@ -105,11 +105,7 @@ pub(crate) fn history_behind(
     if initial.len() > MAX_INITIAL || events.len() > MAX_EVENTS {
         return Err("too many values or events")?;
     }
-    Ok(history_from(
-        alloc,
-        initial.to_vec(alloc)?,
-        events.as_slice(),
-    )?)
+    Ok(history_from(alloc, initial.to_vec(alloc)?, events.as_slice())?)
 }
 
 /// What is told at the call and at the return of an operation.
