@@ -1,4 +1,4 @@
-//! The answers about one history beside those of plain scans.
+//! The answers about one history beside those of plain scans of its filled history, told by the history's own places.
 
 use crate::tests::plain_gaps::{PlainWitness, operation_at, plain_cover, plain_gap, plain_witness};
 use crate::tests::plain_order::plain_linearization;
@@ -9,7 +9,9 @@ use order_violation::{OrderPair, find_order};
 use std::alloc::{AllocError, Global};
 use std::process::Abort;
 use std::test::Fail;
-use value_match::{CoverStep, Matched, MatchedValue, Matching, Values, Violation, match_values};
+use value_match::{
+    CoverStep, Matched, MatchedValue, Matching, Source, Values, Violation, match_values,
+};
 use verdicts::{Claimed, Verdict, ViolationKind, claim, decide};
 
 /// What plain scans answer of a matching.
@@ -62,23 +64,103 @@ pub(crate) fn compare(
     Ok(kind)
 }
 
-/// Compares the answers about the matching of a history of a queue that is empty first, whose filled history is itself.
+/// Compares the answers about the matching of a history.
 fn compare_clear(
     rt: &impl Abort,
     alloc: Global,
     matching: &Matching,
     verdict: &Verdict,
 ) -> Result<(), Fail> {
+    let first = matching.initial().len();
     let values = listed(alloc, matching)?;
-    let pair = plain_pair(&values);
+    let pair = told_pair_of(first, &values);
     assert_eq!(rt; find_order(alloc, matching)?, pair);
     let witness = plain_witness(alloc, matching.filled(), &values)?;
     let found = find_witness(alloc, matching)?;
-    assert!(rt; is_same_witness(&found, &witness));
+    assert!(rt; is_same_witness(&found, &told_witness(alloc, first, &witness)?));
     compare_gaps(rt, alloc, matching, &values)?;
     let plain = plain_answer(alloc, matching, &values, pair, witness)?;
     assert!(rt; is_same_verdict(verdict, &plain));
     Ok(())
+}
+
+/// The operation at a place of the filled history, which has so many enqueues of initial values first.
+fn told_id(first: usize, id: OpId) -> OpId {
+    OpId::new(id.place().saturating_sub(first))
+}
+
+/// The initial value or the enqueue at a place of the filled history.
+fn told_enqueue(first: usize, id: OpId) -> Source {
+    if id.place() < first {
+        Source::Initial(id.place())
+    } else {
+        Source::Enq(told_id(first, id))
+    }
+}
+
+/// The source of a value of the filled history, where all are enqueues.
+fn told_source(first: usize, source: Source) -> Source {
+    match source {
+        Source::Enq(id) => told_enqueue(first, id),
+        Source::Initial(place) => Source::Initial(place),
+    }
+}
+
+/// The pair of a filled history.
+fn told_pair(first: usize, pair: OrderPair) -> OrderPair {
+    OrderPair {
+        enq_a: told_source(first, pair.enq_a),
+        enq_b: told_source(first, pair.enq_b),
+        deq_b: told_id(first, pair.deq_b),
+        deq_a: pair.deq_a.map(|id| told_id(first, id)),
+    }
+}
+
+/// The pair that a plain scan finds among the values of a filled history.
+fn told_pair_of(first: usize, values: &[MatchedValue]) -> Option<OrderPair> {
+    match plain_pair(values) {
+        Some(pair) => Some(told_pair(first, pair)),
+        None => None,
+    }
+}
+
+/// The cover of a filled history.
+fn told_cover(
+    alloc: Global,
+    first: usize,
+    cover: &[CoverStep],
+) -> Result<Vec<CoverStep>, AllocError> {
+    let mut told = Vec::new(alloc);
+    for step in cover {
+        told.push(CoverStep {
+            source: told_source(first, step.source),
+            dequeue: step.dequeue.map(|id| told_id(first, id)),
+        })?;
+    }
+    Ok(told)
+}
+
+/// The ticket of a gap of the filled history, whose first tickets are those of the initial values.
+fn told_gap(first: usize, gap: u64) -> u64 {
+    gap.saturating_sub((first as u64).saturating_mul(2))
+}
+
+/// What plain scans of a filled history find of all empty answers.
+fn told_witness(
+    alloc: Global,
+    first: usize,
+    witness: &PlainWitness,
+) -> Result<PlainWitness, AllocError> {
+    match witness {
+        PlainWitness::Gaps(gaps) => {
+            let told = gaps.iter().map(|gap| told_gap(first, *gap)).collect(alloc)?;
+            Ok(PlainWitness::Gaps(told))
+        }
+        PlainWitness::Covered(empty, cover) => {
+            let told = told_cover(alloc, first, cover)?;
+            Ok(PlainWitness::Covered(told_id(first, *empty), told))
+        }
+    }
 }
 
 /// The value at this place, if there is one.
@@ -109,11 +191,16 @@ fn plain_answer(
     if let Some(pair) = pair {
         return Ok(Plain::Order(pair));
     }
+    let first = matching.initial().len();
     match witness {
-        PlainWitness::Covered(empty, cover) => Ok(Plain::Witness(empty, cover)),
+        PlainWitness::Covered(empty, cover) => {
+            let told = told_cover(alloc, first, &cover)?;
+            Ok(Plain::Witness(told_id(first, empty), told))
+        }
         PlainWitness::Gaps(gaps) => {
             let order = plain_linearization(alloc, matching.filled(), values, &gaps)?;
-            Ok(Plain::Legal(order))
+            let own = order.iter().filter(|id| id.place() >= first);
+            Ok(Plain::Legal(own.map(|id| told_id(first, *id)).collect(alloc)?))
         }
     }
 }
@@ -163,22 +250,23 @@ fn compare_gaps(
     matching: &Matching,
     values: &[MatchedValue],
 ) -> Result<(), Fail> {
+    let first = matching.initial().len();
+    let filled = matching.filled();
     let empties = matching.empties();
     for index in 0..empties.len() {
         let empty = empties.get(index);
         let found = gap_for(alloc, matching, empty)?;
-        let answer = operation_at(matching.filled(), empty)?;
+        let answer = operation_at(filled, OpId::new(first.saturating_add(empty.place())))?;
+        let plain = plain_gap(filled.operations(), values, &answer);
         match found {
             GapAnswer::Free(gap) => {
-                assert_eq!(rt;
-                    plain_gap(matching.operations(), values, &answer),
-                    Some(gap)
-                );
+                assert_eq!(rt; plain.map(|clock| told_gap(first, clock)), Some(gap));
             }
             GapAnswer::Covered(cover) => {
-                assert_eq!(rt; plain_gap(matching.operations(), values, &answer), None);
+                assert_eq!(rt; plain, None);
                 let steps = plain_cover(alloc, values, &answer)?.ok_or("no cover")?;
-                assert_eq!(rt; cover.as_slice(), steps.as_slice());
+                let told = told_cover(alloc, first, &steps)?;
+                assert_eq!(rt; cover.as_slice(), told.as_slice());
             }
         }
     }

@@ -1,10 +1,10 @@
 //! Histories that the recorder's machine makes from seeded words.
 ghost use Rattle.std.specs.Prelude.{◌≡◌, ◌≤◌, ◌<◌, IfOk, length};
 
-use event_records::{Event, MAX_EVENTS};
-use history_merge::{History, history};
-use recorder_core::{Answer, Done, Machine, Step, StepRefused};
-use std::alloc::Global;
+use event_records::{Event, LEAST_INITIAL_NAME, MAX_EVENTS, MAX_INITIAL};
+use history_merge::{History, history_from};
+use recorder_core::{Answer, Done, Machine, Step, StepRefused, are_initial_names};
+use std::alloc::{AllocError, Global};
 use std::test::Fail;
 
 /// The threads of a small history's machine.
@@ -44,27 +44,41 @@ impl Words {
     }
 }
 
-/// How often, of ten times, an answer is told that the queue didn't give.
+/// What a small history is like: how often, of ten times, an answer is told that the queue didn't give, and how many values
+/// the queue holds first.
 #[derive(Clone, Copy)]
-pub struct Lies(pub u64);
+pub struct Sort {
+    pub lies: u64,
+    pub first: u8,
+}
+
+/// The name of a value that a thread may enqueue, or that the queue may hold first.
+fn named(words: &mut Words, first: u8) -> u64 {
+    let of = words.below(3 + u64::from(first));
+    if of < 3 {
+        of * 4_294_967_296 + words.below(12)
+    } else {
+        LEAST_INITIAL_NAME + of
+    }
+}
 
 /// What an operation is told.
-fn told(words: &mut Words) -> Answer {
+fn told(words: &mut Words, first: u8) -> Answer {
     match words.below(12) {
         0 => Answer::Not,
         1..=4 => Answer::Taken,
         5..=9 => Answer::Empty,
-        _ => Answer::Got(words.below(3) * 4_294_967_296 + words.below(12)),
+        _ => Answer::Got(named(words, first)),
     }
 }
 
 /// One step of a thread.
-fn chosen_step(words: &mut Words, lies: Lies, thread: u8) -> Step {
+fn chosen_step(words: &mut Words, sort: Sort, thread: u8) -> Step {
     match words.below(6) {
         0 => Step::AskEnq(thread),
         1 => Step::AskDeq(thread),
         2 | 3 => Step::Ret(thread),
-        _ if words.below(10) < lies.0 => Step::Say(thread, told(words)),
+        _ if words.below(10) < sort.lies => Step::Say(thread, told(words, sort.first)),
         _ => Step::Effect(thread),
     }
 }
@@ -87,21 +101,24 @@ fn is_ask(step: Step) -> bool {
     }
 }
 
-/// Seeded steps, which begin no more operations than these.
-fn move_on(machine: &mut Machine, words: &mut Words, lies: Lies, most: u64)
+/// Seeded steps, which begin no more operations than these. It tells whether one of them told an answer.
+fn move_on(machine: &mut Machine, words: &mut Words, sort: Sort, most: u64) -> bool
     ensures { length machine.new.threads ≡ length machine.old.threads }
 {
     let mut asked = 0u64;
+    let mut is_told = false;
     for _ in 0..MOVES {
         let thread = words.below(u64::from(FEW_THREADS)) as u8;
-        let step = chosen_step(words, lies, thread);
+        let step = chosen_step(words, sort, thread);
         if is_ask(step) && asked >= most {
             continue;
         }
-        if take(machine, step, thread).is_ok() && is_ask(step) {
-            asked = asked.saturating_add(1);
+        if take(machine, step, thread).is_ok() {
+            asked = asked.saturating_add(u64::from(is_ask(step)));
+            is_told = is_told || matches!(step, Step::Say(_, _));
         }
     }
+    is_told
 }
 
 /// Ends what the threads have begun.
@@ -114,18 +131,42 @@ fn end_all(machine: &mut Machine, threads: u8)
     }
 }
 
-/// The history that a machine has collected after seeded steps.
-pub(crate) fn seeded_history(alloc: Global, seed: u64, lies: Lies) -> Result<History, Fail> {
-    let mut words = Words::new(seed);
-    let most = 1 + words.below(MOST_OPERATIONS);
-    let mut machine = Machine::new(alloc, usize::from(FEW_THREADS), 4)?;
-    move_on(&mut machine, &mut words, lies, most);
-    end_all(&mut machine, FEW_THREADS);
-    collected_history(alloc, &machine, FEW_THREADS)
+/// So many values that a queue may hold first.
+fn first_values(alloc: Global, count: u8) -> Result<Vec<u64>, AllocError> {
+    (0..u64::from(count))
+        .map(|place| LEAST_INITIAL_NAME + 3 + place)
+        .collect(alloc)
 }
 
-/// The history of what was collected of all threads.
-fn collected_history(alloc: Global, machine: &Machine, threads: u8) -> Result<History, Fail>
+/// The history that a machine has collected after seeded steps, if one of these told an answer.
+pub(crate) fn seeded_history(
+    alloc: Global,
+    seed: u64,
+    sort: Sort,
+) -> Result<Option<History>, Fail> {
+    let mut words = Words::new(seed);
+    let most = 1 + words.below(MOST_OPERATIONS);
+    let first = first_values(alloc, sort.first)?;
+    if !are_initial_names(alloc, &first)? {
+        return Err("other names")?;
+    }
+    let mut machine = Machine::with_initial(alloc, usize::from(FEW_THREADS), 4, first)?;
+    let is_told = move_on(&mut machine, &mut words, sort, most);
+    end_all(&mut machine, FEW_THREADS);
+    if !is_told {
+        return Ok(None);
+    }
+    let first = first_values(alloc, sort.first)?;
+    Ok(Some(collected_history(alloc, &machine, FEW_THREADS, first)?))
+}
+
+/// The history of what was collected of all threads, of a queue that held these values first.
+fn collected_history(
+    alloc: Global,
+    machine: &Machine,
+    threads: u8,
+    first: Vec<u64>,
+) -> Result<History, Fail>
     requires { length machine.now.threads ≡ threads }
 {
     let mut events: Vec<Event> = Vec::new(alloc);
@@ -133,10 +174,10 @@ fn collected_history(alloc: Global, machine: &Machine, threads: u8) -> Result<Hi
         events.extend_from_slice(machine.collected(thread))?;
     }
     events.sort_by_key(|event| event.ticket)?;
-    if events.len() > MAX_EVENTS {
-        return Err("too many events")?;
+    if first.len() > MAX_INITIAL || events.len() > MAX_EVENTS {
+        return Err("too many values or events")?;
     }
-    Ok(history(alloc, &events)?)
+    Ok(history_from(alloc, first, &events)?)
 }
 
 /// What all threads ask in this round: two rounds of enqueues, then two of dequeues.
@@ -164,7 +205,7 @@ pub(crate) fn honest_history(alloc: Global, first: u64, rounds: u64) -> Result<H
     for round in 0..rounds {
         take_round(&mut machine, first.wrapping_add(round), MANY_THREADS);
     }
-    collected_history(alloc, &machine, MANY_THREADS)
+    collected_history(alloc, &machine, MANY_THREADS, Vec::new(alloc))
 }
 
 /// One operation of a thread, from its ask to its return.
@@ -187,5 +228,5 @@ pub(crate) fn covered_history(alloc: Global, values: u64) -> Result<History, Fai
     }
     let _ = machine.step(Step::Say(1, Answer::Empty));
     let _ = take(&mut machine, Step::Ret(1), 1);
-    collected_history(alloc, &machine, 2)
+    collected_history(alloc, &machine, 2, Vec::new(alloc))
 }
