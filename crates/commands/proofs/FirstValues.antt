@@ -106,8 +106,8 @@ module _ (may : Question → Answer → Type 0) (may_preload : ℕ → Bool → 
       })
 
 -- a fault of a run on a queue that was given these values is what `stress` answers
-pub failed_run : (may : Question → Answer → Type 0) (may_preload : ℕ → Bool → Type 0) (settings : Settings) (plan : List (List Kind)) (fault : RunFault) → IsWithinRanges settings
-    → IsSeeded settings.seed settings.threads settings.operations settings.percent plan
+pub failed_run : (may : Question → Answer → Type 0) (may_preload : ℕ → Bool → Type 0) (settings : Settings) (plan : List (List Kind)) (fault : RunFault)
+    → IsWithinRanges settings → IsSeeded settings.seed settings.threads settings.operations settings.percent plan
     → (given : List ℕ) → given ≡ first_values settings.initial → IsFaultOfRun may given plan (record { ring = settings.ring; tries = TRIES }) fault
     → ((place : ℕ) → fault ≡ Preload place → IsFirstRefused may_preload given place) → RunsOrFails may may_preload settings (run_fault fault)
 failed_run may may_preload settings plan fault ranges seeded given first is_fault is_refused = inr (inl (record {

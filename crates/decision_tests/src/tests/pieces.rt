@@ -1,3 +1,5 @@
+ghost use Rattle.std.specs.Prelude.{◌≤◌};
+
 use super::places::{Windows, places_of_pair, places_of_witness};
 use super::small_histories::{
     by, covered_by_two, dequeued_later, hidden, history_of, in_turn, matching_of, never_empty,
@@ -91,7 +93,10 @@ fn finds_pairs_in_pieces(rt: HostRuntime) -> Result<(), Fail> {
     check(&rt, &overtaken(), Some(&[0, 1, 2]), Ok(&[]))?;
     check(&rt, &dequeued_later(), Some(&[0, 1, 2, 3]), Ok(&[]))?;
     check(&rt, &hidden(), None, Ok(&[]))?;
-    check(&rt, &two_pairs, Some(&[0, 3, 4]), Ok(&[]))
+    check(&rt, &two_pairs, Some(&[0, 3, 4]), Ok(&[]))?;
+    // of two overtaken values that are never dequeued the first is shown
+    let two_overtaken = in_turn([Enq(5), Enq(6), Enq(7), Deq(7)]);
+    check(&rt, &two_overtaken, Some(&[0, 2, 3]), Ok(&[]))
 }
 
 #[test]
@@ -125,9 +130,12 @@ fn found_par<R: Threads + Sync>(
     rt: &R,
     alloc: Global,
     matching: &Matching,
-) -> Result<Found, AllocError> {
-    let pair = find_order_par(rt, alloc, matching, 64)?;
-    let answer = find_witness_par(rt, alloc, matching, 64)?;
+    pieces: usize,
+) -> Result<Found, AllocError>
+    requires { (1 ≤ pieces) × (pieces ≤ 64) }
+{
+    let pair = find_order_par(rt, alloc, matching, pieces)?;
+    let answer = find_witness_par(rt, alloc, matching, pieces)?;
     places_of(alloc, pair, &answer)
 }
 
@@ -135,20 +143,25 @@ fn found_par<R: Threads + Sync>(
 fn found_par_of<R: AllocGlobal + Threads + Sync>(
     rt: &R,
     operations: &[Operation],
-) -> Result<Found, Fail> {
+    pieces: usize,
+) -> Result<Found, Fail>
+    requires { (1 ≤ pieces) × (pieces ≤ 64) }
+{
     let history = history_of(rt.alloc(), operations)?;
     let matching = matching_of(rt.alloc(), &history)?;
-    Ok(found_par(rt, rt.alloc(), &matching)?)
+    Ok(found_par(rt, rt.alloc(), &matching, pieces)?)
 }
 
-/// What the searches find of the rounds, which is the same in pieces.
+/// What the searches find of the rounds in one piece, which is the same in 64, and where they choose whether to cut.
 fn found_of_rounds<R>(rt: &R, staying: u64) -> Result<Found, Fail>
 where
     R: Abort + AllocGlobal + Threads + Sync,
 {
     let operations = rounds(rt.alloc(), staying)?;
-    let found = found_par_of(rt, &operations)?;
+    let found = found_of(rt, &operations, 1)?;
     assert!(rt; found == found_of(rt, &operations, 64)?);
+    assert!(rt; found == found_par_of(rt, &operations, 1)?);
+    assert!(rt; found == found_par_of(rt, &operations, 64)?);
     Ok(found)
 }
 
