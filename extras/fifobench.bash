@@ -30,7 +30,10 @@ _fifobench() {
                 _fifobench_words 'check shrink verify draw convert stats sim stress help' "$word"
             fi
             ;;
-        check | shrink | verify | convert | stats | sim)
+        check | shrink | sim)
+            _fifobench_words '-q --quiet -h --help' "$word"
+            ;;
+        verify | convert | stats)
             _fifobench_words '-h --help' "$word"
             ;;
         draw)
@@ -44,7 +47,7 @@ _fifobench() {
                     if [[ $word == --queue=* ]]; then
                         _fifobench_words "--queue=${queues// / --queue=}" "$word"
                     elif [ -z "$value" ]; then
-                        _fifobench_words '--queue --threads --ops --seed --percent --ring --initial -h --help' "$word"
+                        _fifobench_words '--queue --threads --ops --seed --percent --ring --initial -q --quiet -h --help' "$word"
                     fi
                     ;;
             esac

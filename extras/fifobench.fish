@@ -13,6 +13,7 @@ complete -c fifobench -n __fish_use_subcommand -a sim -d 'Play a schedule of the
 complete -c fifobench -n __fish_use_subcommand -a stress -d 'Run threads on a built-in queue'
 complete -c fifobench -n __fish_use_subcommand -a help -d 'Print a help'
 complete -c fifobench -n '__fish_seen_subcommand_from help' -a 'check shrink verify draw convert stats sim stress help'
+complete -c fifobench -n '__fish_seen_subcommand_from check shrink sim stress' -s q -l quiet -d 'Print the first line of the verdict alone'
 complete -c fifobench -n '__fish_seen_subcommand_from draw' -l text -d 'Draw in lines of characters, and not as SVG'
 complete -c fifobench -n '__fish_seen_subcommand_from stress' -l queue -x -d 'Name of the queue' -a "
     locked\t'A list under one lock'

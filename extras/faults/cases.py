@@ -34,7 +34,7 @@ PRELOAD_FAULT = re.compile(rb"FAULT Preload \d+\n\Z")
 class Case:
     """A command with its arguments and its input, and what it prints with ample memory."""
 
-    def __init__(self, words, text=b"", is_run=False, kinds=("growth", "write", "told", "read", "thread")):
+    def __init__(self, words, text=b"", is_run=False, kinds=("growth", "write", "message", "read", "thread")):
         self.words, self.text, self.is_run, self.kinds = words, text, is_run, kinds
         self.plain = None
 
@@ -107,7 +107,7 @@ def wrong_write(case, answer, after):
     return ""
 
 
-def wrong_told(case, answer, after):
+def wrong_message(case, answer, after):
     if after:
         return "something is told after a refused write"
     return "" if answer == case.plain else "a refused write to standard error changes the answer"
@@ -126,7 +126,7 @@ def wrong_thread(case, answer, after):
 
 
 WRITES = ("full", "broken", "interrupted", "nothing")
-JUDGES = {"growth": wrong_growth, "write": wrong_write, "told": wrong_told, "read": wrong_read, "thread": wrong_thread}
+JUDGES = {"growth": wrong_growth, "write": wrong_write, "message": wrong_message, "read": wrong_read, "thread": wrong_thread}
 
 
 def cases():
@@ -169,7 +169,7 @@ def tries_of(case):
         # A run makes another number of calls each time: some more places are tried.
         last = min(calls + 20 if case.is_run and calls else calls, MOST_CALLS)
         for at in range(1, last + 1):
-            for how in {"write": WRITES, "told": WRITES, "read": ("broken", "interrupted")}.get(kind, ("",)):
+            for how in {"write": WRITES, "message": WRITES, "read": ("broken", "interrupted")}.get(kind, ("",)):
                 yield kind, at, False, how
                 if kind != "read":
                     yield kind, at, True, how

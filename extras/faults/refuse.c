@@ -1,8 +1,8 @@
 // Makes one allocation, write, read or start of a thread fail that a program asks the C library for, or all from one on.
-// A write to standard error is of a kind of its own, told.
+// A write to standard error is of a kind of its own, message.
 //
 // A program is run with this library in LD_PRELOAD and these variables in its environment:
-//   REFUSE_KIND   growth, write, told, read or thread
+//   REFUSE_KIND   growth, write, message, read or thread
 //   REFUSE_AT     which call of that kind is refused first, from 1; 0 refuses none
 //   REFUSE_REST   1: all later ones are refused too
 //   REFUSE_AS     of a write or a read: full (ENOSPC), broken (EIO), interrupted (EINTR), or nothing (a write that takes nothing)
@@ -25,7 +25,7 @@
 extern void *__libc_malloc(size_t size);
 extern void *__libc_realloc(void *block, size_t size);
 
-enum kind { NONE, GROWTH, WRITE, TOLD, READ, THREAD };
+enum kind { NONE, GROWTH, WRITE, MESSAGE, READ, THREAD };
 
 struct counts {
     _Atomic uint64_t calls;
@@ -67,8 +67,8 @@ static enum kind kind_named(const char *name)
         return GROWTH;
     if (!strcmp(name, "write"))
         return WRITE;
-    if (!strcmp(name, "told"))
-        return TOLD;
+    if (!strcmp(name, "message"))
+        return MESSAGE;
     if (!strcmp(name, "read"))
         return READ;
     if (!strcmp(name, "thread"))
@@ -138,7 +138,7 @@ void *realloc(void *block, size_t size)
 
 static ssize_t write_or_refuse(int file, const void *bytes, size_t count, void *caller)
 {
-    enum kind kind = file == STDERR_FILENO ? TOLD : WRITE;
+    enum kind kind = file == STDERR_FILENO ? MESSAGE : WRITE;
     if (kind == refused_kind && atomic_load(&was_refused))
         atomic_fetch_add(&counts->writes_after, 1);
     if (is_refused(kind, caller)) {

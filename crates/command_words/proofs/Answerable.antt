@@ -13,7 +13,7 @@ use Rattle.clap.specs.Simple.{App, Shape, argument_words, built, entered, filled
 use Rattle.clap.specs.Takes.{is_given}
 use Rattle.clap.specs.Values.{IsUnsignedIn, refused_kind}
 use Rattle.clap.specs.ValueTests.{accepts}
-use Rattle.clap.specs.Walk.{Row, Rule, Text, Walk, answers_to, arg_by_id, finished, nothing_held, rows_after, used, values_or_missing, walk}
+use Rattle.clap.specs.Walk.{Row, Rule, Text, Walk, answers_to, arg_by_id, finished, nothing_held, reading_by, rows_after, used, values_or_missing, walk}
 use Rattle.clap.specs.Walk.{walk_from, with_values, without}
 use Rattle.clap.specs.declared.builder.value_parser.Reading.{Reading}
 use Rattle.clap.specs.declared.builder.value_parser.Reading.TheVariants.{AsWritten}
@@ -25,7 +25,7 @@ use Rattle.clap.proofs.ValueTestLemmas.{accepts-Accepts}
 use Rattle.event_records.specs.declared.limits.TheConstants.{MAX_RING, MAX_SEED, MAX_STRESS_INITIAL, MAX_THREAD_OPERATIONS, MAX_WORKERS, MIN_RING}
 use Rattle.command_words.specs.Commands.{the_program}
 use Rattle.command_words.specs.Inner.Commands.{IsAnswerable}
-use Rattle.command_words.specs.Options.{number_rule, queue_rule, stress_rules}
+use Rattle.command_words.specs.Options.{number_rule, queue_rule, quiet_rule, stress_rules}
 use Rattle.command_words.specs.Inner.Options.{HasNumber, HasSettings}
 use Rattle.command_words.proofs.Levels.{first_by_default, first_given, last_checks}
 use Rattle.command_words.proofs.NoKinds.{first_none, then_none}
@@ -81,6 +81,11 @@ number_uses name low high default f = set_uses (filled (number_rule name low hig
 queue_uses : UsesWell test (filled queue_rule)
 queue_uses = set_uses (filled queue_rule) AsWritten (λ again values rows. refl) (λ values rows. refl) (λ v e. refl)
 
+-- a flag takes no value, and its use sets it
+flag_uses : UsesWell test (filled quiet_rule)
+flag_uses again [] rows e p = set_passes test (codes "quiet") (reading_by (filled quiet_rule)) (codes "true" ∷ []) rows refl p
+flag_uses again (v ∷ vs) rows e p = set_passes test (codes "quiet") (reading_by (filled quiet_rule)) (v ∷ vs) rows refl p
+
 all_use_well : AllUseWell test stress_built.rules
 all_use_well = (
   queue_uses,
@@ -94,7 +99,7 @@ all_use_well = (
           number_uses (codes "percent") 0 100 (codes "50") (λ v e. e),
           (
             number_uses (codes "ring") MIN_RING MAX_RING (codes "1024") (λ v e. e),
-            (number_uses (codes "initial") 0 MAX_STRESS_INITIAL (codes "0") (λ v e. e), (help_uses, tt)),
+            (number_uses (codes "initial") 0 MAX_STRESS_INITIAL (codes "0") (λ v e. e), (flag_uses, (help_uses, tt))),
           ),
         ),
       ),
@@ -103,7 +108,7 @@ all_use_well = (
 )
 
 defaults_do : DefaultsPass test stress_built.rules
-defaults_do = (tt, (refl, (refl, (refl, (refl, (refl, (refl, (tt, tt))))))))
+defaults_do = (tt, (refl, (refl, (refl, (refl, (refl, (refl, (refl, (tt, tt)))))))))
 
 any_text : (o : Option Text) (P : Text → Type 0) → IsSomeAnd o P → IsSome o
 any_text None P h = absurd h

@@ -1,11 +1,12 @@
 -- The commands of the program.
-use Rattle.std.specs.Prelude.{true, false, List, [], ◌∷◌, Option, Some, None, option_and_then, codes, if◌then◌else◌, ⊤}
+use Rattle.std.specs.Prelude.{Bool, true, false, List, [], ◌∷◌, Option, Some, None, option_and_then, codes, if◌then◌else◌, ⊤}
+use Rattle.std.specs.Option.{option_map_or}
 use Rattle.std.specs.Str.{bytes_eq}
 use Rattle.clap.specs.Faults.{fault_of}
 use Rattle.clap.specs.Kinds.{Kinds}
 use Rattle.clap.specs.Simple.{App, new_shape, subcommand_of}
 use Rattle.clap.specs.Walk.{Row, Text}
-use Rattle.command_words.specs.Options.{IsWithinRanges, Settings, form_in, settings_in, settings_of, the_draw, the_stress}
+use Rattle.command_words.specs.Options.{IsWithinRanges, Settings, form_in, is_quiet, settings_in, settings_of, the_draw, the_judging, the_stress}
 use Rattle.command_words.specs.declared.options.PictureForm.{PictureForm}
 use Rattle.command_words.specs.declared.tasks.Task.{Task}
 use Rattle.command_words.specs.declared.tasks.Task.TheVariants as task
@@ -14,8 +15,8 @@ use Rattle.command_words.specs.declared.tasks.Task.TheVariants as task
 abbrev pub the_program : App
 the_program = record {
   top = record (new_shape (codes "fifobench")) { is_leaf = false; subcommand_required = true; has_version = true };
-  subs = new_shape (codes "check") ∷ new_shape (codes "shrink") ∷ new_shape (codes "verify")
-      ∷ the_draw ∷ new_shape (codes "convert") ∷ new_shape (codes "stats") ∷ new_shape (codes "sim") ∷ the_stress ∷ [];
+  subs = the_judging (codes "check") ∷ the_judging (codes "shrink") ∷ new_shape (codes "verify")
+      ∷ the_draw ∷ new_shape (codes "convert") ∷ new_shape (codes "stats") ∷ the_judging (codes "sim") ∷ the_stress ∷ [];
 }
 
 -- what is wrong with the words, or which help they ask for: nothing where they are a command
@@ -52,6 +53,14 @@ request_of_subcommand = option_and_then (λ p. request_named p.0 p.1)
 -- the request of the words
 abbrev pub request_in : List Text → Option Request
 request_in words = request_of_subcommand (subcommand_of the_program words)
+
+-- the subcommand that was met has a flag for a quiet answer, which was given
+abbrev pub is_quiet_subcommand : Option (Text × List Row) → Bool
+is_quiet_subcommand = λ met. option_map_or (λ p. is_quiet p.1) met false
+
+-- so of the subcommand of the words
+abbrev pub is_quiet_in : List Text → Bool
+is_quiet_in words = is_quiet_subcommand (subcommand_of the_program words)
 
 -- the request that a value of the program stands for
 abbrev pub request_of : Task → Request

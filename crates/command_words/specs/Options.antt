@@ -1,5 +1,5 @@
 -- The options of `draw` and `stress`.
-use Rattle.std.specs.Prelude.{◌≤◌, ℕ, true, List, [], ◌∷◌, Option, Some, None, codes, unwrap_or, if◌then◌else◌}
+use Rattle.std.specs.Prelude.{◌≤◌, ℕ, Bool, true, false, List, [], ◌∷◌, Option, Some, None, codes, unwrap_or, if◌then◌else◌}
 use Rattle.std.specs.Str.{bytes_eq}
 use Rattle.std.specs.Str.Parse.{digits_value, without_leading_plus}
 use Rattle.clap.specs.Simple.{Shape, new_rule, new_shape}
@@ -37,6 +37,18 @@ text_rule = record (new_rule (codes "text")) {
   action = Some SetTrue;
 }
 
+-- the flag that asks for the first line of a verdict alone
+abbrev pub quiet_rule : Rule
+quiet_rule = record (new_rule (codes "quiet")) {
+  long = Some (codes "quiet");
+  short = Some 113;
+  action = Some SetTrue;
+}
+
+-- a command that reads and judges, with this flag
+abbrev pub the_judging : Text → Shape
+the_judging name = record (new_shape name) { rules = quiet_rule ∷ [] }
+
 -- `draw` with its flag
 abbrev pub the_draw : Shape
 the_draw = record (new_shape (codes "draw")) { rules = text_rule ∷ [] }
@@ -48,7 +60,7 @@ stress_rules = queue_rule ∷ number_rule (codes "threads") 1 MAX_WORKERS (codes
     ∷ number_rule (codes "seed") 0 MAX_SEED (codes "1")
     ∷ number_rule (codes "percent") 0 100 (codes "50")
     ∷ number_rule (codes "ring") MIN_RING MAX_RING (codes "1024")
-    ∷ number_rule (codes "initial") 0 MAX_STRESS_INITIAL (codes "0") ∷ []
+    ∷ number_rule (codes "initial") 0 MAX_STRESS_INITIAL (codes "0") ∷ quiet_rule ∷ []
 
 -- the subcommand with its options
 abbrev pub the_stress : Shape
@@ -90,6 +102,15 @@ number_in id rows = digits_value 10 (without_leading_plus (text_in id rows))
 abbrev pub form_of : Option Text → PictureForm
 form_of None = Svg
 form_of (Some text) = if bytes_eq text (codes "true") then Terminal else Svg
+
+-- the text of a flag says that it was given
+abbrev pub is_given : Option Text → Bool
+is_given None = false
+is_given (Some text) = bytes_eq text (codes "true")
+
+-- clap's matches of a command say that its flag for a quiet answer was given
+abbrev pub is_quiet : List Row → Bool
+is_quiet rows = is_given (first_of (codes "quiet") rows)
 
 -- the form of a picture that clap's matches of `draw` ask for: characters where the flag was given
 abbrev pub form_in : List Row → PictureForm

@@ -4,7 +4,7 @@ ghost use Rattle.clap.specs.Simple.{app_of, new_app, shape_of};
 ghost use Rattle.clap.specs.Walk.{rule_of};
 ghost use Rattle.clap.specs.declared.builder.command.Command.TheViews.{out-Command};
 ghost use Rattle.command_words.specs.Commands.{the_program};
-ghost use Rattle.command_words.specs.Options.{number_rule, queue_rule, text_rule, the_draw, the_stress};
+ghost use Rattle.command_words.specs.Options.{number_rule, queue_rule, quiet_rule, text_rule, the_draw, the_judging, the_stress};
 
 use crate::help;
 use clap::builder::ValueParser;
@@ -18,35 +18,67 @@ use std::alloc::{AllocError, Global};
 pub(crate) fn the_command<'a>(alloc: Global) -> Result<Command<'a>, AllocError>
     ensures { IfOk result (λ c. app_of c ≡ the_program) }
 {
+    let check = judging_command(alloc, "check", help::CHECK_ABOUT, help::CHECK_LONG)?;
+    let shrink = judging_command(alloc, "shrink", help::SHRINK_ABOUT, help::SHRINK_LONG)?;
     let draw = draw_command(alloc)?;
+    let sim = judging_command(alloc, "sim", help::SIM_ABOUT, help::SIM_LONG)?;
     let stress = stress_command(alloc)?;
     Command::new(alloc, "fifobench")
         .about(help::ABOUT)
+        .after_help(help::SHORT)
+        .after_long_help(help::LONG)
         .version(help::VERSION)
         .subcommand_required(true)
-        .subcommand(plain_command(alloc, "check", help::CHECK_ABOUT, help::CHECK_HELP))?
-        .subcommand(plain_command(alloc, "shrink", help::SHRINK_ABOUT, help::SHRINK_HELP))?
-        .subcommand(plain_command(alloc, "verify", help::VERIFY_ABOUT, help::VERIFY_HELP))?
+        .subcommand(check)?
+        .subcommand(shrink)?
+        .subcommand(plain_command(alloc, "verify", help::VERIFY_ABOUT, help::VERIFY_LONG))?
         .subcommand(draw)?
-        .subcommand(plain_command(alloc, "convert", help::CONVERT_ABOUT, help::CONVERT_HELP))?
-        .subcommand(plain_command(alloc, "stats", help::STATS_ABOUT, help::STATS_HELP))?
-        .subcommand(plain_command(alloc, "sim", help::SIM_ABOUT, help::SIM_HELP))?
+        .subcommand(plain_command(alloc, "convert", help::CONVERT_ABOUT, help::CONVERT_LONG))?
+        .subcommand(plain_command(alloc, "stats", help::STATS_ABOUT, help::STATS_LONG))?
+        .subcommand(sim)?
         .subcommand(stress)
 }
 
 // A subcommand without options.
-fn plain_command<'a>(alloc: Global, name: &'a str, about: &'a str, help: &'a str) -> Command<'a>
+fn plain_command<'a>(alloc: Global, name: &'a str, about: &'a str, long: &'a str) -> Command<'a>
     ensures app { app_of result ≡ new_app name.entry.now }
     ensures local { (out-Command result).has_globals ≡ false }
 {
-    Command::new(alloc, name).about(about).after_help(help)
+    Command::new(alloc, name)
+        .about(about)
+        .after_help(help::MORE)
+        .after_long_help(long)
+}
+
+// A subcommand that judges, and may be asked to say no more than that.
+fn judging_command<'a>(
+    alloc: Global,
+    name: &'a str,
+    about: &'a str,
+    long: &'a str,
+) -> Result<Command<'a>, AllocError>
+    ensures shape { IfOk result (λ c. shape_of c ≡ the_judging name.entry.now) }
+    ensures local { IfOk result (λ c. (out-Command c).has_globals ≡ false) }
+{
+    plain_command(alloc, name, about, long).arg(quiet_option(alloc))
+}
+
+fn quiet_option<'a>(alloc: Global) -> Arg<'a>
+    ensures rule { rule_of result ≡ quiet_rule }
+    ensures local { result.global ≡ false }
+{
+    Arg::new(alloc, "quiet")
+        .short('q')
+        .long("quiet")
+        .action(ArgAction::SetTrue)
+        .help(help::QUIET_HELP)
 }
 
 fn draw_command<'a>(alloc: Global) -> Result<Command<'a>, AllocError>
     ensures shape { IfOk result (λ c. shape_of c ≡ the_draw) }
     ensures local { IfOk result (λ c. (out-Command c).has_globals ≡ false) }
 {
-    plain_command(alloc, "draw", help::DRAW_ABOUT, help::DRAW_HELP).arg(text_option(alloc))
+    plain_command(alloc, "draw", help::DRAW_ABOUT, help::DRAW_LONG).arg(text_option(alloc))
 }
 
 fn text_option<'a>(alloc: Global) -> Arg<'a>
@@ -63,7 +95,7 @@ fn stress_command<'a>(alloc: Global) -> Result<Command<'a>, AllocError>
     ensures shape { IfOk result (λ c. shape_of c ≡ the_stress) }
     ensures local { IfOk result (λ c. (out-Command c).has_globals ≡ false) }
 {
-    plain_command(alloc, "stress", help::STRESS_ABOUT, help::STRESS_HELP)
+    plain_command(alloc, "stress", help::STRESS_ABOUT, help::STRESS_LONG)
         .arg(queue_option(alloc))?
         .arg(number_option(
             alloc,
@@ -94,7 +126,8 @@ fn stress_command<'a>(alloc: Global) -> Result<Command<'a>, AllocError>
             (0, MAX_STRESS_INITIAL),
             "0",
             help::INITIAL_HELP,
-        ))
+        ))?
+        .arg(quiet_option(alloc))
 }
 
 fn queue_option<'a>(alloc: Global) -> Arg<'a>

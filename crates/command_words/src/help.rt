@@ -1,4 +1,5 @@
-//! The texts of the help.
+//! The texts of the help. No line is longer than 80 characters. Of each command a short text is printed for `-h`, and a long one
+//! for `--help`.
 
 /// The version of the program, as CHANGELOG.md has it, and in a second line the kit that proves and builds it.
 pub(crate) const VERSION: &str =
@@ -6,54 +7,90 @@ pub(crate) const VERSION: &str =
 
 pub(crate) const ABOUT: &str = "Records and judges histories of a concurrent FIFO queue";
 
-pub(crate) const CHECK_ABOUT: &str =
-    "Reads a history from standard input and prints whether it is linearizable";
+pub(crate) const SHORT: &str = "\
+A text is read from standard input: fifobench check < FILE
+`fifobench COMMAND --help` says what a command reads and writes.
+";
 
-pub(crate) const CHECK_HELP: &str = "\
-Input: the text of a history (docs/FORMATS.md). It begins with the line `fifo-history 1` and ends with
-the line `end N`, where N is the number of events. Between them stands a line for each event, by
-rising ticket; threads are 0 to 63:
+pub(crate) const LONG: &str = "\
+A text is read from standard input: fifobench check < FILE. The answer goes to
+standard output, and where the status is 2 or 3 standard error says why.
+`fifobench COMMAND --help` says what a command reads and writes.
+
+Status:
+  0  yes, or what was asked for is written
+  1  no, or the verdict is no evidence
+  2  refused: the input (REFUSED ..), or the words of the command
+  3  failed: a read, a write, a run, or memory (FAULT ..)
+";
+
+pub(crate) const MORE: &str = "`--help` says what it reads and writes, with an example.\n";
+
+pub(crate) const CHECK_ABOUT: &str = "Judges a history: is it linearizable?";
+
+pub(crate) const CHECK_LONG: &str = "\
+Input: the text of a history (docs/FORMATS.md). It begins with the line
+`fifo-history 1` and ends with the line `end N`, where N is the number of
+events. Between them stands a line for each event, by rising ticket; threads
+are 0 to 63:
   TICKET THREAD call-enq VALUE   the thread calls to enqueue the value
-  TICKET THREAD ret-enq          that call is answered: the value is in the queue
+  TICKET THREAD ret-enq          that call is answered: the value is in
   TICKET THREAD ret-not          or: it is not
   TICKET THREAD call-deq         the thread calls to dequeue
   TICKET THREAD ret-deq VALUE    that call is answered with the value
   TICKET THREAD ret-empty        or: the queue is empty
-The queue is empty before the first event. Where it holds K values first, the text begins with the lines
-`fifo-history 2` and `initial K` and a line for each of these values, the front one first.
+The queue is empty before the first event. Where it holds K values first, the
+text begins with the lines `fifo-history 2` and `initial K` and a line for each
+of these values, the front one first.
 
-Output: `YES` and all operations in a legal order of the queue, or `NO`, the kind of violation and
-the operations that show it: VFresh, a value that was not there; VRepeat, a value dequeued twice;
-VOrd, two values dequeued against the order of their enqueues; VWit, an empty answer although the
-queue was never empty meanwhile. A line has the tickets of an operation's call and return, its
-thread, and what it did; `init VALUE` stands for a value that the queue held first.
+Output: `YES` and all operations in a legal order of the queue, or `NO`, the
+kind of violation and the operations that show it: VFresh, a value that was not
+there; VRepeat, a value dequeued twice; VOrd, two values dequeued against the
+order of their enqueues; VWit, an empty answer although the queue was never
+empty meanwhile. A line has the tickets of an operation's call and return, its
+thread, and what it did; `init VALUE` stands for a value that the queue held
+first.
 
-Status: 0 yes, 1 no, 2 the input is refused (a line `REFUSED ..` says why), 3 a read, a write or
-memory failed (a line `FAULT ..`). Lines count from 1 and events from 0: event i stands in line i + 2,
-and behind K initial values in line i + K + 3. A text that goes on behind its line `end N` is
-`REFUSED Trailing`: of what `stress` writes, take the history alone by `sed '/^end /q'`.
+Lines count from 1 and events from 0: event i stands in line i + 2, and behind
+K initial values in line i + K + 3. A text that goes on behind its line `end N`
+is `REFUSED Trailing`: of what `stress` writes, take the history alone by
+`sed '/^end /q'`.
+
+Status:
+  0  yes
+  1  no
+  2  refused: the input (REFUSED ..), or the words of the command
+  3  failed: a read, a write, or memory (FAULT ..)
 
 Example:
-  $ printf 'fifo-history 1\\n0 0 call-deq\\n1 0 ret-deq 7\\nend 2\\n' | fifobench check
+  $ printf 'fifo-history 1\\n0 0 call-deq\\n1 0 ret-deq 7\\nend 2\\n' |
+    fifobench check
   NO VFresh
   0 1 0 deq 7
 ";
 
-pub(crate) const SHRINK_ABOUT: &str =
-    "Reads a history from standard input and prints what shows its violation, and no more";
+pub(crate) const SHRINK_ABOUT: &str = "Shows the violation of a history, and no more";
 
-pub(crate) const SHRINK_HELP: &str = "\
-Input: the text of a history, as for `check`, from its first line to the line `end N`.
+pub(crate) const SHRINK_LONG: &str = "\
+Input: the text of a history, as for `check`, from its first line to the line
+`end N`.
 
-Output: where the history is not linearizable, the text of the shrunk history, of the version of the
-input, and then its verdict; else the verdict alone, as `check` prints it.
+Output: where the history is not linearizable, the text of the shrunk history,
+of the version of the input, and then its verdict; else the verdict alone, as
+`check` prints it.
 
-Status: 0 yes, 1 no, 2 the input is refused (a line `REFUSED ..` says why), 3 a read, a write or
-memory failed (a line `FAULT ..`). A text that goes on behind its line `end N` is `REFUSED Trailing`:
-of what `stress` writes, take the history alone by `sed '/^end /q'`.
+A text that goes on behind its line `end N` is `REFUSED Trailing`: of what
+`stress` writes, take the history alone by `sed '/^end /q'`.
+
+Status:
+  0  yes
+  1  no
+  2  refused: the input (REFUSED ..), or the words of the command
+  3  failed: a read, a write, or memory (FAULT ..)
 
 Example:
-  $ printf 'fifo-history 1\\n0 0 call-enq 5\\n1 0 ret-enq\\n2 0 call-deq\\n3 0 ret-deq 7\\nend 4\\n' | fifobench shrink
+  $ printf '%s\\n' 'fifo-history 1' '0 0 call-enq 5' '1 0 ret-enq' \\
+      '2 0 call-deq' '3 0 ret-deq 7' 'end 4' | fifobench shrink
   fifo-history 1
   2 0 call-deq
   3 0 ret-deq 7
@@ -62,48 +99,61 @@ Example:
   2 3 0 deq 7
 ";
 
-pub(crate) const VERIFY_ABOUT: &str =
-    "Reads a history and a verdict from standard input and prints whether the verdict is evidence";
+pub(crate) const VERIFY_ABOUT: &str = "Tells whether a verdict is evidence in a history";
 
-pub(crate) const VERIFY_HELP: &str = "\
-Input: the text of a history, as for `check`, from its first line to the line `end N`, directly
-followed by the text of a verdict, from the line `YES` or `NO ..` on, as `stress` and `shrink` print
-them.
+pub(crate) const VERIFY_LONG: &str = "\
+Input: the text of a history, as for `check`, from its first line to the line
+`end N`, directly followed by the text of a verdict, from the line `YES` or
+`NO ..` on, as `stress` and `shrink` print them.
 
-Output: `VALID` where the verdict's operations are evidence for it in that history, else `INVALID`.
+Output: `VALID` where the verdict's operations are evidence for it in that
+history, else `INVALID`. Lines count from 1 through both texts.
 
-Status: 0 valid, 1 invalid, 2 the input is refused (a line `REFUSED ..` says why), 3 a read, a write
-or memory failed (a line `FAULT ..`). Lines count from 1 through both texts.
+Status:
+  0  valid
+  1  invalid
+  2  refused: the input (REFUSED ..), or the words of the command
+  3  failed: a read, a write, or memory (FAULT ..)
 
 Example:
-  $ printf 'fifo-history 1\\n0 0 call-deq\\n1 0 ret-deq 7\\nend 2\\nNO VFresh\\n0 1 0 deq 7\\n' | fifobench verify
+  $ printf '%s\\n' 'fifo-history 1' '0 0 call-deq' '1 0 ret-deq 7' 'end 2' \\
+      'NO VFresh' '0 1 0 deq 7' | fifobench verify
   VALID
 ";
 
-pub(crate) const DRAW_ABOUT: &str =
-    "Reads a history, and a verdict if one follows, from standard input and draws them";
+pub(crate) const DRAW_ABOUT: &str = "Draws a history, and a verdict if one follows";
 
-pub(crate) const DRAW_HELP: &str = "\
-Input: the text of a history, from its first line to the line `end N`, directly followed by the text of
-a verdict, from the line `YES` or `NO ..` on, as for `verify`. Where nothing follows, the history is
-decided as by `check`, and drawn with that verdict.
+pub(crate) const DRAW_LONG: &str = "\
+Input: the text of a history, from its first line to the line `end N`, directly
+followed by the text of a verdict, from the line `YES` or `NO ..` on, as for
+`verify`. Where nothing follows, the history is decided as by `check`, and drawn
+with that verdict.
 
-Output: a picture, as an SVG document for a browser, or with `--text` in lines of ASCII for a terminal.
-Time runs down: each event has a row, each thread a lane, and each operation a bar from its call to its
-return. Of a yes the order stands beside the lanes, and each number where its operation takes effect.
-Of a no the operations that show it are numbered in the order of the verdict's lines, and bands say
-when a value surely was in the queue, was not, and the time that contradicts it. In characters `[` is
-a call, `]` its return and `|` stands between, and bands are `###`, `xxx` and `:::`. Where the verdict
-is no evidence in the history, `INVALID`, and nothing is drawn. Values that the queue holds first (texts
-of `fifo-history 2`) have rows of their own above all events, front first, numbered as operations are.
+Output: a picture, as an SVG document for a browser, or with `--text` in lines
+of ASCII for a terminal. Time runs down: each event has a row, each thread a
+lane, and each operation a bar from its call to its return. Of a yes the order
+stands beside the lanes, and each number where its operation takes effect. Of a
+no the operations that show it are numbered in the order of the verdict's lines,
+and bands say when a value surely was in the queue, was not, and the time that
+contradicts it. In characters `[` is a call, `]` its return and `|` stands
+between, and bands are `###`, `xxx` and `:::`. Where the verdict is no evidence
+in the history, `INVALID`, and nothing is drawn. Values that the queue holds
+first (texts of `fifo-history 2`) have rows of their own above all events, front
+first, numbered as operations are.
 
-Status: 0 drawn, 1 invalid, 2 the input is refused (a line `REFUSED ..` says why), 3 a read, a write
-or memory failed (a line `FAULT ..`). More than 400 operations or values that the queue holds first, or
-more than 400 lines of the verdict, are `REFUSED Size`: a no is shrunk first. Lines count from 1 through
-both texts.
+More than 400 operations or values that the queue holds first, or more than 400
+lines of the verdict, are `REFUSED Size`: a no is shrunk first. Lines count from
+1 through both texts.
+
+Status:
+  0  drawn
+  1  invalid
+  2  refused: the input (REFUSED ..), or the words of the command
+  3  failed: a read, a write, or memory (FAULT ..)
 
 Example:
-  $ printf 'fifo-history 1\\n0 0 call-deq\\n1 0 ret-deq 7\\nend 2\\nNO VFresh\\n0 1 0 deq 7\\n' | fifobench draw --text
+  $ printf '%s\\n' 'fifo-history 1' '0 0 call-deq' '1 0 ret-deq 7' 'end 2' \\
+      'NO VFresh' '0 1 0 deq 7' | fifobench draw --text
   NO: a value was dequeued that was not there
   7 was dequeued (1), but nobody ever enqueued it.
 
@@ -123,20 +173,25 @@ Example:
 
 pub(crate) const TEXT_HELP: &str = "Draws in lines of characters, and not as SVG";
 
-pub(crate) const CONVERT_ABOUT: &str =
-    "Reads a history from standard input and prints it as a text of version 2";
+pub(crate) const CONVERT_ABOUT: &str = "Writes a history as a text of version 2";
 
-pub(crate) const CONVERT_HELP: &str = "\
-Input: the text of a history, as for `check`, from its first line to the line `end N`.
+pub(crate) const CONVERT_LONG: &str = "\
+Input: the text of a history, as for `check`, from its first line to the line
+`end N`.
 
-Output: the text of the same history in version 2, which says after its first line how many values the
-queue holds before the first event, and which. A text of version 2 comes out as it is.
+Output: the text of the same history in version 2, which says after its first
+line how many values the queue holds before the first event, and which. A text
+of version 2 comes out as it is. What `check` refuses is refused, with the same
+line.
 
-Status: 0 converted, 2 the input is refused (a line `REFUSED ..` says why), 3 a read, a write or
-memory failed (a line `FAULT ..`). What `check` refuses is refused, with the same line.
+Status:
+  0  converted
+  2  refused: the input (REFUSED ..), or the words of the command
+  3  failed: a read, a write, or memory (FAULT ..)
 
 Example:
-  $ printf 'fifo-history 1\\n0 0 call-enq 7\\n1 0 ret-enq\\nend 2\\n' | fifobench convert
+  $ printf '%s\\n' 'fifo-history 1' '0 0 call-enq 7' '1 0 ret-enq' 'end 2' |
+      fifobench convert
   fifo-history 2
   initial 0
   0 0 call-enq 7
@@ -144,11 +199,11 @@ Example:
   end 2
 ";
 
-pub(crate) const STATS_ABOUT: &str =
-    "Reads a history from standard input and prints how far its operations overlap, and other counts";
+pub(crate) const STATS_ABOUT: &str = "Counts how far a history's operations overlap, and more";
 
-pub(crate) const STATS_HELP: &str = "\
-Input: the text of a history, as for `check`, from its first line to the line `end N`.
+pub(crate) const STATS_LONG: &str = "\
+Input: the text of a history, as for `check`, from its first line to the line
+`end N`.
 
 Output: a line for each number, its name and its value:
   events               events
@@ -160,19 +215,27 @@ Output: a line for each number, its name and its value:
   empty                dequeues that found the queue empty
   initial              values that the queue holds before the first event
   thread-changes       events of another thread than the event before
-  overlapping          operations that overlap another one: neither returned before the other was called
-  overlapping-percent  the same among a hundred operations, rounded down; 0.0 of no operations
+  overlapping          operations that overlap another one: neither returned
+                       before the other was called
+  overlapping-percent  the same among a hundred operations, rounded down;
+                       0.0 of no operations
   most-pending         the most operations that were pending at once
-  most-in-queue        the most values that surely were in the queue at once: put there by enqueues that
-                       had returned, and not given by dequeues that had been called
+  most-in-queue        the most values that surely were in the queue at once:
+                       put there by enqueues that had returned, and not given
+                       by dequeues that had been called
 
-Status: 0 counted, 2 the input is refused (a line `REFUSED ..` says why), 3 a read, a write or
-memory failed (a line `FAULT ..`). What `check` refuses is refused, with the same line. A text that goes
-on behind its line `end N` is `REFUSED Trailing`: of what `stress` writes, take the history alone by
-`sed '/^end /q'`.
+What `check` refuses is refused, with the same line. A text that goes on behind
+its line `end N` is `REFUSED Trailing`: of what `stress` writes, take the
+history alone by `sed '/^end /q'`.
+
+Status:
+  0  counted
+  2  refused: the input (REFUSED ..), or the words of the command
+  3  failed: a read, a write, or memory (FAULT ..)
 
 Example:
-  $ printf 'fifo-history 1\\n0 0 call-enq 7\\n1 1 call-deq\\n2 0 ret-enq\\n3 1 ret-deq 7\\nend 4\\n' | fifobench stats
+  $ printf '%s\\n' 'fifo-history 1' '0 0 call-enq 7' '1 1 call-deq' \\
+      '2 0 ret-enq' '3 1 ret-deq 7' 'end 4' | fifobench stats
   events 4
   operations 2
   threads 2
@@ -188,51 +251,63 @@ Example:
   most-in-queue 0
 ";
 
-pub(crate) const SIM_ABOUT: &str =
-    "Reads a schedule from standard input, steps the recorder through it, and judges what it recorded";
+pub(crate) const SIM_ABOUT: &str = "Steps the recorder through a schedule, and judges it";
 
-pub(crate) const SIM_HELP: &str = "\
-Input: the text of a schedule. It begins with the line `fifo-schedule 1` and the line
-`threads T ring R`, with 1 to 64 threads and rings of 2 to 65536 events, and ends with the line
-`end N`, where N is the number of steps. Between them stands a line for each step of a thread T:
+pub(crate) const SIM_LONG: &str = "\
+Input: the text of a schedule. It begins with the line `fifo-schedule 1` and the
+line `threads T ring R`, with 1 to 64 threads and rings of 2 to 65536 events,
+and ends with the line `end N`, where N is the number of steps. Between them
+stands a line for each step of a thread T:
   ask-enq T, ask-deq T   it draws the ticket of a call
   push T                 its held event goes into its ring
-  effect T               its operation takes effect on a queue that keeps the order
-  say T taken            or it is told that answer: taken, not, got VALUE or empty
+  effect T               its operation takes effect on a queue that keeps the
+                         order
+  say T taken            or it is told that answer: taken, not, got VALUE or
+                         empty
   ret T                  it draws the ticket of the return
   drain T K              up to K events of its ring are collected
   close T                it is closed
 
-Output: a line `REJECTED`, with the number of the step from 1 and the reason, for each step that the
-recorder refuses; then `OPEN` where some thread is not closed or some ring not empty, else the text
-of the recorded history and its verdict.
+Output: a line `REJECTED`, with the number of the step from 1 and the reason,
+for each step that the recorder refuses; then `OPEN` where some thread is not
+closed or some ring not empty, else the text of the recorded history and its
+verdict. Lines count from 1: step i stands in line i + 2.
 
-Status: 0 yes or open, 1 no, 2 the input is refused (a line `REFUSED ..` says why), 3 a read, a write
-or memory failed (a line `FAULT ..`). Lines count from 1: step i stands in line i + 2.
+Status:
+  0  yes, or open
+  1  no
+  2  refused: the input (REFUSED ..), or the words of the command
+  3  failed: a read, a write, or memory (FAULT ..)
 
 Example:
-  $ printf 'fifo-schedule 1\\nthreads 1 ring 2\\nask-enq 0\\nend 1\\n' | fifobench sim
+  $ printf 'fifo-schedule 1\\nthreads 1 ring 2\\nask-enq 0\\nend 1\\n' |
+      fifobench sim
   OPEN
 ";
 
-pub(crate) const STRESS_ABOUT: &str =
-    "Runs workers on a queue, records what they did, and prints the history and its verdict";
+pub(crate) const STRESS_ABOUT: &str = "Records what workers do with a queue, and judges it";
 
-pub(crate) const STRESS_HELP: &str = "\
+pub(crate) const STRESS_LONG: &str = "\
 Input: none.
 
-Output: the text of the recorded history and its verdict, which `verify` reads. Runs of several
-workers differ, also with the same options, since the workers run at the same time.
+Output: the text of the recorded history and its verdict, which `verify` reads.
+Runs of several workers differ, also with the same options, since the workers
+run at the same time.
 
-With `--initial K` the queue is given the values 274877906944, 274877906945, .. before any worker
-starts, K of them, and the text of the history is of version 2. Where the queue has no room for one of
-them, `FAULT Preload PLACE` says for which, counted from 0.
+With `--initial K` the queue is given the values 274877906944, 274877906945, ..
+before any worker starts, K of them, and the text of the history is of version
+2. Where the queue has no room for one of them, `FAULT Preload PLACE` says for
+which, counted from 0.
 
-Queues: locked, two-lock, array and seg are made to keep the order; lifo, doubling, inventing, shy
-and losing break it now and then, on purpose.
+Queues: locked, two-lock, array and seg are made to keep the order; lifo,
+doubling, inventing, shy and losing break it now and then, on purpose.
 
-Status: 0 yes, 1 no, 2 there is no such queue, or threads times operations is above 1000000 (a line
-`REFUSED ..` says which), 3 the run, a write or memory failed (a line `FAULT ..`).
+Status:
+  0  yes
+  1  no
+  2  refused: no such queue, or threads times operations is above 1000000
+     (REFUSED ..), or the words of the command
+  3  failed: the run, a write, or memory (FAULT ..)
 
 Example:
   $ fifobench stress --queue locked --threads 1 --ops 1 --percent 100
@@ -244,16 +319,18 @@ Example:
   0 1 0 enq 0
 ";
 
+pub(crate) const QUIET_HELP: &str = "Prints the first line of the verdict alone";
+
 pub(crate) const QUEUE_HELP: &str = "Name of the queue";
 
 pub(crate) const THREADS_HELP: &str = "Workers, 1 to 32";
 
 pub(crate) const OPERATIONS_HELP: &str = "Operations of each worker, 0 to 100000";
 
-pub(crate) const SEED_HELP: &str = "Seed of the workers' plan, 0 to 4294967295";
+pub(crate) const SEED_HELP: &str = "Seed of the plan, 0 to 4294967295";
 
-pub(crate) const PERCENT_HELP: &str = "Enqueues among a hundred operations, 0 to 100";
+pub(crate) const PERCENT_HELP: &str = "Enqueues in a hundred calls, 0 to 100";
 
-pub(crate) const RING_HELP: &str = "Events that each worker's ring holds, 2 to 65536";
+pub(crate) const RING_HELP: &str = "Events that a ring holds, 2 to 65536";
 
-pub(crate) const INITIAL_HELP: &str = "Values that the queue holds before the run, 0 to 1000";
+pub(crate) const INITIAL_HELP: &str = "Values in the queue first, 0 to 1000";

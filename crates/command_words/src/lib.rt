@@ -9,4 +9,4 @@ mod tasks;
 
 pub use laws::words_without_a_fault_are_a_command;
 pub use options::{PictureForm, StressOptions};
-pub use tasks::{Task, task_in};
+pub use tasks::{Order, Task, order_in};

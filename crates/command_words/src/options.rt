@@ -2,7 +2,7 @@
 ghost use Rattle.std.specs.Prelude.{◌≡◌, ℕ, Some};
 ghost use Rattle.clap.specs.Matches.{found_of};
 ghost use Rattle.clap.specs.Walk.{rows_of};
-ghost use Rattle.command_words.specs.Options.{IsWithinRanges, form_in, form_of, number_in, settings_in, settings_of};
+ghost use Rattle.command_words.specs.Options.{IsWithinRanges, form_in, form_of, is_given, is_quiet, number_in, settings_in, settings_of};
 ghost use Rattle.command_words.specs.Inner.Options.{HasNumber, HasSettings};
 
 use clap::ArgMatches;
@@ -34,6 +34,22 @@ fn form_of(text: &str) -> PictureForm
     } else {
         PictureForm::Svg
     }
+}
+
+/// Whether the flag for a quiet answer is among the matches of a command.
+pub(crate) fn is_quiet(matches: &ArgMatches<'_>) -> bool
+    ensures { result ≡ is_quiet (rows_of (found_of matches.now)) }
+{
+    match matches.get_str("quiet") {
+        None => false,
+        Some(text) => is_given(text),
+    }
+}
+
+fn is_given(text: &str) -> bool
+    ensures { result ≡ is_given (Some text.now) }
+{
+    text == "true"
 }
 
 /// What `stress` runs.

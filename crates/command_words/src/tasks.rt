@@ -2,11 +2,11 @@
 ghost use Rattle.std.specs.Prelude.{◌≡◌, IfOk, IfErr, OnOk, Some, map, []};
 ghost use Rattle.clap.specs.Kinds.{HasKind};
 ghost use Rattle.clap.specs.Simple.{subcommand_rows_of};
-ghost use Rattle.command_words.specs.Commands.{IsInRange, faults_in, request_in, request_of, request_of_subcommand};
+ghost use Rattle.command_words.specs.Commands.{IsInRange, faults_in, is_quiet_in, is_quiet_subcommand, request_in, request_of, request_of_subcommand};
 ghost use Rattle.command_words.specs.Inner.Commands.{IsAnswerable};
 
 use crate::commands::the_command;
-use crate::options::{PictureForm, StressOptions, picture_form, stress_options};
+use crate::options::{PictureForm, StressOptions, is_quiet, picture_form, stress_options};
 use clap::{ArgMatches, Error};
 use std::alloc::Global;
 use std::convert::AsStr;
@@ -32,21 +32,45 @@ pub enum Task<'a> {
     Stress(StressOptions<'a>),
 }
 
-/// The task that the words name, or clap's error about them.
+/// What the words ask for, and how it is to be answered.
+#[derive(Clone, Copy, Debug, PartialEq, Eq)]
+pub struct Order<'a> {
+    /// What is to be done.
+    pub task: Task<'a>,
+    /// Whether the first line of the verdict is wanted alone.
+    pub is_quiet: bool,
+}
+
+/// The order that the words give, or clap's error about them.
 ///
 /// The first word is the program's own name. A mistake in the words is an error of status 2 by clap's `exit_code`, and words
 /// that ask for a help one of status 0, whose text is the help; kind `OutOfMemory` stands for want of memory alone. A number
 /// out of the range of its option is a mistake of kind `ValueValidation`.
-pub fn task_in<'a, T: AsStr>(alloc: Global, words: &'a [T]) -> Result<Task<'a>, Error>
+pub fn order_in<'a, T: AsStr>(alloc: Global, words: &'a [T]) -> Result<Order<'a>, Error>
     ensures ok { OnOk result (faults_in (map T.text words.entry.now) ≡ []) }
-    ensures task { IfOk result (λ task. request_in (map T.text words.entry.now) ≡ Some (request_of task)) }
-    ensures ranges { IfOk result (λ task. IsInRange (request_of task)) }
+    ensures task { IfOk result (λ order. request_in (map T.text words.entry.now) ≡ Some (request_of order.task)) }
+    ensures quiet { IfOk result (λ order. order.is_quiet ≡ is_quiet_in (map T.text words.entry.now)) }
+    ensures ranges { IfOk result (λ order. IsInRange (request_of order.task)) }
     ensures err { IfErr result (HasKind (faults_in (map T.text words.entry.now))) }
 {
     let command = the_command(alloc)?;
     match command.try_get_matches_from(words) {
-        Ok(matches) => Ok(task_of(&matches)),
+        Ok(matches) => {
+            let task = task_of(&matches);
+            let is_quiet = is_quiet_of(&matches);
+            Ok(Order { task, is_quiet })
+        }
         Err(error) => Err(error),
+    }
+}
+
+// Whether the subcommand that was met has its flag for a quiet answer.
+fn is_quiet_of(matches: &ArgMatches<'_>) -> bool
+    ensures { result ≡ is_quiet_subcommand (subcommand_rows_of matches.now) }
+{
+    match matches.subcommand() {
+        Some((_name, options)) => is_quiet(options),
+        None => false,
     }
 }
 

@@ -1,5 +1,5 @@
 -- What an error of the words leaves behind where nothing is wrong with them.
-use Rattle.std.proofs.Common.{◌≡◌, ℕ, List, [], Bool, Option, Some, None, inl, inr, refl, IfSome, subst, sym, ◌∙◌}
+use Rattle.std.proofs.Common.{◌≡◌, ℕ, List, [], Bool, true, false, Option, Some, None, inl, inr, refl, IfSome, subst, sym, ◌∙◌}
 use Rattle.std.proofs.lemmas.Option.{same_Some}
 use Rattle.text_lines.specs.Input.{Ahead}
 use Rattle.clap.specs.Kinds.{Kinds, HasKind, IsAmong}
@@ -9,7 +9,7 @@ use Rattle.command_words.specs.Commands.{Request, stress}
 use Rattle.command_words.specs.Options.{Settings}
 use Rattle.commands.specs.Answers.{Reply, memory_fault}
 use Rattle.commands.specs.Judging.{AnswersOrNoMemory}
-use Rattle.commands.specs.Running.{AnswersOf, PrintsOneOf, PrintsAnswer}
+use Rattle.commands.specs.Running.{AnswersOf, PrintsOneOf, PrintsAnswer, PrintsSaid}
 use Rattle.commands.specs.Inner.Running.{Explains}
 
 -- memory ran out, and that is printed
@@ -20,24 +20,30 @@ memory_ran_out e kinds old new refused result none (inl memory) (inr printed) = 
 memory_ran_out e kinds old new refused result none (inr among) (inl text) = absurd (subst (λ (ks : Kinds). IsAmong (kind_of e) ks) none among)
 memory_ran_out e kinds old new refused result none (inr among) (inr printed) = printed
 
+-- want of memory is said alike, quietly or whole
+pub memory_is_said : (quiet : Bool) (old new : Option (List ℕ)) (refused : Bool) (result : ℕ) → PrintsAnswer old new refused result memory_fault
+    → PrintsSaid quiet old new refused result memory_fault
+memory_is_said true old new refused result printed = printed
+memory_is_said false old new refused result printed = printed
+
 -- a command that reads
-pub reads_out_of_memory : (request : Request) (e : Error) (kinds : Kinds) (input : Option Ahead) (old new : Option (List ℕ)) (refused : Bool)
+pub reads_out_of_memory : (quiet : Bool) (request : Request) (e : Error) (kinds : Kinds) (input : Option Ahead) (old new : Option (List ℕ)) (refused : Bool)
     (result : ℕ) → kinds ≡ [] → HasKind kinds e → Explains (kind_of e) old new refused result
-    → IfSome input (λ a. PrintsOneOf (AnswersOrNoMemory (AnswersOf request) a) old new refused result)
-reads_out_of_memory request e kinds None old new refused result none has explained = tt
-reads_out_of_memory request e kinds (Some a) old new refused result none has explained = record {
+    → IfSome input (λ a. PrintsOneOf quiet (AnswersOrNoMemory (AnswersOf request) a) old new refused result)
+reads_out_of_memory quiet request e kinds None old new refused result none has explained = tt
+reads_out_of_memory quiet request e kinds (Some a) old new refused result none has explained = record {
   answer = memory_fault;
   right = inr refl;
-  printed = memory_ran_out e kinds old new refused result none has explained;
+  printed = memory_is_said quiet old new refused result (memory_ran_out e kinds old new refused result none has explained);
 }
 
 -- ---- what was found is printed
 
-module _ (asked : Option Request) (given : Request) (is_given : asked ≡ Some given) (answer : Reply) (old new : Option (List ℕ)) (refused : Bool)
-    (result : ℕ) (printed : PrintsAnswer old new refused result answer) where
+module _ (asked : Option Request) (given : Request) (is_given : asked ≡ Some given) (answer : Reply) (quiet : Bool) (old new : Option (List ℕ))
+    (refused : Bool) (result : ℕ) (printed : PrintsSaid quiet old new refused result answer) where
   -- of a command that reads
   pub reads_printed : (request : Request) (input : Option Ahead) → asked ≡ Some request → IfSome input (λ a. AnswersOf given a answer)
-      → IfSome input (λ a. PrintsOneOf (AnswersOrNoMemory (AnswersOf request) a) old new refused result)
+      → IfSome input (λ a. PrintsOneOf quiet (AnswersOrNoMemory (AnswersOf request) a) old new refused result)
   reads_printed request None is found = tt
   reads_printed request (Some a) is found = record {
     answer = answer;

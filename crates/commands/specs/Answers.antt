@@ -9,6 +9,7 @@ use Rattle.text_lines.specs.Lines.{line}
 use Rattle.history_text.specs.Versions.{HistoryText}
 use Rattle.history_text.specs.Histories.{history_text}
 use Rattle.history_text.specs.Versions.{text_of}
+use Rattle.history_text.specs.Claims.{first_line}
 use Rattle.history_text.specs.Verdicts.{verdict_text}
 use Rattle.history_merge.specs.declared.fault.HistoryFault.{HistoryFault}
 use Rattle.history_merge.specs.declared.fault.HistoryFault.TheVariants as history
@@ -110,6 +111,24 @@ answer_text refused_limit = line (beginning true ++ codes "Limit")
 answer_text read_fault = line (beginning false ++ codes "Read")
 answer_text memory_fault = line (beginning false ++ codes "Memory")
 answer_text (run_fault fault) = line (beginning false ++ run_fault_name fault)
+
+-- the first line of a verdict's text
+abbrev pub verdict_head : Claimed → List ℕ
+verdict_head (claim.Yes lines) = line (first_line None)
+verdict_head (claim.No kind lines) = line (first_line (Some kind))
+
+-- the text of an answer that is asked for quietly: of a verdict the first line alone
+abbrev pub quiet_text : Reply → List ℕ
+quiet_text (judged claimed) = verdict_head claimed
+quiet_text (shown text claimed) = verdict_head claimed
+quiet_text (left_open rejections) = line (codes "OPEN")
+quiet_text (played rejections events claimed) = verdict_head claimed
+quiet_text answer = answer_text answer
+
+-- the text of an answer, by whether it is asked for quietly
+abbrev pub said_text : Bool → Reply → List ℕ
+said_text false answer = answer_text answer
+said_text true answer = quiet_text answer
 
 -- ---- statuses
 

@@ -8,7 +8,7 @@ use Rattle.clap.specs.Kinds.{Kinds, IsAmong}
 use Rattle.clap.specs.declared.error.kind.ErrorKind.{ErrorKind}
 use Rattle.clap.specs.declared.error.kind.ErrorKind.TheVariants as kind
 use Rattle.command_words.specs.Commands.{Request, check, shrink, verify, draw, convert, stats, sim, stress}
-use Rattle.commands.specs.Answers.{Reply, memory_fault, answer_text, answer_status}
+use Rattle.commands.specs.Answers.{Reply, memory_fault, answer_text, answer_status, said_text}
 use Rattle.commands.specs.Inputs.{IsHistoryOf, IsFaultOfHistoryInput, IsScheduleOf, IsFaultOfScheduleInput, IsClaimOf, IsFaultOfClaimInput}
 use Rattle.commands.specs.Inputs.{IsDrawableOf, IsFaultOfDrawableInput}
 use Rattle.commands.specs.Judging.{AnswersFor, Judges, Shrinks, Verifies, Draws, Converts, Counts, Simulates}
@@ -27,6 +27,10 @@ WritesAndFlushes goes true old new = IsRefused goes old new
 abbrev pub PrintsAnswer : Option (List ℕ) → Option (List ℕ) → Bool → ℕ → Reply → Type 0
 PrintsAnswer old new refused result answer = Prints old new refused result (answer_text answer) (answer_status answer)
 
+-- the same of an answer that may be asked for quietly
+abbrev pub PrintsSaid : Bool → Option (List ℕ) → Option (List ℕ) → Bool → ℕ → Reply → Type 0
+PrintsSaid quiet old new refused result answer = Prints old new refused result (said_text quiet answer) (answer_status answer)
+
 -- what a command answers of an input; `stress` reads none
 abbrev pub AnswersOf : Request → Ahead → Reply → Type 0
 AnswersOf check input answer = AnswersFor IsHistoryOf IsFaultOfHistoryInput Judges input answer
@@ -38,11 +42,11 @@ AnswersOf stats input answer = AnswersFor IsHistoryOf IsFaultOfHistoryInput Coun
 AnswersOf sim input answer = AnswersFor IsScheduleOf IsFaultOfScheduleInput Simulates input answer
 AnswersOf (stress settings) input answer = Unit {0}
 
--- an answer of this kind was printed
-pub record PrintsOneOf (IsAnswer : Reply → Type 0) (old new : Option (List ℕ)) (refused : Bool) (result : ℕ) : Type 0 where
+-- an answer of this kind was printed, quietly or whole
+pub record PrintsOneOf (quiet : Bool) (IsAnswer : Reply → Type 0) (old new : Option (List ℕ)) (refused : Bool) (result : ℕ) : Type 0 where
   pub answer : Reply
   pub right : IsAnswer answer
-  pub printed : PrintsAnswer old new refused result answer
+  pub printed : PrintsSaid quiet old new refused result answer
 
 -- a help or a version, or a mistake in the words
 abbrev pub usage_status : ErrorKind → ℕ

@@ -5,7 +5,7 @@ use crate::outcome::{Fault, Found, Outcome};
 use crate::stress::Shelved;
 use clap::Error;
 use clap::error::ErrorKind;
-use command_words::Task;
+use command_words::{Order, Task};
 use history_text::{TextSink, write_piece};
 use messages::{Complaint, FrontKept, Given, NO_MEMORY, Reads, greeting, keeping, sentence};
 use std::alloc::{AllocError, Global};
@@ -173,7 +173,7 @@ pub(crate) fn say_why<'a, S, E: TextSink>(
 /// Says to one who sits at the output how a long history is kept.
 pub(crate) fn say_how_to_keep<E: TextSink>(
     alloc: Global,
-    task: &Task<'_>,
+    order: &Order<'_>,
     outcome: &Outcome,
     terminals: Terminals,
     errors: &mut E,
@@ -183,7 +183,11 @@ pub(crate) fn say_how_to_keep<E: TextSink>(
     if !terminals.output {
         return;
     }
-    if let (Task::Stress(_), Ok(Found::Shown(_, history, _))) = (task, outcome) {
+    if let (Task::Stress(_), false, Ok(Found::Shown(_, history, _))) = (
+        order.task,
+        order.is_quiet,
+        outcome,
+    ) {
         let events = history.events().len();
         if events > MANY_EVENTS {
             tell_made(&keeping(alloc, events as u64), errors);

@@ -1,6 +1,6 @@
 //! A run of the program.
 ghost use Rattle.std.specs.Prelude.{◌≡◌, ◌≢◌, ◌≤◌, IfSome, Some, [], false, map};
-ghost use Rattle.command_words.specs.Commands.{Request, stress, request_in, request_of, faults_in, IsInRange};
+ghost use Rattle.command_words.specs.Commands.{Request, stress, is_quiet_in, request_in, request_of, faults_in, IsInRange};
 ghost use Rattle.command_words.specs.Options.{Settings};
 ghost use Rattle.commands.specs.Judging.{AnswersOrNoMemory};
 ghost use Rattle.commands.specs.Outcomes.{answer_of, NamesPlaces};
@@ -23,7 +23,7 @@ use crate::stress::{Shelved, stress};
 use crate::verify::verify;
 use clap::Error;
 use clap::error::ErrorKind;
-use command_words::{Task, task_in};
+use command_words::{Task, order_in};
 use history_text::{Buffered, TextSink, TextSource, Watched};
 use messages::FrontKept;
 use std::alloc::Global;
@@ -57,12 +57,13 @@ where
 
     // Words that are a command which reads: what it answers of the input is printed, or want of memory for the words.
     ensures reads { (request : Request) → faults_in (map T.text words.entry.now) ≡ [] → request_in (map T.text words.entry.now) ≡ Some request
-        → IfSome (S.ahead reader) (λ input. PrintsOneOf (AnswersOrNoMemory (AnswersOf request) input) (W.contents writer.old) (W.contents writer.new)
-        (W.has_refused writer.new) result) }
+        → IfSome (S.ahead reader) (λ input. PrintsOneOf (is_quiet_in (map T.text words.entry.now)) (AnswersOrNoMemory (AnswersOf request) input)
+        (W.contents writer.old) (W.contents writer.new) (W.has_refused writer.new) result) }
 
     // Words that are `stress`: what a run on the shelf gives is printed.
     ensures stresses { (settings : Settings) → faults_in (map T.text words.entry.now) ≡ [] → request_in (map T.text words.entry.now) ≡ Some (stress settings)
-        → PrintsOneOf (AnswersOrNoMemory (Stresses (λ s. s.name.now) (λ s. may s.queue) (λ s. may_preload s.queue) shelf.now) settings)
+        → PrintsOneOf (is_quiet_in (map T.text words.entry.now))
+        (AnswersOrNoMemory (Stresses (λ s. s.name.now) (λ s. may s.queue) (λ s. may_preload s.queue) shelf.now) settings)
         (W.contents writer.old) (W.contents writer.new) (W.has_refused writer.new) result }
 
     // Other words are answered by a text about the use of the program.
@@ -78,14 +79,15 @@ where
     // Of a yes, a no, a help and what else has the status 0 or 1 nothing is said on standard error, unless a terminal is there.
     ensures silent { terminals.input ≡ false → terminals.output ≡ false → result ≤ 1 → errors.new ≡ errors.old }
 {
-    match task_in(rt.alloc(), words) {
-        Ok(task) => {
+    match order_in(rt.alloc(), words) {
+        Ok(order) => {
+            let task = order.task;
             greet(rt.alloc(), &task, terminals, errors);
             let mut kept = FrontKept::new(rt.alloc(), reader);
             let outcome = outcome_of(rt, task, &mut kept, shelf);
-            let status = print_outcome(&outcome, writer);
+            let status = print_outcome(&outcome, order.is_quiet, writer);
             say_why(rt.alloc(), &task, &outcome, status, &kept, shelf, errors);
-            say_how_to_keep(rt.alloc(), &task, &outcome, terminals, errors);
+            say_how_to_keep(rt.alloc(), &order, &outcome, terminals, errors);
             status
         }
         Err(error) => {
@@ -174,10 +176,10 @@ fn explain<W: TextSink>(alloc: Global, error: &Error, writer: &mut W) -> u8
     ensures passed_on { W.has_refused writer.new ≡ false → W.holds_back writer.new ≡ false }
 {
     if error.kind() == ErrorKind::OutOfMemory {
-        return print_outcome(&Err(Fault::Memory), writer);
+        return print_outcome(&Err(Fault::Memory), false, writer);
     }
     match format!(in alloc; "{error}") {
         Ok(text) => print_text(text.as_bytes(), usage_status(error.kind()), writer),
-        Err(_) => print_outcome(&Err(Fault::Memory), writer),
+        Err(_) => print_outcome(&Err(Fault::Memory), false, writer),
     }
 }

@@ -4,15 +4,16 @@ ghost use Rattle.std.specs.Io.KnownBytes.{Appends};
 ghost use Rattle.history_merge.specs.declared.operation.Operation.{Operation};
 ghost use Rattle.verdicts.specs.Claiming.{claim_of};
 ghost use Rattle.text_lines.specs.Writing.{AppendsFront, IsWritten, IsRefused};
-ghost use Rattle.commands.specs.Answers.{answer_text, answer_status, claim_status};
+ghost use Rattle.commands.specs.Answers.{answer_text, answer_status, claim_status, quiet_text, said_text, verdict_head};
 ghost use Rattle.commands.specs.Outcomes.{answer_of, NamesPlaces};
-ghost use Rattle.commands.specs.Running.{Prints, PrintsAnswer, WritesAndFlushes};
+ghost use Rattle.commands.specs.Running.{Prints, PrintsSaid, WritesAndFlushes};
 
 use crate::faults::write_fault;
 use crate::outcome::{Found, Outcome};
 use crate::show::{write_left_open, write_played, write_shown};
 use history_stats::write_statistics;
 use history_text::{TextSink, Version, WriteFault, write_history, write_piece, write_verdict};
+use value_match::Violation;
 use verdicts::Verdict;
 
 /// Writes what a command found, or why it found nothing.
@@ -86,15 +87,67 @@ fn flush_written<W: TextSink>(written: Result<(), WriteFault>, status: u8, write
     status
 }
 
-/// Writes what a command found and flushes the writer; answers the status.
-pub fn print_outcome<W: TextSink>(outcome: &Outcome, writer: &mut W) -> u8
+/// The first line of a verdict's text.
+fn head_of(verdict: &Verdict) -> &'static [u8]
+    ensures { (initial : List ℕ) (operations : List Operation) → result.now ≡ verdict_head (claim_of initial operations verdict.now) }
+{
+    match verdict {
+        Verdict::Yes(_) => return b"YES\n",
+        Verdict::No(Violation::Fresh { .. }) => return b"NO VFresh\n",
+        Verdict::No(Violation::Repeat { .. }) => return b"NO VRepeat\n",
+        Verdict::No(Violation::Order { .. }) => return b"NO VOrd\n",
+        Verdict::No(Violation::Witness { .. }) => return b"NO VWit\n",
+    }
+}
+
+/// Writes what a command found, where it is asked for quietly: of a verdict the first line alone.
+fn write_quietly<W: TextSink>(outcome: &Outcome, writer: &mut W) -> Result<(), WriteFault>
+    requires { NamesPlaces outcome.now }
+    ensures ok { OnOk result (Appends (W.contents writer.old) (W.contents writer.new) (quiet_text (answer_of outcome.now))) }
+    ensures err { OnErr result (AppendsFront (W.contents writer.old) (W.contents writer.new) (quiet_text (answer_of outcome.now))) }
+    ensures refused { W.has_refused writer.new ≡ (W.has_refused writer.old || is_err result) }
+    ensures written { OnOk result (IsWritten W.goes writer.old writer.new) }
+    ensures stopped { OnErr result (IsRefused W.goes writer.old writer.new) }
+{
+    match outcome {
+        Ok(Found::Judged(_, verdict)) => return write_piece(head_of(verdict), writer),
+        Ok(Found::Shown(_, _, verdict)) => return write_piece(head_of(verdict), writer),
+        Ok(Found::Played(_, _, verdict)) => return write_piece(head_of(verdict), writer),
+        Ok(Found::LeftOpen(_)) => return write_piece(b"OPEN\n", writer),
+        Ok(Found::Converted(_) | Found::Verified(_)) => return write_outcome(outcome, writer),
+        Ok(Found::Counted(_) | Found::Drawn(_)) => return write_outcome(outcome, writer),
+        Err(fault) => return write_fault(*fault, writer),
+    }
+}
+
+/// Writes what a command found, quietly or whole.
+fn write_said<W: TextSink>(
+    outcome: &Outcome,
+    is_quiet: bool,
+    writer: &mut W,
+) -> Result<(), WriteFault>
+    requires { NamesPlaces outcome.now }
+    ensures ok { OnOk result (Appends (W.contents writer.old) (W.contents writer.new) (said_text is_quiet (answer_of outcome.now))) }
+    ensures err { OnErr result (AppendsFront (W.contents writer.old) (W.contents writer.new) (said_text is_quiet (answer_of outcome.now))) }
+    ensures refused { W.has_refused writer.new ≡ (W.has_refused writer.old || is_err result) }
+    ensures written { OnOk result (IsWritten W.goes writer.old writer.new) }
+    ensures stopped { OnErr result (IsRefused W.goes writer.old writer.new) }
+{
+    if is_quiet {
+        return write_quietly(outcome, writer);
+    }
+    write_outcome(outcome, writer)
+}
+
+/// Writes what a command found, quietly or whole, and flushes the writer; answers the status.
+pub fn print_outcome<W: TextSink>(outcome: &Outcome, is_quiet: bool, writer: &mut W) -> u8
     requires fresh { W.has_refused writer.old ≡ false }
     requires places { NamesPlaces outcome.now }
-    ensures printed { PrintsAnswer (W.contents writer.old) (W.contents writer.new) (W.has_refused writer.new) result (answer_of outcome.now) }
+    ensures printed { PrintsSaid is_quiet (W.contents writer.old) (W.contents writer.new) (W.has_refused writer.new) result (answer_of outcome.now) }
     ensures asked { WritesAndFlushes W.goes (W.has_refused writer.new) writer.old writer.new }
     ensures passed_on { W.has_refused writer.new ≡ false → W.holds_back writer.new ≡ false }
 {
-    let written = write_outcome(outcome, writer);
+    let written = write_said(outcome, is_quiet, writer);
     flush_written(written, status_of(outcome), writer)
 }
 

@@ -56,7 +56,7 @@ pub fn print_start_fault<W: TextSink, E: TextSink>(
 {
     let status = match fault {
         StartFault::NoText => print_text(NO_TEXT, 2, writer),
-        StartFault::Memory => print_outcome(&Err(Fault::Memory), writer),
+        StartFault::Memory => print_outcome(&Err(Fault::Memory), false, writer),
     };
     match (fault, status) {
         (StartFault::NoText, 2) if terminals.output => {}

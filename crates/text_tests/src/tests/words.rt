@@ -1,16 +1,22 @@
 use clap::Error;
 use clap::error::ErrorKind;
-use command_words::{PictureForm, StressOptions, Task, task_in};
+use command_words::{Order, PictureForm, StressOptions, Task, order_in};
 use std::alloc::AllocError;
 use std::test::Fail;
 
 // Whether the words name the task. Want of memory is an error of its own, as below.
 fn has_task<R: AllocGlobal>(rt: &R, words: &[&str], task: Task<'_>) -> Result<bool, Error> {
-    Ok(task_in(rt.alloc(), words)? == task)
+    Ok(
+        order_in(rt.alloc(), words)?
+            == Order {
+                task,
+                is_quiet: false,
+            },
+    )
 }
 
 fn has_fault<R: AllocGlobal>(rt: &R, words: &[&str], kind: ErrorKind) -> Result<bool, AllocError> {
-    match task_in(rt.alloc(), words) {
+    match order_in(rt.alloc(), words) {
         Ok(_) => Ok(false),
         Err(error) if error.kind() == ErrorKind::OutOfMemory => Err(AllocError),
         Err(error) => Ok(error.kind() == kind),
@@ -28,6 +34,19 @@ fn subcommands_name_tasks(rt: HostRuntime) -> Result<(), Fail> {
     ];
     for (name, task) in tasks {
         assert!(rt; has_task(&rt, &["fifobench", name], task)?, "{name}");
+    }
+    Ok(())
+}
+
+#[test]
+fn a_flag_asks_for_a_quiet_answer(rt: HostRuntime) -> Result<(), Fail> {
+    let quiet = Order {
+        task: Task::Check,
+        is_quiet: true,
+    };
+    for flag in ["-q", "--quiet"] {
+        let words = ["fifobench", "check", flag];
+        assert!(rt; order_in(rt.alloc(), &words)? == quiet, "{flag}");
     }
     Ok(())
 }

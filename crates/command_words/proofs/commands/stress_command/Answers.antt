@@ -12,8 +12,9 @@ returns-clause-shape c =
     let seed = c.in_ok-arg-4.ensures.shape c.number_option-3.ensures.local ∙ ap₂ with_rule operations c.number_option-3.ensures.rule in
     let percent = c.in_ok-arg-5.ensures.shape c.number_option-4.ensures.local ∙ ap₂ with_rule seed c.number_option-4.ensures.rule in
     let ring = c.in_ok-arg-6.ensures.shape c.number_option-5.ensures.local ∙ ap₂ with_rule percent c.number_option-5.ensures.rule in
-    IfOk-weaker c.arg-7.result _ _
-    (λ r h. ap (λ (a : App). a.top) (h.shape c.number_option-6.ensures.local ∙ ap₂ with_rule ring c.number_option-6.ensures.rule)) c.arg-7.ensures
+    let initial = c.in_ok-arg-7.ensures.shape c.number_option-6.ensures.local ∙ ap₂ with_rule ring c.number_option-6.ensures.rule in
+    IfOk-weaker c.arg-8.result _ _
+    (λ r h. ap (λ (a : App). a.top) (h.shape c.quiet_option.ensures.local ∙ ap₂ with_rule initial c.quiet_option.ensures.rule)) c.arg-8.ensures
 
 pub returns-clause-local : goal.returns-clause-local
 returns-clause-local c =
@@ -23,4 +24,5 @@ returns-clause-local c =
     let seed = c.in_ok-arg-4.ensures.globals ∙ ap₂ ◌||◌ operations c.number_option-3.ensures.local in
     let percent = c.in_ok-arg-5.ensures.globals ∙ ap₂ ◌||◌ seed c.number_option-4.ensures.local in
     let ring = c.in_ok-arg-6.ensures.globals ∙ ap₂ ◌||◌ percent c.number_option-5.ensures.local in
-    IfOk-weaker c.arg-7.result _ _ (λ r h. h.globals ∙ ap₂ ◌||◌ ring c.number_option-6.ensures.local) c.arg-7.ensures
+    let initial = c.in_ok-arg-7.ensures.globals ∙ ap₂ ◌||◌ ring c.number_option-6.ensures.local in
+    IfOk-weaker c.arg-8.result _ _ (λ r h. h.globals ∙ ap₂ ◌||◌ initial c.quiet_option.ensures.local) c.arg-8.ensures

@@ -2,28 +2,29 @@ use Rattle.std.proofs.Common.{inl, inr, refl, sym, ◌∙◌}
 use Rattle.std.proofs.lemmas.Option.{same_Some}
 use Rattle.commands.specs.Answers.{memory_fault}
 use Rattle.commands.specs.Outcomes.{answer_of}
-use Rattle.commands.proofs.Runs.{memory_ran_out, reads_out_of_memory, reads_printed}
+use Rattle.commands.proofs.Runs.{memory_is_said, memory_ran_out, reads_out_of_memory, reads_printed}
 use Rattle.commands.proofs.command.run_command.Goals as goal
 
 pub returns-in-Err-clause-reads : goal.returns-in-Err-clause-reads
-returns-in-Err-clause-reads g c = λ request none asked. reads_out_of_memory request c.in-Err.error _ _ _ _ _ _ none c.in-Err.ensures.err
+returns-in-Err-clause-reads g c = λ request none asked. reads_out_of_memory _ request c.in-Err.error _ _ _ _ _ _ none c.in-Err.ensures.err
     c.explain-status.ensures.printed
 
 pub returns-in-Err-clause-stresses : goal.returns-in-Err-clause-stresses
 returns-in-Err-clause-stresses g c = λ settings none asked. record {
   answer = memory_fault;
   right = inr refl;
-  printed = memory_ran_out c.in-Err.error _ _ _ _ _ none c.in-Err.ensures.err c.explain-status.ensures.printed;
+  printed = memory_is_said _ _ _ _ _ (memory_ran_out c.in-Err.error _ _ _ _ _ none c.in-Err.ensures.err c.explain-status.ensures.printed);
 }
 
 pub returns-in-Ok-clause-reads : goal.returns-in-Ok-clause-reads
 returns-in-Ok-clause-reads g c = λ request none asked.
     let found = rw c.new-kept.ensures at c.outcome_of-outcome.ensures.reads in
-    reads_printed _ _ c.in-Ok.ensures.task _ _ _ _ _ c.print_outcome-status.ensures.printed request _ asked found
+    let printed = rw c.in-Ok.ensures.quiet at c.print_outcome-status.ensures.printed in
+    reads_printed _ _ c.in-Ok.ensures.task _ _ _ _ _ _ printed request _ asked found
 
 pub returns-in-Ok-clause-stresses : goal.returns-in-Ok-clause-stresses
 returns-in-Ok-clause-stresses g c = λ settings none asked. record {
   answer = answer_of c.outcome_of-outcome.result;
   right = inl (c.outcome_of-outcome.ensures.stresses settings (same_Some _ _ (sym c.in-Ok.ensures.task ∙ asked)));
-  printed = c.print_outcome-status.ensures.printed;
+  printed = rw c.in-Ok.ensures.quiet at c.print_outcome-status.ensures.printed;
 }
