@@ -3,7 +3,7 @@
  *
  * Each function judges its input and returns a text and a status, those of the program `fifobench` on the same bytes:
  *
- *     0   YES, or VALID of a verified verdict
+ *     0   YES, or VALID of a verified verdict, or what else was asked for
  *     1   NO, or INVALID
  *     2   REFUSED ...: the input is no complete history
  *     3   FAULT Memory: malloc or realloc gave no memory; the input is not judged
@@ -54,6 +54,17 @@ uint8_t fifobench_shrink(const uint8_t *text, size_t length, uint8_t *answer, si
 /* `fifobench verify`: the text of a history, and after it that of a verdict. The answer is VALID if the verdict is evidence in
  * the history, else INVALID. */
 uint8_t fifobench_verify(const uint8_t *text, size_t length, uint8_t *answer, size_t capacity, size_t *needed);
+
+/* `fifobench draw`: the text of a history, and that of a verdict, if one follows. Returns the picture as an SVG document,
+ * or INVALID if the verdict isn't evidence. More than 400 operations, initial values or lines of the verdict are refused
+ * (REFUSED Size). */
+uint8_t fifobench_draw(const uint8_t *text, size_t length, uint8_t *answer, size_t capacity, size_t *needed);
+
+/* `fifobench draw --text`: the same in lines of ASCII. */
+uint8_t fifobench_draw_text(const uint8_t *text, size_t length, uint8_t *answer, size_t capacity, size_t *needed);
+
+/* `fifobench stats`: the text of a history. Returns a line for each number. */
+uint8_t fifobench_stats(const uint8_t *text, size_t length, uint8_t *answer, size_t capacity, size_t *needed);
 
 /* What happened: a call, or a return. */
 enum fifobench_what {

@@ -5,6 +5,10 @@
 //         std::cerr << fifobench::shrink(text).text;
 //     }
 //
+// In a test, with the recorder's history or a text:
+//
+//     fifobench::expect_linearizable(history);    // fails the test, and shows what went wrong and its picture
+//
 // Where there is no memory for the answer's text a function throws std::bad_alloc, and if there is none for judging the
 // status is Status::fault. All of them may be called from several threads at once.
 #ifndef FIFOBENCH_HPP
@@ -14,8 +18,12 @@
 
 #include <cstddef>
 #include <cstdint>
+#include <cstdio>
+#include <cstdlib>
+#include <sstream>
 #include <string>
 #include <string_view>
+#include <utility>
 #include <vector>
 
 namespace fifobench {
@@ -72,6 +80,13 @@ inline Answer shrink(std::string_view text) { return detail::judge(fifobench_shr
 // Whether the verdict after the history is evidence: VALID or INVALID.
 inline Answer verify(std::string_view text) { return detail::judge(fifobench_verify, text); }
 
+// The picture of a history, and of a verdict if one follows, as an SVG document or in lines of characters.
+inline Answer draw(std::string_view text) { return detail::judge(fifobench_draw, text); }
+inline Answer draw_text(std::string_view text) { return detail::judge(fifobench_draw_text, text); }
+
+// How far the operations of a history overlap, and other counts: a line for each number.
+inline Answer stats(std::string_view text) { return detail::judge(fifobench_stats, text); }
+
 // The verdict on events by ticket.
 inline Answer check(const fifobench_event* events, std::size_t count) {
     return detail::answer(24 * count + 64, [&](std::uint8_t* buffer, std::size_t capacity, std::size_t* needed) {
@@ -80,6 +95,86 @@ inline Answer check(const fifobench_event* events, std::size_t count) {
 }
 
 inline Answer check(const std::vector<fifobench_event>& events) { return check(events.data(), events.size()); }
+
+// What a recorder recorded (examples/recorders/cpp/recorder.hpp): its events by ticket, each with its thread, the values that the
+// queue held first, and a text of both.
+template <class History>
+using if_recorded = decltype(std::declval<const History&>().events().begin()->second.ticket,
+                             std::declval<const History&>().initial().empty(),
+                             std::declval<const History&>().write(std::declval<std::ostream&>()));
+
+// Its text.
+template <class History, class = if_recorded<History>>
+std::string text_of(const History& history) {
+    std::ostringstream text;
+    history.write(text);
+    return text.str();
+}
+
+// Its verdict. Where the queue was empty first, no text is made.
+template <class History, class = if_recorded<History>>
+Answer check(const History& history) {
+    if (!history.initial().empty()) {
+        return check(std::string_view(text_of(history)));
+    }
+    std::vector<fifobench_event> events;
+    events.reserve(history.events().size());
+    for (const auto& [thread, event] : history.events()) {
+        const auto what = static_cast<std::uint32_t>(event.what) + FIFOBENCH_CALL_ENQ;
+        events.push_back({event.ticket, event.value, static_cast<std::uint32_t>(thread), what});
+    }
+    return check(events);
+}
+
+// What a test says of a history whose verdict this is: of a no the kind of violation, the operations that show it and their
+// picture; of a refused history why. Empty of a yes.
+inline std::string report(const Answer& verdict, std::string_view text) {
+    if (verdict.is_yes()) {
+        return {};
+    }
+    if (verdict.status != Status::no) {
+        return "the history isn't judged: " + verdict.text;
+    }
+    const Answer shrunk = shrink(text);
+    const Answer picture = draw_text(shrunk.text);
+    std::string said = "the history isn't linearizable: " + std::string(verdict.first_line()) + "\n\n" + shrunk.text;
+    return picture.status == Status::yes ? said + '\n' + picture.text : said;
+}
+
+inline std::string report(std::string_view text) { return report(check(text), text); }
+
+template <class History, class = if_recorded<History>>
+std::string report(const History& history) {
+    const Answer verdict = check(history);
+    return verdict.is_yes() ? std::string() : report(verdict, text_of(history));
+}
+
+namespace detail {
+
+// Fails the test that runs: that of GoogleTest or Catch2, where one of their headers was included before this one, which then goes
+// on; else the process ends as by a failed assert.
+static inline void fail(const std::string& said, const char* file, int line) {
+#if defined(ADD_FAILURE_AT)
+    ADD_FAILURE_AT(file, line) << said;
+#elif defined(FAIL_CHECK)
+    FAIL_CHECK(file << ':' << line << ": " << said);
+#else
+    std::fprintf(stderr, "%s:%d: %s", file, line, said.c_str());
+    std::abort();
+#endif
+}
+
+}    // namespace detail
+
+// Fails the test where the history, a text or a recorder's, isn't linearizable, with the report as the message.
+template <class History>
+static inline void expect_linearizable(const History& history, const char* file = __builtin_FILE(),
+                                       int line = __builtin_LINE()) {
+    const std::string said = report(history);
+    if (!said.empty()) {
+        detail::fail(said, file, line);
+    }
+}
 
 }    // namespace fifobench
 

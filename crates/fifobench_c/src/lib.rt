@@ -13,7 +13,8 @@ mod tests;
 ghost use Rattle.std.specs.Prelude.{◌≡◌, ◌<◌, ◌≤◌, ◌⊎◌, List, ℕ, length};
 ghost use Rattle.event_records.specs.declared.event.Event.{Event};
 ghost use Rattle.event_records.specs.declared.limits.TheConstants.{MAX_EVENTS};
-ghost use Rattle.command_words.specs.Commands.{check, shrink, verify};
+ghost use Rattle.command_words.specs.Commands.{check, draw, shrink, stats, verify};
+ghost use Rattle.command_words.specs.declared.options.PictureForm.TheVariants.{Svg, Terminal};
 ghost use Rattle.commands.specs.Answers.{refused_limit, memory_fault};
 ghost use Rattle.commands.specs.Evidence.{input_of};
 ghost use Rattle.commands.specs.Judging.{AnswersOrNoMemory, JudgesHistory, from_none};
@@ -23,7 +24,10 @@ ghost use Rattle.fifobench_c.specs.Recorded.{AreEvents, IsFirstUnknown, bad_what
 
 use crate::filling::{tell, tell_bad_what};
 use crate::recorded::gathered;
-use commands::{Fault, check_text, judge_gathered, shrink_text, verify_text};
+use command_words::PictureForm;
+use commands::{
+    Fault, check_text, draw_text, judge_gathered, shrink_text, stats_text, verify_text,
+};
 use event_records::MAX_EVENTS;
 pub use laws::events_and_their_text_agree;
 pub use recorded::{CALL_DEQ, CALL_ENQ, RET_DEQ, RET_EMPTY, RET_ENQ, RET_NOT, RecordedEvent};
@@ -71,6 +75,55 @@ pub extern "C" fn fifobench_verify(
     ensures { TellsOneOf (AnswersOrNoMemory (AnswersOf verify) (input_of text.now)) answer.old answer.new needed.new result }
 {
     tell(alloc, &verify_text(alloc, text), answer, needed)
+}
+
+/// What `draw` answers of the text: an SVG document.
+#[unsafe(no_mangle)]
+pub extern "C" fn fifobench_draw(
+    alloc: Global,
+    text: &[u8],
+    answer: &mut [u8],
+    needed: &mut usize,
+) -> u8
+    ensures { TellsOneOf (AnswersOrNoMemory (AnswersOf (draw Svg)) (input_of text.now)) answer.old answer.new needed.new result }
+{
+    tell(
+        alloc,
+        &draw_text(alloc, text, PictureForm::Svg),
+        answer,
+        needed,
+    )
+}
+
+/// What `draw --text` answers of the text: lines of characters.
+#[unsafe(no_mangle)]
+pub extern "C" fn fifobench_draw_text(
+    alloc: Global,
+    text: &[u8],
+    answer: &mut [u8],
+    needed: &mut usize,
+) -> u8
+    ensures { TellsOneOf (AnswersOrNoMemory (AnswersOf (draw Terminal)) (input_of text.now)) answer.old answer.new needed.new result }
+{
+    tell(
+        alloc,
+        &draw_text(alloc, text, PictureForm::Terminal),
+        answer,
+        needed,
+    )
+}
+
+/// What `stats` answers of the text.
+#[unsafe(no_mangle)]
+pub extern "C" fn fifobench_stats(
+    alloc: Global,
+    text: &[u8],
+    answer: &mut [u8],
+    needed: &mut usize,
+) -> u8
+    ensures { TellsOneOf (AnswersOrNoMemory (AnswersOf stats) (input_of text.now)) answer.old answer.new needed.new result }
+{
+    tell(alloc, &stats_text(alloc, text), answer, needed)
 }
 
 /// What `check` answers of the events, of a queue that is empty first.

@@ -1,6 +1,7 @@
 use crate::{
     CALL_DEQ, CALL_ENQ, RET_DEQ, RET_EMPTY, RET_ENQ, RET_NOT, RecordedEvent, fifobench_check,
-    fifobench_check_events, fifobench_shrink, fifobench_verify,
+    fifobench_check_events, fifobench_draw, fifobench_draw_text, fifobench_shrink, fifobench_stats,
+    fifobench_verify,
 };
 use event_records::MAX_EVENTS;
 use std::alloc::{AllocError, Global};
@@ -22,6 +23,9 @@ enum Command {
     Check,
     Shrink,
     Verify,
+    Draw,
+    DrawText,
+    Stats,
 }
 
 fn call(alloc: Global, command: Command, text: &str, answer: &mut [u8], needed: &mut usize) -> u8 {
@@ -29,6 +33,9 @@ fn call(alloc: Global, command: Command, text: &str, answer: &mut [u8], needed: 
         Command::Check => fifobench_check(alloc, text.as_bytes(), answer, needed),
         Command::Shrink => fifobench_shrink(alloc, text.as_bytes(), answer, needed),
         Command::Verify => fifobench_verify(alloc, text.as_bytes(), answer, needed),
+        Command::Draw => fifobench_draw(alloc, text.as_bytes(), answer, needed),
+        Command::DrawText => fifobench_draw_text(alloc, text.as_bytes(), answer, needed),
+        Command::Stats => fifobench_stats(alloc, text.as_bytes(), answer, needed),
     }
 }
 
@@ -84,6 +91,22 @@ fn verifies(rt: HostRuntime) {
         "REFUSED Cut\n",
         2,
     );
+}
+
+#[test]
+fn draws(rt: HostRuntime) {
+    let wrong = "fifo-history 1\n0 0 call-deq\n1 0 ret-empty\nend 2\nYES\n";
+    assert_answer(&rt, Command::Draw, wrong, "INVALID\n", 1);
+    assert_answer(&rt, Command::DrawText, wrong, "INVALID\n", 1);
+    assert_answer(&rt, Command::Draw, "", "REFUSED Cut\n", 2);
+}
+
+#[test]
+fn counts(rt: HostRuntime) {
+    let counted =
+        "events 0\noperations 0\nthreads 0\nenqueued 0\nrefused 0\ndequeued 0\nempty 0\ninitial 0\nthread-changes 0\n\
+        overlapping 0\noverlapping-percent 0.0\nmost-pending 0\nmost-in-queue 0\n";
+    assert_answer(&rt, Command::Stats, "fifo-history 1\nend 0\n", counted, 0);
 }
 
 /// Asserts that a buffer of this many bytes stays as it was, and the status and the length are told.

@@ -307,6 +307,10 @@ public:
         to.flush();
     }
 
+    // The events by ticket, each with its thread, and the values that the queue held first.
+    const std::vector<std::pair<unsigned, Event>>& events() const { return events_; }
+    const std::vector<std::uint64_t>& initial() const { return initial_; }
+
     // The calls without a return, each with its thread.
     const std::vector<std::pair<unsigned, Event>>& open() const { return open_; }
 

@@ -400,6 +400,17 @@ impl History {
         &self.failures
     }
 
+    /// The events by ticket: the ticket, the thread, the event's word by its place (call-enq, ret-enq, ret-not, call-deq, ret-deq,
+    /// ret-empty, from 0) and the value of the first and the fifth.
+    pub fn rows(&self) -> impl Iterator<Item = (u64, usize, u64, u64)> + '_ {
+        self.events.iter().map(|event| (event.ticket, event.thread, event.what, event.value))
+    }
+
+    /// What the queue held first.
+    pub fn initial(&self) -> &[u64] {
+        &self.initial
+    }
+
     /// Writes the text of the history.
     pub fn write(&self, to: impl Write) -> io::Result<()> {
         let mut to = BufWriter::new(to);

@@ -12,6 +12,19 @@
 //! }
 //! ```
 //!
+//! In a test [`expect_linearizable`] takes a text, events, or a recorder's history, and fails with what shows a no:
+//!
+//! ```ignore
+//! #[path = "recorder.rs"]
+//! mod recorder;
+//! fifobench::recorder!(recorder::History);
+//!
+//! #[test]
+//! fn keeps_the_order() {
+//!     fifobench::expect_linearizable(&recorder::record(4, 1000, |thread| ..));
+//! }
+//! ```
+//!
 //! All of them may be called from several threads at once.
 
 use std::error;
@@ -35,6 +48,9 @@ extern "C" {
     fn fifobench_check(text: *const u8, length: usize, answer: *mut u8, capacity: usize, needed: *mut usize) -> u8;
     fn fifobench_shrink(text: *const u8, length: usize, answer: *mut u8, capacity: usize, needed: *mut usize) -> u8;
     fn fifobench_verify(text: *const u8, length: usize, answer: *mut u8, capacity: usize, needed: *mut usize) -> u8;
+    fn fifobench_draw(text: *const u8, length: usize, answer: *mut u8, capacity: usize, needed: *mut usize) -> u8;
+    fn fifobench_draw_text(text: *const u8, length: usize, answer: *mut u8, capacity: usize, needed: *mut usize) -> u8;
+    fn fifobench_stats(text: *const u8, length: usize, answer: *mut u8, capacity: usize, needed: *mut usize) -> u8;
     fn fifobench_check_events(events: *const RawEvent, count: usize, answer: *mut u8, capacity: usize, needed: *mut usize) -> u8;
 }
 
@@ -74,6 +90,139 @@ impl From<&Event> for RawEvent {
             What::RetEmpty => (6, 0),
         };
         RawEvent { ticket: event.ticket, value, thread: event.thread, what }
+    }
+}
+
+/// From the row of a recorder: the ticket, the thread, the event's word by its place in the order above from 0, and its value.
+impl From<(u64, usize, u64, u64)> for Event {
+    fn from((ticket, thread, what, value): (u64, usize, u64, u64)) -> Event {
+        let what = match what {
+            0 => What::CallEnq(value),
+            1 => What::RetEnq,
+            2 => What::RetNot,
+            3 => What::CallDeq,
+            4 => What::RetDeq(value),
+            _ => What::RetEmpty,
+        };
+        Event { ticket, thread: thread as u32, what }
+    }
+}
+
+impl fmt::Display for Event {
+    /// Its line in a text.
+    fn fmt(&self, to: &mut fmt::Formatter) -> fmt::Result {
+        write!(to, "{} {} ", self.ticket, self.thread)?;
+        match self.what {
+            What::CallEnq(value) => write!(to, "call-enq {value}"),
+            What::RetEnq => to.write_str("ret-enq"),
+            What::RetNot => to.write_str("ret-not"),
+            What::CallDeq => to.write_str("call-deq"),
+            What::RetDeq(value) => write!(to, "ret-deq {value}"),
+            What::RetEmpty => to.write_str("ret-empty"),
+        }
+    }
+}
+
+/// What can be judged in a test: a text, events by ticket, or what a recorder recorded ([`recorder!`]).
+pub trait Judged {
+    /// Its events, where they are at hand and the queue was empty first.
+    fn events(&self) -> Option<Vec<Event>>;
+
+    /// Its text.
+    fn text(&self) -> String;
+}
+
+impl Judged for str {
+    fn events(&self) -> Option<Vec<Event>> {
+        None
+    }
+
+    fn text(&self) -> String {
+        self.to_owned()
+    }
+}
+
+impl Judged for String {
+    fn events(&self) -> Option<Vec<Event>> {
+        None
+    }
+
+    fn text(&self) -> String {
+        self.clone()
+    }
+}
+
+impl Judged for [Event] {
+    fn events(&self) -> Option<Vec<Event>> {
+        Some(self.to_vec())
+    }
+
+    fn text(&self) -> String {
+        let lines: String = self.iter().map(|event| format!("{event}\n")).collect();
+        format!("fifo-history 1\n{lines}end {}\n", self.len())
+    }
+}
+
+impl Judged for Vec<Event> {
+    fn events(&self) -> Option<Vec<Event>> {
+        Some(self.clone())
+    }
+
+    fn text(&self) -> String {
+        self.as_slice().text()
+    }
+}
+
+/// Lets the history of a recorder (`recorder.rs`, a module of the test) be judged: by its events, without a text, where the queue
+/// was empty first.
+#[macro_export]
+macro_rules! recorder {
+    ($history:ty) => {
+        impl $crate::Judged for $history {
+            fn events(&self) -> Option<Vec<$crate::Event>> {
+                self.initial().is_empty().then(|| self.rows().map($crate::Event::from).collect())
+            }
+
+            fn text(&self) -> String {
+                let mut text = Vec::new();
+                self.write(&mut text).expect("a Vec takes all bytes");
+                String::from_utf8(text).expect("a history is ASCII")
+            }
+        }
+    };
+}
+
+/// What a test says of a history that isn't linearizable: the kind of violation, the operations that show it, and their picture; of
+/// one that is refused, why. `None` of a linearizable one.
+pub fn report<H: Judged + ?Sized>(history: &H) -> Option<String> {
+    let verdict = match history.events() {
+        Some(events) => check_events(&events),
+        None => check(&history.text()),
+    };
+    match verdict {
+        Ok(verdict) if verdict.is_yes => None,
+        Ok(_) => Some(shown(&history.text()).unwrap_or_else(|error| error.to_string())),
+        Err(error) => Some(error.to_string()),
+    }
+}
+
+/// What shows the no on a history.
+fn shown(text: &str) -> Result<String, Error> {
+    let shrunk = shrink(text)?.text;
+    let picture = draw_text(&shrunk)?.text;
+    let kind = shrunk.lines().find(|line| line.starts_with("NO ")).unwrap_or("NO");
+    Ok(format!("the history isn't linearizable: {kind}\n\n{shrunk}\n{picture}"))
+}
+
+/// Passes where the history is linearizable.
+///
+/// # Panics
+///
+/// Where it isn't, with its [`report`].
+#[track_caller]
+pub fn expect_linearizable<H: Judged + ?Sized>(history: &H) {
+    if let Some(said) = report(history) {
+        panic!("{said}");
     }
 }
 
@@ -119,6 +268,22 @@ pub fn shrink(text: &str) -> Result<Verdict, Error> {
 /// Whether the verdict after the history is evidence.
 pub fn verify(text: &str) -> Result<Verdict, Error> {
     judge(fifobench_verify, text)
+}
+
+/// The picture of a history, and of a verdict if one follows, as an SVG document; `INVALID`, and no yes, where the verdict is no
+/// evidence.
+pub fn draw(text: &str) -> Result<Verdict, Error> {
+    judge(fifobench_draw, text)
+}
+
+/// The same in lines of characters.
+pub fn draw_text(text: &str) -> Result<Verdict, Error> {
+    judge(fifobench_draw_text, text)
+}
+
+/// How far the operations of a history overlap, and other counts: a line for each number.
+pub fn stats(text: &str) -> Result<Verdict, Error> {
+    judge(fifobench_stats, text)
 }
 
 /// The verdict on events by ticket.
