@@ -1,6 +1,6 @@
 """The measuring part of search.sh: search.py FOLDER PROGRAM. The folder has the plain programs, and takes the histories.
 
-A time is that of the clock, the median of the rounds. A search that is given up counts as endless, so the median is endless if
+A time is user and system time of the process, the median of the rounds. A search that is given up counts as endless, so the median is endless if
 more than half of the searches are.
 """
 
@@ -35,9 +35,9 @@ def generated(kind, size, threads, seed):
 def run(words):
     """The seconds of one run, its status, and its first word."""
     line = subprocess.run([at("meter"), at("history"), at("answer")] + words, stdout=subprocess.PIPE, check=True).stdout
-    _, _, _, clock, status = map(int, line.split())
+    user, system, _, _, status = map(int, line.split())
     with open(at("answer"), encoding="ascii") as answer:
-        return clock / 1e6, status, answer.readline().split(maxsplit=1)[0]
+        return (user + system) / 1e6, status, answer.readline().split(maxsplit=1)[0]
 
 
 def shown(seconds):

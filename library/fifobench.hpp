@@ -126,8 +126,8 @@ Answer check(const History& history) {
     return check(events);
 }
 
-// What a test says of a history whose verdict this is: of a no the kind of violation, the operations that show it and their
-// picture; of a refused history why. Empty of a yes.
+// What a test prints about a history with this verdict: for a `NO` the kind of violation, its operations and their picture; for a
+// refused history why; nothing for a `YES`.
 inline std::string report(const Answer& verdict, std::string_view text) {
     if (verdict.is_yes()) {
         return {};

@@ -12,7 +12,7 @@
 //! }
 //! ```
 //!
-//! In a test [`expect_linearizable`] takes a text, events, or a recorder's history, and fails with what shows a no:
+//! In a test [`expect_linearizable`] takes a text, events, or a recorder's history, and fails with what shows a `NO`:
 //!
 //! ```ignore
 //! #[path = "recorder.rs"]
@@ -206,7 +206,7 @@ pub fn report<H: Judged + ?Sized>(history: &H) -> Option<String> {
     }
 }
 
-/// What shows the no on a history.
+/// What shows the `NO` on a history.
 fn shown(text: &str) -> Result<String, Error> {
     let shrunk = shrink(text)?.text;
     let picture = draw_text(&shrunk)?.text;
