@@ -15,6 +15,7 @@ complete -c fifobench -n __fish_use_subcommand -a help -d 'Print a help'
 complete -c fifobench -n '__fish_seen_subcommand_from help' -a 'check shrink verify draw convert stats sim stress help'
 complete -c fifobench -n '__fish_seen_subcommand_from check shrink sim stress' -s q -l quiet -d 'Print the first line of the verdict alone'
 complete -c fifobench -n '__fish_seen_subcommand_from draw' -l text -d 'Draw in lines of characters, and not as SVG'
+complete -c fifobench -n '__fish_seen_subcommand_from draw' -l html -d 'Draw as an HTML page, to be looked at in a browser'
 complete -c fifobench -n '__fish_seen_subcommand_from stress' -l queue -x -d 'Name of the queue' -a "
     locked\t'A list under one lock'
     two-lock\t'An inbox and an outbox, each under a lock of its own'

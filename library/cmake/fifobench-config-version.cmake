@@ -14,7 +14,7 @@ if(NOT PACKAGE_FIND_VERSION VERSION_GREATER PACKAGE_VERSION)
     set(PACKAGE_VERSION_COMPATIBLE TRUE)
   endif()
 endif()
-# As CMake compares them: 0.1 asks for what 0.1.0 is.
+# As CMake compares them: 0.2 asks for what 0.2.0 is.
 if(PACKAGE_FIND_VERSION VERSION_EQUAL PACKAGE_VERSION)
   set(PACKAGE_VERSION_EXACT TRUE)
 endif()

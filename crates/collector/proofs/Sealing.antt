@@ -86,7 +86,7 @@ none_left : (left : List TokenView) → AllZip Fits [] left → left ≡ []
 none_left [] fits = refl
 none_left (t ∷ ts) fits = absurd fits
 
--- where no token is left, each was of its place's thread
+-- if no token is left, each was of its place's thread
 pub all_certified : (tokens : List TokenView) (ends rings : List DrainView) (left : List TokenView) (lists : List (List Event))
     → AllZip Fits ends tokens → AreInOrder ends → IsSealing tokens rings left lists → left ≡ [] → threads_of_tokens tokens ≡ threads_of ends
 all_certified tokens ends rings left lists fits order p none =
@@ -94,7 +94,7 @@ all_certified tokens ends rings left lists fits order p none =
     let long : length p.done ≡ length ends = sym (ap length all) ∙ AllZip-long Fits ends tokens fits in
     ap threads_of_tokens all ∙ p.own ∙ ap numbers_below long ∙ sym order
 
--- where no ring is left, no token is
+-- if no ring is left, no token is
 pub certified_at_end : (tokens : List TokenView) (ends rings : List DrainView) (left : List TokenView) (lists : List (List Event))
     → AllZip Fits ends tokens → AreInOrder ends → IsSealing tokens rings left lists → length rings ≡ 0 → threads_of_tokens tokens ≡ threads_of ends
 certified_at_end tokens ends rings left lists fits order p none =

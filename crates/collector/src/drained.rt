@@ -28,7 +28,7 @@ impl Model for Drained {
 }
 
 impl Drained {
-    // The ring of an end, and a list with room for so many events.
+    // Makes the ring of an end, and a list with room for this many events.
     pub(crate) fn with_room(
         alloc: Global,
         end: DrainEnd,
@@ -41,7 +41,7 @@ impl Drained {
         Ok(Drained { end, events })
     }
 
-    // The thread whose ring it is.
+    // Returns the thread whose ring it is.
     pub(crate) fn thread(&self) -> u8
         ensures value { result ≡ self.now.thread }
         ensures small { result < MAX_THREADS }
@@ -49,7 +49,7 @@ impl Drained {
         self.end.thread().get()
     }
 
-    // Drains at most `max` events, and tells how many. There is room for them before any leaves the ring.
+    // Drains at most `max` events, and returns how many. There is room for them before any leaves the ring.
     pub(crate) fn drain(&mut self, max: usize) -> Result<u64, AllocError>
         requires { max ≤ MAX_RING }
         ensures drains { Drains max self.old self.new }
@@ -61,7 +61,7 @@ impl Drained {
         Ok(drained as u64)
     }
 
-    // All that the thread pushed, by its close token.
+    // Returns all that the thread pushed, certified by its close token.
     pub(crate) fn seal(self, token: CloseToken) -> Result<Vec<Event>, FinishFault>
         requires { Fits self token }
         ensures sealed { IfOk result (λ events. events.items ≡ token.sent) }

@@ -45,7 +45,7 @@ pub enum CollectError {
 }
 
 impl Collector {
-    /// A collector of the rings of threads 0, 1, 2 and on, from which nothing was drained yet.
+    /// Makes a collector of the rings of threads 0, 1, 2 and on, from which nothing was drained yet.
     pub fn new(alloc: Global, ends: Vec<DrainEnd>) -> Result<Collector, AllocError>
         requires order { AreInOrder ends.items }
         requires fresh { AreFresh ends.items }
@@ -54,7 +54,8 @@ impl Collector {
         Collector::with_room(alloc, ends, 0)
     }
 
-    /// The same, with room for `room` events in the list of each ring. Rounds that drain no more than that take no memory.
+    /// Makes a collector with room for `room` events in the list of each ring. Rounds that drain no more than that
+    /// take no memory.
     pub fn with_room(
         alloc: Global,
         ends: Vec<DrainEnd>,
@@ -72,10 +73,10 @@ impl Collector {
         })
     }
 
-    /// Drains at most `max` events from each ring, in order of thread, and tells how many.
+    /// Drains at most `max` events from each ring, in order of thread, and returns how many.
     ///
-    /// Where room for a ring's events is refused, the round ends there. What was drained before is kept, and that ring
-    /// and those after it are as they were: no event is lost. A later round may have more luck.
+    /// If memory for a ring's events is refused, the round ends there. What it drained before is kept, and that ring
+    /// and those after it are as they were: no event is lost. A later round may succeed.
     pub fn drain_round(&mut self, max: usize) -> Result<u64, AllocError>
         requires { max ≤ MAX_RING }
         ensures rings { rings_of self.new.rings ≡ rings_of self.old.rings }
@@ -90,16 +91,16 @@ impl Collector {
         drained
     }
 
-    /// Whether a round was refused its room. No event was lost by it.
+    /// Whether a round was refused its memory. No event was lost by it.
     pub fn was_refused(&self) -> bool
         ensures { result ≡ self.now.refused }
     {
         self.refused
     }
 
-    /// The events of each thread, all that it pushed, by the close tokens of the rings in order of thread.
+    /// Returns all that each thread pushed, certified by the close tokens of the rings in order of thread.
     ///
-    /// Each list is what was drained before, and what was left in the ring.
+    /// Each list is what was drained before, and then what was left in the ring.
     pub fn seal(self, tokens: Vec<CloseToken>) -> Result<Lists, CollectError>
         requires { AllZip Fits self.rings tokens.items }
         ensures sealed { IfOk result (λ lists. lists ≡ map (λ token. token.sent) tokens.items) }
@@ -117,7 +118,7 @@ impl Collector {
     }
 }
 
-// Each end, with nothing drained from it yet, and room for so many events.
+// Makes the ring of each end, with nothing drained from it yet, and room for this many events.
 fn all_drained(alloc: Global, ends: Vec<DrainEnd>, room: usize) -> Result<Vec<Drained>, AllocError>
     requires { AreFresh ends.items }
     ensures { IfOk result (λ rings. rings.items ≡ ends.items) }
@@ -176,7 +177,7 @@ fn seal_each(
     Ok(lists)
 }
 
-// All that the ring's thread pushed, by its close token.
+// Returns all that the ring's thread pushed, certified by its close token.
 fn seal_one(ring: Drained, token: CloseToken) -> Result<Vec<Event>, CollectError>
     requires { Fits ring token }
     ensures sealed { IfOk result (λ events. events.items ≡ token.sent) }

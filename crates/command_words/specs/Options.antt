@@ -8,7 +8,7 @@ use Rattle.clap.specs.declared.builder.action.ArgAction.TheVariants.{SetTrue}
 use Rattle.clap.specs.declared.builder.value_parser.ValueParser.TheVariants as vp
 use Rattle.event_records.specs.declared.limits.TheConstants.{MAX_RING, MAX_SEED, MAX_STRESS_INITIAL, MAX_THREAD_OPERATIONS, MAX_WORKERS, MIN_RING}
 use Rattle.command_words.specs.declared.options.PictureForm.{PictureForm}
-use Rattle.command_words.specs.declared.options.PictureForm.TheVariants.{Svg, Terminal}
+use Rattle.command_words.specs.declared.options.PictureForm.TheVariants.{Html, Svg, Terminal}
 use Rattle.command_words.specs.declared.options.StressOptions.{StressOptions}
 
 -- ---- what may be written
@@ -30,10 +30,10 @@ queue_rule = record (new_rule (codes "queue")) {
   required = true;
 }
 
--- the flag that asks for a picture of characters
-abbrev pub text_rule : Rule
-text_rule = record (new_rule (codes "text")) {
-  long = Some (codes "text");
+-- a flag without a short form
+abbrev pub flag_rule : Text → Rule
+flag_rule name = record (new_rule name) {
+  long = Some name;
   action = Some SetTrue;
 }
 
@@ -49,9 +49,9 @@ quiet_rule = record (new_rule (codes "quiet")) {
 abbrev pub the_judging : Text → Shape
 the_judging name = record (new_shape name) { rules = quiet_rule ∷ [] }
 
--- `draw` with its flag
+-- `draw` with its flags
 abbrev pub the_draw : Shape
-the_draw = record (new_shape (codes "draw")) { rules = text_rule ∷ [] }
+the_draw = record (new_shape (codes "draw")) { rules = flag_rule (codes "text") ∷ flag_rule (codes "html") ∷ [] }
 
 -- the options in the order of the help: ranges and defaults
 abbrev pub stress_rules : List Rule
@@ -98,23 +98,22 @@ text_in id rows = unwrap_or (first_of id rows) []
 abbrev pub number_in : Text → List Row → ℕ
 number_in id rows = digits_value 10 (without_leading_plus (text_in id rows))
 
--- the form that the text of the flag asks for
-abbrev pub form_of : Option Text → PictureForm
-form_of None = Svg
-form_of (Some text) = if bytes_eq text (codes "true") then Terminal else Svg
-
 -- the text of a flag says that it was given
 abbrev pub is_given : Option Text → Bool
 is_given None = false
 is_given (Some text) = bytes_eq text (codes "true")
 
--- clap's matches of a command say that its flag for a quiet answer was given
-abbrev pub is_quiet : List Row → Bool
-is_quiet rows = is_given (first_of (codes "quiet") rows)
+-- clap's matches of a command say that this flag was given
+abbrev pub has_flag : Text → List Row → Bool
+has_flag name rows = is_given (first_of name rows)
 
--- the form of a picture that clap's matches of `draw` ask for: characters where the flag was given
+-- the flag for a quiet answer was given
+abbrev pub is_quiet : List Row → Bool
+is_quiet rows = has_flag (codes "quiet") rows
+
+-- the form of a picture that clap's matches of `draw` ask for: characters if that flag was given, else a page, else SVG
 abbrev pub form_in : List Row → PictureForm
-form_in rows = form_of (first_of (codes "text") rows)
+form_in rows = if has_flag (codes "text") rows then Terminal else (if has_flag (codes "html") rows then Html else Svg)
 
 -- the settings that clap's matches of `stress` give, in which an option that isn't given has its default
 abbrev pub settings_in : List Row → Settings

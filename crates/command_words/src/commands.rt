@@ -4,7 +4,7 @@ ghost use Rattle.clap.specs.Simple.{app_of, new_app, shape_of};
 ghost use Rattle.clap.specs.Walk.{rule_of};
 ghost use Rattle.clap.specs.declared.builder.command.Command.TheViews.{out-Command};
 ghost use Rattle.command_words.specs.Commands.{the_program};
-ghost use Rattle.command_words.specs.Options.{number_rule, queue_rule, quiet_rule, text_rule, the_draw, the_judging, the_stress};
+ghost use Rattle.command_words.specs.Options.{flag_rule, number_rule, queue_rule, quiet_rule, the_draw, the_judging, the_stress};
 
 use crate::help;
 use clap::builder::ValueParser;
@@ -78,17 +78,19 @@ fn draw_command<'a>(alloc: Global) -> Result<Command<'a>, AllocError>
     ensures shape { IfOk result (λ c. shape_of c ≡ the_draw) }
     ensures local { IfOk result (λ c. (out-Command c).has_globals ≡ false) }
 {
-    plain_command(alloc, "draw", help::DRAW_ABOUT, help::DRAW_LONG).arg(text_option(alloc))
+    plain_command(alloc, "draw", help::DRAW_ABOUT, help::DRAW_LONG)
+        .arg(flag_option(alloc, "text", help::TEXT_HELP))?
+        .arg(flag_option(alloc, "html", help::HTML_HELP))
 }
 
-fn text_option<'a>(alloc: Global) -> Arg<'a>
-    ensures rule { rule_of result ≡ text_rule }
+fn flag_option<'a>(alloc: Global, name: &'a str, about: &'a str) -> Arg<'a>
+    ensures rule { rule_of result ≡ flag_rule name.entry.now }
     ensures local { result.global ≡ false }
 {
-    Arg::new(alloc, "text")
-        .long("text")
+    Arg::new(alloc, name)
+        .long(name)
         .action(ArgAction::SetTrue)
-        .help(help::TEXT_HELP)
+        .help(about)
 }
 
 fn stress_command<'a>(alloc: Global) -> Result<Command<'a>, AllocError>

@@ -3,7 +3,7 @@
 
 /// The version of the program, as CHANGELOG.md has it, and in a second line the kit that proves and builds it.
 pub(crate) const VERSION: &str =
-    "0.1.0\nproved and built with rattle-kit-13f logic dac8208d650f15bf";
+    "0.2.0\nproved and built with rattle-kit-13f logic dac8208d650f15bf";
 
 pub(crate) const ABOUT: &str = "Records and judges histories of a concurrent FIFO queue";
 
@@ -43,17 +43,16 @@ The queue is empty before the first event. Where it holds K values first, the
 text begins with the lines `fifo-history 2` and `initial K` and a line for each
 of these values, the front one first.
 
-Output: `YES` and all operations in a legal order of the queue, or `NO`, the
-kind of violation and the operations that show it: VFresh, a value that was not
-there; VRepeat, a value dequeued twice; VOrd, two values dequeued against the
-order of their enqueues; VWit, an empty answer although the queue was never
-empty meanwhile. A line has the tickets of an operation's call and return, its
-thread, and what it did; `init VALUE` stands for a value that the queue held
-first.
+Output: `YES` and all operations in a linearization, or `NO`, the kind of
+violation and the operations that show it: VFresh, a value that was not there;
+VRepeat, a value dequeued twice; VOrd, two values dequeued against the order of
+their enqueues; VWit, an empty answer although the queue was never empty
+meanwhile. A line has the tickets of an operation's call and return, its thread,
+and what it did; `init VALUE` stands for a value that the queue held first.
 
-Lines count from 1 and events from 0: event i stands in line i + 2, and behind
-K initial values in line i + K + 3. A text that goes on behind its line `end N`
-is `REFUSED Trailing`: of what `stress` writes, take the history alone by
+Lines count from 1 and events from 0: event i stands in line i + 2, and after K
+initial values in line i + K + 3. A text that goes on after its line `end N` is
+`REFUSED Trailing`: of what `stress` writes, take the history on its own by
 `sed '/^end /q'`.
 
 Status:
@@ -79,8 +78,8 @@ Output: where the history is not linearizable, the text of the shrunk history,
 of the version of the input, and then its verdict; else the verdict alone, as
 `check` prints it.
 
-A text that goes on behind its line `end N` is `REFUSED Trailing`: of what
-`stress` writes, take the history alone by `sed '/^end /q'`.
+A text that goes on after its line `end N` is `REFUSED Trailing`: of what
+`stress` writes, take the history on its own by `sed '/^end /q'`.
 
 Status:
   0  yes
@@ -99,7 +98,7 @@ Example:
   2 3 0 deq 7
 ";
 
-pub(crate) const VERIFY_ABOUT: &str = "Tells whether a verdict is evidence in a history";
+pub(crate) const VERIFY_ABOUT: &str = "Checks whether a verdict is evidence in a history";
 
 pub(crate) const VERIFY_LONG: &str = "\
 Input: the text of a history, as for `check`, from its first line to the line
@@ -129,21 +128,23 @@ followed by the text of a verdict, from the line `YES` or `NO ..` on, as for
 `verify`. Where nothing follows, the history is decided as by `check`, and drawn
 with that verdict.
 
-Output: a picture, as an SVG document for a browser, or with `--text` in lines
-of ASCII for a terminal. Time runs down: each event has a row, each thread a
-lane, and each operation a bar from its call to its return. Of a yes the order
-stands beside the lanes, and each number where its operation takes effect. Of a
-no the operations that show it are numbered in the order of the verdict's lines,
-and bands say when a value surely was in the queue, was not, and the time that
-contradicts it. In characters `[` is a call, `]` its return and `|` stands
-between, and bands are `###`, `xxx` and `:::`. Where the verdict is no evidence
-in the history, `INVALID`, and nothing is drawn. Values that the queue holds
-first (texts of `fifo-history 2`) have rows of their own above all events, front
-first, numbered as operations are.
+Output: a picture, as an SVG document, with `--html` as a page for a browser
+that shows what precedes an operation, or with `--text` in lines of ASCII for a
+terminal. Time runs down: each event has a row, each thread a lane, and each
+operation a bar from its call to its return. With `YES` the linearization stands
+beside the tickets, and each number where its operation takes effect. With `NO`
+the operations that show it are numbered in the order of the verdict's lines,
+and bands say when a value was definitely in the queue, was not, and the time
+that contradicts it. In characters `[` is a call, `]` its return and `|` stands
+between, and bands are `###`, `xxx` and `:::`. If the verdict is no evidence in
+the history, `INVALID`, and nothing is drawn. Values that the queue holds first
+(texts of `fifo-history 2`) have rows of their own above all events, front
+first, numbered as operations are. `6:11` is value 11 of thread 6 as recorders
+name it, 6 * 2^32 + 11, and `init:3` is 2^38 + 3.
 
 More than 400 operations or values that the queue holds first, or more than 400
-lines of the verdict, are `REFUSED Size`: a no is shrunk first. Lines count from
-1 through both texts.
+lines of the verdict, are `REFUSED Size`: shrink the history first. Lines count
+from 1 through both texts.
 
 Status:
   0  drawn
@@ -163,15 +164,17 @@ Example:
   xxx  the value surely was not in the queue.
   :::  within this time it was dequeued nevertheless.
 
-                         7 not in
-                          |   7 dequeued
-          thread          |    |
-  ticket  0               |    |
-       0  [1      deq 7  xxx  :::
-       1  ]              xxx
+          7 not in
+           |   7 dequeued
+           |    |   thread
+  ticket   |    |   0
+       0  xxx  :::  [1      deq 7
+       1  xxx       ]
 ";
 
 pub(crate) const TEXT_HELP: &str = "Draws in lines of characters, and not as SVG";
+
+pub(crate) const HTML_HELP: &str = "Draws as an HTML page, to be looked at in a browser";
 
 pub(crate) const CONVERT_ABOUT: &str = "Writes a history as a text of version 2";
 
@@ -220,13 +223,13 @@ Output: a line for each number, its name and its value:
   overlapping-percent  the same among a hundred operations, rounded down;
                        0.0 of no operations
   most-pending         the most operations that were pending at once
-  most-in-queue        the most values that surely were in the queue at once:
+  most-in-queue        the most values definitely in the queue at once:
                        put there by enqueues that had returned, and not given
                        by dequeues that had been called
 
-What `check` refuses is refused, with the same line. A text that goes on behind
+What `check` refuses is refused, with the same line. A text that goes on after
 its line `end N` is `REFUSED Trailing`: of what `stress` writes, take the
-history alone by `sed '/^end /q'`.
+history on its own by `sed '/^end /q'`.
 
 Status:
   0  counted
@@ -262,7 +265,7 @@ stands a line for each step of a thread T:
   push T                 its held event goes into its ring
   effect T               its operation takes effect on a queue that keeps the
                          order
-  say T taken            or it is told that answer: taken, not, got VALUE or
+  say T taken            or it gets that answer: taken, not, got VALUE or
                          empty
   ret T                  it draws the ticket of the return
   drain T K              up to K events of its ring are collected

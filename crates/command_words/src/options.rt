@@ -2,7 +2,7 @@
 ghost use Rattle.std.specs.Prelude.{◌≡◌, ℕ, Some};
 ghost use Rattle.clap.specs.Matches.{found_of};
 ghost use Rattle.clap.specs.Walk.{rows_of};
-ghost use Rattle.command_words.specs.Options.{IsWithinRanges, form_in, form_of, is_given, is_quiet, number_in, settings_in, settings_of};
+ghost use Rattle.command_words.specs.Options.{IsWithinRanges, form_in, has_flag, is_given, is_quiet, number_in, settings_in, settings_of};
 ghost use Rattle.command_words.specs.Inner.Options.{HasNumber, HasSettings};
 
 use clap::ArgMatches;
@@ -12,6 +12,8 @@ use clap::ArgMatches;
 pub enum PictureForm {
     /// An SVG document.
     Svg,
+    /// An HTML page with that picture.
+    Html,
     /// Lines of characters for a terminal.
     Terminal,
 }
@@ -20,17 +22,10 @@ pub enum PictureForm {
 pub(crate) fn picture_form(matches: &ArgMatches<'_>) -> PictureForm
     ensures { result ≡ form_in (rows_of (found_of matches.now)) }
 {
-    match matches.get_str("text") {
-        None => PictureForm::Svg,
-        Some(text) => form_of(text),
-    }
-}
-
-fn form_of(text: &str) -> PictureForm
-    ensures { result ≡ form_of (Some text.now) }
-{
-    if text == "true" {
+    if has_flag(matches, "text") {
         PictureForm::Terminal
+    } else if has_flag(matches, "html") {
+        PictureForm::Html
     } else {
         PictureForm::Svg
     }
@@ -40,7 +35,13 @@ fn form_of(text: &str) -> PictureForm
 pub(crate) fn is_quiet(matches: &ArgMatches<'_>) -> bool
     ensures { result ≡ is_quiet (rows_of (found_of matches.now)) }
 {
-    match matches.get_str("quiet") {
+    has_flag(matches, "quiet")
+}
+
+fn has_flag(matches: &ArgMatches<'_>, name: &str) -> bool
+    ensures { result ≡ has_flag name.now (rows_of (found_of matches.now)) }
+{
+    match matches.get_str(name) {
         None => false,
         Some(text) => is_given(text),
     }

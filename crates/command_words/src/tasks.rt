@@ -44,7 +44,7 @@ pub struct Order<'a> {
 /// The order that the words give, or clap's error about them.
 ///
 /// The first word is the program's own name. A mistake in the words is an error of status 2 by clap's `exit_code`, and words
-/// that ask for a help one of status 0, whose text is the help; kind `OutOfMemory` stands for want of memory alone. A number
+/// that ask for a help one of status 0, whose text is the help; only out of memory has the kind `OutOfMemory`. A number
 /// out of the range of its option is a mistake of kind `ValueValidation`.
 pub fn order_in<'a, T: AsStr>(alloc: Global, words: &'a [T]) -> Result<Order<'a>, Error>
     ensures ok { OnOk result (faults_in (map T.text words.entry.now) ≡ []) }

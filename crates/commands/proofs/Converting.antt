@@ -25,7 +25,7 @@ use Rattle.commands.proofs.OneInput.{one_history}
 
 -- ---- a fault is no conversion
 
--- the status of a text's fault tells that it is one
+-- the status of a text's fault says that it is one
 text_fault_fails : (fault : TextFault) → 2 ≤ answer_status (answer_of_text_fault fault)
 text_fault_fails text.Read = omega arith
 text_fault_fails text.Header = omega arith

@@ -1,4 +1,4 @@
--- A history alone is drawn as with the verdict of `check` behind it.
+-- A history on its own is drawn as if the verdict of `check` followed it.
 use Rattle.std.proofs.Common.{◌++◌, refl, subst, inl, inr}
 use Rattle.verdicts.specs.declared.verifying.Claimed.{Claimed}
 use Rattle.command_words.specs.declared.options.PictureForm.{PictureForm}
@@ -33,7 +33,7 @@ same_picture form t claimed a b is (inl x) (inr none) = inr (inr none)
 same_picture form t claimed a b is (inl x) (inl y) = inl (one_picture_of_claim form (record { text = t; claimed = claimed }) a b
     (alone_as_claimed form t claimed a is.history is.complete is.right x) y)
 
--- a history is drawn alone as with its verdict behind it
+-- a history is drawn on its own as if its verdict followed it
 pub drawn_as_checked : (form : PictureForm) → DrawnAsChecked form
 drawn_as_checked form bytes claimed a b checked draws_a draws_b =
     let read = judged_is_written (input_of bytes) claimed checked in

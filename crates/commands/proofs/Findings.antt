@@ -4,7 +4,7 @@ use Rattle.history_merge.specs.declared.fault.HistoryFault.{HistoryFault}
 use Rattle.history_merge.specs.declared.fault.HistoryFault.TheVariants.{TicketOrder, BadThread, CallWhilePending, ReturnWithoutCall, WrongReturn}
 use Rattle.history_merge.specs.declared.fault.HistoryFault.TheVariants.{DuplicateValue, Pending, Memory, InitialTwice}
 use Rattle.history_merge.specs.Faults.{IsFirstFaultFrom}
-use Rattle.history_merge.specs.Initial.{HistoryView, IsCompleteFrom}
+use Rattle.history_merge.specs.Initial.{HistoryView}
 use Rattle.history_merge.specs.Operations.{operations_of}
 use Rattle.event_records.specs.declared.limits.TheConstants.{MAX_INITIAL}
 use Rattle.history_text.specs.Versions.{HistoryText}
@@ -20,9 +20,9 @@ use Rattle.verdicts.specs.Selection.{ArePartOf}
 use Rattle.commands.specs.Answers.{Reply, judged, memory_fault, answer_of_history_fault}
 use Rattle.text_lines.specs.declared.fault.TextFault.{TextFault}
 use Rattle.text_lines.specs.Input.{Ahead}
-use Rattle.commands.specs.Judging.{IsFaulty, IsShrunk, IsVerdictClaim, AnswersFor, AnswersOrNoMemory, IsSound, Judges, Shrinks, from_none, said_by}
+use Rattle.commands.specs.Judging.{IsFaulty, IsShrunk, IsVerdictClaim, AnswersFor, AnswersOrNoMemory, IsSound, Judges, Shrinks, from_none}
 
--- the first fault is answered, and want of memory as such
+-- the first fault is answered, and out of memory as such
 pub fault_found : (history : HistoryView) (fault : HistoryFault) → IsFirstFaultFrom history.initial history.events fault
     → IsFaulty history (answer_of_history_fault fault) ⊎ (answer_of_history_fault fault ≡ memory_fault)
 fault_found history Memory first = inr refl
@@ -79,7 +79,7 @@ is_from_none history none = λ i. record { initial = none i; events = history.ev
 
 -- ---- what is shrunk
 
--- what shows a no is what `shrink` answers
+-- what shows `NO` is what `shrink` answers
 pub shrunk_no : (text : HistoryText) (answer : Reply) → AnswersOrNoMemory IsShrunk text answer → AnswersOrNoMemory Shrinks text answer
 shrunk_no text answer (inl shrunk) = inl (inr (inr shrunk))
 shrunk_no text answer (inr memory) = inr memory

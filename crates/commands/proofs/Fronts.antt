@@ -4,7 +4,7 @@ use Rattle.std.specs.Io.KnownBytes.{Appends}
 use Rattle.text_lines.specs.Writing.{AppendsFront}
 use Rattle.std.proofs.KnownBytes.{Appends-trans}
 
--- the first whole, and a front of the second
+-- the first whole, and a prefix of the second
 pub front_next : (a b c : Option (List ℕ)) (xs ys : List ℕ) → Appends a b xs → AppendsFront b c ys → AppendsFront a c (xs ++ ys)
 front_next a b c xs ys h k = record {
   front = xs ++ k.front;

@@ -1,4 +1,4 @@
--- An honest schedule that is done is answered by a yes.
+-- An honest schedule that is done is answered by `YES`.
 use Rattle.std.proofs.Common.{◌≡◌, ℕ, ◌≤◌, List, inl, inr, ap, ◌∙◌}
 use Rattle.event_records.specs.declared.event.Event.{Event}
 use Rattle.history_merge.specs.declared.operation.Operation.{Operation}
@@ -20,7 +20,7 @@ use Rattle.verdicts.specs.Claiming.{claim_of, operations_at}
 use Rattle.commands.specs.Answers.{Reply, played}
 use Rattle.commands.specs.Judging.{SimulatesIn}
 
--- an exact verdict on operations that have a legal order claims a yes
+-- an exact verdict on operations that have a linearization claims `YES`
 claims_yes : (initial : List ℕ) (operations : List Operation) (verdict : Verdict) (claimed : Claimed) → IsLinearizableFrom initial operations
     → IsExactFrom initial operations verdict → claimed ≡ claim_of initial operations verdict → (order : List Operation) × (claimed ≡ claim.Yes order)
 claims_yes initial operations (Yes places) claimed legal exact is = (operations_at operations places, is)

@@ -63,7 +63,7 @@ history_end_fault = end_fault HasText text_of (IsTextFault 0) NoRoomForText
 
 -- ---- a history, and a verdict on it
 
--- the fault of a claim's input, want of memory aside
+-- the fault of a claim's input, out of memory aside
 abbrev IsClaimFault : Ahead → TextFault → Type 0
 IsClaimFault a fault = IsTextFault 0 a.ending a.bytes fault ⊎ AfterHistory (λ lines rest. IsVerdictTextFault lines a.ending rest fault) a.bytes
 
@@ -97,7 +97,7 @@ verdict_fault (Some a) (Some b) text lines fault has taken is h =
 
 -- ---- a history, and a verdict on it where anything follows
 
--- a known fault of a history's text isn't that of a history alone
+-- a known fault of a history's text isn't that of a history on its own
 no_history_alone : (a : Ahead) (fault : TextFault) (history : HistoryText) → IsHistoryOf a history → fault ≢ Memory → HasTextFault 0 (Some a) fault → ⊥
 no_history_alone a fault history is known first =
     let bytes : a.bytes ≡ text_of history ++ [] = is.1.bytes ∙ sym (append-nil (text_of history)) in
@@ -115,7 +115,7 @@ drawable_history_fault (Some a) fault h = (
   ],
 )
 
--- more stands behind the history's text, so it isn't alone
+-- more follows the history's text, so it isn't on its own
 no_more_alone : (a b : Ahead) (text history : HistoryText) → HasText text → a.bytes ≡ text_of text ++ b.bytes → HasMore b → IsHistoryOf a history → ⊥
 no_more_alone a b text history has bytes more is =
     let parts = histories.texts_agree history text [] b.bytes is.0 has (append-nil (text_of history) ∙ sym is.1.bytes ∙ bytes) in

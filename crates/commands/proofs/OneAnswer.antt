@@ -1,4 +1,4 @@
--- Want of memory aside, an input has one answer.
+-- Out of memory aside, an input has one answer.
 use Rattle.std.proofs.Common.{◌≡◌, ◌≢◌, ◌↔◌, ◌⊎◌, Bool, true, false, IsTrue, ◌≤◌, List, [], length, arith, refl, sym, ◌∙◌, ap, subst, inl, inr}
 use Rattle.std.specs.Prelude.{Contains, flat_map}
 use Rattle.std.proofs.lemmas.List.Sorted.{Contains-permutation, IsPermutation-sym}
@@ -49,7 +49,7 @@ use Rattle.commands.proofs.ShrunkTexts.{one_verdict_claim}
 
 -- ---- from what is answered of values and faults to what is answered of inputs
 
--- the answer to want of memory is want of memory
+-- the answer to out of memory is out of memory
 pub answers_memory : (answer : Reply) (fault : TextFault) → answer ≡ answer_of_text_fault fault → fault ≡ text.Memory → answer ≡ memory_fault
 answers_memory answer fault is same = is ∙ ap answer_of_text_fault same
 
@@ -207,7 +207,7 @@ one_picture_of_claim form claim a b (inl x) (inr y) = absurd (not_both (said_by 
 one_picture_of_claim form claim a b (inr x) (inl y) = absurd (not_both (said_by claim.text) b y (drawn_of form claim a x))
 one_picture_of_claim form claim a b (inr x) (inr y) = one_picture_of_complete form claim a b x y
 
--- what is answered of a history alone is answered of it with the claim of its verdict
+-- what is answered of a history on its own is answered of it with the claim of its verdict
 pub alone_as_claimed : (form : PictureForm) (text : HistoryText) (claimed : Claimed) (a : Reply) → HasText text → IsSound (said_by text)
     → IsVerdictClaim (said_by text) claimed → DrawsAlone form text a → DrawsClaim form (record { text = text; claimed = claimed }) a
 alone_as_claimed form text claimed a has complete right (inl x) = inl x

@@ -71,12 +71,12 @@ module _ {A : Type 0} (Has : A → Type 0) (said : A → List ℕ) (IsFirst : En
   one_fault_of input f g (inr (x, has, after)) (inl other) = absurd (no_text_fault_after input x g f other has after)
   one_fault_of input f g (inr (x, has_x, after_x)) (inr (y, has_y, after_y)) = one_after input x y f g has_x has_y after_x after_y
 
-  -- a text and nothing more has no fault but want of memory
+  -- a text and nothing more has no fault but out of memory
   pub only_memory : (input : Ahead) (x : A) (fault : TextFault) → Has x × IsWhole (said x) input → fault ≢ text.Memory
       → IsFaultOfOneText Has said IsFirst LacksRoom input fault → ⊥
   only_memory input x fault is known faulty = no_fault_of_whole input x fault is (is_fault input fault known faulty)
 
-  -- an input has one fault beside want of memory
+  -- an input has one fault beside out of memory
   pub one_known_fault : (input : Ahead) (f g : TextFault) → f ≢ text.Memory → g ≢ text.Memory
       → IsFaultOfOneText Has said IsFirst LacksRoom input f → IsFaultOfOneText Has said IsFirst LacksRoom input g → f ≡ g
   one_known_fault input f g known_f known_g is_f is_g = one_fault_of input f g (is_fault input f known_f is_f) (is_fault input g known_g is_g)
@@ -135,12 +135,12 @@ one_fault_of_claim input f g (inr a) (inr b) =
     let moved = subst (λ rest. IsVerdictTextFault (line_count a.text) input.ending rest f) parts.1 a.after in
     verdict_texts.one_first_fault (line_count b.text) input.ending b.rest f g (subst (λ n. IsVerdictTextFault n input.ending b.rest f) lines moved) b.after
 
--- an input with a claim has no fault but want of memory
+-- an input with a claim has no fault but out of memory
 pub only_memory_of_claim : (input : Ahead) (x : ClaimOnText) (fault : TextFault) → IsClaimOf input x → fault ≢ text.Memory
     → IsFaultOfClaimInput input fault → ⊥
 only_memory_of_claim input x fault is known faulty = no_fault_of_claim input x fault is (is_claim_fault input fault known faulty)
 
--- an input without a claim has one fault, but for want of memory
+-- an input without a claim has one fault, but for out of memory
 pub one_known_fault_of_claim : (input : Ahead) (f g : TextFault) → f ≢ text.Memory → g ≢ text.Memory → IsFaultOfClaimInput input f
     → IsFaultOfClaimInput input g → f ≡ g
 one_known_fault_of_claim input f g known_f known_g is_f is_g =
@@ -157,7 +157,7 @@ no_empty_verdict : (claimed : Claimed) → [] ≡ verdict_text claimed → ⊥
 no_empty_verdict (Yes operations) same = cc
 no_empty_verdict (No kind lines) same = cc
 
--- a history alone has no verdict behind it
+-- no verdict follows a history on its own
 alone_without_claim : (input : Ahead) (text : HistoryText) (claim : ClaimOnText) → IsHistoryOf input text → IsClaimOf input claim → ⊥
 alone_without_claim input text claim is_text is_claim =
     let parts = histories.texts_agree text claim.text [] (verdict_text claim.claimed) is_text.0 is_claim.history
@@ -171,13 +171,13 @@ one_drawable input (alone x) (with_claim y) is_x is_y = absurd (alone_without_cl
 one_drawable input (with_claim x) (alone y) is_x is_y = absurd (alone_without_claim input y x is_y is_x)
 one_drawable input (with_claim x) (with_claim y) is_x is_y = ap (λ c. with_claim c) (one_claim input x y is_x is_y)
 
--- such an input has no fault but want of memory
+-- such an input has no fault but out of memory
 pub only_memory_of_drawable : (input : Ahead) (x : Drawable) (fault : TextFault) → IsDrawableOf input x → fault ≢ text.Memory
     → IsFaultOfDrawableInput input fault → ⊥
 only_memory_of_drawable input (alone x) fault is known faulty = known (faulty.1 x is)
 only_memory_of_drawable input (with_claim x) fault is known faulty = only_memory_of_claim input x fault is known faulty.0
 
--- another input has one fault, but for want of memory
+-- another input has one fault, but for out of memory
 pub one_known_fault_of_drawable : (input : Ahead) (f g : TextFault) → f ≢ text.Memory → g ≢ text.Memory → IsFaultOfDrawableInput input f
     → IsFaultOfDrawableInput input g → f ≡ g
 one_known_fault_of_drawable input f g known_f known_g is_f is_g = one_known_fault_of_claim input f g known_f known_g is_f.0 is_g.0

@@ -14,7 +14,7 @@ pub one_more_line : (rs : List Rejection) (i : ℕ) (r : Rejection) (a b c : Opt
 one_more_line rs i r a b c within before now =
     subst (λ (t : List ℕ). Appends a c t) (sym (flat_map-more rejection_line rs i r within)) (Appends-trans a b c _ _ before now)
 
--- the first lines, and a front of the next
+-- the first lines, and a prefix of the next
 pub front_of_next_line : (rs : List Rejection) (i : ℕ) (r : Rejection) (a b c : Option (List ℕ)) → i < length rs
     → Appends a b (rejection_lines (take i rs)) → AppendsFront b c (rejection_line (get_or rs i r)) → AppendsFront a c (rejection_lines rs)
 front_of_next_line rs i r a b c within before now =

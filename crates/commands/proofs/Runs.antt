@@ -20,7 +20,12 @@ memory_ran_out e kinds old new refused result none (inl memory) (inr printed) = 
 memory_ran_out e kinds old new refused result none (inr among) (inl text) = absurd (subst (λ (ks : Kinds). IsAmong (kind_of e) ks) none among)
 memory_ran_out e kinds old new refused result none (inr among) (inr printed) = printed
 
--- want of memory is said alike, quietly or whole
+-- and the status says so
+pub memory_has_3 : (old new : Option (List ℕ)) (refused : Bool) (result : ℕ) → PrintsAnswer old new refused result memory_fault → result ≡ 3
+memory_has_3 old new false result printed = printed.1
+memory_has_3 old new true result printed = printed.1
+
+-- out of memory is said alike, quietly or whole
 pub memory_is_said : (quiet : Bool) (old new : Option (List ℕ)) (refused : Bool) (result : ℕ) → PrintsAnswer old new refused result memory_fault
     → PrintsSaid quiet old new refused result memory_fault
 memory_is_said true old new refused result printed = printed

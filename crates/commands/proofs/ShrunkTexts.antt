@@ -110,9 +110,9 @@ pub shrunk_is_valid : ShrunkIsValid
 shrunk_is_valid bytes small claimed answer shrinks verifies =
     written_is_valid small claimed answer (shown_is_written (input_of bytes) small claimed shrinks) verifies
 
--- ---- the text of a history alone, read
+-- ---- the text of a history on its own, read
 
--- a whole text has no fault but want of memory
+-- a whole text has no fault but out of memory
 whole_has_no_fault : (t : HistoryText) (fault : TextFault) → HasText t
     → IsTextFault 0 EndOfInput (text_of t) fault
     ⊎ ((value : HistoryText) × HasText value × IsFaultAfter (text_of value) (input_of (text_of t)) fault) → ⊥
@@ -160,7 +160,7 @@ written_is_judged t claimed answer is (inl read) = by_answer read.answered
         inl (found.is ∙ ap (λ c. judged c) (one_verdict_claim (said_by t) found.claimed claimed is.complete (few_values t is.history) right is.right))
 written_is_judged t claimed answer is (inr faulty) = inr (faulty.is ∙ only_memory t faulty.fault is.history faulty.first)
 
--- the shrunk history has the verdict that is written behind it
+-- the shrunk history has the verdict that is written after the history
 pub shrunk_is_checked : ShrunkIsChecked
 shrunk_is_checked bytes small claimed answer shrinks checks =
     written_is_judged small claimed answer (shown_is_written (input_of bytes) small claimed shrinks) checks

@@ -69,7 +69,7 @@ claim_is_true t claimed is = subst (IsTrueClaim t.initial (operations_of t.event
 
 -- ---- the two texts, read
 
--- the two texts have no fault but want of memory
+-- the two texts have no fault but out of memory
 no_text_fault : (t : HistoryText) (claimed : Claimed) (fault : TextFault) → HasText t → HasVerdictText claimed
     → IsTextFault 0 EndOfInput (text_of t ++ verdict_text claimed) fault
     ⊎ AfterHistory (λ lines rest. IsVerdictTextFault lines EndOfInput rest fault) (text_of t ++ verdict_text claimed) → ⊥

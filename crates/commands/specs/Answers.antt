@@ -35,7 +35,7 @@ pub data Reply : Type 0 where
   played : List Rejection → List Event → Claimed → Reply
   -- whether a verdict is evidence
   verified : Bool → Reply
-  -- a history alone
+  -- a history on its own
   converted : HistoryText → Reply
   -- the statistics of a history
   counted : Statistics → Reply
@@ -56,7 +56,7 @@ pub data Reply : Type 0 where
 
 -- ---- names
 
--- a name, and a number behind it where there is one
+-- a name, and then a number if there is one
 abbrev pub named : List ℕ → Option ℕ → List ℕ
 named name None = name
 named name (Some n) = name ++ codes " " ++ decimal n
@@ -168,13 +168,13 @@ answer_status (run_fault fault) = fault_status false
 
 -- ---- answers to faults
 
--- a text's fault is refused input, a read that failed, or want of memory
+-- a text's fault is refused input, a read that failed, or out of memory
 abbrev pub answer_of_text_fault : TextFault → Reply
 answer_of_text_fault text.Read = read_fault
 answer_of_text_fault text.Memory = memory_fault
 answer_of_text_fault fault = refused_text fault
 
--- a history's fault is refused input, or want of memory
+-- a history's fault is refused input, or out of memory
 abbrev pub answer_of_history_fault : HistoryFault → Reply
 answer_of_history_fault history.Memory = memory_fault
 answer_of_history_fault fault = refused_history fault

@@ -18,7 +18,7 @@ input_of bytes = record { bytes = bytes; ending = EndOfInput }
 abbrev pub IsValidOrNoMemory : Reply → Type 0
 IsValidOrNoMemory answer = (answer ≡ verified true) ⊎ (answer ≡ memory_fault)
 
--- where `check` answers an input with a verdict, `verify` answers that input, with the verdict's text behind it, with `VALID`
+-- where `check` answers an input with a verdict, `verify` answers that input, followed by the verdict's text, with `VALID`
 abbrev pub CheckedIsValid : Type 0
 CheckedIsValid = (bytes : List ℕ) (claimed : Claimed) (answer : Reply) → AnswersOf check (input_of bytes) (judged claimed)
     → AnswersOf verify (input_of (bytes ++ answer_text (judged claimed))) answer → IsValidOrNoMemory answer
@@ -33,7 +33,7 @@ abbrev pub ShrunkIsChecked : Type 0
 ShrunkIsChecked = (bytes : List ℕ) (small : HistoryText) (claimed : Claimed) (answer : Reply) → AnswersOf shrink (input_of bytes) (shown small claimed)
     → AnswersOf check (input_of (text_of small)) answer → (answer ≡ judged claimed) ⊎ (answer ≡ memory_fault)
 
--- where `check` answers an input with a verdict, `draw` answers that input as it answers it with the verdict's text behind it, or
+-- where `check` answers an input with a verdict, `draw` answers that input as it answers it followed by the verdict's text, or
 -- memory runs out
 abbrev pub DrawnAsChecked : PictureForm → Type 0
 DrawnAsChecked form = (bytes : List ℕ) (claimed : Claimed) (a b : Reply) → AnswersOf check (input_of bytes) (judged claimed)

@@ -35,7 +35,7 @@ abbrev pub IsFaultAfter : List ℕ → Ahead → TextFault → Type 0
 IsFaultAfter written input fault = ((fault ≡ text.Trailing) × GoesOnAfter written input) ⊎ ((fault ≡ text.Read) × FailsAfter written input)
 
 -- the fault of input that should be the text of one of these values: that of the text, or of what comes after it;
--- want of memory says that a line without fault was there
+-- out of memory says that a line without fault was there
 abbrev pub IsFaultOfOneText : {A : Type 0} → (A → Type 0) → (A → List ℕ) → (Ending → List ℕ → TextFault → Type 0) → (List ℕ → Type 0) → Ahead
     → TextFault → Type 0
 IsFaultOfOneText {A} HasText text_of IsTextFault LacksRoom input fault =
@@ -109,6 +109,6 @@ IsDrawableOf input (alone text) = IsHistoryOf input text
 IsDrawableOf input (with_claim claim) = IsClaimOf input claim
 
 -- the fault of input that should be a history, and a verdict where anything follows: that of a history and a verdict; but the text
--- of a history alone has none beside want of memory
+-- of a history on its own has none beside out of memory
 abbrev pub IsFaultOfDrawableInput : Ahead → TextFault → Type 0
 IsFaultOfDrawableInput input fault = IsFaultOfClaimInput input fault × ((history : HistoryText) → IsHistoryOf input history → fault ≡ text.Memory)

@@ -3,9 +3,8 @@ use Rattle.std.specs.Prelude.{◌≡◌, ◌≢◌, ◌≤◌, Bool, false, IsTr
 use Rattle.event_records.specs.declared.event.Event.{Event}
 use Rattle.history_merge.specs.declared.fault.HistoryFault.{HistoryFault}
 use Rattle.history_merge.specs.declared.fault.HistoryFault.TheVariants.{Memory}
-use Rattle.history_merge.specs.declared.builder.HistoryBuilder.{HistoryBuilder}
 use Rattle.history_merge.specs.Faults.{IsFirstFaultFrom}
-use Rattle.history_merge.specs.Gathering.{HasGathered}
+use Rattle.history_merge.specs.Gathering.{BuilderView, HasGathered}
 use Rattle.history_merge.specs.Initial.{HistoryView, IsCompleteFrom}
 use Rattle.history_merge.specs.Complete.{IsCompleteHistory}
 use Rattle.history_merge.specs.Legal.{IsLinearizableFrom}
@@ -28,10 +27,11 @@ use Rattle.history_text.specs.Versions.{HistoryText}
 use Rattle.history_text.specs.declared.version.Version.TheVariants.{Two}
 use Rattle.history_text.specs.Versions.{said_in}
 use Rattle.command_words.specs.declared.options.PictureForm.{PictureForm}
-use Rattle.command_words.specs.declared.options.PictureForm.TheVariants.{Svg, Terminal}
+use Rattle.command_words.specs.declared.options.PictureForm.TheVariants.{Html, Svg, Terminal}
 use Rattle.drawing.specs.Claim.{count_of_lines}
 use Rattle.drawing.specs.Terminal.{terminal_picture}
 use Rattle.svg_picture.specs.Picture.{svg_picture}
+use Rattle.svg_picture.specs.Html.{html_picture}
 use Rattle.drawing.specs.declared.columns.TheConstants.{MOST_DRAWN}
 use Rattle.text_lines.specs.declared.fault.TextFault.{TextFault}
 use Rattle.history_text.specs.declared.schedule.Schedule.{Schedule}
@@ -54,7 +54,7 @@ from_none events = record { initial = []; events = events }
 abbrev pub IsSound : HistoryView → Type 0
 IsSound history = IsCompleteFrom history.initial history.events
 
--- the claim of the chosen verdict on a history, which is evidence: a yes exactly where a legal order exists
+-- the claim of the chosen verdict on a history, which is evidence: `YES` if and only if a linearization exists
 pub record IsVerdictClaim (history : HistoryView) (claimed : Claimed) : Type 0 where
   pub verdict : Verdict
   pub chosen : IsVerdictFrom history.initial (operations_of history.events) verdict
@@ -85,7 +85,7 @@ abbrev pub Judges : HistoryText → Reply → Type 0
 Judges text answer = JudgesHistory (said_by text) answer
 
 -- the initial values and the events of this history were gathered
-abbrev pub IsGathered : HistoryView → HistoryBuilder → Type 0
+abbrev pub IsGathered : HistoryView → BuilderView → Type 0
 IsGathered history builder = HasGathered history.initial history.events builder
 
 -- it is a complete history that isn't linearizable; of the chosen violation the initial values and the events are shown, with their own
@@ -108,7 +108,7 @@ pub record IsShrunk (text : HistoryText) (answer : Reply) : Type 0 where
   pub right : IsVerdictClaim small claimed
   pub is : answer ≡ shown (said_in text.version small) claimed
 
--- `shrink`: the first fault of the history, or its verdict where that is a yes, or what shows the no
+-- `shrink`: the first fault of the history, or its verdict if that is `YES`, or what shows `NO`
 abbrev pub Shrinks : HistoryText → Reply → Type 0
 Shrinks text answer = IsFaulty (said_by text) answer
     ⊎ ((IsLinearizableFrom text.initial (operations_of text.events) × IsJudged (said_by text) answer) ⊎ IsShrunk text answer)
@@ -154,6 +154,7 @@ pub record IsRefuted (claim : ClaimOnText) (answer : Reply) : Type 0 where
 -- the picture of a history and a claim, in a form
 abbrev pub picture_in : PictureForm → HistoryView → Claimed → List ℕ
 picture_in Svg history claimed = svg_picture history claimed
+picture_in Html history claimed = html_picture history claimed
 picture_in Terminal history claimed = terminal_picture history claimed
 
 -- it is a complete history, the claim is evidence in it, and this is the picture of both in that form
@@ -183,7 +184,7 @@ pub record IsDrawnDecided (form : PictureForm) (text : HistoryText) (answer : Re
 abbrev pub DrawsAlone : PictureForm → HistoryText → Reply → Type 0
 DrawsAlone form text answer = IsFaulty (said_by text) answer ⊎ (IsTooLargeAlone text answer ⊎ IsDrawnDecided form text answer)
 
--- `draw`: what is answered of a history with a claim; and of a history alone, which is decided
+-- `draw`: what is answered of a history with a claim; and of a history on its own, which is decided
 abbrev pub Draws : PictureForm → Drawable → Reply → Type 0
 Draws form (alone text) answer = DrawsAlone form text answer
 Draws form (with_claim claim) answer = DrawsClaim form claim answer
@@ -255,11 +256,11 @@ pub record IsOfFault (IsFaultOf : Ahead → TextFault → Type 0) (input : Ahead
   pub first : IsFaultOf input fault
   pub is : answer ≡ answer_of_text_fault fault
 
--- what is answered of a value: want of memory may be answered of any
+-- what is answered of a value: out of memory may be answered of any
 abbrev pub AnswersOrNoMemory : {A : Type 0} → (A → Reply → Type 0) → A → Reply → Type 0
 AnswersOrNoMemory OfValue value answer = OfValue value answer ⊎ (answer ≡ memory_fault)
 
--- what is answered of an input: the answer of what it says, or its fault. Want of memory is answered where the input says
+-- what is answered of an input: the answer of what it says, or its fault. Out of memory is answered where the input says
 -- something, or where a line without fault stands in it
 abbrev pub AnswersFor : {A : Type 0} → (Ahead → A → Type 0) → (Ahead → TextFault → Type 0) → (A → Reply → Type 0) → Ahead → Reply → Type 0
 AnswersFor IsInputOf IsFaultOf OfValue input answer = IsOfValue IsInputOf (AnswersOrNoMemory OfValue) input answer ⊎ IsOfFault IsFaultOf input answer

@@ -9,6 +9,6 @@ use Rattle.commands.specs.Running.{AnswersOf}
 abbrev pub SameOrNoMemory : Reply → Reply → Type 0
 SameOrNoMemory a b = (a ≡ b) ⊎ ((a ≡ memory_fault) ⊎ (b ≡ memory_fault))
 
--- two answers that a command may give of one input are the same, want of memory aside
+-- two answers that a command may give of one input are the same, out of memory aside
 abbrev pub HasOneAnswer : Request → Type 0
 HasOneAnswer request = (input : Ahead) (a b : Reply) → AnswersOf request input a → AnswersOf request input b → SameOrNoMemory a b

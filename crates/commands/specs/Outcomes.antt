@@ -1,8 +1,10 @@
 -- What a command found, or why it found nothing, as the answer that it prints.
-use Rattle.std.specs.Prelude.{◌≡◌, ℕ, List, [], Option, None, Ok, Err, codes, ⊤}
+use Rattle.std.specs.Prelude.{◌≡◌, ℕ, List, [], Option, None, Ok, Err, codes, MatchOption, ⊤}
 use Rattle.history_text.specs.declared.version.Version.TheVariants.{One, Two}
 use Rattle.history_text.specs.Versions.{said_in}
 use Rattle.text_lines.specs.Faults as text_names
+use Rattle.event_records.specs.declared.event.Event.{Event}
+use Rattle.history_merge.specs.Clashes.{IsClash, fault_of}
 use Rattle.history_merge.specs.Names as history_names
 use Rattle.history_merge.specs.Operations.{operations_of}
 use Rattle.stress_run.specs.Faults as run_names
@@ -31,12 +33,18 @@ answer_of_found (Drawn picture) = drawn picture.items
 -- the answer that is printed of a fault
 abbrev pub answer_of_fault : Fault → Reply
 answer_of_fault (Text fault) = answer_of_text_fault fault
-answer_of_fault (History fault) = answer_of_history_fault fault
+answer_of_fault (History incomplete) = answer_of_history_fault incomplete.fault
 answer_of_fault Size = refused_size
 answer_of_fault Queue = refused_queue
 answer_of_fault Limit = refused_limit
 answer_of_fault Memory = memory_fault
 answer_of_fault (Run fault) = run_fault fault
+
+-- if a fault names what clashes, that clashes in this history, and explains the fault
+abbrev pub NamesClash : List ℕ → List Event → Fault → Type 0
+NamesClash initial events (History incomplete) =
+    MatchOption incomplete.clash ⊤ (λ clash. IsClash initial events clash × (fault_of clash ≡ incomplete.fault))
+NamesClash initial events _ = ⊤
 
 -- the answer that an outcome prints
 abbrev pub answer_of : Result Found Fault → Reply
@@ -46,17 +54,17 @@ answer_of (Err fault) = answer_of_fault fault
 -- the name of a fault, as it is printed
 abbrev pub name_of : Fault → List ℕ
 name_of (Text fault) = text_names.name_of fault
-name_of (History fault) = history_names.name_of fault
+name_of (History incomplete) = history_names.name_of incomplete.fault
 name_of Size = codes "Size"
 name_of Queue = codes "Queue"
 name_of Limit = codes "Limit"
 name_of Memory = codes "Memory"
 name_of (Run fault) = run_names.name_of fault
 
--- the line, the place, the ticket or the thread that it tells
+-- the line, the place, the ticket or the thread that it names
 abbrev pub place_in : Fault → Option ℕ
 place_in (Text fault) = text_names.line_in fault
-place_in (History fault) = history_names.place_in fault
+place_in (History incomplete) = history_names.place_in incomplete.fault
 place_in (Run fault) = run_names.place_in fault
 place_in _ = None
 

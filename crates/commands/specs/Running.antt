@@ -4,6 +4,7 @@ use Rattle.std.specs.Io.KnownBytes.{Appends}
 use Rattle.text_lines.specs.Input.{Ahead}
 use Rattle.text_lines.specs.Lines.{line}
 use Rattle.text_lines.specs.Writing.{AppendsFront, Asked, IsRefused, IsFlushed}
+use Rattle.messages.specs.Messages.{IsMessage}
 use Rattle.clap.specs.Kinds.{Kinds, IsAmong}
 use Rattle.clap.specs.declared.error.kind.ErrorKind.{ErrorKind}
 use Rattle.clap.specs.declared.error.kind.ErrorKind.TheVariants as kind
@@ -13,7 +14,7 @@ use Rattle.commands.specs.Inputs.{IsHistoryOf, IsFaultOfHistoryInput, IsSchedule
 use Rattle.commands.specs.Inputs.{IsDrawableOf, IsFaultOfDrawableInput}
 use Rattle.commands.specs.Judging.{AnswersFor, Judges, Shrinks, Verifies, Draws, Converts, Counts, Simulates}
 
--- where the writer refused nothing the text is written whole, with this status; else a front of it is, and the status is 3
+-- where the writer refused nothing the text is written whole, with this status; else a prefix of it is, and the status is 3
 abbrev pub Prints : Option (List ℕ) → Option (List ℕ) → Bool → ℕ → List ℕ → ℕ → Type 0
 Prints old new false result text status = Appends old new text × (result ≡ status)
 Prints old new true result text status = AppendsFront old new text × (result ≡ 3)
@@ -22,6 +23,15 @@ Prints old new true result text status = AppendsFront old new text × (result �
 abbrev pub WritesAndFlushes : {S : Type 0} → (S → Asked → S → Type 0) → Bool → S → S → Type 0
 WritesAndFlushes goes false old new = IsFlushed goes old new
 WritesAndFlushes goes true old new = IsRefused goes old new
+
+-- standard error took these bytes; or it refused some of them, and took a prefix
+abbrev pub Says : Option (List ℕ) → Option (List ℕ) → Bool → List ℕ → Type 0
+Says old new false text = Appends old new text
+Says old new true text = AppendsFront old new text
+
+-- standard error says a message
+abbrev pub SaysMessage : Option (List ℕ) → Option (List ℕ) → Bool → Type 0
+SaysMessage old new refused = (text : List ℕ) × IsMessage text × Says old new refused text
 
 -- the answer's text is printed, with its status
 abbrev pub PrintsAnswer : Option (List ℕ) → Option (List ℕ) → Bool → ℕ → Reply → Type 0
@@ -54,7 +64,7 @@ usage_status kind.DisplayHelp = 0
 usage_status kind.DisplayVersion = 0
 usage_status _ = 2
 
--- what is said of words that aren't UTF-8
+-- what is printed if an argument isn't UTF-8
 abbrev pub no_text : List ℕ
 no_text = line (codes "error: a word is not valid UTF-8")
 
@@ -65,6 +75,6 @@ pub record PrintsUsage (kinds : Kinds) (old new : Option (List ℕ)) (refused : 
   pub text : List ℕ
   pub printed : Prints old new refused result text (usage_status reason)
 
--- words that are no command have a text about the use of the program, or memory ran out
+-- other arguments have a text about the use of the program, or memory ran out
 abbrev pub ExplainsUse : Kinds → Option (List ℕ) → Option (List ℕ) → Bool → ℕ → Type 0
 ExplainsUse kinds old new refused result = PrintsUsage kinds old new refused result ⊎ PrintsAnswer old new refused result memory_fault

@@ -32,11 +32,11 @@ pub record IsFirstNamed {X : Type 0} (name_of : X → List ℕ) (name : List ℕ
   pub named : name_of x ≡ name
   pub others : All (λ y. name_of y ≢ name) before
 
--- so many values, which a queue is given before a run: from the least name of an initial value on, one after another
+-- values that a queue is given before a run, this many: from the least name of an initial value on, one after another
 abbrev pub first_values : ℕ → List ℕ
 first_values count = range_with_len LEAST_INITIAL_NAME count
 
--- the history of a run of a queue that was given so many values
+-- the history of a run of a queue that was given this many values
 abbrev pub run_history : ℕ → List Event → HistoryView
 run_history count events = record { initial = first_values count; events = events }
 
@@ -72,7 +72,7 @@ pub record IsFailedRun (may : Question → Answer → Type 0) (may_preload : ℕ
   pub refused : (place : ℕ) → fault ≡ Preload place → IsFirstRefused may_preload (first_values settings.initial) place
   pub is : answer ≡ run_fault fault
 
--- a run and its verdict, or a fault that a run may have, or want of memory
+-- a run and its verdict, or a fault that a run may have, or out of memory
 abbrev pub RunsOrFails : (Question → Answer → Type 0) → (ℕ → Bool → Type 0) → Settings → Reply → Type 0
 RunsOrFails may may_preload settings answer =
     IsRecordedRun may may_preload settings answer ⊎ (IsFailedRun may may_preload settings answer ⊎ (answer ≡ memory_fault))

@@ -1,5 +1,7 @@
-//! What standard error is told beside the answer.
-ghost use Rattle.std.specs.Prelude.{◌≡◌, ◌≤◌, false};
+//! What standard error says beside the answer.
+ghost use Rattle.std.specs.Prelude.{◌≡◌, ◌<◌, ◌≤◌, false, IfOk, string_bytes};
+ghost use Rattle.commands.specs.Running.{Says, SaysMessage};
+ghost use Rattle.messages.specs.Messages.{IsMessage};
 
 use crate::outcome::{Fault, Found, Outcome};
 use crate::stress::Shelved;
@@ -29,15 +31,21 @@ impl Terminals {
     };
 }
 
-/// Writes these bytes. Where the writer refuses, nothing more is done.
-pub(crate) fn tell<E: TextSink>(bytes: &[u8], errors: &mut E) {
+/// Writes these bytes. If the writer refuses, nothing more is done.
+pub(crate) fn tell<E: TextSink>(bytes: &[u8], errors: &mut E)
+    ensures { E.has_refused errors.old ≡ false
+        → Says (E.contents errors.old) (E.contents errors.new) (E.has_refused errors.new) bytes.now }
+{
     if write_piece(bytes, errors).is_ok() {
         let _passed_on = errors.flush();
     }
 }
 
-/// Writes a message; or where there was no memory for it, just that.
-fn tell_made<E: TextSink>(message: &Result<String, AllocError>, errors: &mut E) {
+/// Writes a message; or, if memory ran out for it, just that.
+fn tell_made<E: TextSink>(message: &Result<String, AllocError>, errors: &mut E)
+    ensures { IfOk message.now (λ made. IsMessage (string_bytes made)) → E.has_refused errors.old ≡ false
+        → SaysMessage (E.contents errors.old) (E.contents errors.new) (E.has_refused errors.new) }
+{
     match message {
         Ok(message) => tell(message.as_bytes(), errors),
         Err(_) => tell(NO_MEMORY, errors),
@@ -87,7 +95,7 @@ pub(crate) fn greet<E: TextSink>(
     }
 }
 
-/// The fault that the status tells; none where the answer wasn't written.
+/// The fault that has this status; none if the answer wasn't written.
 fn fault_told(outcome: &Outcome, status: u8) -> Option<Fault> {
     match outcome {
         Err(fault) if fault.status() == status => Some(*fault),
@@ -111,7 +119,7 @@ fn complaint_of_run<'a>(fault: Fault, task: &Task<'a>, names: &'a [&'a str]) -> 
     }
 }
 
-/// What a message says of a fault, where so much of the input is kept.
+/// What a message says of a fault, if this much of the input is kept.
 fn complaint_of<'a>(
     fault: Fault,
     task: &Task<'a>,
@@ -120,53 +128,59 @@ fn complaint_of<'a>(
 ) -> Complaint<'a> {
     match fault {
         Fault::Text(fault) => Complaint::Text(fault, given),
-        Fault::History(fault) => Complaint::History(fault, given),
+        Fault::History(incomplete) => {
+            Complaint::History(incomplete.fault, incomplete.clash, given)
+        }
         Fault::Size => Complaint::Size,
         _ => complaint_of_run(fault, task, names),
     }
 }
 
-/// The message about a command that ended with this status, which is no verdict's.
-fn message_of<'a, S>(
-    alloc: Global,
-    task: &Task<'a>,
-    outcome: &Outcome,
-    status: u8,
-    kept: &FrontKept<S>,
-    shelf: &[Shelved<'a>],
-) -> Result<String, AllocError> {
-    let Some(fault) = fault_told(outcome, status) else {
+/// A command that ended, and what it had.
+#[derive(Drop)]
+pub(crate) struct Ended<'b, 'a, S> {
+    pub task: Task<'a>,
+    pub outcome: &'b Outcome,
+    pub status: u8,
+    /// Its input, as far as that is kept.
+    pub kept: &'b FrontKept<S>,
+    pub shelf: &'b [Shelved<'a>],
+}
+
+/// The message about a command that ended with a status which is no verdict's.
+fn message_of<'b, 'a, S>(alloc: Global, ended: &Ended<'b, 'a, S>) -> Result<String, AllocError>
+    ensures { IfOk result (λ made. IsMessage (string_bytes made)) }
+{
+    let Some(fault) = fault_told(ended.outcome, ended.status) else {
         return sentence(alloc, &Complaint::Write);
     };
     let mut names = Vec::new(alloc);
-    for shelved in shelf {
+    for shelved in ended.shelf {
         names.push(shelved.name)?;
     }
     let given = Given {
-        reads: reads_of(name_of(task)).unwrap_or(Reads::History),
-        front: kept.front(),
-        is_whole: kept.is_whole(),
+        reads: reads_of(name_of(&ended.task)).unwrap_or(Reads::History),
+        front: ended.kept.front(),
+        is_whole: ended.kept.is_whole(),
     };
-    sentence(alloc, &complaint_of(fault, task, given, names.as_slice()))
+    sentence(
+        alloc,
+        &complaint_of(fault, &ended.task, given, names.as_slice()),
+    )
 }
 
 /// Says why a command found nothing, or that its answer wasn't written; of a verdict nothing.
-pub(crate) fn say_why<'a, S, E: TextSink>(
+pub(crate) fn say_why<'b, 'a, S, E: TextSink>(
     alloc: Global,
-    task: &Task<'a>,
-    outcome: &Outcome,
-    status: u8,
-    kept: &FrontKept<S>,
-    shelf: &[Shelved<'a>],
+    ended: &Ended<'b, 'a, S>,
     errors: &mut E,
 )
-    ensures { status ≤ 1 → errors.new ≡ errors.old }
+    ensures silent { ended.now.status ≤ 1 → errors.new ≡ errors.old }
+    ensures said { 2 ≤ ended.now.status → E.has_refused errors.old ≡ false
+        → SaysMessage (E.contents errors.old) (E.contents errors.new) (E.has_refused errors.new) }
 {
-    if status > 1 {
-        tell_made(
-            &message_of(alloc, task, outcome, status, kept, shelf),
-            errors,
-        );
+    if ended.status > 1 {
+        tell_made(&message_of(alloc, ended), errors);
     }
 }
 
@@ -200,7 +214,7 @@ fn is_operand(word: &str) -> bool {
     !word.is_empty() && !word.starts_with('-')
 }
 
-/// The command that reads among the words, where an operand stands behind it.
+/// The first argument, if an operand follows.
 fn command_with_file<'a, T: AsStr>(words: &'a [T]) -> Option<&'a str> {
     let (_program, others) = words.split_first()?;
     let (command, operands) = others.split_first()?;
@@ -211,8 +225,8 @@ fn command_with_file<'a, T: AsStr>(words: &'a [T]) -> Option<&'a str> {
     }
 }
 
-/// Says what is wrong with words that are no command, unless standard output has told the terminal; and how a file is read, where a
-/// command was given its name.
+/// Says what is wrong with arguments that are no command, unless the terminal shows it as standard output; and how a file is read, if
+/// a command was given its name.
 pub(crate) fn say_mistake<T: AsStr, E: TextSink>(
     alloc: Global,
     words: &[T],
@@ -221,7 +235,9 @@ pub(crate) fn say_mistake<T: AsStr, E: TextSink>(
     terminals: Terminals,
     errors: &mut E,
 )
-    ensures { status ≤ 1 → errors.new ≡ errors.old }
+    ensures silent { status ≤ 1 → errors.new ≡ errors.old }
+    ensures said { 2 < status → E.has_refused errors.old ≡ false
+        → SaysMessage (E.contents errors.old) (E.contents errors.new) (E.has_refused errors.new) }
 {
     if status <= 1 {
         return;

@@ -4,12 +4,12 @@ ghost use Rattle.command_words.specs.Commands.{Request, stress, is_quiet_in, req
 ghost use Rattle.command_words.specs.Options.{Settings};
 ghost use Rattle.commands.specs.Judging.{AnswersOrNoMemory};
 ghost use Rattle.commands.specs.Outcomes.{answer_of, NamesPlaces};
-ghost use Rattle.commands.specs.Running.{AnswersOf, PrintsOneOf, ExplainsUse, WritesAndFlushes, usage_status};
+ghost use Rattle.commands.specs.Running.{AnswersOf, PrintsOneOf, ExplainsUse, SaysMessage, WritesAndFlushes, usage_status};
 ghost use Rattle.commands.specs.Inner.Running.{Explains};
 ghost use Rattle.commands.specs.Stressing.{Stresses};
 ghost use Rattle.clap.specs.Values.{kind_of};
 
-use crate::beside::{Terminals, greet, say_how_to_keep, say_mistake, say_why};
+use crate::beside::{Ended, Terminals, greet, say_how_to_keep, say_mistake, say_why};
 use crate::check::check;
 use crate::convert::convert;
 use crate::draw::draw;
@@ -32,12 +32,12 @@ use std::io::{Read, Write};
 use std::sync::atomic::AtomicBool;
 use std::thread::Threads;
 
-/// Runs the command that the words name and answers the status.
+/// Runs the command that the arguments name and returns the status.
 ///
-/// The first word is the program's name. `stress` runs a queue of the shelf, the first of its name, and reads nothing; the
+/// The first argument is the program's name. `stress` runs a queue of the shelf, the first of its name, and reads nothing; the
 /// other commands read their input whole. Everything is computed before the first byte is written, and the writer is flushed
-/// once, at the end. Then standard error is told why, where the status is 2 or 3; what it takes of that changes nothing. Two commands wait: `check` for the threads of its searches, `stress` for these and for its workers, and so
-/// for the queue.
+/// once, at the end. Then standard error says why, if the status is 2 or 3; what it takes of that changes nothing. Two commands
+/// wait: `check` for the threads of its searches, `stress` for these and for its workers, and so for the queue.
 pub fn run_command<'a, R, T, S, W, E>(
     rt: &R,
     words: &'a [T],
@@ -55,29 +55,34 @@ where
     E: TextSink,
     requires fresh { W.has_refused writer.old ≡ false }
 
-    // Words that are a command which reads: what it answers of the input is printed, or want of memory for the words.
+    // Arguments that are a command which reads: its answer to the input is printed, or that memory ran out for the arguments.
     ensures reads { (request : Request) → faults_in (map T.text words.entry.now) ≡ [] → request_in (map T.text words.entry.now) ≡ Some request
         → IfSome (S.ahead reader) (λ input. PrintsOneOf (is_quiet_in (map T.text words.entry.now)) (AnswersOrNoMemory (AnswersOf request) input)
         (W.contents writer.old) (W.contents writer.new) (W.has_refused writer.new) result) }
 
-    // Words that are `stress`: what a run on the shelf gives is printed.
+    // Arguments that are `stress`: what a run on the shelf gives is printed.
     ensures stresses { (settings : Settings) → faults_in (map T.text words.entry.now) ≡ [] → request_in (map T.text words.entry.now) ≡ Some (stress settings)
         → PrintsOneOf (is_quiet_in (map T.text words.entry.now))
         (AnswersOrNoMemory (Stresses (λ s. s.name.now) (λ s. may s.queue) (λ s. may_preload s.queue) shelf.now) settings)
         (W.contents writer.old) (W.contents writer.new) (W.has_refused writer.new) result }
 
-    // Other words are answered by a text about the use of the program.
+    // Other arguments are answered by a text about the use of the program.
     ensures usage { (faults_in (map T.text words.entry.now) ≢ [])
         → ExplainsUse (faults_in (map T.text words.entry.now)) (W.contents writer.old) (W.contents writer.new) (W.has_refused writer.new) result }
 
-    // Whatever the words: the writer is written to and then flushed, once; or it refuses, and is asked for nothing more.
+    // Whatever the arguments: the writer is written to and then flushed, once; or it refuses, and is asked for nothing more.
     ensures asked { WritesAndFlushes W.goes (W.has_refused writer.new) writer.old writer.new }
 
     // So where it refused nothing, it holds nothing back.
     ensures passed_on { W.has_refused writer.new ≡ false → W.holds_back writer.new ≡ false }
 
-    // Of a yes, a no, a help and what else has the status 0 or 1 nothing is said on standard error, unless a terminal is there.
+    // With the status 0 or 1, as with `YES`, `NO` and a help, nothing is written to standard error, unless a terminal is there.
     ensures silent { terminals.input ≡ false → terminals.output ≡ false → result ≤ 1 → errors.new ≡ errors.old }
+
+    // With the status 2 or 3 of a command a message is written there: one or two lines.
+    ensures said { faults_in (map T.text words.entry.now) ≡ [] → terminals.input ≡ false → terminals.output ≡ false
+        → E.has_refused errors.old ≡ false → 2 ≤ result
+        → SaysMessage (E.contents errors.old) (E.contents errors.new) (E.has_refused errors.new) }
 {
     match order_in(rt.alloc(), words) {
         Ok(order) => {
@@ -86,7 +91,14 @@ where
             let mut kept = FrontKept::new(rt.alloc(), reader);
             let outcome = outcome_of(rt, task, &mut kept, shelf);
             let status = print_outcome(&outcome, order.is_quiet, writer);
-            say_why(rt.alloc(), &task, &outcome, status, &kept, shelf, errors);
+            let ended = Ended {
+                task,
+                outcome: &outcome,
+                status,
+                kept: &kept,
+                shelf,
+            };
+            say_why(rt.alloc(), &ended, errors);
             say_how_to_keep(rt.alloc(), &order, &outcome, terminals, errors);
             status
         }
@@ -98,8 +110,8 @@ where
     }
 }
 
-/// Runs the command over a reader and writers of std, as [`run_command`] does, and answers the status. Where the reader of the output
-/// has left, standard error is told nothing.
+/// Runs the command over a reader and writers of std, as [`run_command`] does, and returns the status. If the reader of the output
+/// has left, nothing is written to standard error.
 pub fn run_over<'a, R, I, O, E>(
     rt: &R,
     words: &'a [String],

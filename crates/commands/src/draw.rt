@@ -16,7 +16,7 @@ use drawing::{MOST_DRAWN, count_of_lines, terminal_picture};
 use history_merge::History;
 use history_text::TextSource;
 use std::alloc::{AllocError, Global};
-use svg_picture::svg_picture;
+use svg_picture::{html_picture, svg_picture};
 use verdicts::{Claimed, claim, decide};
 
 /// What `draw` finds in what the reader gives, for a picture in this form.
@@ -106,6 +106,7 @@ fn picture_in(
 {
     match form {
         PictureForm::Svg => svg_picture(alloc, history, claimed),
+        PictureForm::Html => html_picture(alloc, history, claimed),
         PictureForm::Terminal => terminal_picture(alloc, history, claimed),
     }
 }

@@ -6,7 +6,7 @@ ghost use Rattle.text_lines.specs.Writing.{AppendsFront, IsWritten, IsRefused};
 ghost use Rattle.commands.specs.Answers.{answer_text, answer_status, beginning, fault_status, named};
 ghost use Rattle.commands.specs.Outcomes.{answer_of_fault, name_of, place_in};
 
-use crate::outcome::Fault;
+use crate::outcome::{Fault, Incomplete};
 use history_merge::HistoryFault;
 use history_text::{TextFault, TextSink, WriteFault, write_piece};
 use text_lines::Kept;
@@ -27,7 +27,7 @@ impl Fault {
     {
         match self {
             Fault::Text(fault) => fault.name(),
-            Fault::History(fault) => fault.name(),
+            Fault::History(incomplete) => incomplete.fault.name(),
             Fault::Size => "Size",
             Fault::Queue => "Queue",
             Fault::Limit => "Limit",
@@ -36,13 +36,13 @@ impl Fault {
         }
     }
 
-    /// The place, the line, the ticket or the thread that it tells.
+    /// The place, the line, the ticket or the thread that it names.
     pub fn place(self) -> Option<u64>
         ensures { result ≡ place_in self }
     {
         match self {
             Fault::Text(fault) => fault.line(),
-            Fault::History(fault) => fault.place(),
+            Fault::History(incomplete) => incomplete.fault.place(),
             Fault::Run(fault) => fault.place(),
             Fault::Size | Fault::Queue | Fault::Limit | Fault::Memory => None,
         }
@@ -55,7 +55,12 @@ impl Fault {
     {
         match self {
             Fault::Text(TextFault::Read | TextFault::Memory) => false,
-            Fault::History(HistoryFault::Memory) => false,
+            Fault::History(
+                Incomplete {
+                    fault: HistoryFault::Memory,
+                    ..
+                },
+            ) => false,
             Fault::Memory | Fault::Run(_) => false,
             _ => true,
         }
@@ -84,7 +89,7 @@ fn push_fault(fault: Fault, kept: &mut Kept)
 }
 
 /// Writes the line of a fault: whether the input is refused or the command failed, the fault's name, and the place, the line,
-/// the ticket or the thread that it tells.
+/// the ticket or the thread that it names.
 pub fn write_fault<W: TextSink>(fault: Fault, writer: &mut W) -> Result<(), WriteFault>
     ensures ok { OnOk result (Appends (W.contents writer.old) (W.contents writer.new) (answer_text (answer_of_fault fault))) }
     ensures err { OnErr result (AppendsFront (W.contents writer.old) (W.contents writer.new) (answer_text (answer_of_fault fault))) }

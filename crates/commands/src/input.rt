@@ -1,15 +1,18 @@
 //! What a command reads.
-ghost use Rattle.std.specs.Prelude.{◌≡◌, IfOk, IfErr, IfSome};
+ghost use Rattle.std.specs.Prelude.{◌≡◌, ℕ, List, IfOk, IfErr, IfSome};
+ghost use Rattle.event_records.specs.declared.event.Event.{Event};
+ghost use Rattle.history_merge.specs.Clashes.{IsClash};
 ghost use Rattle.history_merge.specs.Initial.{IsCompleteFrom};
 ghost use Rattle.history_text.specs.Versions.{HasText, HistoryText, IsReadAs, said_in};
 ghost use Rattle.history_text.specs.Schedules.{IsSetting};
 ghost use Rattle.commands.specs.Inputs.{IsHistoryOf, IsFaultOfHistoryInput, IsScheduleOf, IsFaultOfScheduleInput, IsClaimOf, IsFaultOfClaimInput};
 ghost use Rattle.commands.specs.Inputs.{IsDrawableOf, IsFaultOfDrawableInput, drawable};
 ghost use Rattle.commands.specs.Judging.{IsFaulty, AnswersFor, AnswersOrNoMemory, said_by};
-ghost use Rattle.commands.specs.Outcomes.{answer_of_fault};
+ghost use Rattle.commands.specs.Answers.{answer_of_history_fault};
+ghost use Rattle.commands.specs.Outcomes.{NamesClash, answer_of_fault};
 
-use crate::outcome::Fault;
-use history_merge::{History, HistoryBuilder};
+use crate::outcome::{Fault, Incomplete};
+use history_merge::{Clash, History, HistoryBuilder, HistoryFault};
 use history_text::{
     Schedule, TextFault, TextReader, TextSource, Version, at_end, is_at_end, read_history,
     read_schedule, read_verdict,
@@ -17,7 +20,7 @@ use history_text::{
 use std::alloc::Global;
 use verdicts::Claimed;
 
-/// A history in the making, and the version of the text that it was read from.
+/// A history builder, and the version of the text that it was read from.
 pub type Gathered = (Version, HistoryBuilder);
 
 /// The one text of a history that the reader gives, of either version.
@@ -87,10 +90,26 @@ pub fn history_of(gathered: Gathered) -> Result<(Version, History), Fault>
     ensures complete { IfOk result (λ read. IsCompleteFrom read.1.initial read.1.events) }
     ensures fault { (text : HistoryText) → HasText text → IsReadAs text gathered.0 gathered.1
         → IfErr result (λ fault. AnswersOrNoMemory IsFaulty (said_by text) (answer_of_fault fault)) }
+    ensures clash { (text : HistoryText) → HasText text → IsReadAs text gathered.0 gathered.1 → IfErr result (NamesClash text.initial text.events) }
 {
     let (version, builder) = gathered;
-    let history = builder.finish()?;
-    Ok((version, history))
+    let clash = builder.clash();
+    match builder.finish() {
+        Ok(history) => Ok((version, history)),
+        Err(fault) => Err(incomplete(fault, clash)),
+    }
+}
+
+/// The fault, with the clash if that explains it.
+fn incomplete(fault: HistoryFault, clash: Option<Clash>) -> Fault
+    ensures fault { answer_of_fault result ≡ answer_of_history_fault fault }
+    ensures clash { (initial : List ℕ) (events : List Event) → IfSome clash (IsClash initial events) → NamesClash initial events result }
+{
+    let clash = match clash {
+        Some(found) if found.fault() == fault => Some(found),
+        _ => None,
+    };
+    Fault::History(Incomplete { fault, clash })
 }
 
 /// The one schedule that the reader gives.

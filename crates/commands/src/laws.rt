@@ -15,7 +15,7 @@ ghost use Rattle.commands.specs.Answers.{Reply, played};
 ghost use Rattle.commands.specs.Judging.{SimulatesIn};
 ghost use Rattle.commands.specs.OneAnswer.{HasOneAnswer};
 
-/// No false alarm: what is answered of an honest schedule that is done is a yes.
+/// No false alarm: the answer to an honest schedule that is done is `YES`.
 pub fn honest_schedules_get_a_yes()
     ensures { (setting : Setting) (schedule : List Attempt) (answer : Reply)
         → setting.threads ≤ MAX_THREADS → IsHonest setting schedule → IsDone setting schedule → SimulatesIn setting schedule answer
@@ -23,7 +23,7 @@ pub fn honest_schedules_get_a_yes()
 {}
 
 /// An input has one answer: two answers that the contract allows of a command that reads, on one input, are the same, or one of
-/// them is want of memory.
+/// them says that memory ran out.
 pub fn one_answer()
     ensures check { HasOneAnswer check }
     ensures shrink { HasOneAnswer shrink }

@@ -1,8 +1,8 @@
 //! What a command found, or why it found nothing.
-ghost use Rattle.std.specs.Prelude.{◌≡◌};
+ghost use Rattle.std.specs.Prelude.{◌≡◌, None};
 ghost use Rattle.commands.specs.declared.outcome.Fault.TheVariants as made;
 
-use history_merge::{History, HistoryFault};
+use history_merge::{Clash, History, HistoryFault};
 use history_stats::Statistics;
 use history_text::{TextFault, Version};
 use simulation::Rejections;
@@ -27,12 +27,20 @@ pub enum Found {
     Played(Rejections, History, Verdict),
     /// Whether a verdict is evidence.
     Verified(bool),
-    /// A history alone, to be shown in version 2.
+    /// A history on its own, to be shown in version 2.
     Converted(History),
     /// The statistics of a history.
     Counted(Statistics),
     /// A picture, in lines of characters.
     Drawn(Vec<u8>),
+}
+
+/// Why events are no complete history, and what clashes there, if that is known.
+#[derive(Clone, Copy, Debug, PartialEq, Eq, Error)]
+#[error("{fault}")]
+pub struct Incomplete {
+    pub fault: HistoryFault,
+    pub clash: Option<Clash>,
 }
 
 /// Why a command found nothing: what it was given is refused, or it failed.
@@ -43,7 +51,7 @@ pub enum Fault {
     Text(TextFault),
     /// The events are no complete history, or there was no memory for one.
     #[error("{0}")]
-    History(HistoryFault),
+    History(Incomplete),
     /// The history or the verdict has more initial values, operations or lines than are drawn.
     #[error("{name}", name = self.name())]
     Size,
@@ -78,10 +86,10 @@ impl From<TextFault> for Fault {
 }
 
 impl From<HistoryFault> for Fault {
-    ghost from_gives = { λ found fault. fault ≡ made.History found };
+    ghost from_gives = { λ found fault. fault ≡ made.History (record { fault = found; clash = None }) };
 
     fn from(fault: HistoryFault) -> Fault {
-        Fault::History(fault)
+        Fault::History(Incomplete { fault, clash: None })
     }
 }
 

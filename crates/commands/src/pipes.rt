@@ -1,4 +1,4 @@
-//! Standard output whose reader may leave, and what standard error is told then: nothing.
+//! Standard output whose reader may leave, and standard error, which says nothing then.
 use std::io;
 use std::io::{ErrorKind, Write};
 use std::sync::atomic::{AtomicBool, Ordering};

@@ -102,7 +102,7 @@ fn run_plan<'a, R: Threads + Sync>(
     Ok(Found::Shown(run_version(options.initial), history, verdict))
 }
 
-/// So many values for a queue, which are names of initial values.
+/// Values for a queue, this many, which are names of initial values.
 fn first_values(alloc: Global, count: usize) -> Result<Vec<u64>, AllocError>
     requires { count ≤ MAX_STRESS_INITIAL }
     ensures { IfOk result (λ values. values.items ≡ first_values count) }

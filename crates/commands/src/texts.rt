@@ -63,7 +63,7 @@ pub fn stats_text(alloc: Global, text: &[u8]) -> Outcome
     stats(alloc, MemorySource::new(text))
 }
 
-/// What `check` finds in the history that a history in the making was given.
+/// What `check` finds in the history that a history builder was given.
 pub fn judge_gathered(alloc: Global, builder: HistoryBuilder) -> Outcome
     requires { (history : HistoryView) × IsGathered history builder }
     ensures found { (history : HistoryView) → IsGathered history builder → AnswersOrNoMemory JudgesHistory history (answer_of result) }

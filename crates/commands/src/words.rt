@@ -1,4 +1,4 @@
-//! The words of the command line, and what is said where a command can't begin.
+//! The program's arguments, and what is printed if a command can't begin.
 ghost use Rattle.std.specs.Prelude.{◌≡◌, false};
 ghost use Rattle.commands.specs.Answers.{memory_fault};
 ghost use Rattle.commands.specs.Running.{Prints, PrintsAnswer, WritesAndFlushes, no_text};
@@ -14,7 +14,7 @@ use std::env::Env;
 use std::io::ErrorKind;
 use thiserror::Error;
 
-/// What is said of words that aren't UTF-8.
+/// What is printed if an argument isn't UTF-8.
 const NO_TEXT: &[u8] = b"error: a word is not valid UTF-8\n";
 
 /// Why a command can't begin.
@@ -28,7 +28,7 @@ pub enum StartFault {
     Memory,
 }
 
-/// The words of the command line, the program's name first.
+/// The arguments, the program's name first.
 pub fn words_of<R: Env + AllocGlobal>(rt: &R) -> Result<Vec<String>, StartFault> {
     let words = match env::args(rt) {
         Ok(words) => words,
@@ -41,7 +41,7 @@ pub fn words_of<R: Env + AllocGlobal>(rt: &R) -> Result<Vec<String>, StartFault>
     }
 }
 
-/// Writes why a command can't begin, flushes the writer and answers the status; and tells standard error too.
+/// Writes why a command can't begin, flushes the writer and returns the status; standard error says it too.
 pub fn print_start_fault<W: TextSink, E: TextSink>(
     fault: StartFault,
     writer: &mut W,

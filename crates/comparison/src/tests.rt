@@ -20,7 +20,7 @@ use verdicts::{Claimed, Verdict, ViolationKind, claim, decide, verify};
 /// The histories of each sort.
 const HISTORIES: u32 = 100;
 
-/// The most seeds for these: of some of them no answer is told.
+/// The most seeds for these: some of them give an operation no answer.
 const SEEDS: u64 = 300;
 
 /// The least number of histories of each kind.
@@ -118,7 +118,7 @@ fn first_gap_in(alloc: Global, matching: &Matching) -> Result<GapAnswer, Fail> {
     Ok(gap_for(alloc, matching, empties.get(0))?)
 }
 
-/// The same of a history.
+/// Returns the answer for a history's first empty dequeue.
 fn first_gap(alloc: Global, history: &History) -> Result<GapAnswer, Fail> {
     match match_values(alloc, history)? {
         Matched::Clear(matching) => first_gap_in(alloc, &matching),

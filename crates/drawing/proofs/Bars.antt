@@ -27,7 +27,7 @@ found p (y ∷ ys) x among passes = join (p y) refl (λ there. found p ys x ther
       | inr there ↦ later there
     ]
 
--- what the test of a bar tells
+-- what the test of a bar means
 under_way_tells : (thread ticket : ℕ) (o : Operation) → is_under_way thread ticket o ≡ true → (o.thread ≡ thread) × (o.call ≤ ticket) × (ticket ≤ o.ret)
 under_way_tells thread ticket o passes = (grind (arith, nat_tests), grind (arith, nat_tests), grind (arith, nat_tests))
 

@@ -1,4 +1,4 @@
--- The effects of a yes, and the numbers of a claim.
+-- The effects of a `YES`, and the numbers of a claim.
 use Rattle.std.proofs.Common.{◌≡◌, ℕ, zero, suc, ◌+◌, ◌<◌, ◌≤◌, inl, inr, max, List, [], ◌∷◌, take, Some}
 use Rattle.std.proofs.Common.{refl, ap, subst, arith, add-one}
 use Rattle.std.specs.Prelude.{Contains, fold, slice_get}
@@ -34,7 +34,7 @@ longer g [] (suc m) (suc n) le = omega arith
 longer g (o ∷ rest) (suc m) zero le = absurd (omega arith)
 longer g (o ∷ rest) (suc m) (suc n) le = longer (max g o.call) rest m n (omega arith)
 
--- effects rise in the order of a yes
+-- effects rise in the order of a `YES`
 pub effects_rise : EffectsRise
 effects_rise order i j le = longer 0 order (i + 1) (j + 1) (omega arith)
 
@@ -54,7 +54,7 @@ all_below g n (x ∷ rest) (suc k) below each =
     let first = each zero x (omega arith) refl in
     all_below (max g x.call) n rest k (omega arith) (λ j o less at. each (suc j) o (omega arith) at)
 
--- effects of a legal order lie within the bars
+-- effects of a linearization lie within the bars
 pub effects_are_in_bars : EffectsAreInBars
 effects_are_in_bars initial events order i o complete legal at = (called, below)
   where

@@ -23,7 +23,7 @@ use Rattle.drawing.proofs.Numbers.{value_among}
 -- ---- the operations of a violation
 
 module _ (operations : List Operation) (x : Operation) where
-  -- what stands in a list is its first element, or stands behind it
+  -- what stands in a list is its first element, or stands after it
   among_first : (a : Operation) (rest : List Operation) → Contains operations a → (Contains rest x → Contains operations x) → Contains (a ∷ rest) x
       → Contains operations x
   among_first a rest first later among = elim (contains_cons a rest x among) [

@@ -1,13 +1,14 @@
 -- The way of the argument: Loops, Chains: what one more element adds to a line, and one more piece to a text.
--- Lanes: lanes are of the threads that have events, and stand apart. Bars: the bars in them are the operations.
--- Effects: the effects of a yes rise within the bars. Numbers: the numbers are those of the claim. Evidence: the lines
--- of evidence are of the history. Written: a text that is written whole. Counted: how many elements pass a test.
+-- Below: how many numbers lie below a bound. Lanes: lanes are of the threads that have events, and stand apart. Bars: the bars in them are the operations.
+-- Effects: the effects of a `YES` rise within the bars. Numbers: the numbers are those of the claim. Evidence: the lines
+-- of evidence are of the history. Counted: how many elements pass a test.
 pub mod Loops
 pub mod Chains
 pub mod Bars
 pub mod Effects
 pub mod Numbers
+pub mod Naming
 pub mod Evidence
+pub mod Below
 pub mod Lanes
-pub mod Written
 pub mod Counted

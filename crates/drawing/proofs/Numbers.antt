@@ -71,7 +71,7 @@ initial_numbers_are_of_lines lines v i at = let h = place_if (Initial 0) lines (
 pub initial_lines_have_numbers : InitialLinesHaveNumbers
 initial_lines_have_numbers lines v among = place_of_one lines (is_line_of_initial v) (Initial v) among (eq-eqb v v refl)
 
--- ---- the order of a yes
+-- ---- the order of a `YES`
 
 order_place : (order : List Operation) (o : Operation)
     → position_or_len (is_line_of o) (map Op order) ≡ position_or_len (λ listed. nat_eq listed.call o.call) order

@@ -1,5 +1,5 @@
--- Bands beside the lanes of a no: when a value surely was in the queue, or was not, and the time that contradicts it.
-use Rattle.std.specs.Prelude.{ℕ, ◌&&◌, Bool, true, false, nat_lt, nat_le, Option, Some, None, List, [], ◌∷◌, ◌++◌, codes, decimal}
+-- Bands beside the lanes of a `NO`: when a value definitely was in the queue, or was not, and the time that contradicts it.
+use Rattle.std.specs.Prelude.{ℕ, ◌&&◌, Bool, true, false, nat_lt, nat_le, Option, Some, None, List, [], ◌∷◌, ◌++◌, codes}
 use Rattle.std.specs.List.{concat}
 use Rattle.history_merge.specs.declared.operation.OpKind.{OpKind}
 use Rattle.history_merge.specs.declared.operation.OpKind.TheVariants as kind
@@ -8,6 +8,7 @@ use Rattle.verdicts.specs.declared.verifying.Claimed.{Claimed}
 use Rattle.verdicts.specs.declared.verifying.Claimed.TheVariants.{Yes, No}
 use Rattle.verdicts.specs.declared.verifying.ViolationKind.TheVariants.{VFresh, VRepeat, VOrd, VWit}
 use Rattle.drawing.specs.Claim.{line_kind, line_call, line_return}
+use Rattle.drawing.specs.Names.{value_text}
 use Rattle.drawing.specs.declared.bands.Band.{Band}
 use Rattle.drawing.specs.declared.bands.Head.{Head}
 use Rattle.drawing.specs.declared.bands.Head.TheVariants.{SurelyIn, NotIn, Dequeued, InAndOut, SaidEmpty, InOrOut}
@@ -23,7 +24,7 @@ value_of kind.Empty = 0
 abbrev pub line_value : ClaimLine → ℕ
 line_value line = value_of (line_kind line)
 
--- the value surely is in the queue from the return of its enqueue, or from the top on where it was there first, to the call of its
+-- the value definitely is in the queue from the return of its enqueue, or from the top on where it was there first, to the call of its
 -- dequeue, or to the bottom where it has none
 abbrev pub sure_until : ClaimLine → Option ℕ → Band
 sure_until enq last = record { head = SurelyIn (line_value enq); first = line_return enq; last = last }
@@ -32,7 +33,7 @@ sure_until enq last = record { head = SurelyIn (line_value enq); first = line_re
 abbrev pub time_of : Head → Option ℕ → Option ℕ → Band
 time_of head first last = record { head = head; first = first; last = last }
 
--- the value surely isn't in the queue before this call; never, where there is none
+-- the value definitely isn't in the queue before this call; never, where there is none
 abbrev pub absent_until : ℕ → Option ℕ → Band
 absent_until value last = record { head = NotIn value; first = None; last = last }
 
@@ -47,7 +48,7 @@ cover_bands [] = []
 cover_bands (enq ∷ []) = sure_until enq None ∷ []
 cover_bands (enq ∷ deq ∷ rest) = sure_until enq (line_call deq) ∷ cover_bands rest
 
--- when the value of a dequeue surely was not in the queue, and when it was dequeued
+-- when the value of a dequeue definitely was not in the queue, and when it was dequeued
 abbrev pub fresh_bands : List ClaimLine → List Band
 fresh_bands [] = []
 fresh_bands (deq ∷ []) =
@@ -55,7 +56,7 @@ fresh_bands (deq ∷ []) =
 fresh_bands (deq ∷ enq ∷ rest) =
     absent_until (line_value deq) (call_if_taken enq (line_kind enq)) ∷ time_of (Dequeued (line_value deq)) (line_call deq) (line_return deq) ∷ []
 
--- when a surely was in the queue, and when b went in and out
+-- when a definitely was in the queue, and when b went in and out
 abbrev pub order_bands : List ClaimLine → List Band
 order_bands (enq_a ∷ enq_b ∷ deq_b ∷ []) =
     sure_until enq_a None ∷ time_of (InAndOut (line_value enq_b)) (line_call enq_b) (line_return deq_b) ∷ []
@@ -63,7 +64,7 @@ order_bands (enq_a ∷ enq_b ∷ deq_b ∷ deq_a ∷ rest) =
     sure_until enq_a (line_call deq_a) ∷ time_of (InAndOut (line_value enq_b)) (line_call enq_b) (line_return deq_b) ∷ []
 order_bands _ = []
 
--- when the values of the cover surely were in the queue, and when it was said to be empty
+-- when the values of the cover definitely were in the queue, and when it was said to be empty
 abbrev pub witness_bands : List ClaimLine → List Band
 witness_bands [] = []
 witness_bands (empty ∷ cover) = cover_bands cover ++ time_of SaidEmpty (line_call empty) (line_return empty) ∷ []
@@ -83,14 +84,14 @@ bands_of (No VWit lines) = witness_bands lines
 
 -- the words above a band
 abbrev pub head_text : Head → List ℕ
-head_text (SurelyIn v) = concat (decimal v ∷ codes " surely in" ∷ [])
-head_text (NotIn v) = concat (decimal v ∷ codes " not in" ∷ [])
-head_text (Dequeued v) = concat (decimal v ∷ codes " dequeued" ∷ [])
-head_text (InAndOut v) = concat (decimal v ∷ codes " in and out" ∷ [])
+head_text (SurelyIn v) = concat (value_text v ∷ codes " surely in" ∷ [])
+head_text (NotIn v) = concat (value_text v ∷ codes " not in" ∷ [])
+head_text (Dequeued v) = concat (value_text v ∷ codes " dequeued" ∷ [])
+head_text (InAndOut v) = concat (value_text v ∷ codes " in and out" ∷ [])
 head_text SaidEmpty = codes "empty"
-head_text (InOrOut v) = concat (decimal v ∷ codes " in or out" ∷ [])
+head_text (InOrOut v) = concat (value_text v ∷ codes " in or out" ∷ [])
 
--- the word for a band: for a value that surely is in the queue, for one that surely isn't, and for the time beside them; nothing
+-- the word for a band: for a value that definitely is in the queue, for one that definitely isn't, and for the time beside them; nothing
 -- where there is no band
 abbrev pub form_words : Head → List ℕ → List ℕ → List ℕ → List ℕ
 form_words (SurelyIn v) sure absent time = sure

@@ -1,4 +1,4 @@
--- The words of a picture: its headline, what it shows in a sentence, and how to read it.
+-- The words of a picture: its headline, and what it shows in a sentence.
 use Rattle.std.specs.Prelude.{ℕ, ◌+◌, Option, Some, None, List, [], ◌∷◌, ◌++◌, codes, decimal}
 use Rattle.std.specs.List.{concat}
 use Rattle.history_merge.specs.declared.operation.OpKind.{OpKind}
@@ -10,6 +10,7 @@ use Rattle.verdicts.specs.declared.verifying.Claimed.TheVariants.{Yes, No}
 use Rattle.verdicts.specs.declared.verifying.ViolationKind.TheVariants.{VFresh, VRepeat, VOrd, VWit}
 use Rattle.text_lines.specs.Lines.{line}
 use Rattle.drawing.specs.Claim.{line_kind, line_call, line_return}
+use Rattle.drawing.specs.Names.{value_text}
 use Rattle.drawing.specs.Bands.{line_value}
 
 -- what a picture shows, in a line
@@ -20,9 +21,9 @@ headline (No VRepeat lines) = codes "NO: a value was dequeued twice"
 headline (No VOrd lines) = codes "NO: values were dequeued against the order of their enqueues"
 headline (No VWit lines) = codes "NO: an empty answer while the queue was never empty"
 
--- the value of a line, in its digits
-abbrev pub value_text : ClaimLine → List ℕ
-value_text l = decimal (line_value l)
+-- the value of a line, by its name
+abbrev pub line_text : ClaimLine → List ℕ
+line_text l = value_text (line_value l)
 
 -- why a value was not there, where its enqueue is shown
 abbrev pub fresh_reason : OpKind → List ℕ
@@ -32,8 +33,8 @@ fresh_reason _ = line (codes " was dequeued (1), but its enqueue (2) was not tak
 -- the caption of a value that was not there
 abbrev pub fresh_caption : List ClaimLine → List ℕ
 fresh_caption [] = []
-fresh_caption (deq ∷ []) = concat (value_text deq ∷ line (codes " was dequeued (1), but nobody ever enqueued it.") ∷ [])
-fresh_caption (deq ∷ enq ∷ rest) = concat (value_text deq ∷ fresh_reason (line_kind enq) ∷ [])
+fresh_caption (deq ∷ []) = concat (line_text deq ∷ line (codes " was dequeued (1), but nobody ever enqueued it.") ∷ [])
+fresh_caption (deq ∷ enq ∷ rest) = concat (line_text deq ∷ fresh_reason (line_kind enq) ∷ [])
 
 -- how a value came in that was dequeued twice
 abbrev pub repeat_words : ClaimLine → List ℕ
@@ -43,7 +44,7 @@ repeat_words (Initial v) = line (codes " was in the queue first (1), but dequeue
 -- the caption of a value that was dequeued twice
 abbrev pub repeat_caption : List ClaimLine → List ℕ
 repeat_caption [] = []
-repeat_caption (enq ∷ rest) = concat (value_text enq ∷ repeat_words enq ∷ [])
+repeat_caption (enq ∷ rest) = concat (line_text enq ∷ repeat_words enq ∷ [])
 
 -- how a came in before b
 abbrev pub before_words : ClaimLine → List ℕ
@@ -53,7 +54,7 @@ before_words (Initial v) = codes " was in the queue (1) before "
 -- that a came in before b, and b was dequeued before or without a
 unfoldable pub overtaking_caption : ClaimLine → ClaimLine → List ℕ → List ℕ → List ℕ
 overtaking_caption a b between end =
-    concat (value_text a ∷ before_words a ∷ value_text b ∷ line (codes " (2),") ∷ codes "but " ∷ value_text b ∷ between ∷ value_text a ∷ end ∷ [])
+    concat (line_text a ∷ before_words a ∷ line_text b ∷ line (codes " (2),") ∷ codes "but " ∷ line_text b ∷ between ∷ line_text a ∷ end ∷ [])
 
 -- the caption of values that were dequeued against the order of their enqueues
 abbrev pub order_caption : List ClaimLine → List ℕ
@@ -66,16 +67,16 @@ abbrev pub moment_text : Option ℕ → List ℕ
 moment_text None = codes "the start"
 moment_text (Some ticket) = codes "ticket " ++ decimal ticket
 
--- from when on a value of a cover surely was in the queue, with the number of its enqueue
+-- from when on a value of a cover definitely was in the queue, with the number of its enqueue
 unfoldable pub cover_from : ℕ → ClaimLine → List ℕ
-cover_from number enq = concat (value_text enq ∷ codes " from " ∷ moment_text (line_return enq) ∷ codes " (" ∷ decimal number ∷ [])
+cover_from number enq = concat (line_text enq ∷ codes " from " ∷ moment_text (line_return enq) ∷ codes " (" ∷ decimal number ∷ [])
 
--- from when to when a value of a cover surely was in the queue, with the numbers of its enqueue and its dequeue
+-- from when to when a value of a cover definitely was in the queue, with the numbers of its enqueue and its dequeue
 unfoldable pub one_of_cover : ℕ → ClaimLine → ClaimLine → List ℕ
 one_of_cover number enq deq =
     cover_from number enq ++ concat (codes ") to " ∷ moment_text (line_call deq) ∷ codes " (" ∷ decimal (number + 1) ∷ line (codes ")") ∷ [])
 
--- from when on the last value of a cover surely was in the queue
+-- from when on the last value of a cover definitely was in the queue
 unfoldable pub last_of_cover : ℕ → ClaimLine → List ℕ
 last_of_cover number enq = cover_from number enq ++ line (codes ") on")
 
@@ -95,7 +96,7 @@ abbrev pub witness_caption : List ClaimLine → List ℕ
 witness_caption [] = []
 witness_caption (empty ∷ cover) = witness_words ++ cover_caption 2 cover
 
--- the caption of a yes
+-- the caption of a `YES`
 unfoldable pub yes_caption : List ℕ
 yes_caption =
     concat (line (codes "The numbers give one order in which the operations can have taken")
@@ -108,45 +109,3 @@ caption (No VFresh lines) = fresh_caption lines
 caption (No VRepeat lines) = repeat_caption lines
 caption (No VOrd lines) = order_caption lines
 caption (No VWit lines) = witness_caption lines
-
--- what the forms in the lanes mean
-unfoldable pub lane_meanings : List ℕ
-lane_meanings = concat (line (codes "[    call of an operation") ∷ line (codes "]    its return") ∷ [])
-
--- the words for a yes, for a no of operations alone, and for a no where the queue holds values first
-abbrev pub claim_words : Claimed → List ℕ → List ℕ → List ℕ → List ℕ → List ℕ
-claim_words (Yes order) initial certain shown with_values = certain
-claim_words (No kind lines) [] certain shown with_values = shown
-claim_words (No kind lines) (v ∷ initial) certain shown with_values = with_values
-
--- what a number means
-abbrev pub number_meaning : Claimed → List ℕ → List ℕ
-number_meaning claimed initial =
-    claim_words claimed initial (line (codes "1    number 1 in the order, where it takes effect"))
-    (line (codes "1    number 1 of the operations that show it")) (line (codes "1    number 1 of the values and operations that show it"))
-
--- what the rows of initial values mean, where there are some
-abbrev pub initial_meaning : List ℕ → List ℕ
-initial_meaning [] = []
-initial_meaning (v ∷ initial) = line (codes "init a value that was in the queue first, the front one on top")
-
--- what a band of values surely in the queue means, and what the time beside it means
-unfoldable pub sure_and : List ℕ → List ℕ
-sure_and time = concat (line (codes "###  the value surely was in the queue.") ∷ time ∷ [])
-
--- what a band without the value means, and what the time beside it means
-unfoldable pub fresh_meanings : List ℕ
-fresh_meanings =
-    concat (line (codes "xxx  the value surely was not in the queue.") ∷ line (codes ":::  within this time it was dequeued nevertheless.") ∷ [])
-
--- what the forms of the bands mean
-abbrev pub form_meanings : Claimed → List ℕ
-form_meanings (Yes order) = []
-form_meanings (No VFresh lines) = fresh_meanings
-form_meanings (No VRepeat lines) = []
-form_meanings (No VOrd lines) = sure_and (line (codes ":::  within this time the later value went in and out."))
-form_meanings (No VWit lines) = sure_and (line (codes ":::  within this time the queue was said to be empty."))
-
--- how to read a picture of characters
-unfoldable pub legend : List ℕ → Claimed → List ℕ
-legend initial claimed = lane_meanings ++ (initial_meaning initial ++ (number_meaning claimed initial ++ form_meanings claimed))

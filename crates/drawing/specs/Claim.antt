@@ -1,4 +1,4 @@
--- What a claim lists: operations, and of a no also values that the queue holds first.
+-- What a claim lists: operations, and of a `NO` also values that the queue holds first.
 use Rattle.std.specs.Prelude.{ℕ, Option, Some, None, List, [], map, length}
 use Rattle.history_merge.specs.declared.operation.Operation.{Operation}
 use Rattle.history_merge.specs.declared.operation.OpKind.{OpKind}
@@ -13,17 +13,17 @@ abbrev pub count_of_lines : Claimed → ℕ
 count_of_lines (Yes order) = length order
 count_of_lines (No kind lines) = length lines
 
--- the lines of a claim: those of a yes are operations
+-- the lines of a claim: those of a `YES` are operations
 abbrev pub lines_in : Claimed → List ClaimLine
 lines_in (Yes order) = map Op order
 lines_in (No kind lines) = lines
 
--- the order of a yes
+-- the order of a `YES`
 abbrev pub order_of : Claimed → List Operation
 order_of (Yes order) = order
 order_of (No kind lines) = []
 
--- the lines that show a no
+-- the lines that show a `NO`
 abbrev pub shown_by : Claimed → List ClaimLine
 shown_by (Yes order) = []
 shown_by (No kind lines) = lines

@@ -1,5 +1,5 @@
 -- What holds of pictures.
-use Rattle.std.specs.Prelude.{◌≡◌, ℕ, ◌+◌, ◌<◌, ◌≤◌, List, Some, Contains, slice_get}
+use Rattle.std.specs.Prelude.{◌≡◌, ℕ, ◌+◌, ◌^◌, ◌<◌, ◌≤◌, List, Some, Contains, slice_get}
 use Rattle.event_records.specs.declared.event.Event.{Event}
 use Rattle.history_merge.specs.declared.operation.Operation.{Operation}
 use Rattle.history_merge.specs.Complete.{IsCompleteHistory}
@@ -11,7 +11,8 @@ use Rattle.verdicts.specs.declared.verifying.Claimed.TheVariants.{No}
 use Rattle.verdicts.specs.declared.verifying.ViolationKind.{ViolationKind}
 use Rattle.verdicts.specs.Claims.{IsTrueClaim}
 use Rattle.drawing.specs.declared.columns.Columns.{Columns}
-use Rattle.drawing.specs.Layout.{threads_of, lane_of, under_way, place_in, initial_place_in, point}
+use Rattle.drawing.specs.Names.{value_text}
+use Rattle.drawing.specs.Layout.{initial_label, threads_of, lane_of, under_way, place_in, initial_place_in, point}
 
 -- ---- lanes
 
@@ -41,17 +42,27 @@ abbrev pub NoOtherBars : Type 0
 NoOtherBars =
     (operations : List Operation) (thread ticket : ℕ) (o : Operation) → under_way operations thread ticket ≡ Some o → HasBarAt operations thread ticket o
 
--- ---- the order of a yes
+-- ---- the order of a `YES`
 
--- an operation of a yes takes effect within its bar
+-- an operation of a `YES` takes effect within its bar
 abbrev pub EffectsAreInBars : Type 0
 EffectsAreInBars =
     (initial : List ℕ) (events : List Event) (order : List Operation) (i : ℕ) (o : Operation) → IsCompleteHistory events
     → IsLegalOrderFrom initial (operations_of events) order → slice_get order i ≡ Some o → IsInWindow o (point order i)
 
--- the effects of a yes rise in its order
+-- the effects of a `YES` rise in its order
 abbrev pub EffectsRise : Type 0
 EffectsRise = (order : List Operation) (i j : ℕ) → i ≤ j → point order i ≤ point order j
+
+-- ---- names
+
+-- different values have different names
+abbrev pub ValuesHaveTheirNames : Type 0
+ValuesHaveTheirNames = (v w : ℕ) → v < 2 ^ 64 → w < 2 ^ 64 → value_text v ≡ value_text w → v ≡ w
+
+-- different initial values have different labels
+abbrev pub InitialValuesHaveTheirNames : Type 0
+InitialValuesHaveTheirNames = (v w : ℕ) → v < 2 ^ 64 → w < 2 ^ 64 → initial_label v ≡ initial_label w → v ≡ w
 
 -- ---- numbers
 

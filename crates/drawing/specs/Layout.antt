@@ -1,17 +1,18 @@
 -- Where things stand in a picture: lanes for threads, columns, numbers and points of effect.
-use Rattle.std.specs.Prelude.{ℕ, ◌+◌, ◌-◌, ◌*◌, max, ◌&&◌, nat_lt, nat_le, nat_eq, Bool, false, Option, Some, None, List, [], map, filter, find, count_by}
+use Rattle.std.specs.Prelude.{ℕ, ◌+◌, ◌-◌, ◌*◌, ◌++◌, codes, max, ◌&&◌, nat_lt, nat_le, nat_eq, Bool, false, Option, Some, None, List, [], map, filter, find, count_by}
 use Rattle.std.specs.Prelude.{length, take, decimal, slice_get, fold}
 use Rattle.std.specs.List.{list_any, range_with_len, position}
 use Rattle.event_records.specs.declared.event.Event.{Event}
 use Rattle.event_records.specs.declared.limits.TheConstants.{MAX_THREAD}
 use Rattle.history_merge.specs.declared.operation.Operation.{Operation}
 use Rattle.history_merge.specs.declared.operation.OpKind.{OpKind}
+use Rattle.history_merge.specs.declared.operation.OpKind.TheVariants as kind
 use Rattle.verdicts.specs.declared.verifying.ClaimLine.{ClaimLine}
 use Rattle.verdicts.specs.declared.verifying.ClaimLine.TheVariants.{Op, Initial}
 use Rattle.verdicts.specs.declared.verifying.Claimed.{Claimed}
-use Rattle.text_lines.specs.Lines.{spaced}
-use Rattle.history_text.specs.Verdicts.{kind_fields, claim_line_fields}
-use Rattle.drawing.specs.Claim.{lines_in}
+use Rattle.verdicts.specs.declared.verifying.Claimed.TheVariants.{Yes, No}
+use Rattle.drawing.specs.Claim.{lines_in, count_of_lines}
+use Rattle.drawing.specs.Names.{value_text, name_of, initial_text}
 use Rattle.drawing.specs.declared.columns.Columns.{Columns}
 use Rattle.drawing.specs.declared.columns.Lane.{Lane}
 
@@ -21,13 +22,16 @@ use Rattle.drawing.specs.declared.columns.Lane.{Lane}
 abbrev pub digits : ℕ → ℕ
 digits n = length (decimal n)
 
--- what an operation did, and its value in full
+-- what an operation did, and its value by its name
 abbrev pub label : OpKind → List ℕ
-label kind = spaced (kind_fields kind)
+label (kind.Enq v) = codes "enq " ++ value_text v
+label (kind.Deq v) = codes "deq " ++ value_text v
+label (kind.Not v) = codes "not " ++ value_text v
+label kind.Empty = codes "empty"
 
--- an initial value, as a line of a verdict says it
+-- an initial value by its name
 abbrev pub initial_label : ℕ → List ℕ
-initial_label v = spaced (claim_line_fields (Initial v))
+initial_label v = initial_text (name_of v)
 
 -- ---- lanes
 
@@ -62,18 +66,23 @@ initial_width initial = fold (λ widest v. max widest (length (initial_label v))
 abbrev pub label_width : List ℕ → List Operation → ℕ
 label_width initial operations = fold (λ widest o. max widest (length (label o.kind))) (initial_width initial) operations
 
+-- how much room the order of a `YES` takes, or this many bands of a `NO`
+abbrev pub room_beside : Claimed → ℕ → ℕ → ℕ
+room_beside (Yes order) widest_label bands = digits (length order) + widest_label + 3
+room_beside (No kind lines) widest_label bands = 5 * bands
+
 -- the columns of a picture: tickets are at least as wide as the word above them, a lane has room for a bracket with a number
-abbrev pub columns_of : List Event → List ℕ → ℕ → ℕ → Columns
-columns_of events threads widest_label claimed =
+abbrev pub columns_of : List Event → List ℕ → ℕ → Claimed → ℕ → Columns
+columns_of events threads widest_label claimed bands =
     let ticket = max 6 (digits (last_ticket events)) in
-    let lane = max 2 (digits claimed) + 2 in
-    let label = ticket + 4 + max 6 (lane * length threads) in
-    record { ticket = ticket; lane = lane; label = label; beside = label + widest_label + 2 }
+    let lane = max 2 (digits (count_of_lines claimed)) + 2 in
+    let lanes = ticket + 2 + room_beside claimed widest_label bands in
+    record { ticket = ticket; beside = ticket + 2; lanes = lanes; lane = lane; label = lanes + 2 + max 6 (lane * length threads) }
 
 -- a thread's lane stands to the right of those of lower threads
 abbrev pub lane_of : Columns → List ℕ → ℕ → Lane
 lane_of columns threads thread =
-    record { thread = thread; column = columns.ticket + 2 + columns.lane * count_by (λ lower. nat_lt lower thread) threads }
+    record { thread = thread; column = columns.lanes + columns.lane * count_by (λ lower. nat_lt lower thread) threads }
 
 -- the lanes of the threads
 abbrev pub lanes_of : Columns → List ℕ → List Lane
@@ -95,7 +104,7 @@ called_at operations ticket = find (λ o. nat_eq o.call ticket) operations
 
 -- ---- the claim
 
--- the line is that of this operation; operations are told apart by their calls
+-- the line is that of this operation; operations differ in their calls
 abbrev pub is_line_of : Operation → ClaimLine → Bool
 is_line_of o (Op listed) = nat_eq listed.call o.call
 is_line_of o (Initial v) = false

@@ -1,9 +1,10 @@
+pub mod Names
 pub mod Layout
 pub mod Bands
 pub mod Words
 pub mod Captions
+pub mod Signs
 pub mod Claim
 pub mod Terminal
 pub mod Laws
 pub mod Inner
-pub mod Writing

@@ -1,6 +1,7 @@
--- A picture as lines of characters. Time runs down: a line for each event, and of a yes one for each effect.
-use Rattle.std.specs.Prelude.{ℕ, ◌+◌, ◌-◌, ◌*◌, ◌==◌, if◌then◌else◌, Bool, true, false, Option, Some, None, List, [], ◌∷◌, ◌++◌, map, length, codes, decimal}
-use Rattle.std.specs.List.{flat_map, range_with_len, enumerate_from}
+-- A picture as lines of characters. Time runs down: a line for each event, and of a `YES` one for each effect.
+use Rattle.std.specs.Prelude.{ℕ, ◌+◌, ◌-◌, ◌*◌, ◌%◌, ◌==◌, ◌&&◌, nat_lt, if◌then◌else◌, Bool, true, false, Option, Some, None, List, [], ◌∷◌, ◌++◌, map, length, codes, decimal}
+use Rattle.std.specs.List.{concat, flat_map, range_with_len, enumerate_from}
+use Rattle.event_records.specs.declared.event.Event.{Event}
 use Rattle.history_merge.specs.Initial.{HistoryView}
 use Rattle.history_merge.specs.declared.operation.Operation.{Operation}
 use Rattle.history_merge.specs.declared.operation.OpKind.{OpKind}
@@ -8,7 +9,7 @@ use Rattle.history_merge.specs.declared.operation.OpKind.TheVariants as kind
 use Rattle.history_merge.specs.Operations.{operations_of}
 use Rattle.verdicts.specs.declared.verifying.ClaimLine.{ClaimLine}
 use Rattle.verdicts.specs.declared.verifying.Claimed.{Claimed}
-use Rattle.verdicts.specs.declared.verifying.Claimed.TheVariants.{No}
+use Rattle.verdicts.specs.declared.verifying.Claimed.TheVariants.{Yes, No}
 use Rattle.verdicts.specs.declared.verifying.ViolationKind.TheVariants.{VRepeat}
 use Rattle.text_lines.specs.Lines.{line}
 use Rattle.drawing.specs.Claim.{count_of_lines, order_of, shown_by}
@@ -20,7 +21,11 @@ use Rattle.drawing.specs.Layout.{digits, label, initial_label, label_width, thre
 use Rattle.drawing.specs.Layout.{place_in, initial_place_in, number_at, number_in, point}
 use Rattle.drawing.specs.Bands.{bands_of, head_text, form, holds_gap}
 use Rattle.drawing.specs.Words.{Word, line_of}
-use Rattle.drawing.specs.Captions.{headline, caption, legend}
+use Rattle.drawing.specs.Captions.{headline, caption}
+use Rattle.drawing.specs.Signs.{signs_of, meaning}
+use Rattle.drawing.specs.declared.signs.Sign.{Sign}
+use Rattle.drawing.specs.declared.signs.Sign.TheVariants.{First, InOrder, OfOperations, OfValues, Present, Absent}
+use Rattle.drawing.specs.declared.columns.TheConstants.{ROWS_UNDER_HEADS}
 
 -- ---- words of a line
 
@@ -80,18 +85,18 @@ abbrev pub way_word : Claimed → Option Operation → List ℕ
 way_word (No VRepeat lines) called = way_of lines called
 way_word _ called = []
 
--- the words in the row of an event: its ticket, what its thread and the others do, the label of what is called, and the bands
+-- the words in the row of an event: its ticket, the bands, what its thread and the others do, and the label of what is called
 unfoldable pub event_words : Columns → List Lane → List Band → List Operation → Claimed → ℕ → List Word
 event_words columns lanes bands operations claimed ticket =
-    ticket_word columns ticket ∷ (lane_words operations (shown_by claimed) lanes ticket
-    ++ (record { column = columns.label; bytes = label_if (called_at operations ticket) }
-    ∷ record { column = columns.beside; bytes = way_word claimed (called_at operations ticket) } ∷ band_words columns bands (Some ticket)))
+    ticket_word columns ticket ∷ record { column = columns.beside; bytes = way_word claimed (called_at operations ticket) }
+    ∷ (band_words columns bands (Some ticket) ++ (lane_words operations (shown_by claimed) lanes ticket
+    ++ record { column = columns.label; bytes = label_if (called_at operations ticket) } ∷ []))
 
 -- ---- initial values
 
 -- the words above the rows of the initial values, and the bands from the top on
 unfoldable pub first_words : Columns → List Band → List Word
-first_words columns bands = record { column = 0; bytes = codes "in the queue first" } ∷ band_words columns bands None
+first_words columns bands = band_words columns bands None ++ record { column = columns.lanes; bytes = codes "in the queue first" } ∷ []
 
 -- the word of an initial value at this place of a claim
 abbrev pub in_at : Option ℕ → List ℕ
@@ -103,17 +108,20 @@ abbrev pub initial_way : Claimed → ℕ → List ℕ
 initial_way (No VRepeat lines) v = in_at (initial_place_in lines v)
 initial_way _ v = []
 
--- the number of an initial value among the lines that show a no, at the right of its column
+-- the number of an initial value among the lines that show a `NO`, at the right of a column that ends here
 abbrev pub initial_number : ℕ → List ℕ → Word
-initial_number width number = record { column = width - length number; bytes = number }
+initial_number end number = record { column = end - length number; bytes = number }
 
--- the words in the row of an initial value, in a column at the left: its number, if a no names it, and its label; and the bands from
--- the top on
+-- where the numbers of initial values end
+abbrev pub numbers_end : Columns → Claimed → ℕ
+numbers_end columns claimed = columns.lanes + digits (count_of_lines claimed)
+
+-- the words in the row of an initial value: the bands from the top on, its number, if a `NO` names it, and its label
 unfoldable pub initial_words : Columns → List Band → Claimed → ℕ → List Word
 initial_words columns bands claimed v =
-    initial_number (digits (count_of_lines claimed)) (number_at (initial_place_in (shown_by claimed) v))
-    ∷ record { column = digits (count_of_lines claimed) + 1; bytes = initial_label v }
-    ∷ record { column = columns.beside; bytes = initial_way claimed v } ∷ band_words columns bands None
+    record { column = columns.beside; bytes = initial_way claimed v } ∷ (band_words columns bands None
+    ++ (initial_number (numbers_end columns claimed) (number_at (initial_place_in (shown_by claimed) v))
+    ∷ record { column = numbers_end columns claimed + 1; bytes = initial_label v } ∷ []))
 
 -- the row of an initial value
 abbrev pub initial_row : Columns → List Band → Claimed → ℕ → List ℕ
@@ -125,7 +133,7 @@ initial_rows columns bands claimed [] = []
 initial_rows columns bands claimed (front ∷ others) =
     line (line_of (first_words columns bands)) ++ flat_map (initial_row columns bands claimed) (front ∷ others)
 
--- ---- the order of a yes
+-- ---- the order of a `YES`
 
 -- what stands in a lane in the row of an effect: the number of the operation that takes effect, or that another is under way
 abbrev pub effect_sign : Operation → ℕ → ℕ → Option Operation → List ℕ
@@ -138,7 +146,7 @@ abbrev pub effect_lane_words : List Operation → List Lane → Operation → �
 effect_lane_words operations lanes effect number ticket =
     map (λ lane. record { column = lane.column; bytes = effect_sign effect number ticket (under_way operations lane.thread ticket) }) lanes
 
--- the number and the label of what takes effect, of so many
+-- the number and the label of what takes effect, of this many
 abbrev pub effect_word : Columns → ℕ → Operation → ℕ → Word
 effect_word columns claimed effect number =
     record { column = columns.beside + (digits claimed - digits number); bytes = decimal number ++ (codes " " ++ label effect.kind) }
@@ -146,7 +154,7 @@ effect_word columns claimed effect number =
 -- the words in the row of an effect, just after a ticket
 unfoldable pub effect_words : Columns → List Lane → List Operation → ℕ → ℕ → ℕ → Operation → List Word
 effect_words columns lanes operations claimed ticket number effect =
-    effect_lane_words operations lanes effect number ticket ++ effect_word columns claimed effect number ∷ []
+    effect_word columns claimed effect number ∷ effect_lane_words operations lanes effect number ticket
 
 -- the row of an operation, if it takes effect just after this ticket
 abbrev pub effect_row_if : Bool → Columns → List Lane → List Operation → ℕ → ℕ → ℕ → Operation → List ℕ
@@ -188,28 +196,70 @@ head_lines columns bands = flat_map (head_line columns) (enumerate_from 0 bands)
 
 -- the word above the lanes
 unfoldable pub thread_words : Columns → ℕ → List Word
-thread_words columns bands = record { column = columns.ticket + 2; bytes = codes "thread" } ∷ strokes columns bands
+thread_words columns bands = strokes columns bands ++ record { column = columns.lanes; bytes = codes "thread" } ∷ []
+
+-- the word above the order of a `YES`
+abbrev pub order_word : Claimed → List ℕ
+order_word (Yes order) = codes "order"
+order_word (No kind lines) = []
 
 -- the numbers of the threads above their lanes
 abbrev pub lane_names : List Lane → List Word
 lane_names lanes = map (λ lane. record { column = lane.column; bytes = decimal lane.thread }) lanes
 
--- the word above the tickets, and the numbers of the threads
-unfoldable pub name_words : Columns → List Lane → ℕ → List Word
-name_words columns lanes bands =
-    record { column = columns.ticket - 6; bytes = codes "ticket" } ∷ (lane_names lanes ++ strokes columns bands)
+-- the word above the tickets, that above the order of a `YES`, and the numbers of the threads
+unfoldable pub name_words : Columns → List Lane → ℕ → Claimed → List Word
+name_words columns lanes bands claimed =
+    record { column = columns.ticket - 6; bytes = codes "ticket" } ∷ record { column = columns.beside; bytes = order_word claimed }
+    ∷ (strokes columns bands ++ lane_names lanes)
+
+-- the heads: those of the bands, and those of the tickets and the lanes
+unfoldable pub heads : Columns → List Lane → List Band → Claimed → List ℕ
+heads columns lanes bands claimed =
+    head_lines columns bands ++ (line (line_of (thread_words columns (length bands))) ++ line (line_of (name_words columns lanes (length bands) claimed)))
+
+-- the heads once more, above each 40th event
+abbrev pub heads_again : ℕ → List ℕ → List ℕ
+heads_again i heads = if nat_lt 0 i && i % ROWS_UNDER_HEADS == 0 then heads else []
+
+-- the rows of event i and of the effects after it, under heads of their own if it is a 40th one
+abbrev pub numbered_rows : Columns → List Lane → List Band → List Operation → Claimed → ℕ × Event → List ℕ
+numbered_rows columns lanes bands operations claimed (i, e) =
+    heads_again i (heads columns lanes bands claimed) ++ event_rows columns lanes bands operations claimed e.ticket
 
 -- the heads, the rows of the initial values, and those of the events and effects
 unfoldable pub rows : Columns → List Lane → List Band → HistoryView → List Operation → Claimed → List ℕ
 rows columns lanes bands history operations claimed =
-    head_lines columns bands ++ (line (line_of (thread_words columns (length bands))) ++ (line (line_of (name_words columns lanes (length bands)))
-    ++ (initial_rows columns bands claimed history.initial
-    ++ flat_map (λ e. event_rows columns lanes bands operations claimed e.ticket) history.events)))
+    heads columns lanes bands claimed ++ (initial_rows columns bands claimed history.initial
+    ++ flat_map (numbered_rows columns lanes bands operations claimed) (enumerate_from 0 history.events))
 
 -- the columns of the picture of a history and what is claimed of it
 abbrev pub columns_in : HistoryView → Claimed → Columns
 columns_in history claimed =
-    columns_of history.events (threads_of history.events) (label_width history.initial (operations_of history.events)) (count_of_lines claimed)
+    columns_of history.events (threads_of history.events) (label_width history.initial (operations_of history.events)) claimed
+    (length (bands_of claimed))
+
+-- a sign in characters
+abbrev pub sign_text : Sign → List ℕ
+sign_text First = codes "init "
+sign_text InOrder = codes "1    "
+sign_text OfOperations = codes "1    "
+sign_text OfValues = codes "1    "
+sign_text Present = codes "###  "
+sign_text Absent = codes "xxx  "
+sign_text sign = codes ":::  "
+
+-- a sign, and what it means
+abbrev pub sign_line : Sign → List ℕ
+sign_line sign = line (sign_text sign ++ meaning sign)
+
+-- what the forms in the lanes mean
+unfoldable pub lane_meanings : List ℕ
+lane_meanings = concat (line (codes "[    call of an operation") ∷ line (codes "]    its return") ∷ [])
+
+-- how to read the picture
+unfoldable pub legend : List ℕ → Claimed → List ℕ
+legend initial claimed = lane_meanings ++ flat_map sign_line (signs_of initial claimed)
 
 -- what stands above the rows
 unfoldable pub words : List ℕ → Claimed → List ℕ

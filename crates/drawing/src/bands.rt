@@ -1,6 +1,7 @@
-//! Bands beside the lanes of a no.
-ghost use Rattle.std.specs.Prelude.{◌≡◌, ◌++◌, ◌∷◌, ◌+◌, ◌≤◌, [], OnOk, IfOk, decimal, length, vec_len};
+//! Bands beside the lanes of a `NO`.
+ghost use Rattle.std.specs.Prelude.{◌≡◌, ◌++◌, ◌∷◌, ◌+◌, ◌≤◌, [], OnOk, IfOk, length, vec_len};
 ghost use Rattle.drawing.specs.Claim.{count_of_lines, line_call, line_kind, line_return};
+ghost use Rattle.drawing.specs.Names.{value_text};
 ghost use Rattle.std.specs.List.{concat};
 ghost use Rattle.drawing.specs.Bands.{value_of, line_value, sure_until, time_of, absent_until, call_if_taken, cover_bands, fresh_bands};
 ghost use Rattle.drawing.specs.Bands.{order_bands, witness_bands, repeat_bands, bands_of, head_text, form_words, form, has_begun, goes_on, holds_gap};
@@ -14,9 +15,9 @@ use verdicts::{ClaimLine, Claimed, ViolationKind};
 /// What stands above a band.
 #[derive(Clone, Copy, Debug, PartialEq, Eq)]
 pub enum Head {
-    /// This value surely was in the queue.
+    /// This value definitely was in the queue.
     SurelyIn(u64),
-    /// This value surely was not in the queue.
+    /// This value definitely was not in the queue.
     NotIn(u64),
     /// The time in which this value was dequeued.
     Dequeued(u64),
@@ -205,11 +206,11 @@ pub fn bands_of(alloc: Global, claimed: &Claimed) -> Result<Vec<Band>, AllocErro
     Ok(bands)
 }
 
-/// Adds a number, and words after it.
-fn push_numbered(text: &mut Vec<u8>, number: u64, words: &[u8]) -> Added
-    ensures { OnOk result (text.new.items ≡ text.old.items ++ concat (decimal number ∷ words.now ∷ [])) }
+/// Adds a value, and words after it.
+fn push_named(text: &mut Vec<u8>, value: u64, words: &[u8]) -> Added
+    ensures { OnOk result (text.new.items ≡ text.old.items ++ concat (value_text value ∷ words.now ∷ [])) }
 {
-    push_all(text, &[Piece::Number(number), Piece::Words(words)])
+    push_all(text, &[Piece::Value(value), Piece::Words(words)])
 }
 
 /// Adds the words above a band.
@@ -217,12 +218,12 @@ pub fn push_head(text: &mut Vec<u8>, head: Head) -> Added
     ensures { OnOk result (text.new.items ≡ text.old.items ++ head_text head) }
 {
     match head {
-        Head::SurelyIn(value) => push_numbered(text, value, b" surely in"),
-        Head::NotIn(value) => push_numbered(text, value, b" not in"),
-        Head::Dequeued(value) => push_numbered(text, value, b" dequeued"),
-        Head::InAndOut(value) => push_numbered(text, value, b" in and out"),
+        Head::SurelyIn(value) => push_named(text, value, b" surely in"),
+        Head::NotIn(value) => push_named(text, value, b" not in"),
+        Head::Dequeued(value) => push_named(text, value, b" dequeued"),
+        Head::InAndOut(value) => push_named(text, value, b" in and out"),
         Head::SaidEmpty => text.extend_from_slice(b"empty"),
-        Head::InOrOut(value) => push_numbered(text, value, b" in or out"),
+        Head::InOrOut(value) => push_named(text, value, b" in or out"),
     }
 }
 
@@ -235,7 +236,7 @@ pub fn head_words(alloc: Global, head: Head) -> Result<Vec<u8>, AllocError>
     Ok(words)
 }
 
-/// The word for a band: this for a value that surely is in the queue, that for one that surely isn't, and the last for the time
+/// The word for a band: this for a value that definitely is in the queue, that for one that definitely isn't, and the last for the time
 /// beside them. Nothing where there is no band.
 pub fn form_words(
     head: Head,

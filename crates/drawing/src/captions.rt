@@ -3,7 +3,7 @@ ghost use Rattle.std.specs.Prelude.{◌≡◌, ◌++◌, ◌+◌, ◌≤◌, OnO
 ghost use Rattle.drawing.specs.Claim.{count_of_lines};
 ghost use Rattle.drawing.specs.Captions.{headline, fresh_reason, fresh_caption, repeat_words, repeat_caption, before_words, overtaking_caption};
 ghost use Rattle.drawing.specs.Captions.{order_caption, cover_from, one_of_cover, last_of_cover, cover_caption, witness_words, witness_caption, yes_caption};
-ghost use Rattle.drawing.specs.Captions.{caption, lane_meanings, claim_words, number_meaning, initial_meaning, form_meanings, legend};
+ghost use Rattle.drawing.specs.Captions.{caption};
 
 use crate::bands::line_value;
 use crate::claim::{line_call, line_kind, line_return};
@@ -44,14 +44,14 @@ fn push_fresh_caption(text: &mut Vec<u8>, lines: &[ClaimLine]) -> Added
         [deq] => push_all(
             text,
             &[
-                Piece::Number(line_value(*deq)),
+                Piece::Value(line_value(*deq)),
                 Piece::Words(b" was dequeued (1), but nobody ever enqueued it.\n"),
             ],
         ),
         [deq, enq, ..] => push_all(
             text,
             &[
-                Piece::Number(line_value(*deq)),
+                Piece::Value(line_value(*deq)),
                 Piece::Words(fresh_reason(line_kind(*enq))),
             ],
         ),
@@ -75,7 +75,7 @@ fn push_repeat_caption(text: &mut Vec<u8>, lines: &[ClaimLine]) -> Added
         [enq, ..] => push_all(
             text,
             &[
-                Piece::Number(line_value(*enq)),
+                Piece::Value(line_value(*enq)),
                 Piece::Words(repeat_words(*enq)),
             ],
         ),
@@ -105,14 +105,14 @@ fn push_overtaking_caption<'x>(
     push_all(
         text,
         &[
-            Piece::Number(first),
+            Piece::Value(first),
             Piece::Words(before_words(a)),
-            Piece::Number(second),
+            Piece::Value(second),
             Piece::Words(b" (2),\n"),
             Piece::Words(b"but "),
-            Piece::Number(second),
+            Piece::Value(second),
             Piece::Words(between),
-            Piece::Number(first),
+            Piece::Value(first),
             Piece::Words(end),
         ],
     )
@@ -143,7 +143,7 @@ fn push_cover_from(text: &mut Vec<u8>, number: u64, enq: ClaimLine) -> Added
     push_all(
         text,
         &[
-            Piece::Number(line_value(enq)),
+            Piece::Value(line_value(enq)),
             Piece::Words(b" from "),
             Piece::Moment(line_return(enq)),
             Piece::Words(b" ("),
@@ -239,84 +239,4 @@ pub fn push_caption(text: &mut Vec<u8>, claimed: &Claimed) -> Added
             }
         }
     }
-}
-
-/// The first words for a yes, the second for a no of operations alone, and the last for a no where the queue holds values first.
-pub fn claim_words(
-    claimed: &Claimed,
-    initial: &[u64],
-    yes: &'static [u8],
-    no: &'static [u8],
-    values: &'static [u8],
-) -> &'static [u8]
-    ensures { result.now ≡ claim_words claimed.now initial.now yes.now no.now values.now }
-{
-    match claimed {
-        Claimed::Yes(_) => yes,
-        Claimed::No(_, _) => match initial {
-            [] => no,
-            [_, ..] => values,
-        },
-    }
-}
-
-fn number_meaning(claimed: &Claimed, initial: &[u64]) -> &'static [u8]
-    ensures { result.now ≡ number_meaning claimed.now initial.now }
-{
-    claim_words(
-        claimed,
-        initial,
-        b"1    number 1 in the order, where it takes effect\n",
-        b"1    number 1 of the operations that show it\n",
-        b"1    number 1 of the values and operations that show it\n",
-    )
-}
-
-fn initial_meaning(initial: &[u64]) -> &'static [u8]
-    ensures { result.now ≡ initial_meaning initial.now }
-{
-    match initial {
-        [] => b"",
-        [_, ..] => b"init a value that was in the queue first, the front one on top\n",
-    }
-}
-
-#[tactic(auto, unfolding(crate::specs::Captions::lane_meanings))]
-fn lane_meanings() -> &'static [u8]
-    ensures { result.now ≡ lane_meanings }
-{
-    b"[    call of an operation\n\
-]    its return\n"
-}
-
-#[tactic(auto, unfolding(crate::specs::Captions::fresh_meanings, crate::specs::Captions::sure_and))]
-fn form_meanings(claimed: &Claimed) -> &'static [u8]
-    ensures { result.now ≡ form_meanings claimed.now }
-{
-    match claimed {
-        Claimed::Yes(_) | Claimed::No(ViolationKind::VRepeat, _) => b"",
-        Claimed::No(ViolationKind::VFresh, _) => {
-            b"xxx  the value surely was not in the queue.\n\
-:::  within this time it was dequeued nevertheless.\n"
-        }
-        Claimed::No(ViolationKind::VOrd, _) => {
-            b"###  the value surely was in the queue.\n\
-:::  within this time the later value went in and out.\n"
-        }
-        Claimed::No(ViolationKind::VWit, _) => {
-            b"###  the value surely was in the queue.\n\
-:::  within this time the queue was said to be empty.\n"
-        }
-    }
-}
-
-/// Adds how to read a picture of characters.
-#[tactic(auto, unfolding(crate::specs::Captions::legend))]
-pub(crate) fn push_legend(text: &mut Vec<u8>, initial: &[u64], claimed: &Claimed) -> Added
-    ensures { OnOk result (text.new.items ≡ text.old.items ++ legend initial.now claimed.now) }
-{
-    text.extend_from_slice(lane_meanings())?;
-    text.extend_from_slice(initial_meaning(initial))?;
-    text.extend_from_slice(number_meaning(claimed, initial))?;
-    text.extend_from_slice(form_meanings(claimed))
 }

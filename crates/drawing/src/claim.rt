@@ -15,7 +15,7 @@ pub fn count_of_lines(claimed: &Claimed) -> usize
     }
 }
 
-/// The order of a yes.
+/// The order of a `YES`.
 pub fn order_of(claimed: &Claimed) -> &[Operation]
     ensures { result.now ≡ order_of claimed.now }
 {
@@ -25,7 +25,7 @@ pub fn order_of(claimed: &Claimed) -> &[Operation]
     }
 }
 
-/// The lines that show a no.
+/// The lines that show a `NO`.
 pub(crate) fn shown_by(claimed: &Claimed) -> &[ClaimLine]
     ensures value { result.now ≡ shown_by claimed.now }
     ensures few { length result.now ≤ count_of_lines claimed.now }

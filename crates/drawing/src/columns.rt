@@ -1,14 +1,21 @@
 //! Columns and lanes.
-ghost use Rattle.std.specs.Prelude.{◌≡◌, ◌+◌, ◌≤◌, ◌<◌, IfOk, length, max, decimal, vec_len, count_by, nat_lt};
-ghost use Rattle.drawing.specs.Layout.{digits, label, initial_label, has_events, threads_of, last_ticket, initial_width, label_width, columns_of, lanes_of};
+ghost use Rattle.std.specs.Prelude.{◌≡◌, ◌+◌, ◌*◌, ◌≤◌, ◌<◌, IfOk, length, max, decimal, vec_len, count_by, nat_lt};
+ghost use Rattle.drawing.specs.Layout.{digits, label, has_events, threads_of, last_ticket, initial_width, label_width, room_beside, columns_of, lanes_of};
+ghost use Rattle.drawing.specs.Claim.{count_of_lines};
 
+use crate::claim::count_of_lines;
+use crate::names::{initial_label_len, value_len};
 use event_records::{Event, MAX_THREAD, MAX_THREADS};
 use history_merge::{History, OpKind, Operation};
 use itoa::Buffer;
 use std::alloc::{AllocError, Global};
+use verdicts::Claimed;
 
 /// The most initial values and the most operations of a history, and the most lines of a claim, that are drawn.
 pub const MOST_DRAWN: usize = 400;
+
+/// How many events stand under heads, before these are repeated.
+pub(crate) const ROWS_UNDER_HEADS: usize = 40;
 
 /// The events of a history, in a list of their own.
 pub fn events_of(alloc: Global, history: &History) -> Result<Vec<Event>, AllocError>
@@ -17,20 +24,22 @@ pub fn events_of(alloc: Global, history: &History) -> Result<Vec<Event>, AllocEr
     history.events().collect(alloc)
 }
 
-/// The greatest column where bands, or the order of a yes, stand.
-pub(crate) const MAX_BESIDE: usize = 51 + 22 * MAX_THREADS;
+/// The greatest column where lanes begin.
+pub(crate) const MAX_LANES: usize = 32 + 5 * (MOST_DRAWN + 2);
 
 /// Where the columns of a picture of characters stand, from 0.
 #[derive(Clone, Copy, Debug, PartialEq, Eq)]
 pub struct Columns {
     /// The width of the column of tickets, which is the first.
     pub ticket: usize,
-    /// The width of a lane. The lanes stand after the tickets, and two blanks.
+    /// Where bands, or the order of a `YES`, stand.
+    pub beside: usize,
+    /// Where the lanes begin.
+    pub lanes: usize,
+    /// The width of a lane.
     pub lane: usize,
     /// Where the labels of calls stand.
     pub label: usize,
-    /// Where bands, or the order of a yes, stand.
-    pub beside: usize,
 }
 
 /// The lane of a thread, by the column where it stands.
@@ -72,24 +81,17 @@ pub fn threads_of(alloc: Global, events: &[Event]) -> Result<Vec<u8>, AllocError
 
 fn label_len(kind: OpKind) -> usize
     ensures value { result ≡ length (label kind) }
-    ensures few { result ≤ 24 }
+    ensures few { result ≤ 46 }
 {
     match kind {
-        OpKind::Enq(value) | OpKind::Deq(value) | OpKind::Not(value) => 4 + digits(value),
+        OpKind::Enq(value) | OpKind::Deq(value) | OpKind::Not(value) => 4 + value_len(value),
         OpKind::Empty => 5,
     }
 }
 
-fn initial_label_len(value: u64) -> usize
-    ensures value { result ≡ length (initial_label value) }
-    ensures few { result ≤ 25 }
-{
-    5 + digits(value)
-}
-
 fn initial_width(initial: &[u64]) -> usize
     ensures value { result ≡ initial_width initial.now }
-    ensures few { result ≤ 25 }
+    ensures few { result ≤ 46 }
 {
     let mut widest = 5;
     for value in initial {
@@ -101,7 +103,7 @@ fn initial_width(initial: &[u64]) -> usize
 /// The length of the longest label of these initial values and operations, or of `empty`.
 pub fn label_width(initial: &[u64], operations: &[Operation]) -> usize
     ensures value { result ≡ label_width initial.now operations.now }
-    ensures few { result ≤ 25 }
+    ensures few { result ≤ 46 }
 {
     let mut widest = initial_width(initial);
     for operation in operations {
@@ -120,29 +122,46 @@ pub fn last_ticket(events: &[Event]) -> u64
     }
 }
 
-/// The columns of a picture of these events, whose longest label is so wide, for a claim of so many lines.
+/// How much room the order of a `YES` takes, or this many bands of a `NO`.
+fn room_beside(claimed: &Claimed, widest_label: usize, bands: usize) -> usize
+    requires label { widest_label ≤ 46 }
+    requires bands { bands ≤ MOST_DRAWN + 2 }
+    ensures value { result ≡ room_beside claimed.now widest_label bands }
+    ensures few { result ≤ 5 * (MOST_DRAWN + 2) }
+{
+    match claimed {
+        Claimed::Yes(order) => digits(order.as_slice().len() as u64) + widest_label + 3,
+        Claimed::No(_, _) => 5 * bands,
+    }
+}
+
+/// The columns of a picture of these events, whose longest label is so wide, for a claim with this many bands.
 pub(crate) fn columns_of(
     events: &[Event],
     threads: &[u8],
     widest_label: usize,
-    claimed: usize,
+    claimed: &Claimed,
+    bands: usize,
 ) -> Columns
     requires threads { length threads.now ≤ MAX_THREADS }
-    requires label { widest_label ≤ 25 }
-    ensures columns { result ≡ columns_of events.now threads.now widest_label claimed }
+    requires label { widest_label ≤ 46 }
+    requires bands { bands ≤ MOST_DRAWN + 2 }
+    ensures columns { result ≡ columns_of events.now threads.now widest_label claimed.now bands }
     ensures ticket { result.ticket ≤ 20 }
+    ensures beside { result.beside ≤ 22 }
+    ensures lanes { result.lanes ≤ MAX_LANES }
     ensures lane { result.lane ≤ 22 }
-    ensures beside { result.beside ≤ MAX_BESIDE }
     ensures wide { 6 ≤ result.ticket }
 {
     let ticket = digits(last_ticket(events)).max(6);
-    let lane = digits(claimed as u64).max(2) + 2;
-    let label = ticket + 4 + (lane * threads.len()).max(6);
+    let lane = digits(count_of_lines(claimed) as u64).max(2) + 2;
+    let lanes = ticket + 2 + room_beside(claimed, widest_label, bands);
     Columns {
         ticket,
+        beside: ticket + 2,
+        lanes,
         lane,
-        label,
-        beside: label + widest_label + 2,
+        label: lanes + 2 + (lane * threads.len()).max(6),
     }
 }
 
@@ -162,13 +181,13 @@ pub(crate) fn lanes_of(
     threads: &[u8],
 ) -> Result<Vec<Lane>, AllocError>
     requires few { length threads.now ≤ MAX_THREADS }
-    requires ticket { columns.ticket ≤ 20 }
+    requires lanes { columns.lanes ≤ MAX_LANES }
     requires lane { columns.lane ≤ 22 }
     ensures { IfOk result (λ lanes. lanes.items ≡ lanes_of columns threads.now) }
 {
     let mut lanes = Vec::with_capacity(alloc, threads.len())?;
     for thread in threads {
-        let column = columns.ticket + 2 + columns.lane * lanes_before(threads, *thread);
+        let column = columns.lanes + columns.lane * lanes_before(threads, *thread);
         lanes.push(Lane {
             thread: *thread,
             column,

@@ -8,23 +8,17 @@ ghost use Rattle.drawing.specs.Terminal.{first_words, initial_way, initial_numbe
 
 use crate::claim::{count_of_lines, shown_by};
 use crate::columns::{MOST_DRAWN, digits};
-use crate::line::{Added, Piece, place, push_all, push_line};
+use crate::line::{Added, place, push_line};
 use crate::lookup::initial_place_in;
+use crate::names::push_initial_label;
 use crate::sheet::Sheet;
 use crate::terminal::place_bands;
 use itoa::Buffer;
 use std::alloc::{AllocError, Global};
 use verdicts::{Claimed, ViolationKind};
 
-/// Adds an initial value, as a line of a verdict says it.
-pub fn push_initial_label(text: &mut Vec<u8>, value: u64) -> Added
-    ensures { OnOk result (text.new.items ≡ text.old.items ++ initial_label value) }
-{
-    push_all(text, &[Piece::Words(b"init "), Piece::Number(value)])
-}
-
-/// An initial value, as a line of a verdict says it.
-pub fn initial_label(alloc: Global, value: u64) -> Result<Vec<u8>, AllocError>
+/// An initial value by its name.
+fn initial_label(alloc: Global, value: u64) -> Result<Vec<u8>, AllocError>
     ensures { IfOk result (λ label. label.items ≡ initial_label value) }
 {
     let mut label = Vec::new(alloc);
@@ -32,28 +26,28 @@ pub fn initial_label(alloc: Global, value: u64) -> Result<Vec<u8>, AllocError>
     Ok(label)
 }
 
-/// Adds the line above the rows of the initial values.
+/// The line above the rows of the initial values.
 #[tactic(auto, unfolding(crate::specs::Terminal::first_words))]
-fn push_first_line(text: &mut Vec<u8>, sheet: &Sheet<'_>) -> Added
-    ensures { OnOk result (text.new.items ≡ text.old.items ++ line (line_of (first_words sheet.now.columns sheet.now.bands.now))) }
+fn first_line(sheet: &Sheet<'_>) -> Result<Vec<u8>, AllocError>
+    ensures { IfOk result (λ bytes. bytes.items ≡ line_of (first_words sheet.now.columns sheet.now.bands.now)) }
 {
-    let mut first = Vec::new(sheet.alloc);
-    place(&mut first, 0, b"in the queue first")?;
-    place_bands(&mut first, sheet, None)?;
-    push_line(text, first.as_slice())
+    let mut bytes = Vec::new(sheet.alloc);
+    place_bands(&mut bytes, sheet, None)?;
+    place(&mut bytes, sheet.columns.lanes, b"in the queue first")?;
+    Ok(bytes)
 }
 
-/// The number of a place, at the right of a column at the left.
-fn place_number_at(line: &mut Vec<u8>, width: usize, place_in_claim: Option<usize>) -> Added
+/// The number of a place, at the right of a column that ends here.
+fn place_number_at(line: &mut Vec<u8>, end: usize, place_in_claim: Option<usize>) -> Added
     requires { IfSome place_in_claim (λ place. place ≤ MOST_DRAWN) }
-    ensures { OnOk result (line.new.items ≡ placed line.old.items (initial_number width (number_at place_in_claim))) }
+    ensures { OnOk result (line.new.items ≡ placed line.old.items (initial_number end (number_at place_in_claim))) }
 {
     match place_in_claim {
         None => Ok(()),
         Some(found) => {
             let mut buffer = Buffer::new();
             let number = buffer.format(found as u64 + 1).as_bytes();
-            place(line, width.saturating_sub(number.len()), number)
+            place(line, end.saturating_sub(number.len()), number)
         }
     }
 }
@@ -78,18 +72,18 @@ fn push_initial_row(text: &mut Vec<u8>, sheet: &Sheet<'_>, value: u64) -> Added
     ensures { OnOk result (text.new.items ≡ text.old.items ++ initial_row sheet.now.columns sheet.now.bands.now sheet.now.claimed.now value) }
 {
     let claimed = sheet.claimed;
-    let width = digits(count_of_lines(claimed) as u64);
+    let end = sheet.columns.lanes + digits(count_of_lines(claimed) as u64);
     let found = initial_place_in(shown_by(claimed), value);
     let label = initial_label(sheet.alloc, value)?;
     let mut bytes = Vec::new(sheet.alloc);
-    place_number_at(&mut bytes, width, found)?;
-    place(&mut bytes, width + 1, label.as_slice())?;
     place(
         &mut bytes,
         sheet.columns.beside,
         initial_way(claimed, value),
     )?;
     place_bands(&mut bytes, sheet, None)?;
+    place_number_at(&mut bytes, end, found)?;
+    place(&mut bytes, end + 1, label.as_slice())?;
     push_line(text, bytes.as_slice())
 }
 
@@ -111,7 +105,8 @@ pub(crate) fn push_initial_rows(text: &mut Vec<u8>, sheet: &Sheet<'_>, initial: 
     match initial {
         [] => Ok(()),
         [_, ..] => {
-            push_first_line(text, sheet)?;
+            let first = first_line(sheet)?;
+            push_line(text, first.as_slice())?;
             push_each_initial_row(text, sheet, initial)
         }
     }

@@ -1,5 +1,5 @@
 ghost use Rattle.drawing.specs.Laws.{LanesAreApart, BarsAreOfOperations, NoOtherBars, EffectsAreInBars, EffectsRise, NumbersAreOfLines};
-ghost use Rattle.drawing.specs.Laws.{LinesHaveNumbers, InitialNumbersAreOfLines, InitialLinesHaveNumbers, LinesAreOfHistory};
+ghost use Rattle.drawing.specs.Laws.{ValuesHaveTheirNames, InitialValuesHaveTheirNames, LinesHaveNumbers, InitialNumbersAreOfLines, InitialLinesHaveNumbers, LinesAreOfHistory};
 
 /// The bars in the lanes are the operations, each in the lane of its thread, from its call to its return. The laws are the
 /// contract; the body is empty.
@@ -8,7 +8,7 @@ pub fn bars_are_the_operations()
     ensures none_else { NoOtherBars }
 {}
 
-/// The operations of a yes take effect within their bars, and from top to bottom in its order. The laws are the contract; the
+/// The operations of a `YES` take effect within their bars, and from top to bottom in its order. The laws are the contract; the
 /// body is empty.
 pub fn effects_rise_within_bars()
     ensures within { EffectsAreInBars }
@@ -33,4 +33,10 @@ pub fn numbers_are_those_of_the_claim()
 /// the body is empty.
 pub fn lines_of_evidence_are_drawn()
     ensures { LinesAreOfHistory }
+{}
+
+/// Two values never have one name, and no two initial values one label. The laws are the contract; the body is empty.
+pub fn names_are_of_one_value()
+    ensures values { ValuesHaveTheirNames }
+    ensures initial { InitialValuesHaveTheirNames }
 {}

@@ -9,22 +9,23 @@ mod initial;
 mod laws;
 mod line;
 mod lookup;
+mod names;
 mod sheet;
+mod signs;
 mod terminal;
-mod writing;
 
 pub use bands::{Band, Head, bands_of, form_words, head_words, push_head};
-pub use captions::{claim_words, headline, push_caption};
+pub use captions::{headline, push_caption};
 pub use claim::{count_of_lines, order_of};
 pub use columns::{
     Columns, Lane, MOST_DRAWN, digits, events_of, label_width, last_ticket, threads_of,
 };
-pub use initial::{initial_label, push_initial_label};
 pub use laws::{
     bars_are_the_operations, effects_rise_within_bars, lanes_stand_apart,
-    lines_of_evidence_are_drawn, numbers_are_those_of_the_claim,
+    lines_of_evidence_are_drawn, names_are_of_one_value, numbers_are_those_of_the_claim,
 };
 pub use line::{Added, push_line};
 pub use lookup::{initial_place_of, place_of};
+pub use names::push_initial_label;
+pub use signs::{Sign, meaning, signs_of};
 pub use terminal::{push_label, terminal_picture, way};
-pub use writing::write_terminal_picture;

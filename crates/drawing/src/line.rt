@@ -5,6 +5,7 @@ ghost use Rattle.text_lines.specs.Lines.{line};
 ghost use Rattle.drawing.specs.Words.{placed};
 ghost use Rattle.drawing.specs.Inner.Words.{piece_text};
 
+use crate::names::push_value;
 use itoa::Buffer;
 use std::alloc::AllocError;
 
@@ -18,6 +19,8 @@ pub enum Piece<'a> {
     Words(&'a [u8]),
     /// The digits of this number.
     Number(u64),
+    /// This value by its name.
+    Value(u64),
     /// The moment of this ticket, or the one before all tickets.
     Moment(Option<u64>),
 }
@@ -37,7 +40,7 @@ pub(crate) fn place(line: &mut Vec<u8>, column: usize, word: &[u8]) -> Added
 }
 
 /// Adds the digits of a number.
-fn push_number(text: &mut Vec<u8>, number: u64) -> Added
+pub(crate) fn push_number(text: &mut Vec<u8>, number: u64) -> Added
     ensures { OnOk result (text.new.items ≡ text.old.items ++ decimal number) }
 {
     let mut buffer = Buffer::new();
@@ -51,6 +54,7 @@ fn push_piece(text: &mut Vec<u8>, piece: Piece<'_>) -> Added
     match piece {
         Piece::Words(bytes) => text.extend_from_slice(bytes),
         Piece::Number(number) => push_number(text, number),
+        Piece::Value(value) => push_value(text, value),
         Piece::Moment(None) => text.extend_from_slice(b"the start"),
         Piece::Moment(Some(ticket)) => {
             text.extend_from_slice(b"ticket ")?;

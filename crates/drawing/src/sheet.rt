@@ -1,7 +1,7 @@
 //! What the rows of a picture of characters are made of.
 ghost use Rattle.std.specs.Prelude.{◌+◌, ◌≤◌, length};
 ghost use Rattle.drawing.specs.Claim.{count_of_lines};
-ghost use Rattle.drawing.specs.declared.columns.TheConstants.{MAX_BESIDE, MOST_DRAWN};
+ghost use Rattle.drawing.specs.declared.columns.TheConstants.{MAX_LANES, MOST_DRAWN};
 
 use crate::bands::Band;
 use crate::columns::{Columns, Lane};
@@ -22,5 +22,6 @@ pub(crate) struct Sheet<'a> {
     ghost few_lines: { count_of_lines claimed.now ≤ MOST_DRAWN },
     ghost few_bands: { length bands.now ≤ MOST_DRAWN + 2 },
     ghost ticket: { columns.ticket ≤ 20 },
-    ghost beside: { columns.beside ≤ MAX_BESIDE },
+    ghost beside: { columns.beside ≤ 22 },
+    ghost lanes_begin: { columns.lanes ≤ MAX_LANES },
 }

@@ -9,19 +9,22 @@ ghost use Rattle.drawing.specs.Bands.{bands_of};
 ghost use Rattle.drawing.specs.Words.{placed, with_words, line_of};
 ghost use Rattle.drawing.specs.Terminal.{ticket_word, sign, lane_words, label_if, band_column, band_at, band_words, way, way_of, way_word};
 ghost use Rattle.drawing.specs.Terminal.{event_words, effect_sign, effect_lane_words, effect_words, effect_row_if, effect_rows, event_rows};
-ghost use Rattle.drawing.specs.Terminal.{strokes, head_words, head_lines, thread_words, lane_names, name_words, rows, words};
+ghost use Rattle.drawing.specs.Terminal.{strokes, head_words, head_lines, thread_words, order_word, lane_names, name_words, heads, heads_again};
+ghost use Rattle.drawing.specs.Terminal.{numbered_rows, rows, sign_text, sign_line, lane_meanings, legend, words};
 ghost use Rattle.drawing.specs.Terminal.{terminal_picture};
 
 use crate::bands::{Band, Head, bands_of, form, head_words, holds_gap};
-use crate::captions::{headline, push_caption, push_legend};
+use crate::captions::{headline, push_caption};
 use crate::claim::{count_of_lines, order_of, shown_by};
 use crate::columns::{
-    Columns, Lane, MOST_DRAWN, columns_of, digits, events_of, label_width, lanes_of, threads_of,
+    Columns, Lane, MOST_DRAWN, ROWS_UNDER_HEADS, columns_of, digits, events_of, label_width,
+    lanes_of, threads_of,
 };
 use crate::initial::push_initial_rows;
 use crate::line::{Added, Piece, place, push_all, push_line};
 use crate::lookup::{called_at, place_in, under_way};
 use crate::sheet::Sheet;
+use crate::signs::{Sign, meaning, signs_of};
 use event_records::Event;
 use history_merge::{History, OpKind, Operation};
 use itoa::Buffer;
@@ -96,14 +99,14 @@ fn place_lanes(line: &mut Vec<u8>, sheet: &Sheet<'_>, ticket: u64) -> Added
     Ok(())
 }
 
-/// Adds what an operation did, and its value in full.
+/// Adds what an operation did, and its value by its name.
 pub fn push_label(text: &mut Vec<u8>, kind: OpKind) -> Added
     ensures { OnOk result (text.new.items ≡ text.old.items ++ label kind) }
 {
     match kind {
-        OpKind::Enq(value) => push_all(text, &[Piece::Words(b"enq "), Piece::Number(value)]),
-        OpKind::Deq(value) => push_all(text, &[Piece::Words(b"deq "), Piece::Number(value)]),
-        OpKind::Not(value) => push_all(text, &[Piece::Words(b"not "), Piece::Number(value)]),
+        OpKind::Enq(value) => push_all(text, &[Piece::Words(b"enq "), Piece::Value(value)]),
+        OpKind::Deq(value) => push_all(text, &[Piece::Words(b"deq "), Piece::Value(value)]),
+        OpKind::Not(value) => push_all(text, &[Piece::Words(b"not "), Piece::Value(value)]),
         OpKind::Empty => text.extend_from_slice(b"empty"),
     }
 }
@@ -178,21 +181,21 @@ fn event_line(sheet: &Sheet<'_>, ticket: u64) -> Result<Vec<u8>, AllocError>
         (event_words sheet.now.columns sheet.now.lanes.now sheet.now.bands.now sheet.now.operations.now sheet.now.claimed.now ticket)) }
 {
     let mut bytes = Vec::new(sheet.alloc);
-    place_ticket(&mut bytes, sheet.columns, ticket)?;
-    place_lanes(&mut bytes, sheet, ticket)?;
     let called = called_at(sheet.operations, ticket);
-    let label = label_if(sheet.alloc, called)?;
-    place(&mut bytes, sheet.columns.label, label.as_slice())?;
+    place_ticket(&mut bytes, sheet.columns, ticket)?;
     place(
         &mut bytes,
         sheet.columns.beside,
         way_word(sheet.claimed, called),
     )?;
     place_bands(&mut bytes, sheet, Some(ticket))?;
+    place_lanes(&mut bytes, sheet, ticket)?;
+    let label = label_if(sheet.alloc, called)?;
+    place(&mut bytes, sheet.columns.label, label.as_slice())?;
     Ok(bytes)
 }
 
-/// An operation of an order, with its number of so many, and the ticket just after which it takes effect.
+/// An operation of an order, its number, how many there are, and the ticket just after which it takes effect.
 #[derive(Clone, Copy)]
 struct Effect {
     operation: Operation,
@@ -254,10 +257,10 @@ fn effect_line(sheet: &Sheet<'_>, effect: Effect) -> Result<Vec<u8>, AllocError>
         (effect_words sheet.now.columns sheet.now.lanes.now sheet.now.operations.now effect.count effect.point effect.number effect.operation)) }
 {
     let mut bytes = Vec::new(sheet.alloc);
-    place_effect_lanes(&mut bytes, sheet, effect)?;
     let word = effect_label(sheet.alloc, effect)?;
     let blanks = digits(effect.count as u64).saturating_sub(digits(effect.number));
     place(&mut bytes, sheet.columns.beside + blanks, word.as_slice())?;
+    place_effect_lanes(&mut bytes, sheet, effect)?;
     Ok(bytes)
 }
 
@@ -304,17 +307,7 @@ fn push_event(text: &mut Vec<u8>, sheet: &Sheet<'_>, ticket: u64) -> Added
     push_effects(text, sheet, order_of(sheet.claimed), ticket)
 }
 
-fn push_events(text: &mut Vec<u8>, sheet: &Sheet<'_>, events: &[Event]) -> Added
-    ensures { OnOk result (text.new.items ≡ text.old.items ++ flat_map
-        (λ e. event_rows sheet.now.columns sheet.now.lanes.now sheet.now.bands.now sheet.now.operations.now sheet.now.claimed.now e.ticket) events.now) }
-{
-    for event in events {
-        push_event(text, sheet, event.ticket)?;
-    }
-    Ok(())
-}
-
-/// A stroke under the head of each of so many bands.
+/// A stroke under the head of each of this many bands.
 fn place_strokes(line: &mut Vec<u8>, sheet: &Sheet<'_>, bands: usize) -> Added
     requires { bands ≤ length sheet.now.bands.now }
     ensures { OnOk result (line.new.items ≡ with_words line.old.items (strokes sheet.now.columns bands)) }
@@ -338,7 +331,7 @@ fn push_head_line(text: &mut Vec<u8>, sheet: &Sheet<'_>, i: usize, head: Head) -
 }
 
 #[tactic(auto, unfolding(crate::specs::Terminal::head_lines))]
-fn push_heads(text: &mut Vec<u8>, sheet: &Sheet<'_>) -> Added
+fn push_band_heads(text: &mut Vec<u8>, sheet: &Sheet<'_>) -> Added
     ensures { OnOk result (text.new.items ≡ text.old.items ++ head_lines sheet.now.columns sheet.now.bands.now) }
 {
     for (i, band) in sheet.bands.iter().enumerate() {
@@ -361,21 +354,77 @@ fn thread_bytes(sheet: &Sheet<'_>) -> Result<Vec<u8>, AllocError>
     ensures { IfOk result (λ bytes. bytes.items ≡ line_of (thread_words sheet.now.columns (length sheet.now.bands.now))) }
 {
     let mut bytes = Vec::new(sheet.alloc);
-    place(&mut bytes, sheet.columns.ticket + 2, b"thread")?;
     place_strokes(&mut bytes, sheet, sheet.bands.len())?;
+    place(&mut bytes, sheet.columns.lanes, b"thread")?;
     Ok(bytes)
+}
+
+fn order_word(claimed: &Claimed) -> &'static [u8]
+    ensures { result.now ≡ order_word claimed.now }
+{
+    match claimed {
+        Claimed::Yes(_) => b"order",
+        Claimed::No(_, _) => b"",
+    }
 }
 
 #[tactic(auto, unfolding(crate::specs::Terminal::name_words))]
 fn name_bytes(sheet: &Sheet<'_>) -> Result<Vec<u8>, AllocError>
-    ensures { IfOk result (λ bytes. bytes.items ≡ line_of (name_words sheet.now.columns sheet.now.lanes.now (length sheet.now.bands.now))) }
+    ensures { IfOk result (λ bytes. bytes.items ≡ line_of
+        (name_words sheet.now.columns sheet.now.lanes.now (length sheet.now.bands.now) sheet.now.claimed.now)) }
 {
     let mut bytes = Vec::new(sheet.alloc);
     let column = sheet.columns.ticket.saturating_sub(6);
     place(&mut bytes, column, b"ticket")?;
-    place_lane_names(&mut bytes, sheet.lanes)?;
+    place(&mut bytes, sheet.columns.beside, order_word(sheet.claimed))?;
     place_strokes(&mut bytes, sheet, sheet.bands.len())?;
+    place_lane_names(&mut bytes, sheet.lanes)?;
     Ok(bytes)
+}
+
+/// Adds the heads: those of the bands, and those of the tickets and the lanes.
+#[tactic(auto, unfolding(crate::specs::Terminal::heads))]
+fn push_heads(text: &mut Vec<u8>, sheet: &Sheet<'_>) -> Added
+    ensures { OnOk result (text.new.items ≡ text.old.items
+        ++ heads sheet.now.columns sheet.now.lanes.now sheet.now.bands.now sheet.now.claimed.now) }
+{
+    push_band_heads(text, sheet)?;
+    let threads = thread_bytes(sheet)?;
+    push_line(text, threads.as_slice())?;
+    let names = name_bytes(sheet)?;
+    push_line(text, names.as_slice())
+}
+
+/// Adds the heads once more, above each 40th event.
+fn push_heads_again(text: &mut Vec<u8>, sheet: &Sheet<'_>, i: usize) -> Added
+    ensures { OnOk result (text.new.items ≡ text.old.items
+        ++ heads_again i (heads sheet.now.columns sheet.now.lanes.now sheet.now.bands.now sheet.now.claimed.now)) }
+{
+    if i > 0 && i % ROWS_UNDER_HEADS == 0 {
+        push_heads(text, sheet)
+    } else {
+        Ok(())
+    }
+}
+
+/// Adds the lines of event i.
+fn push_numbered(text: &mut Vec<u8>, sheet: &Sheet<'_>, i: usize, event: Event) -> Added
+    ensures { OnOk result (text.new.items ≡ text.old.items ++ numbered_rows
+        sheet.now.columns sheet.now.lanes.now sheet.now.bands.now sheet.now.operations.now sheet.now.claimed.now (i, event)) }
+{
+    push_heads_again(text, sheet, i)?;
+    push_event(text, sheet, event.ticket)
+}
+
+fn push_events(text: &mut Vec<u8>, sheet: &Sheet<'_>, events: &[Event]) -> Added
+    ensures { OnOk result (text.new.items ≡ text.old.items ++ flat_map
+        (numbered_rows sheet.now.columns sheet.now.lanes.now sheet.now.bands.now sheet.now.operations.now sheet.now.claimed.now)
+        (enumerate_from 0 events.now)) }
+{
+    for (i, event) in events.iter().enumerate() {
+        push_numbered(text, sheet, i, *event)?;
+    }
+    Ok(())
 }
 
 #[tactic(auto, unfolding(crate::specs::Terminal::rows))]
@@ -385,28 +434,83 @@ fn push_rows(text: &mut Vec<u8>, sheet: &Sheet<'_>, history: &History, events: &
         ++ rows sheet.now.columns sheet.now.lanes.now sheet.now.bands.now history.now sheet.now.operations.now sheet.now.claimed.now) }
 {
     push_heads(text, sheet)?;
-    let threads = thread_bytes(sheet)?;
-    push_line(text, threads.as_slice())?;
-    let names = name_bytes(sheet)?;
-    push_line(text, names.as_slice())?;
     push_initial_rows(text, sheet, history.initial())?;
     push_events(text, sheet, events)
 }
 
+fn sign_text(sign: Sign) -> &'static [u8]
+    ensures { result.now ≡ sign_text sign }
+{
+    match sign {
+        Sign::First => b"init ",
+        Sign::InOrder | Sign::OfOperations | Sign::OfValues => b"1    ",
+        Sign::Present => b"###  ",
+        Sign::Absent => b"xxx  ",
+        _ => b":::  ",
+    }
+}
+
+/// Adds a sign, and what it means.
+fn push_sign(text: &mut Vec<u8>, sign: Sign) -> Added
+    ensures { OnOk result (text.new.items ≡ text.old.items ++ sign_line sign) }
+{
+    text.extend_from_slice(sign_text(sign))?;
+    push_line(text, meaning(sign))
+}
+
+fn push_signs(text: &mut Vec<u8>, signs: &[Sign]) -> Added
+    ensures { OnOk result (text.new.items ≡ text.old.items ++ flat_map sign_line signs.now) }
+{
+    for sign in signs {
+        push_sign(text, *sign)?;
+    }
+    Ok(())
+}
+
+#[tactic(auto, unfolding(crate::specs::Terminal::lane_meanings))]
+fn lane_meanings() -> &'static [u8]
+    ensures { result.now ≡ lane_meanings }
+{
+    b"[    call of an operation\n\
+]    its return\n"
+}
+
+/// Adds how to read the picture.
+#[tactic(auto, unfolding(crate::specs::Terminal::legend))]
+fn push_legend(alloc: Global, text: &mut Vec<u8>, initial: &[u64], claimed: &Claimed) -> Added
+    ensures { OnOk result (text.new.items ≡ text.old.items ++ legend initial.now claimed.now) }
+{
+    let signs = signs_of(alloc, initial, claimed)?;
+    text.extend_from_slice(lane_meanings())?;
+    push_signs(text, signs.as_slice())
+}
+
 /// Adds what stands above the rows: what the picture shows, and how to read it.
 #[tactic(auto, unfolding(crate::specs::Terminal::words))]
-fn push_words(text: &mut Vec<u8>, initial: &[u64], claimed: &Claimed) -> Added
+fn push_words(alloc: Global, text: &mut Vec<u8>, initial: &[u64], claimed: &Claimed) -> Added
     requires { count_of_lines claimed.now ≤ MOST_DRAWN }
     ensures { OnOk result (text.new.items ≡ text.old.items ++ words initial.now claimed.now) }
 {
     push_line(text, headline(claimed))?;
     push_caption(text, claimed)?;
     push_line(text, b"")?;
-    push_legend(text, initial, claimed)?;
+    push_legend(alloc, text, initial, claimed)?;
     push_line(text, b"")
 }
 
-/// The picture of a history and what is claimed of it, in lines of ASCII for a terminal.
+/// Draws a history and what is claimed of it, in lines of ASCII for a terminal.
+///
+/// The `history` dequeues 7, which was never enqueued:
+///
+/// ```rust
+/// let verdict = decide(alloc, &history)?;
+/// let claimed = claim(alloc, &history, &verdict)?;
+/// let mut picture = Vec::new(alloc);
+/// if count_of_lines(&claimed) <= MOST_DRAWN {
+///     picture = terminal_picture(alloc, &history, &claimed)?;
+/// }
+/// assert!(rt; picture.as_slice().starts_with(b"NO: "));
+/// ```
 ///
 /// The claim need not be evidence: what stands in the picture follows its lines. Time O(n t n) for n operations of t threads, and
 /// O(k m) for k initial values and m lines; memory for the text, of O(n t + k m) bytes. `AllocError` comes only where a growth was
@@ -425,14 +529,15 @@ pub fn terminal_picture(
     let operations = history.operations();
     let threads = threads_of(alloc, events.as_slice())?;
     let widest_label = label_width(history.initial(), operations);
+    let bands = bands_of(alloc, claimed)?;
     let columns = columns_of(
         events.as_slice(),
         threads.as_slice(),
         widest_label,
-        count_of_lines(claimed),
+        claimed,
+        bands.len(),
     );
     let lanes = lanes_of(alloc, columns, threads.as_slice())?;
-    let bands = bands_of(alloc, claimed)?;
     let sheet = Sheet {
         alloc,
         columns,
@@ -442,7 +547,7 @@ pub fn terminal_picture(
         claimed,
     };
     let mut text = Vec::new(alloc);
-    push_words(&mut text, history.initial(), claimed)?;
+    push_words(alloc, &mut text, history.initial(), claimed)?;
     push_rows(&mut text, &sheet, history, events.as_slice())?;
     Ok(text)
 }

@@ -1,4 +1,4 @@
--- The empty answers by their places, and one more of them in a scan.
+-- The empty dequeues by their places, and one more of them in a scan.
 use Rattle.std.proofs.Common.{◌≡◌, ℕ, zero, suc, ◌+◌, ◌<◌, ◌≤◌, true, false, List, [], ◌∷◌, ◌++◌, length, get_or, take, drop, map, Option, Some, None}
 use Rattle.std.proofs.Common.{refl, sym, subst, inl, inr, arith}
 use Rattle.std.specs.Prelude.{All, Contains, filter, slice_get, MatchOption, is_none}
@@ -38,15 +38,15 @@ kind_of_empty (Enq v) is = cc
 kind_of_empty (Deq v) is = cc
 kind_of_empty (Not v) is = cc
 
--- one of the empty answers is an operation that was answered so
+-- one of the empty dequeues is an operation that was answered so
 pub is_empty_did : (operations : List Operation) (o : Operation) → Contains (filter is_empty_answer operations) o → Did operations o Empty
 is_empty_did operations o among = let passed = passed_filter is_empty_answer operations o among in (passed.0, kind_of_empty o.kind passed.1)
 
--- an operation that was answered so is one of the empty answers
+-- an operation that was answered so is one of the empty dequeues
 pub empty_is_listed : (operations : List Operation) (o : Operation) → Did operations o Empty → Contains (filter is_empty_answer operations) o
 empty_is_listed operations o did = passes_filter is_empty_answer operations o (rw did.1 refl) did.0
 
--- at each of the places stands an empty answer
+-- at each of the places stands an empty dequeue
 pub places_are_empty : (operations : List Operation) (places : List ℕ) → HoldsPlaces operations is_empty_answer places → All (IsEmptyAnswerAt operations) places
 places_are_empty operations places named = All-from_get_or (IsEmptyAnswerAt operations) places 0 at
   where
@@ -58,7 +58,7 @@ places_are_empty operations places named = All-from_get_or (IsEmptyAnswerAt oper
         (Contains-get_or (filter is_empty_answer operations) i found.0 found.2) in
         (found.0, found.1, (is_empty_did operations found.0 among).1)
 
--- at the i-th of the places stands an empty answer
+-- at the i-th of the places stands an empty dequeue
 pub answer_is_empty : (operations : List Operation) (places : List ℕ) (i place : ℕ) → All (IsEmptyAnswerAt operations) places → i < length places
     → place ≡ get_or places i place → IsEmptyAnswerAt operations place
 answer_is_empty operations places i place empty within is = subst (IsEmptyAnswerAt operations) (sym is)
@@ -81,7 +81,7 @@ place_listed operations (p ∷ places) (x ∷ listed) (suc i) o named within is 
 pub free_is_not_covered : (operations : List Operation) (o : Operation) (c : ℕ) → IsLeastFreeGap operations o c → ¬ (IsCovered operations o)
 free_is_not_covered operations o c is covered = let life = covered c is.in_window in is.is_free life.0 life.1 life.2
 
--- what the search for the least free gap tells of the window
+-- what the search for the least free gap says of the window
 pub covered_if_none : (operations : List Operation) (o : Operation) (found : Option ℕ)
     → MatchOption found (IsCovered operations o) (λ c. IsLeastFreeGap operations o c) → is_none found ≡ true → IsCovered operations o
 covered_if_none operations o None covered none = covered
@@ -116,7 +116,7 @@ module _ (operations : List Operation) where
   covered_of : (places : List ℕ) (answer : EmptyAnswer) → IsFirstCovered operations places answer → IsCoveredAnswer answer
   covered_of places answer is = record { at = is.at; is_empty = is.is_empty; is_covered = is.is_covered }
 
-  -- where each has a gap none is covered
+  -- if each has a gap none is covered
   gap_is_free : (place c : ℕ) → HasGap place c → IsFree place
   gap_is_free place c has o at = free_is_not_covered operations o c
       (subst (λ x. IsLeastFreeGap operations x c) (one_at operations place has.0 o has.1 at) has.2)
@@ -150,13 +150,13 @@ module _ (operations : List Operation) where
       (All-append (ReturnsLater r) low high (later_than_later a r low sooner.before_first is_a.first)
       (later_than_later b r high sooner.before_second is_b.first))
 
-  -- where each of the others has a gap, the first is the first of all
+  -- if each of the others has a gap, the first is the first of all
   pub low_is_first : (low high gaps : List ℕ) (a : EmptyAnswer) → IsFirstCovered operations low a → AreGapsAt operations high gaps
       → IsFirstCovered operations (low ++ high) a
   low_is_first low high gaps a is zip = first_of (low ++ high) a (covered_of low a is)
       (All-append (ReturnsLater a) low high is.first (later_than_free a high (gaps_are_free high gaps zip)))
 
-  -- where each of the others has a gap, the first covered one of the rest is that of all
+  -- if each of the others has a gap, the first covered one of the rest is that of all
   pub high_is_first : (low high gaps : List ℕ) (b : EmptyAnswer) → AreGapsAt operations low gaps → IsFirstCovered operations high b
       → IsFirstCovered operations (low ++ high) b
   high_is_first low high gaps b zip is = first_of (low ++ high) b (covered_of high b is)
@@ -216,7 +216,7 @@ module _ (operations : List Operation) where
   gaps_together (place ∷ low) high [] more zip zip' = absurd zip
   gaps_together (place ∷ low) high (c ∷ gaps) more zip zip' = (zip.0, gaps_together low high gaps more zip.1 zip')
 
-  -- the gaps at the places of all empty answers are theirs
+  -- the gaps at the places of all empty dequeues are theirs
   pub gaps_are_all : (places gaps : List ℕ) → HoldsPlaces operations is_empty_answer places → AreGapsAt operations places gaps
       → AreLeastFreeGaps operations gaps
   gaps_are_all places gaps named zip = gaps_listed places (filter is_empty_answer operations) gaps named zip
@@ -233,7 +233,7 @@ module _ (operations : List Operation) where
           let rest : map (slice_get operations) places ≡ map (λ o. Some o) listed = cc in
           (subst (λ x. IsLeastFreeGap operations x c) (one_at operations p zip.0.0 o zip.0.1 at) zip.0.2, gaps_listed places listed gaps rest zip.1)
 
-  -- the first of all empty answers whose window is covered is the chosen one
+  -- the first of all empty dequeues whose window is covered is the chosen one
   pub first_is_chosen : (places : List ℕ) (first : EmptyAnswer) (cover : List Life) → HoldsPlaces operations is_empty_answer places
       → IsFirstCovered operations places first → IsChosenCover operations first.operation cover
       → IsChosenWitness operations first.operation cover

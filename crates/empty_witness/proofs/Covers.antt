@@ -77,7 +77,7 @@ longest_of (x ∷ lives) frontier = join (longest_of lives frontier) side
       | inr later ↦ none other later
     ])
 
--- where some value was enqueued before the frontier, one of them is next in the cover
+-- if some value was enqueued before the frontier, one of them is next in the cover
 next_of_cover : (operations : List Operation) (frontier : ℕ) (some : Life) → IsClear operations → IsLife operations some
     → enqueue_return some < frontier → (life : Life) × IsNextOfCover operations frontier life
 next_of_cover operations frontier some clear is before = elim (longest_of (lives_of operations) frontier) [
@@ -104,7 +104,7 @@ stays_past : (empty : Operation) (dequeue : Option Operation) → empty.ret < ca
 stays_past empty None past = search rules
 stays_past empty (Some d) past = past
 
--- the chosen cover from an operation on, at most this many tickets before the empty answer returns
+-- the chosen cover from an operation on, at most this many tickets before the empty dequeue returns
 cover_from : (left : ℕ) (operations : List Operation) (empty before : Operation) → IsClear operations → Did operations empty Empty
     → IsCovered operations empty → Contains operations before
     → empty.call ≤ before.call → before.call < empty.ret → empty.ret ≤ before.call + left
@@ -150,7 +150,7 @@ cover_from (suc left) operations empty before clear did covered among above belo
               )
         ]
 
--- a covered empty answer has a chosen cover, which is a violation
+-- a covered empty dequeue has a chosen cover, which is a violation
 pub chosen_cover : (operations : List Operation) (empty : Operation) → IsClear operations → Did operations empty Empty → IsCovered operations empty
     → (cover : List Life) × IsChosenCover operations empty cover × IsWitnessViolation operations empty cover
 chosen_cover operations empty clear did covered =
@@ -158,7 +158,7 @@ chosen_cover operations empty clear did covered =
     let cover = cover_from empty.ret operations empty empty clear did covered did.0 (omega arith) less (omega arith) in
     (cover.0, cover.1, record { answers_empty = did; covers = cover.2 })
 
--- at each gap from an operation's call to the empty answer's return, some value of the cover surely is in the queue
+-- at each gap from an operation's call to the empty dequeue's return, some value of the cover is definitely in the queue
 covered_by : (operations : List Operation) (empty before : Operation) (cover : List Life) (c : ℕ) → CoversFrom operations empty before cover
     → before.call ≤ c → c < empty.ret → c < NEVER → (life : Life) × IsLife operations life × Covers life c
 covered_by operations empty before [] c covers above below in_range = absurd covers
@@ -183,7 +183,7 @@ covered_by operations empty before (life ∷ next ∷ rest) c covers above below
           | inr later ↦ more d further later
         ]
 
--- a witness violation covers its empty answer
+-- a witness violation covers its empty dequeue
 pub violation_covers : (operations : List Operation) (empty : Operation) (cover : List Life) → IsClear operations
     → IsWitnessViolation operations empty cover → IsCovered operations empty
 violation_covers operations empty cover clear violation c window =

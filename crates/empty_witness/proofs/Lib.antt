@@ -2,7 +2,7 @@
 -- ValueSpans, Joined: the stays, joined where they touch, cover the gaps that values cover.
 -- Outside, FreeGaps: the least gap of a window outside of the spans, or none: then the window is covered.
 -- Walks, Covers: the walk along a covered window that takes the value that stays longest gives the chosen cover, the shortest.
--- Answers: the same of all empty answers, and of covered ones the first to return.
+-- Answers: what holds of all empty dequeues, and of covered ones the first to return.
 -- Told: what is found of a filled history's windows, told by the history's own places and tickets.
 pub mod Joined
 pub mod Outside

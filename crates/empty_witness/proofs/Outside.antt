@@ -1,4 +1,4 @@
--- The least gap outside of spans, and what it tells of a window.
+-- The least gap outside of spans, and what it says of a window.
 use Rattle.std.proofs.Common.{◌≡◌, ◌≢◌, ℕ, ◌-◌, ◌<◌, ◌≤◌, ◌⊎◌, max, Bool, true, false, List, length, get_or, Option, refl, sym, ap, subst, inl, inr}
 use Rattle.std.proofs.Common.{arith, leb, ltb}
 use Rattle.std.specs.Prelude.{MatchOption}
@@ -33,7 +33,7 @@ module _ (spans : List Span) (from begun : ℕ) (point : IsPartitionPoint (λ sp
   begins_later : (k : ℕ) (d : Span) → begun ≤ k → k < length spans → from < (get_or spans k d).start
   begins_later k d after within = leb-false _ _ (point.1 k d after within)
 
-  -- where no span has begun
+  -- if no span has begun
   pub none_begun : begun ≡ 0 → IsFirstOutside spans from from
   none_begun none = record {
     no_less = omega arith;

@@ -29,7 +29,7 @@ module _ (initial : List ℕ) (operations : List Operation) where
   abbrev all : List Operation
   all = filled initial operations
 
-  -- an empty answer stands behind the initial values in the filled history
+  -- an empty dequeue stands after the initial values in the filled history
   pub empty_behind : (place : ℕ) → IsEmptyAnswerAt operations place → IsEmptyAnswerAt all (behind k place)
   empty_behind place empty = elim (at_filled initial operations (k + place)) [
     | inl early ↦ absurd (omega (arith, early.0))
@@ -47,7 +47,7 @@ module _ (initial : List ℕ) (operations : List Operation) where
     | inr late ↦ let call : late.operation.call + 2 * k ≡ o.call = ap (λ (x : Operation). x.call) late.is in omega arith
   ]
 
-  -- so a gap of its window is told by a ticket
+  -- so a ticket stands for each gap of its window
   gap_back : (o : Operation) (c : ℕ) → 2 * k ≤ o.call → IsInWindow o c → filled_gap k (unfilled_gap k c) ≡ c
   gap_back o c late window = let from = window.0 in omega arith
 

@@ -29,7 +29,7 @@ stays_hold_some values stays sorted are moved =
     (filter_passes holds_some (map (λ value. stay_of value.life) values))))
 
 module _ (operations : List Operation) (values : List MatchedValue) (clear : IsClear operations) (holds : HoldsLives operations values) where
-  -- a gap lies in the span of a value exactly where a value covers it
+  -- a gap lies in the span of a value if and only if a value covers it
   covers_if_lies : (c : ℕ) → LiesIn (stays_of values) c → (life : Life) × IsLife operations life × Covers life c
   covers_if_lies c lies =
       let mapped = passed_filter holds_some (map (λ value. stay_of value.life) values) lies.0 lies.1 in

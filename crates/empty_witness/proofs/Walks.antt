@@ -1,4 +1,4 @@
--- The walk along the chosen cover, from the call of an empty answer to its return.
+-- The walk along the chosen cover, from the call of an empty dequeue to its return.
 use Rattle.std.proofs.Common.{◌≡◌, ◌≢◌, ℕ, ◌<◌, ◌≤◌, ◌⊎◌, List, [], ◌∷◌, ◌++◌, Option, Some, None, refl, sym, subst, inl, inr, arith, append_assoc, rules}
 use Rattle.std.specs.Prelude.{Contains, MatchOption, MatchBool, nat_lt, IsSome}
 use Rattle.std.proofs.lemmas.Bool.{lt-ltb, le-ltb}

@@ -1,4 +1,4 @@
--- Spans of gaps, and those of the gaps at which some value surely is in the queue.
+-- Spans of gaps, and those of the gaps at which some value is definitely in the queue.
 use Rattle.std.specs.Prelude.{◌↔◌, ℕ, ◌<◌, ◌≤◌, nat_lt, Bool, List, All, AllPairs, Contains}
 use Rattle.history_merge.specs.declared.operation.Operation.{Operation}
 use Rattle.value_match.specs.declared.life.Life.{Life}
@@ -27,11 +27,11 @@ pub record AreJoined (stays spans : List Span) : Type 0 where
   pub apart : AreApart spans
   pub same : (c : ℕ) → LiesIn stays c ↔ LiesIn spans c
 
--- the gaps at which the value surely is in the queue
+-- the gaps at which the value is definitely in the queue
 abbrev pub stay_of : Life → Span
 stay_of life = record { start = enqueue_return life; end = dequeue_call life }
 
--- the spans are apart, and a gap lies in one exactly where some value surely is in the queue
+-- the spans are apart, and a gap lies in one if and only if some value is definitely in the queue
 pub record AreSpansOf (operations : List Operation) (spans : List Span) : Type 0 where
   pub apart : AreApart spans
   pub cover : (c : ℕ) → LiesIn spans c ↔ ((life : Life) × IsLife operations life × Covers life c)

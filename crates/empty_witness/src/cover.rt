@@ -8,7 +8,7 @@ use history_merge::Operation;
 use std::alloc::{AllocError, Global};
 use value_match::{Cover, CoverStep, FilledMatching, LongestTable, Source};
 
-/// The chosen cover of a window that is covered.
+/// Returns the chosen cover of a window that is covered.
 ///
 /// Time O(n log n) for n values: a table of them, and a look-up for each step.
 pub fn cover_of(

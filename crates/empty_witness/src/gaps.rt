@@ -7,7 +7,7 @@ ghost use Rattle.empty_witness.specs.Inner.Spans.{IsFirstOutside};
 use crate::spans::Span;
 use history_merge::Operation;
 
-/// The least gap from this one on that lies in no span.
+/// Returns the least gap from this one on that lies in no span.
 fn first_outside(spans: &[Span], from: u64) -> u64
     requires { AreApart spans.now }
     ensures { IsFirstOutside spans.now from result }
@@ -20,7 +20,8 @@ fn first_outside(spans: &[Span], from: u64) -> u64
     }
 }
 
-/// The least free gap in the window of an operation of a history, if there is one, by the spans of the history.
+/// Returns the least free gap in the window of an operation of a history, if there is one, by the spans of the
+/// history.
 pub fn least_free_gap(spans: &[Span], answer: &Operation) -> Option<u64>
     requires { AreApart spans.now }
     ensures { (operations : List Operation) → AreSpansOf operations spans.now

@@ -9,5 +9,7 @@ mod spans;
 mod unfilling;
 
 pub use answer::{GapAnswer, Gaps, WitnessAnswer};
-pub use search::{EmptyAnswer, Windows, find_witness, gap_for, sooner_of, windows_at, witness_of};
+pub use search::{
+    EmptyAnswer, WindowsAnswer, find_witness, gap_for, sooner_of, windows_at, witness_of,
+};
 pub use spans::{Span, join_spans, spans_of, stays_of};

@@ -14,27 +14,28 @@ use history_merge::{OpId, Operation};
 use std::alloc::{AllocError, Global};
 use value_match::{FilledMatching, Matching};
 
-/// An empty answer of a filled history, with its place there.
+/// An empty dequeue of a filled history, with its place there.
 #[derive(Clone, Copy, Debug)]
 pub struct EmptyAnswer {
     pub place: OpId,
     pub operation: Operation,
 }
 
-/// What is found of the windows of some empty answers of a filled history, by its clocks.
+/// What a search finds in the windows of some empty dequeues of a filled history, by its clocks.
 #[derive(Debug, Drop)]
-pub enum Windows {
+pub enum WindowsAnswer {
     /// None is covered: the least free gap of each, in their order.
     Free(Vec<u64>),
-    /// Of the answers whose windows are covered, the one that returned first.
+    /// Of those whose windows are covered, the one that returned first.
     Covered(EmptyAnswer),
 }
 
-/// The least free gap in the window of an empty answer, or the chosen cover of the window.
+/// Finds the least free gap in the window of an empty dequeue, or the chosen cover of the window.
 ///
-/// Gap c is the place just after ticket c, and an operation's window has the gaps from its call to before its return. Places and
-/// tickets are the history's; a cover names its initial values too. Time O(n log n) for n values, whatever the width of the
-/// window: a sort of the values' stays, and one more where the window is covered. The error is want of memory alone.
+/// Gap c is the place just after ticket c, and an operation's window has the gaps from its call to before its return.
+/// Places and tickets are the history's; a cover names its initial values too. Time O(n log n) for n values, whatever
+/// the width of the window: a sort of the values' stays, and one more if the window is covered. The only error is out
+/// of memory.
 pub fn gap_for(alloc: Global, matching: &Matching, empty: OpId) -> Result<GapAnswer, AllocError>
     requires { IsEmptyAnswerAt matching.now.operations empty }
     ensures { IfOk result (IsGapAnswerFrom matching.now.initial matching.now.operations empty) }
@@ -46,7 +47,7 @@ pub fn gap_for(alloc: Global, matching: &Matching, empty: OpId) -> Result<GapAns
     answer.unfilled(alloc, initial_count)
 }
 
-/// The same of a filled history.
+/// Does so in a filled history.
 fn gap_at(alloc: Global, matching: &FilledMatching, empty: OpId) -> Result<GapAnswer, AllocError>
     requires { IsEmptyAnswerAt matching.now empty }
     ensures { IfOk result (λ answer. IsGapAnswer matching.now empty answer) }
@@ -59,27 +60,32 @@ fn gap_at(alloc: Global, matching: &FilledMatching, empty: OpId) -> Result<GapAn
     }
 }
 
-/// The least free gap of each empty answer, in the order of their calls, or the chosen empty answer whose window is
-/// covered, with its cover; by the places and tickets of the history.
+/// Finds the least free gap of each empty dequeue, in the order of their calls, or the chosen empty dequeue whose
+/// window is covered, with its cover; by the places and tickets of the history.
 ///
-/// Time O((n + m) log n) for n values and m empty answers: the values' stays are sorted once, and each window is one
-/// look-up among them. The error is want of memory alone.
+/// Time O((n + m) log n) for n values and m empty dequeues: it sorts the values' stays once, and looks each window up
+/// among them; O(1) if no dequeue is empty. The only error is out of memory.
 pub fn find_witness(alloc: Global, matching: &Matching) -> Result<WitnessAnswer, AllocError>
     ensures { IfOk result (IsWitnessAnswerFrom matching.now.initial matching.now.operations) }
 {
     let filled = matching.filled();
+    let empties = filled.empties();
+    if empties.is_empty() {
+        return witness_of(alloc, matching, WindowsAnswer::Free(Vec::new(alloc)));
+    }
     let spans = spans_of(alloc, filled)?;
-    let windows = windows_at(alloc, filled, spans.as_slice(), filled.empties())?;
+    let windows = windows_at(alloc, filled, spans.as_slice(), empties)?;
     witness_of(alloc, matching, windows)
 }
 
-/// The answer of `find_witness`, by what is found of the windows of all empty answers of the filled history.
+/// Returns the answer of `find_witness`, from what was found in the windows of all empty dequeues of the filled
+/// history.
 ///
-/// Time O(n log n) for n values where a window is covered, for its cover. The error is want of memory alone.
+/// Time O(n log n) for n values if a window is covered, for its cover. The only error is out of memory.
 pub fn witness_of(
     alloc: Global,
     matching: &Matching,
-    windows: Windows,
+    windows: WindowsAnswer,
 ) -> Result<WitnessAnswer, AllocError>
     requires { AreAllWindows (filled_operations matching.now) windows }
     ensures { IfOk result (IsWitnessAnswerFrom matching.now.initial matching.now.operations) }
@@ -88,25 +94,25 @@ pub fn witness_of(
     answer.unfilled(alloc, matching.initial().len())
 }
 
-/// The same by the places and clocks of the filled history.
+/// Returns it by the places and clocks of the filled history.
 fn witness_in_filled(
     alloc: Global,
     matching: &FilledMatching,
-    windows: Windows,
+    windows: WindowsAnswer,
 ) -> Result<WitnessAnswer, AllocError>
     requires { AreAllWindows matching.now windows }
     ensures { IfOk result (λ answer. IsWitnessAnswer matching.now answer) }
 {
     match windows {
-        Windows::Free(gaps) => Ok(WitnessAnswer::Gaps(Gaps::from_vec(gaps))),
-        Windows::Covered(first) => Ok(WitnessAnswer::Covered {
+        WindowsAnswer::Free(gaps) => Ok(WitnessAnswer::Gaps(Gaps::from_vec(gaps))),
+        WindowsAnswer::Covered(first) => Ok(WitnessAnswer::Covered {
             empty: first.place,
             cover: cover_of(alloc, matching, &first.operation)?,
         }),
     }
 }
 
-/// The empty answer at this place.
+/// Returns the empty dequeue at this place.
 fn answer_at(matching: &FilledMatching, empty: OpId) -> EmptyAnswer
     requires { IsEmptyAnswerAt matching.now empty }
     ensures place { result.place ≡ empty }
@@ -119,7 +125,7 @@ fn answer_at(matching: &FilledMatching, empty: OpId) -> EmptyAnswer
     }
 }
 
-/// The one of two empty answers that returned first.
+/// Returns the one of two empty dequeues that returned first.
 pub fn sooner_of(first: EmptyAnswer, second: EmptyAnswer) -> EmptyAnswer
     ensures { IsSoonerOf first second result }
 {
@@ -130,16 +136,16 @@ pub fn sooner_of(first: EmptyAnswer, second: EmptyAnswer) -> EmptyAnswer
     }
 }
 
-/// What is found of the windows of the empty answers at these places of a filled history, by its spans: each window is one
+/// Searches the windows of the empty dequeues at these places of a filled history, by its spans: each window is one
 /// look-up.
 ///
-/// Time O(m log n) for m places and n spans. The error is want of memory alone.
+/// Time O(m log n) for m places and n spans. The only error is out of memory.
 pub fn windows_at(
     alloc: Global,
     matching: &FilledMatching,
     spans: &[Span],
     empties: &[OpId],
-) -> Result<Windows, AllocError>
+) -> Result<WindowsAnswer, AllocError>
     requires empties { All (IsEmptyAnswerAt matching.now) empties.now }
     requires spans { AreSpansOf matching.now spans.now }
     ensures { IfOk result (λ windows. AreWindowsAt matching.now empties.now windows) }
@@ -151,14 +157,14 @@ pub fn windows_at(
             Some(gap) => gaps.push(gap)?,
             None => {
                 let (_, others) = empties.split_at(index + 1);
-                return Ok(Windows::Covered(first_covered(matching, spans, answer, others)));
+                return Ok(WindowsAnswer::Covered(first_covered(matching, spans, answer, others)));
             }
         }
     }
-    Ok(Windows::Free(gaps))
+    Ok(WindowsAnswer::Free(gaps))
 }
 
-/// Of an empty answer whose window is covered and those of others whose windows are, the one that returned first.
+/// Returns the covered one that returned first, of an empty dequeue whose window is covered and others.
 fn first_covered(
     matching: &FilledMatching,
     spans: &[Span],

@@ -12,7 +12,7 @@ pub struct Span {
     pub end: u64,
 }
 
-/// The spans in which the gaps lie at which some value surely is in the queue, by rising start; no two touch.
+/// Returns the spans of the gaps at which some value is definitely in the queue, by rising start; no two touch.
 ///
 /// Time O(n log n) for n values.
 pub fn spans_of(alloc: Global, matching: &FilledMatching) -> Result<Vec<Span>, AllocError>
@@ -24,9 +24,9 @@ pub fn spans_of(alloc: Global, matching: &FilledMatching) -> Result<Vec<Span>, A
     join_spans(alloc, stays.as_slice())
 }
 
-/// For each value that surely is in the queue at some gap, the span of these gaps.
+/// Returns for each value that is definitely in the queue at some gap the span of these gaps.
 ///
-/// Time O(n) for n values. The error is want of memory alone.
+/// Time O(n) for n values. The only error is out of memory.
 pub fn stays_of(alloc: Global, values: &Values) -> Result<Vec<Span>, AllocError>
     ensures { IfOk result (λ stays. stays.items ≡ filter holds_some (map (λ value. stay_of value.life) values.now)) }
 {
@@ -40,7 +40,7 @@ pub fn stays_of(alloc: Global, values: &Values) -> Result<Vec<Span>, AllocError>
     Ok(stays)
 }
 
-/// The gaps at which the value surely is in the queue.
+/// Returns the gaps at which the value is definitely in the queue.
 fn stay_of(life: &Life) -> Span
     ensures { result ≡ stay_of life.now }
 {
@@ -50,9 +50,9 @@ fn stay_of(life: &Life) -> Span
     }
 }
 
-/// The spans of the gaps in these spans, which come by rising start; those that touch or overlap are joined.
+/// Joins spans that touch or overlap; they come by rising start.
 ///
-/// Time O(n) for n spans. The error is want of memory alone.
+/// Time O(n) for n spans. The only error is out of memory.
 pub fn join_spans(alloc: Global, stays: &[Span]) -> Result<Vec<Span>, AllocError>
     requires hold_some { All (λ stay. stay.start < stay.end) stays.now }
     requires rise { IsNonDecreasingBy (λ stay. stay.start) stays.now }

@@ -1,4 +1,4 @@
-//! What is found of the windows of a filled history, told by the places and tickets of the history.
+//! What was found in the windows of a filled history, by the places and tickets of the history.
 ghost use Rattle.std.specs.Prelude.{◌≡◌, IfOk, map};
 ghost use Rattle.empty_witness.specs.Inner.Unfilling.{unfilled_gap, unfilled_gap_answer, unfilled_witness_answer};
 
@@ -7,7 +7,7 @@ use std::alloc::{AllocError, Global};
 use value_match::{unfilled_cover, unfilled_place};
 
 impl GapAnswer {
-    /// The answer for one window.
+    /// Returns the answer for one window.
     pub(crate) fn unfilled(self, alloc: Global, initial_count: usize) -> Result<Self, AllocError>
         ensures { IfOk result (λ told. told ≡ unfilled_gap_answer initial_count self) }
     {
@@ -22,7 +22,7 @@ impl GapAnswer {
 }
 
 impl WitnessAnswer {
-    /// The answer for all windows.
+    /// Returns the answer for all windows.
     pub(crate) fn unfilled(self, alloc: Global, initial_count: usize) -> Result<Self, AllocError>
         ensures { IfOk result (λ told. told ≡ unfilled_witness_answer initial_count self) }
     {
@@ -42,7 +42,7 @@ impl WitnessAnswer {
     }
 }
 
-/// The gaps; nothing is done where there are no initial values.
+/// Returns the gaps of the history; without initial values they stay as they are.
 fn unfilled_gaps(alloc: Global, initial_count: usize, gaps: Gaps) -> Result<Gaps, AllocError>
     ensures { IfOk result (λ told. told ≡ map (unfilled_gap initial_count) gaps) }
 {
@@ -61,7 +61,7 @@ fn each_unfilled(alloc: Global, initial_count: usize, gaps: &[u64]) -> Result<Ve
         .collect(alloc)
 }
 
-/// The gap, which comes after the enqueues of the initial values, of two tickets each.
+/// Returns the gap of the history, for one that comes after the enqueues of the initial values, of two tickets each.
 fn unfilled_gap(initial_count: usize, gap: u64) -> u64
     ensures { result ≡ unfilled_gap initial_count gap }
 {

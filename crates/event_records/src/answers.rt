@@ -12,7 +12,7 @@ use crate::questions::{AskDeq, AskEnq};
 use std::marker::Model;
 use tickets::{Pass, Tickets};
 
-/// An enqueue with its answer. It holds the question, and so is one-use too.
+/// An enqueue with its answer. It holds the question, and so can be used once only.
 #[derive(Drop)]
 pub struct AnsweredEnq {
     ask: AskEnq,
@@ -29,7 +29,7 @@ impl Model for AnsweredEnq {
     ghost view = { λ a. record { question = a.ask; answer = (if a.taken then Taken else Not) } };
 }
 
-/// A dequeue with its answer. It holds the question, and so is one-use too.
+/// A dequeue with its answer. It holds the question, and so can be used once only.
 #[derive(Drop)]
 pub struct AnsweredDeq {
     ask: AskDeq,
@@ -56,7 +56,7 @@ impl AskEnq {
         }
     }
 
-    /// The queue did not take the value: it was full, or had no memory.
+    /// The queue didn't take the value: it was full or out of memory.
     pub fn not_taken(self) -> AnsweredEnq
         ensures answered { result ≡ record { question = self; answer = Not } }
         ensures kind { self.kind ≡ Enq }
@@ -92,7 +92,7 @@ impl AskDeq {
     }
 }
 
-// The return event of a thread, at a ticket that is drawn for it.
+// Notes the return event of a thread, at a ticket that it draws.
 fn note_return(thread: u8, what: What, pass: &mut Pass, tickets: &Tickets) -> Noted
     requires key { pass.old.key ≡ tickets.now.key }
     requires some_left { 0 < pass.old.left }
@@ -110,8 +110,8 @@ fn note_return(thread: u8, what: What, pass: &mut Pass, tickets: &Tickets) -> No
 impl AnsweredEnq {
     /// Draws the return ticket, and notes the return.
     ///
-    /// The answer is used up, so it was there before the ticket. The pass is that of the question's thread, which drew
-    /// the call ticket.
+    /// The call uses the answer up, so the answer was there before the ticket. The pass is that of the question's
+    /// thread, which drew the call ticket.
     pub fn stamp(self, pass: &mut Pass, tickets: &Tickets) -> Noted
         requires key { (pass.old.key ≡ tickets.now.key) × (self.question.key ≡ tickets.now.key) }
         requires drew { Contains pass.old.drawn self.question.call }
@@ -131,7 +131,7 @@ impl AnsweredEnq {
 }
 
 impl AnsweredDeq {
-    /// Draws the return ticket, and notes the return, as that of an enqueue.
+    /// Draws the return ticket, and notes the return of the dequeue.
     pub fn stamp(self, pass: &mut Pass, tickets: &Tickets) -> Noted
         requires key { (pass.old.key ≡ tickets.now.key) × (self.question.key ≡ tickets.now.key) }
         requires drew { Contains pass.old.drawn self.question.call }

@@ -1,11 +1,11 @@
-/// What a thread called, or was answered.
+/// What a thread called, or what the queue answered.
 #[derive(Clone, Copy, Debug, PartialEq, Eq)]
 pub enum What {
     /// An enqueue of this value was called.
     CallEnq(u64),
     /// The queue took the value.
     RetEnq,
-    /// The queue did not take the value: it was full, or had no memory.
+    /// The queue didn't take the value: it was full or out of memory.
     RetNot,
     /// A dequeue was called.
     CallDeq,
@@ -17,7 +17,7 @@ pub enum What {
 
 /// One call or return of one thread, at its ticket.
 ///
-/// Plain data: any ticket and any thread number may stand in it. `history` of the crate `history_merge` refuses what is
+/// Plain data: it may have any ticket and any thread number. `history` of the crate `history_merge` refuses what is
 /// out of range.
 #[derive(Clone, Copy, Debug, PartialEq, Eq)]
 pub struct Event {

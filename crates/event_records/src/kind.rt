@@ -12,7 +12,7 @@ pub enum Kind {
 pub enum Answer {
     /// The value of an enqueue was taken.
     Taken,
-    /// The value of an enqueue was not taken: the queue was full, or had no memory.
+    /// The value of an enqueue was not taken: the queue was full or out of memory.
     Not,
     /// A dequeue got this value.
     Got(u64),

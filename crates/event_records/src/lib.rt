@@ -1,5 +1,5 @@
-//! The events of a recorded run: what one thread called or was answered, and when; and the one-use questions and answers
-//! that they record.
+//! The events of a recorded run: what one thread called, what the queue answered, and when; and the questions and
+//! answers, each for one use, that they record.
 #![tactic(auto)]
 
 mod answers;

@@ -13,7 +13,7 @@ pub const MAX_THREAD: u8 = MAX_THREADS as u8 - 1;
 /// The most workers of a run.
 pub const MAX_WORKERS: usize = 32;
 
-/// How many values each thread has names for.
+/// How many names for values each thread has.
 pub const NAMES_OF_A_THREAD: u64 = 1 << 32;
 
 /// The most operations of one thread or worker.
@@ -34,20 +34,20 @@ pub const MAX_STRESS_INITIAL: u64 = 1_000;
 /// The least name of an initial value of a run: above the names of each thread's values.
 pub const LEAST_INITIAL_NAME: u64 = MAX_THREADS as u64 * NAMES_OF_A_THREAD;
 
-/// The greatest clock of an event. A clock counts two for each initial value of the history, and then the tickets.
+/// The greatest clock of an event: its ticket, and two more for each initial value of the history.
 pub const MAX_CLOCK: u64 = MAX_TICKET + 2 * MAX_INITIAL as u64;
 
 /// The most lines of a claimed verdict: one for each operation or initial value.
 pub const MAX_CLAIM_LINES: u64 = MAX_OPERATIONS + MAX_INITIAL as u64;
 
-/// The greatest seed of a plan, as the command line takes it.
+/// The greatest seed of a plan that the command line takes.
 pub const MAX_SEED: u64 = u32::MAX as u64;
 
 /// The most steps of a schedule's text.
 pub const MAX_STEPS: usize = 2_000_000;
 
-/// The least number of events for which a ring has room.
+/// The least capacity of a ring, in events.
 pub const MIN_RING: usize = 2;
 
-/// The greatest number of events for which a ring has room.
+/// The greatest capacity of a ring, in events.
 pub const MAX_RING: usize = 65_536;

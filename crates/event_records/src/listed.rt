@@ -2,10 +2,10 @@ ghost use Rattle.std.specs.Prelude.{◌≡◌, ◌↔◌, length, IsTrue};
 
 use std::marker::Model;
 
-/// Items in their order, seen as the list of them.
+/// Items in order, seen as the list of them.
 ///
-/// Such lists are given names where they stand for one thing, as the steps of a schedule or the places of an order. None of
-/// the calls takes memory, or more than constant time.
+/// Types like the steps of a schedule, or the places of a linearization, are such lists under a name. No call takes
+/// memory, or more than constant time.
 #[derive(Debug, Drop)]
 pub struct Listed<T> {
     items: Vec<T>,
@@ -20,14 +20,14 @@ impl<T> Model for Listed<T> {
 }
 
 impl<T> Listed<T> {
-    /// These items, in their order.
+    /// Makes the list of these items, in order.
     pub fn from_vec(items: Vec<T>) -> Listed<T>
         ensures { result ≡ items.items }
     {
         Listed { items }
     }
 
-    /// Gives the items back, in their order.
+    /// Returns the items, in order.
     pub fn into_vec(self) -> Vec<T>
         ensures { result.items ≡ self }
     {
@@ -35,14 +35,14 @@ impl<T> Listed<T> {
         items
     }
 
-    /// The items, in their order.
+    /// Borrows the items, in order.
     pub fn as_slice(&self) -> &[T]
         ensures { result.now ≡ self.now }
     {
         self.items.as_slice()
     }
 
-    /// How many items there are.
+    /// Returns how many items there are.
     pub fn len(&self) -> usize
         ensures { result ≡ length self.now }
     {

@@ -3,9 +3,9 @@ ghost use Rattle.std.specs.Prelude.{◌≡◌, map};
 use crate::event::Event;
 use std::marker::Model;
 
-/// One list of events for each thread, list 0 that of thread 0, seen as the list of these lists.
+/// One list of events for each thread, list 0 for thread 0, seen as the list of these lists.
 ///
-/// Nothing is asked of the events: `merge` of the crate `history_merge` puts any lists together.
+/// The events may be any: `merge` of the crate `history_merge` merges any lists.
 #[derive(Debug, Drop)]
 pub struct Lists {
     lists: Vec<Vec<Event>>,
@@ -21,21 +21,21 @@ impl Model for Lists {
 }
 
 impl Lists {
-    /// Takes no memory.
+    /// Makes the lists, and takes no memory.
     pub fn from_vec(lists: Vec<Vec<Event>>) -> Lists
         ensures { result ≡ map (λ list. list.items) lists.items }
     {
         Lists { lists }
     }
 
-    /// Gives the lists back, and takes no memory.
+    /// Returns the lists, and takes no memory.
     pub fn into_vec(self) -> Vec<Vec<Event>>
         ensures { map (λ list. list.items) result.items ≡ self }
     {
         self.lists
     }
 
-    /// The lists, in the order of their threads.
+    /// Borrows the lists, in the order of their threads.
     pub fn as_slice(&self) -> &[Vec<Event>]
         ensures { map (λ list. list.items) result.now ≡ self.now }
     {

@@ -6,7 +6,7 @@ use std::marker::Model;
 
 /// One event that a question or a stamp noted, to be pushed once.
 ///
-/// It is not `Clone`, and only a question and a stamp make one, so the return that it holds was answered.
+/// It is not `Clone`, and only a question or a stamp makes one, so the return that it holds was answered.
 #[derive(Debug, Drop)]
 pub struct Noted {
     event: Event,
@@ -27,7 +27,7 @@ impl Noted {
         Noted { event }
     }
 
-    /// The event.
+    /// Returns the event.
     pub fn event(&self) -> Event
         ensures { result ≡ self.now }
     {

@@ -13,7 +13,7 @@ use tickets::Drawn;
 
 /// Numbers the operations of one thread, from 0.
 ///
-/// It is not `Clone`, so that it gives no number twice.
+/// It is not `Clone`, so it gives no number twice.
 #[derive(Drop)]
 pub struct Namer {
     thread: ThreadNo,
@@ -39,7 +39,7 @@ struct Asked {
 /// A question to enqueue the value of its name.
 ///
 /// It is not `Clone`: the queue that answers it uses it up. Contracts see it as plain data, with the key of the
-/// `Tickets` that its call ticket was drawn from.
+/// `Tickets` that drew its call ticket.
 #[derive(Drop)]
 pub struct AskEnq {
     asked: Asked,
@@ -58,7 +58,7 @@ impl Model for AskEnq {
     ghost invariant = { λ q. q.asked.number < NAMES_OF_A_THREAD };
 }
 
-/// A question to dequeue, one-use as an `AskEnq`.
+/// A question to dequeue. Like an `AskEnq` it can be used once only.
 #[derive(Drop)]
 pub struct AskDeq {
     asked: Asked,
@@ -78,21 +78,21 @@ impl Model for AskDeq {
 }
 
 impl Namer {
-    /// A namer that has asked nothing.
+    /// Makes a namer that has asked nothing.
     pub fn new(thread: ThreadNo) -> Namer
         ensures { result ≡ record { thread = thread; asked = 0 } }
     {
         Namer { thread, asked: 0 }
     }
 
-    /// How many operations were asked.
+    /// Returns how many operations were asked.
     pub fn asked(&self) -> u64
         ensures { result ≡ self.now.asked }
     {
         self.asked
     }
 
-    // The next operation, which is then counted.
+    // Counts the next operation, and returns it.
     fn next(&mut self, drawn: Drawn) -> Asked
         requires { self.old.asked < NAMES_OF_A_THREAD }
         ensures asked { result ≡ record { thread = self.old.thread; number = self.old.asked; drawn = drawn } }
@@ -107,7 +107,7 @@ impl Namer {
         }
     }
 
-    /// The question of the next enqueue at a ticket that was drawn for it, and its call event.
+    /// Makes the question of the next enqueue, at a ticket that was drawn for it, and its call event.
     pub fn ask_enq(&mut self, drawn: Drawn) -> (AskEnq, Noted)
         requires { self.old.asked < NAMES_OF_A_THREAD }
         ensures question { result.0 ≡ next_question self.old Enq drawn }
@@ -119,7 +119,7 @@ impl Namer {
         (AskEnq { asked }, noted)
     }
 
-    /// The question of the next dequeue at a ticket that was drawn for it, and its call event.
+    /// Makes the question of the next dequeue, at a ticket that was drawn for it, and its call event.
     pub fn ask_deq(&mut self, drawn: Drawn) -> (AskDeq, Noted)
         requires { self.old.asked < NAMES_OF_A_THREAD }
         ensures question { result.0 ≡ next_question self.old Deq drawn }
@@ -154,7 +154,7 @@ impl Asked {
 }
 
 impl AskEnq {
-    /// The thread that asks.
+    /// Returns the thread that asks.
     pub fn thread(&self) -> u8
         ensures value { result ≡ self.now.thread }
         ensures small { result < MAX_THREADS }
@@ -162,7 +162,7 @@ impl AskEnq {
         self.asked.thread.get()
     }
 
-    /// Which operation of its thread it is, from 0.
+    /// Returns which operation of its thread it is, from 0.
     pub fn number(&self) -> u64
         ensures value { result ≡ self.now.number }
         ensures small { result < NAMES_OF_A_THREAD }
@@ -170,14 +170,15 @@ impl AskEnq {
         self.asked.number
     }
 
-    /// The call ticket.
+    /// Returns the call ticket.
     pub fn call(&self) -> u64
         ensures { result ≡ self.now.call }
     {
         self.asked.drawn.ticket()
     }
 
-    /// The value to enqueue: the thread times 2^32, plus the number. No two questions of one run have the same.
+    /// Returns the value to enqueue: the thread times 2^32, plus the number. No two questions of one run have the
+    /// same value.
     pub fn value(&self) -> u64
         ensures { result ≡ value_name self.now.thread self.now.number }
     {
@@ -186,7 +187,7 @@ impl AskEnq {
 }
 
 impl AskDeq {
-    /// The thread that asks.
+    /// Returns the thread that asks.
     pub fn thread(&self) -> u8
         ensures value { result ≡ self.now.thread }
         ensures small { result < MAX_THREADS }
@@ -194,7 +195,7 @@ impl AskDeq {
         self.asked.thread.get()
     }
 
-    /// Which operation of its thread it is, from 0.
+    /// Returns which operation of its thread it is, from 0.
     pub fn number(&self) -> u64
         ensures value { result ≡ self.now.number }
         ensures small { result < NAMES_OF_A_THREAD }
@@ -202,7 +203,7 @@ impl AskDeq {
         self.asked.number
     }
 
-    /// The call ticket.
+    /// Returns the call ticket.
     pub fn call(&self) -> u64
         ensures { result ≡ self.now.call }
     {

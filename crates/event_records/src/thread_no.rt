@@ -24,7 +24,7 @@ impl Model for ThreadNo {
 }
 
 impl ThreadNo {
-    /// The thread of this number, or none where the number is above 63.
+    /// Returns the thread of this number, or none if the number is above 63.
     pub fn new(number: u8) -> Option<ThreadNo>
         ensures { SomeIff result (number < MAX_THREADS) number }
     {
@@ -35,7 +35,7 @@ impl ThreadNo {
         }
     }
 
-    /// The number.
+    /// Returns the number.
     pub fn get(self) -> u8
         ensures number { result ≡ self }
         ensures in_range { result < MAX_THREADS }

@@ -3,8 +3,8 @@ ghost use Rattle.event_records.specs.Turns.{Alternates, TakesTurns, TicketsRise,
 
 use crate::event::{Event, What};
 
-/// Whether the events of one thread are whole operations in order: calls and returns take turns, a call first and a return
-/// last, each return of its call's kind, and each ticket is above the one before. True of no events.
+/// Whether the events of one thread are whole operations in order: calls and returns alternate, a call first and a
+/// return last, each return is of its call's kind, and each ticket is above the one before. No events are.
 ///
 /// Takes time in proportion to the events, and no memory.
 pub fn alternates(events: &[Event]) -> bool
@@ -39,7 +39,7 @@ fn tickets_rise(events: &[Event]) -> bool
     true
 }
 
-/// Whether the second is a return of the kind of the first, a call.
+/// Whether the second is a return of the kind of the first, which is a call.
 pub fn is_answer(call: What, answer: What) -> bool
     ensures { result ≡ answers call answer }
 {

@@ -45,7 +45,7 @@ pub record DrainView : Type 0 where
   pub thread : ℕ
   pub received : List Event
 
--- the end has received `n` events more, and they were put behind the others of a list
+-- the end has received `n` events more, and they were appended to a list
 pub record DrainsInto (n : ℕ) (before after : DrainView) (events events' : List Event) : Type 0 where
   pub drained : List Event
   pub many : length drained ≡ n

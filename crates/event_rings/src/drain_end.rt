@@ -60,7 +60,7 @@ pub enum FinishFault {
 }
 
 impl Sealed {
-    /// The events, oldest first.
+    /// Returns the events, oldest first.
     pub fn into_events(self) -> Vec<Event>
         ensures { result.items ≡ self }
     {
@@ -86,7 +86,7 @@ impl DrainEnd {
         }
     }
 
-    /// The thread whose ring it is.
+    /// Returns the thread whose ring it is.
     pub fn thread(&self) -> ThreadNo
         ensures { result ≡ self.now.thread }
     {
@@ -95,7 +95,7 @@ impl DrainEnd {
 
     /// Takes events out of the ring, oldest first: all that it sees there, but at most `max`.
     ///
-    /// It reserves room for them first, so where that is refused they are all still in the ring.
+    /// It reserves memory for them first. If that is refused, they are all still in the ring.
     pub fn drain(&mut self, max: usize) -> Result<Vec<Event>, AllocError>
         requires { max ≤ MAX_RING }
         ensures drained { IfOk result (λ events. self.new ≡ record self.old { received = self.old.received ++ events.items }) }
@@ -107,10 +107,10 @@ impl DrainEnd {
         Ok(events)
     }
 
-    /// Takes events out of the ring as `drain` does, puts them behind those of a list, and tells how many.
+    /// Takes events out of the ring as `drain` does, appends them to a list, and returns how many.
     ///
-    /// It makes room for what it sees in the ring first, so where that is refused the events are all still in the ring. Of
-    /// an empty ring it takes no memory.
+    /// It reserves memory for what it sees in the ring first. If that is refused, the events are all still in the
+    /// ring. An empty ring takes no memory.
     pub fn drain_into(&mut self, events: &mut Vec<Event>, max: usize) -> Result<usize, AllocError>
         requires { max ≤ MAX_RING }
         ensures drained { IfOk result (λ n. DrainsInto n self.old self.new events.old.items events.new.items) }
@@ -125,8 +125,8 @@ impl DrainEnd {
 
     /// Takes all that is left, certified by the token that closed the ring.
     ///
-    /// `Uncertified` comes exactly where the token is of another thread's ring, and `Memory` where room for the events
-    /// that are left is refused. After either the end is gone.
+    /// `Uncertified` comes if and only if the token is of another thread's ring, and `Memory` if memory for the
+    /// events that are left is refused. After either the end is gone.
     pub fn finish(self, token: CloseToken) -> Result<Sealed, FinishFault>
         requires { token.thread ≡ self.thread → token.ring ≡ self.ring }
         ensures sealed { IfOk result (λ sealed. self.received ++ sealed ≡ token.sent) }
@@ -152,7 +152,7 @@ impl DrainEnd {
     }
 }
 
-// Moves the next `count` events out of the ring, behind those of the list. There is room for them before any leaves the
+// Moves the next `count` events from the ring to the end of the list. There is room for them before any leaves the
 // ring, and their places are free for the other end all at once.
 fn pop_into(
     consumer: &mut Consumer<Event>,

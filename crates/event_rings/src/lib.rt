@@ -1,7 +1,7 @@
 //! A ring of events for each thread: one end pushes, the other drains, and a token closes it.
 //!
-//! Nothing here takes a lock or waits: each step on a ring is one of the two ends' own. What is received is always the
-//! front of what was sent, in order. A close token tells all that was sent, and nothing can be sent after it.
+//! Nothing here takes a lock or waits: each step on a ring belongs to one of its two ends. What is received is always
+//! a prefix of what was sent. A close token shows all that was sent, and nothing can be sent after it.
 #![tactic(auto)]
 
 ghost use Rattle.std.specs.Prelude.{◌≡◌, ◌≤◌, [], IfOk};
@@ -16,9 +16,9 @@ pub use push_end::{CloseLost, CloseToken, PushEnd};
 use rtrb::RingBuffer;
 use std::alloc::{AllocError, Global};
 
-/// A new ring of a thread, with room for `capacity` events.
+/// Makes a ring of a thread, with room for `capacity` events.
 ///
-/// It takes memory for that many events at once, and is refused only where that is. Pushing takes none.
+/// It takes memory for that many events at once, and fails only if that is refused. Pushing takes none.
 pub fn ring(
     alloc: Global,
     thread: ThreadNo,

@@ -49,7 +49,7 @@ impl Model for CloseToken {
 
 /// The ring gave no close token. What was pushed is lost.
 ///
-/// The base gives none where the drain end was dropped before. No contract says so.
+/// The ring below gives none if its drain end was dropped before. No contract says so.
 #[derive(Debug, Drop, Error)]
 #[error("CloseLost")]
 pub struct CloseLost;
@@ -84,17 +84,17 @@ impl PushEnd {
         PushEnd { thread, producer }
     }
 
-    /// The thread whose ring it is.
+    /// Returns the thread whose ring it is.
     pub fn thread(&self) -> ThreadNo
         ensures { result ≡ self.now.thread }
     {
         self.thread
     }
 
-    /// Pushes an event of this thread, or gives it back where no room was seen. It takes no memory.
+    /// Pushes an event of this thread, or gives it back if it sees no room. It takes no memory.
     ///
-    /// The end learns of room that the other end made only when it knows of none itself. So it is refused only when as many
-    /// events were sent as the ring has room for.
+    /// The end looks for room that the other end made only if it knows of none itself. So a push fails only after as
+    /// many events were sent as the ring has room for.
     pub fn push(&mut self, noted: Noted) -> Result<(), Noted>
         requires { noted.thread ≡ self.old.thread }
         ensures pushed { OnOk result (self.new ≡ record self.old { sent = self.old.sent ++ noted ∷ []; room = self.new.room }) }
@@ -109,7 +109,7 @@ impl PushEnd {
         }
     }
 
-    /// Closes the ring. The token tells all that was sent.
+    /// Closes the ring. The token shows all that was sent.
     ///
     /// It takes no memory.
     pub fn close(self) -> Result<CloseToken, CloseLost>

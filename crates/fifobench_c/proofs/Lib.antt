@@ -1,4 +1,4 @@
 -- The way of the argument: Structs: structs that are events, one more at a time. Telling: from the answer that was found, or
--- want of memory for its text, to one of the answers that are right.
+-- out of memory for its text, to one of the answers that are right.
 pub mod Telling
 pub mod Structs

@@ -1,11 +1,11 @@
--- From the answer that was found, or want of memory for its text, to one of the answers that are right.
+-- From the answer that was found, or out of memory for its text, to one of the answers that are right.
 use Rattle.std.proofs.Common.{ℕ, ◌⊎◌, List, inl, inr, refl}
 use Rattle.commands.specs.Answers.{Reply, memory_fault}
 use Rattle.commands.specs.Judging.{AnswersOrNoMemory}
 use Rattle.fifobench_c.specs.Filling.{TellsAnswer, TellsOneOf}
 
 module _ {A : Type 0} (OfValue : A → Reply → Type 0) (value : A) (old new : List ℕ) (needed result : ℕ) where
-  -- want of memory is among the answers already
+  -- out of memory is among the answers already
   pub told_one : (answer : Reply) → AnswersOrNoMemory OfValue value answer
       → TellsAnswer answer old new needed result ⊎ TellsAnswer memory_fault old new needed result
       → TellsOneOf (AnswersOrNoMemory OfValue value) old new needed result

@@ -2,7 +2,7 @@
 use Rattle.std.specs.Prelude.{◌≡◌, ℕ, ◌≤◌, ◌<◌, List, ◌++◌, length, drop}
 use Rattle.commands.specs.Answers.{Reply, answer_text, answer_status}
 
--- a text that fits stands at the front of the buffer, and what is behind it stays; of a text that doesn't fit nothing is written
+-- a text that fits stands at the front of the buffer, and what comes after the text stays; of a text that doesn't fit nothing is written
 pub record Fills (text old new : List ℕ) : Type 0 where
   pub whole : length text ≤ length old → new ≡ text ++ drop (length text) old
   pub nothing : length old < length text → new ≡ old

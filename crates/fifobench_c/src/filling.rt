@@ -9,7 +9,7 @@ use commands::{Outcome, status_of, text_of_outcome};
 use itoa::Buffer;
 use std::alloc::{AllocError, Global};
 
-/// Tells what was found; or that memory ran out for its text.
+/// Writes what was found; or that memory ran out for its text.
 pub fn tell(alloc: Global, outcome: &Outcome, answer: &mut [u8], needed: &mut usize) -> u8
     requires { NamesPlaces outcome.now }
     ensures { TellsAnswer (answer_of outcome.now) answer.old answer.new needed.new result ⊎ TellsAnswer memory_fault answer.old answer.new needed.new result }
@@ -22,7 +22,7 @@ pub fn tell(alloc: Global, outcome: &Outcome, answer: &mut [u8], needed: &mut us
     )
 }
 
-/// Tells that the kind of the event at this place isn't known; or that memory ran out for the line.
+/// Writes that the kind of the event at this place isn't known; or that memory ran out for the line.
 pub fn tell_bad_what(alloc: Global, place: usize, answer: &mut [u8], needed: &mut usize) -> u8
     ensures { Tells (bad_what_line place) 2 answer.old answer.new needed.new result ⊎ TellsAnswer memory_fault answer.old answer.new needed.new result }
 {
@@ -40,7 +40,7 @@ fn bad_what(alloc: Global, place: usize) -> Result<Vec<u8>, AllocError>
     Ok(text)
 }
 
-/// Tells a text and its status; or that memory ran out for it, which takes none.
+/// Writes a text and its status; or that memory ran out for it, which takes none.
 fn tell_text(
     text: Result<Vec<u8>, AllocError>,
     status: u8,
@@ -62,7 +62,7 @@ fn tell_text(
     }
 }
 
-/// Writes the text where it fits, and tells its length.
+/// Writes the text if it fits, and its length.
 fn fill(text: &[u8], answer: &mut [u8], needed: &mut usize)
     ensures filled { Fills text.now answer.old answer.new }
     ensures needed { needed.new ≡ length text.now }

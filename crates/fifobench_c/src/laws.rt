@@ -10,7 +10,7 @@ ghost use Rattle.commands.specs.Running.{AnswersOf};
 ghost use Rattle.commands.specs.Judging.{AnswersOrNoMemory, JudgesHistory, from_none};
 
 /// Events and their text have one answer: what may be answered of the events, and what `check` may answer of their text, are
-/// the same, or one of them is want of memory.
+/// the same, or one of them says that memory ran out.
 pub fn events_and_their_text_agree()
     ensures { (events : List Event) (a b : Reply) → HasHistoryText events → AnswersOrNoMemory JudgesHistory (from_none events) a
         → AnswersOrNoMemory (AnswersOf check) (input_of (history_text events)) b → SameOrNoMemory a b }

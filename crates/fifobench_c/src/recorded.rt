@@ -26,7 +26,7 @@ pub const RET_DEQ: u32 = 5;
 /// The queue was empty.
 pub const RET_EMPTY: u32 = 6;
 
-/// The greatest thread that is told from others. It is above the greatest of a history, and so are all above it.
+/// The greatest thread that is distinguished from others. It is above the greatest of a history, and so are all above it.
 pub const GREATEST_TOLD: u32 = 255;
 
 /// An event as callers in C have it: any numbers may stand in it.
@@ -70,7 +70,7 @@ fn what_in(kind: u32, value: u64) -> Option<What>
     }
 }
 
-/// A history in the making of these events, of a queue that is empty first; or the place of the first whose kind isn't known.
+/// A history builder of these events, of a queue that is empty first; or the place of the first whose kind isn't known.
 pub fn gathered(alloc: Global, structs: &[RecordedEvent]) -> Result<HistoryBuilder, usize>
     requires { length structs.now ≤ MAX_EVENTS }
     ensures events { IfOk result (λ builder. (events : List Event) × AreEvents structs.now events × HasGathered [] events builder) }

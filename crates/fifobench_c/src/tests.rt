@@ -109,7 +109,7 @@ fn counts(rt: HostRuntime) {
     assert_answer(&rt, Command::Stats, "fifo-history 1\nend 0\n", counted, 0);
 }
 
-/// Asserts that a buffer of this many bytes stays as it was, and the status and the length are told.
+/// Asserts that a buffer of this many bytes stays as it was, and the status and the length are right.
 fn assert_nothing<R: AllocGlobal + Abort>(rt: &R, room: usize) -> Result<(), AllocError> {
     let mut answer = Vec::from_elem(rt.alloc(), b'-', room)?;
     let mut needed = 0;
@@ -224,7 +224,7 @@ fn refuses_events(rt: HostRuntime) {
         "REFUSED TicketOrder 1\n",
         2,
     );
-    // An unknown kind is told before all else.
+    // An unknown kind comes before all else.
     assert_events(
         &rt,
         &[event(0, 64, 1, 0), event(1, 0, 0, 0)],

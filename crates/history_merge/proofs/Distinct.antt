@@ -19,7 +19,7 @@ use Rattle.event_records.specs.declared.limits.TheConstants.{MAX_CLOCK}
 use Rattle.history_merge.proofs.Completeness.{IsMadeOf, made_of, called_once}
 use Rattle.history_merge.proofs.Places.{calls_of_kind, same_place}
 
--- what stands in a list is its first element or stands behind it
+-- what a list contains is its first element, or the rest contains it
 pub contains_cons : {X : Type 0} (x : X) (xs : List X) (y : X) → Contains (x ∷ xs) y → (x ≡ y) ⊎ Contains xs y
 contains_cons x xs y (zero, below, same) = inl same
 contains_cons x xs y (suc k, below, same) = inr (k, omega arith, same)

@@ -61,7 +61,7 @@ cut_at [] i x at = cc
 cut_at (y ∷ xs) zero x at = let same : y ≡ x = cc in ap (λ z. z ∷ xs) same
 cut_at (y ∷ xs) (suc i) x at = ap (λ zs. y ∷ zs) (cut_at xs i x at)
 
--- a value was called where it is among the values of the calls
+-- a value was called if it is among the values of the calls
 was_called_is : (events : List Event) (v : ℕ) → was_called events v ≡ list_any (λ w. nat_eq w v) (called_values events)
 was_called_is [] v = refl
 was_called_is (e ∷ events) v = join (called_value e.what) (was_called_is events v)
@@ -85,7 +85,7 @@ distinct_push events e distinct new = rw (filter_map-append (λ x. called_value 
             let there = list_any_at (λ w. nat_eq w v) (called_values events) k d below (eq-eqb _ _ same) in
             false≢true (sym new' ∙ was_called_is events v ∙ there)
 
--- a call between others has a new value where all values of the calls differ
+-- a call between others has a new value if all values of the calls differ
 pub new_from_distinct : (before later : List Event) (e : Event) → AreDistinct (called_values (before ++ e ∷ later)) → repeats_value before e ≡ false
 new_from_distinct before later e distinct = join (called_value e.what) (rw (filter_map-append (λ x. called_value x.what) before (e ∷ later)) at distinct)
   where
@@ -128,7 +128,7 @@ pub record HasMet (events : List Event) (n : ℕ) (met : ℕ → Bool) : Type 0 
   pub called : (v : ℕ) → met v ≡ was_called (take n events) v
   pub no_repeat : NoRepeatBefore events n
 
--- an event repeats a value where it calls one that was called
+-- an event repeats a value if it calls one that was called
 pub repeats_if : (events : List Event) (called : Option ℕ) (e : Event) → called_value e.what ≡ called
     → repeats_value events e ≡ option_map_or (was_called events) called false
 repeats_if events called e is = ap (λ o. option_map_or (was_called events) o false) is
@@ -162,7 +162,7 @@ met_new events i e v met after here calls new adds m = record {
       (repeats_if (take i events) (Some v) e calls ∙ sym (m.called v) ∙ new) m.no_repeat;
 }
 
--- where all values of the calls differ, no call repeats one
+-- if all values of the calls differ, no call repeats one
 pub no_repeat_from_distinct : (events : List Event) → AreDistinct (called_values events) → NoRepeatBefore events (length events)
 no_repeat_from_distinct events distinct i e below here =
     new_from_distinct (take i events) (drop (suc i) events) e (subst (λ es. AreDistinct (called_values es)) (cut_at events i e here) distinct)
@@ -223,6 +223,6 @@ rises_more name events i e v least here calls fits above r = record {
           ]
     ]
 
--- all events are behind the walk
+-- the walk has passed all events
 pub rises_all : (name : ℕ → ℕ) (events : List Event) (n : ℕ) (least : List ℕ) → length events ≤ n → RisesTo name events n least → IsFirstRepeat events None
 rises_all name events n least all r i e below at = r.no_repeat i e (omega arith) at

@@ -52,7 +52,7 @@ operations_in_range events complete k d below =
     let called = calls_before_returns events complete.tickets_rise k d below in
     (omega (arith, low, called), low)
 
--- the same behind other operations
+-- one enqueue more, after other operations
 pub enqueued_more : (now before start : List Operation) (values : List ℕ) (i : ℕ) → i < length values
     → now ≡ before ++ enqueue_at (2 * i) (get_or values i 0) ∷ [] → before ≡ start ++ filling_from 0 (take i values)
     → now ≡ start ++ filling_from 0 (take (i + 1) values)
@@ -61,7 +61,7 @@ enqueued_more now before start values i below pushed is =
     ∙ append_assoc start (filling_from 0 (take i values)) (enqueue_at (2 * i) (get_or values i 0) ∷ [])
     ∙ ap (λ os. start ++ os) (sym (filling_more values i below))
 
--- the enqueues, and behind them the operations, later
+-- the enqueues, and after them the operations, later
 pub all_filled : (now mid start : List Operation) (initial : List ℕ) (operations : List Operation) → start ≡ [] → mid ≡ start ++ filling_from 0 initial
     → now ≡ mid ++ map (later_by (2 * length initial)) operations → now ≡ filled initial operations
 all_filled now mid start initial operations none enqueued added =

@@ -1,4 +1,4 @@
--- A list of events is a complete history exactly where it has no fault.
+-- A list of events is a complete history if and only if it has no fault.
 use Rattle.std.proofs.Common.{◌≡◌, ℕ, true, zero, suc, ◌<◌, ◌≤◌, List, [], ◌∷◌, ◌++◌, length, get_or, take, drop, Option, Some, None, refl, sym, ◌∙◌}
 use Rattle.std.proofs.Common.{subst, inl, inr, arith, nat_eq, length-append}
 use Rattle.std.specs.Prelude.{All, Contains, MatchOption, slice_get, ⊤}
@@ -89,6 +89,12 @@ sound_before events (suc n) within none =
     let one_more : take (suc n) events ≡ take n events ++ get_or events n d ∷ [] = take-suc events n d below in
     subst IsSound (sym one_more) (sound_push (take n events) (get_or events n d) (sound_before events n (omega arith) none) may)
 
+-- the tickets of events without a fault rise
+pub rise_without_fault : (events : List Event) → NoFaultBefore events (length events) → TicketsRise events
+rise_without_fault events none =
+    let sound : IsSound events = subst IsSound (take_all (length events) events (omega arith)) (sound_before events (length events) (omega arith) none) in
+    sound.tickets_rise
+
 -- events without a fault and with nothing pending are a complete history
 pub complete_without_fault : (events : List Event) → NoFaultBefore events (length events) → NothingPending events → IsCompleteHistory events
 complete_without_fault events none nothing =
@@ -102,7 +108,7 @@ complete_without_fault events none nothing =
       values_are_distinct = sound.values_are_distinct;
     }
 
--- the same after a walk over all events
+-- so a walk over all events without a fault shows a complete history
 pub complete_after_walk : (events : List Event) (n : ℕ) → length events ≤ n → n ≤ length events → NoFaultBefore events n
     → NothingPending (take n events) → IsCompleteHistory events
 complete_after_walk events n all within none nothing =
@@ -163,7 +169,7 @@ first_fault_at events i e fault none here found =
     (at_place (TicketOrder i)) (at_place (BadThread i)) (at_place (CallWhilePending i)) (at_place (ReturnWithoutCall i)) (at_place (WrongReturn i))
     (at_place (DuplicateValue i)) found
 
--- the place of the first repeat tells of each event whether it repeats a value
+-- the place of the first repeat decides for each event whether it repeats a value
 pub repeats_at : (events : List Event) (repeat : Option ℕ) (i : ℕ) (e : Event) → IsFirstRepeat events repeat → NoFaultBefore events i
     → slice_get events i ≡ Some e
     → option_eq nat_eq repeat (Some i) ≡ repeats_value (take i events) e
@@ -180,7 +186,7 @@ repeats_at events (Some j) i e first none here = elim (cases_order j i) [
     repeated : slice_get events j ≡ Some e → repeats_value (take j events) e ≡ true
     repeated here' = subst (λ x. repeats_value (take j events) x ≡ true) (one_at events j first.1.0 e first.1.1 here') first.1.2
 
--- only want of memory is left as a fault of a complete history
+-- only out of memory is left as a fault of a complete history
 pub complete_has_no_fault : (events : List Event) (fault : HistoryFault) → IsFirstFault events fault → IsCompleteHistory events → fault ≡ Memory
 complete_has_no_fault events fault first complete = by_kind (λ f. IsFirstFault events f → f ≡ Memory)
     (λ i f of found. absurd (no_first_fault events i f complete ((of.first events).0 found)))

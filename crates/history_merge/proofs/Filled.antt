@@ -47,7 +47,7 @@ enqueue_all : (clock : ℕ) (values : List ℕ) → Enqueue values (filling_from
 enqueue_all clock [] = tt
 enqueue_all clock (v ∷ values) = (refl, enqueue_all (clock + 2) values)
 
--- each legal order of the filled history begins with the initial values, and goes on with a legal order from these
+-- each linearization of the filled history begins with the initial values, and goes on with a linearization from these
 pub all_filled_orders : (initial : List ℕ) (operations found : List Operation) → IsLegalOrder (filled initial operations) found
     → (order : List Operation) × (found ≡ filled initial order) × IsLegalOrderFrom initial operations order
 all_filled_orders initial operations found legal =
@@ -57,7 +57,7 @@ all_filled_orders initial operations found legal =
     let back = legal_earlier n initial operations begun.0 begun.2 in
     (back.0, begun.1 ∙ ap (λ os. filling_from 0 initial ++ os) back.1, back.2)
 
--- a legal order from the initial values, behind their enqueues, is one of the filled history
+-- a linearization from the initial values, after their enqueues, is one of the filled history
 pub filled_order : (initial : List ℕ) (operations order : List Operation) → IsLegalOrderFrom initial operations order
     → IsLegalOrder (filled initial operations) (filled initial order)
 filled_order initial operations order legal =
@@ -65,7 +65,7 @@ filled_order initial operations order legal =
     enqueues_put [] initial (filling_from 0 initial) (map (later_by n) operations) (map (later_by n) order) (enqueue_all 0 initial)
     (lead_all 0 n initial operations (omega arith)) (legal_later n initial operations order legal)
 
--- an order is legal from the initial values exactly where behind their enqueues it is one of the filled history
+-- an order is a linearization from the initial values if and only if after their enqueues it is one of the filled history
 pub filled_orders : (initial : List ℕ) (operations order : List Operation)
     → IsLegalOrderFrom initial operations order ↔ IsLegalOrder (filled initial operations) (filled initial order)
 filled_orders initial operations order = (filled_order initial operations order, back)
@@ -77,7 +77,7 @@ filled_orders initial operations order = (filled_order initial operations order,
         let same = append_cancel_left (filling_from 0 initial) (map (later_by n) order) (map (later_by n) found.0) found.1 in
         subst (λ os. IsLegalOrderFrom initial operations os) (sym (later_injective n order found.0 same)) found.2
 
--- so an order exists for the one exactly where one exists for the other
+-- so a linearization of the one exists if and only if one of the other does
 pub linearizable_from_exactly : (initial : List ℕ) (operations : List Operation)
     → IsLinearizableFrom initial operations ↔ IsLinearizable (filled initial operations)
 linearizable_from_exactly initial operations = (

@@ -1,4 +1,4 @@
--- A list of events is a complete history exactly where it has no fault.
+-- A list of events is a complete history if and only if it has no fault.
 use Rattle.std.proofs.Common.{◌≡◌, ℕ, ◌<◌, ◌≤◌, ◌&&◌, Bool, true, false, not, cond, List, Option, Some, None, refl, subst, nat_lt, nat_le}
 use Rattle.std.specs.Prelude.{MatchOption, is_some, is_none, ⊤}
 use Rattle.std.specs.Option.{option_map_or}

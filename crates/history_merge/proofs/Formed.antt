@@ -1,4 +1,4 @@
--- What a history in the making keeps, after one more event and at the end.
+-- What a history builder keeps, after one more event and at the end.
 use Rattle.std.proofs.Common.{◌≡◌, ◌≢◌, ℕ, ◌<◌, ◌≤◌, Bool, true, false, List, [], ◌∷◌, ◌++◌, length, get_or, set, Option, Some, None, refl, sym, ◌∙◌}
 use Rattle.std.proofs.Common.{ap, subst, inl, inr, arith, nat_eq, append_assoc, length-set, get_or-set_same, get_or-set_other}
 use Rattle.std.specs.Prelude.{All, slice_get, option_and_then, option_map, MatchOption, ⊤}
@@ -28,7 +28,7 @@ use Rattle.history_merge.proofs.Tracking.{pending_call-push_own, pending_call-pu
 use Rattle.history_merge.proofs.Turns.{answer_is_return}
 use Rattle.history_merge.proofs.Gathered.{next_of, formed_call, waits_call, waits_answer, waits_other, formed_answer}
 
--- where there is no operation
+-- if there is no operation
 abbrev pub nowhere : Operation
 nowhere = record { call = 0; ret = 0; thread = 0; kind = Enq 0 }
 
@@ -129,7 +129,7 @@ pending_thread thread events call is = join (last_or None (projection thread eve
             (last_is ∙ same)
         pick false none = cc
 
--- a return comes behind a call, so its ticket is above one
+-- a return comes after a call, so its ticket is above one
 later_than_one : (events : List Event) (e call : Event) → pending_call e.thread events ≡ Some call
     → MatchOption (last_or None events) ⊤ (λ last. last.ticket < e.ticket) → 0 < e.ticket
 later_than_one [] e call pending rises = cc
@@ -167,7 +167,7 @@ formed_after_answer events e call old new below returns pending follows known do
       | inr other ↦ rw (waits_other thread events e other.0, kept) (known.places thread within)
     ]
 
--- a call fits where none is pending, a return where a call is
+-- a call fits if none is pending, a return if a call is
 pub none_pending : (pending : Option Event) (e : Event) → FitsTurn pending e → is_call e.what ≡ true → pending ≡ None
 none_pending None e fits call = refl
 none_pending (Some p) e fits call = absurd (false≢true (sym (answer_is_return p.what e.what fits) ∙ call))

@@ -24,19 +24,19 @@ or_none : (o : Option Event) → option_or o None ≡ o
 or_none None = refl
 or_none (Some e) = refl
 
--- an event of another thread behind is not the next one
+-- a later event of another thread is not the next one
 next_other : (thread : ℕ) (events : List Event) (r : Event) → nat_eq r.thread thread ≡ false → next_of thread (events ++ r ∷ []) ≡ next_of thread events
 next_other thread events r other = find-append (λ x. nat_eq x.thread thread) events (r ∷ []) ∙ rw other (or_none (next_of thread events))
 
--- an event behind the next one is not the next one
+-- an event after the next one is not the next one
 next_stays : (thread : ℕ) (events : List Event) (r e : Event) → next_of thread events ≡ Some e → next_of thread (events ++ r ∷ []) ≡ Some e
 next_stays thread events r e found = find-append (λ x. nat_eq x.thread thread) events (r ∷ []) ∙ rw found refl
 
--- where there was none, an event behind of that thread is the next one
+-- if there was none, a later event of that thread is the next one
 next_new : (events : List Event) (r : Event) → next_of r.thread events ≡ None → next_of r.thread (events ++ r ∷ []) ≡ Some r
 next_new events r none = let own = eq-eqb r.thread r.thread refl in find-append (λ x. nat_eq x.thread r.thread) events (r ∷ []) ∙ rw (none, own) refl
 
--- what waits of a thread, by what waits behind the first event
+-- what waits of a thread, by what waits after the first event
 abbrev waits_behind : ℕ → Event → Option (ℕ × Event) → Option Event → Option (ℕ × Event)
 waits_behind thread e found next = elim found [
   | Some w ↦ Some ((cond (is_call e.what) (suc w.0) w.0), w.1)
@@ -65,7 +65,7 @@ same_next e later r (inr (x, found)) = next_stays e.thread later r x found ∙ s
 
 -- ---- one more call
 
--- a call adds its operation, where no call of its thread waits
+-- a call adds its operation, if no call of its thread waits
 pub formed_call : (events : List Event) (r : Event) → waiting r.thread events ≡ None → is_call r.what ≡ true
     → operations_so_far (events ++ r ∷ []) ≡ operations_so_far events ++ operation_so_far r None ∷ []
 formed_call [] r none call = rw call refl

@@ -53,7 +53,7 @@ at_from initial events i fault distinct new found = (
 within : (events : List Event) (i : ℕ) (fault : HistoryFault) → IsFirstFaultAt events i fault → i < length events
 within events i fault found = slice_get_within events i found.1.0 found.1.1
 
--- where no call has an initial value, the fault is that of the events
+-- if no call has an initial value, the fault is that of the events
 pub first_without_calls : (initial : List ℕ) (events : List Event) (fault : HistoryFault) → AreDistinct initial
     → NoInitialCallBefore initial events (length events) → IsFirstFault events fault → IsFirstFaultFrom initial events fault
 first_without_calls initial events fault distinct new first = by_kind (λ f. IsFirstFault events f → IsFirstFaultFrom initial events f)
@@ -101,7 +101,7 @@ pub refused_is_first : (initial : List ℕ) (events : List Event) (fault : Histo
 refused_is_first initial events fault (inl memory) = subst (IsFirstFaultFrom initial events) (sym memory) tt
 refused_is_first initial events fault (inr (j, is, twice)) = subst (IsFirstFaultFrom initial events) (sym is) twice
 
--- the first fault where a call has an initial value: what the events have by then, else that call's
+-- the first fault if a call has an initial value: what the events have by then, otherwise that call's
 pub fault_by_call : {T : Type 0} (initial : List ℕ) (events : List Event) (place : ℕ) (judged : Result T HistoryFault) (fault : HistoryFault)
     → AreDistinct initial → IsFirstInitialCall initial events place → IfErr judged (IsFirstFault events) → IfOk judged (λ _. IsCompleteHistory events)
     → IfErr judged (λ f. comes_by place f ≡ true → fault ≡ f) → IfErr judged (λ f. comes_by place f ≡ false → fault ≡ DuplicateValue place)
@@ -133,7 +133,7 @@ by_fault P Q R (Err fault) bad is told = told fault is
 
 -- ---- complete histories
 
--- distinct values behind others that are distinct, none of which is among them
+-- distinct values after others that are distinct, none of which is among them
 join_distinct : (xs ys : List ℕ) → AreDistinct xs → AreDistinct ys → All (λ w. is_initial xs w ≡ false) ys → AreDistinct (xs ++ ys)
 join_distinct [] ys distinct others apart = others
 join_distinct (x ∷ xs) ys distinct others apart = AllPairs-cons (λ v w. v ≢ w) x (xs ++ ys) differs
@@ -215,7 +215,7 @@ pub judged_without_calls : {T : Type 0} (P : T → Type 0) (initial : List ℕ) 
 judged_without_calls P initial events (Ok made) distinct new told = (told.0, complete_from initial events told.1 distinct new)
 judged_without_calls P initial events (Err fault) distinct new told = first_without_calls initial events fault distinct new told
 
--- what the fault of events is where a call has an initial value
+-- what the fault of events is if a call has an initial value
 pub judged_with_call : {T : Type 0} (P : T → Type 0) (initial : List ℕ) (events : List Event) (place : ℕ) (judged : Result T HistoryFault)
     (fault : HistoryFault) → AreDistinct initial → IsFirstInitialCall initial events place
     → MatchResult judged (λ made. P made × IsCompleteHistory events) (IsFirstFault events)
@@ -226,7 +226,7 @@ judged_with_call {T} P initial events place (Ok made) fault distinct call told k
 judged_with_call {T} P initial events place (Err f) fault distinct call told kept later none =
     fault_by_call {T = T} initial events place (Err f) fault distinct call told tt kept later tt
 
--- where a value stands twice before place n, the values before it aren't distinct
+-- if a value stands twice before place n, the values before it aren't distinct
 pub twice_before : (initial : List ℕ) (j n : ℕ) → j < n → AreDistinct (take n initial) → IsFirstTwice initial j → ⊥
 twice_before initial j n below distinct (before, (v, here, earlier)) =
     let inside = slice_get_within initial j v here in
@@ -243,7 +243,7 @@ twice_not_distinct initial j distinct twice =
     let inside = slice_get_within initial j twice.1.0 twice.1.1 in
     twice_before initial j (length initial) inside (subst AreDistinct (sym (take_all (length initial) initial (omega arith))) distinct) twice
 
--- only want of memory is left as a fault of a complete history
+-- only out of memory is left as a fault of a complete history
 pub complete_from_has_no_fault : (initial : List ℕ) (events : List Event) (fault : HistoryFault) → IsFirstFaultFrom initial events fault
     → IsCompleteFrom initial events → fault ≡ Memory
 complete_from_has_no_fault initial events fault first complete = by_kind (λ f. IsFirstFaultFrom initial events f → f ≡ Memory)
@@ -259,7 +259,7 @@ complete_from_has_no_fault initial events fault first complete = by_kind (λ f. 
         (no_initial_call initial events complete i e inside found.2.1) in
         let some = found.2.2 in cc
 
--- what is told of a result, and of what it is where it is one
+-- what holds of a result, and of its value if it is one
 pub both_told : {T E : Type 0} (P : T → Type 0) (Q : E → Type 0) (C : Type 0) (result : Result T E) → MatchResult result P Q → IfOk result (λ _. C)
     → MatchResult result (λ made. P made × C) Q
 both_told P Q C (Ok made) told complete = (told, complete)

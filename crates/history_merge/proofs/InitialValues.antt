@@ -26,7 +26,7 @@ twice_at initial j v here distinct there =
     let same = eqb-true _ _ found.4 in
     inr (j, refl, (distinct, (v, here, (found.0, found.2, get_or_default (take j initial) found.0 v found.1 found.2 ∙ found.3 ∙ same))))
 
--- where there are no initial values, no call has one
+-- if there are no initial values, no call has one
 pub none_called : (initial : List ℕ) (events : List Event) (n : ℕ) → initial ≡ [] → NoInitialCallBefore initial events n
 none_called initial events n none i e below here = rw none (join (called_value e.what))
   where

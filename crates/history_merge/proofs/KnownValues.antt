@@ -46,7 +46,7 @@ knows_none events e values none known = record { one_each = known.one_each; know
     join None below = λ v called. below v (sym (same v) ∙ called)
     join (Some s) has = λ v. has v ∙ sym (same v)
 
--- where the values rise, a value that is not below the least of its name is new
+-- if the values rise, a value that is not below the least of its name is new
 pub new_above : (events : List Event) (values : CalledValues) (v : ℕ) → values.others ≡ None → get_or values.least (name_in v) 0 ≤ v
     → KnowsCalled events values → was_called events v ≡ false
 new_above events values v rising above known =
@@ -85,7 +85,7 @@ knows_rising events e old new v calls rising above known still raised = record {
           ]
     ]
 
--- where they stand in a set, that has one more
+-- if they stand in a set, that has one more
 pub knows_set : (events : List Event) (e : Event) (least : List ℕ) (old new : BTreeSet ℕ) (values : CalledValues) (v : ℕ)
     → called_value e.what ≡ Some v → length least ≡ MAX_THREADS
     → ((q : ℕ) → contains nat_cmp old q ≡ was_called events q) → ((q : ℕ) → contains nat_cmp new q ≡ cond (is_eq (nat_cmp v q)) true (contains nat_cmp old q))
@@ -103,12 +103,12 @@ knows_set events e least old new values v calls long has adds same others = reco
     each q = adds q ∙ ap (λ b. cond b true (contains nat_cmp old q)) (is_eq-nat_cmp v q) ∙ ap (cond (nat_eq v q) true) (has q)
         ∙ or_cond (nat_eq v q) (was_called events q) ∙ sym (was_called-push events e (Some v) q calls)
 
--- the set tells whether the value is new
+-- the set decides whether the value is new
 pub repeats_by_set : (added has was : Bool) → added ≡ not has → has ≡ was → not added ≡ was
 repeats_by_set added true was is same = rw is same
 repeats_by_set added false was is same = rw is same
 
--- an event repeats a value where it calls one that was called
+-- an event repeats a value if it calls one that was called
 pub repeats_if : (events : List Event) (e : Event) (called : Option ℕ) → called_value e.what ≡ called
     → repeats_value events e ≡ option_map_or (was_called events) called false
 repeats_if events e called is = ap (λ o. option_map_or (was_called events) o false) is

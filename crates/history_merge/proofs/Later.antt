@@ -20,7 +20,7 @@ use Rattle.history_merge.specs.Queue.{IsAccepted}
 
 -- ---- operations
 
--- the same operation, so much earlier
+-- the operation, this much earlier
 abbrev earlier_by : ℕ → Operation → Operation
 earlier_by n o = record { call = o.call - n; ret = o.ret - n; thread = o.thread; kind = o.kind }
 

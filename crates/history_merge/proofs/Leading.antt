@@ -1,4 +1,4 @@
--- Enqueues that precede all other operations stand first in each legal order.
+-- Enqueues that precede all other operations stand first in each linearization.
 use Rattle.std.proofs.Common.{◌≡◌, ℕ, zero, suc, ◌<◌, List, [], ◌∷◌, ◌++◌, get_or, refl, sym, ◌∙◌, ap, subst, inl, inr, arith}
 use Rattle.std.specs.Prelude.{All, Contains, IsPermutation, map, ⊤}
 use Rattle.std.proofs.lemmas.List.{append-nil, append_assoc}
@@ -13,7 +13,7 @@ use Rattle.history_merge.specs.Queue.{IsAccepted}
 use Rattle.history_merge.proofs.Cancelling.{rest_permutes}
 use Rattle.history_merge.proofs.Distinct.{contains_cons, not_in_none}
 
--- each legal order begins with an enqueue that precedes all other operations, and goes on from the queue that holds its value too
+-- each linearization begins with an enqueue that precedes all other operations, and goes on from the queue that holds its value too
 pub first_begins : (queue : List ℕ) (v : ℕ) (x : Operation) (others order : List Operation) → x.kind ≡ Enq v → All (Precedes x) others
     → IsLegalOrderFrom queue (x ∷ others) order
     → (rest : List Operation) × (order ≡ x ∷ rest) × IsLegalOrderFrom (queue ++ v ∷ []) others rest
@@ -29,7 +29,7 @@ first_begins queue v x others (h ∷ rest) kind first legal = (
   },
 )
   where
-    -- what stands first isn't behind x
+    -- what stands first doesn't stand after x
     behind : Contains others h → Contains rest x → ⊥
     behind among later =
         let early : Precedes x h = All-contains (Precedes x) others h first among in
@@ -56,7 +56,7 @@ first_put queue v x others rest kind none legal = record {
   is_accepted = subst (λ k. IsAccepted queue (k ∷ map (λ o. o.kind) rest)) (sym kind) legal.is_accepted;
 }
 
--- where calls come before returns, an operation that precedes others isn't preceded by one of them
+-- if calls come before returns, an operation that precedes others isn't preceded by one of them
 pub none_precedes : (x : Operation) (others : List Operation) → x.call < x.ret → All (λ o. o.call < o.ret) others → All (Precedes x) others
     → All (λ o. ¬ (Precedes o x)) others
 none_precedes x others called called_all first k d below precedes =
@@ -75,7 +75,7 @@ Enqueue [] (x ∷ leading) = ⊥
 Enqueue (v ∷ values) [] = ⊥
 Enqueue (v ∷ values) (x ∷ leading) = (x.kind ≡ Enq v) × Enqueue values leading
 
--- each legal order begins with enqueues that precede all other operations in turn, and goes on from the queue that holds their values
+-- each linearization begins with enqueues that precede all other operations in turn, and goes on from the queue that holds their values
 pub enqueues_begin : (queue values : List ℕ) (leading others order : List Operation) → Enqueue values leading → LeadAll leading others
     → IsLegalOrderFrom queue (leading ++ others) order
     → (rest : List Operation) × (order ≡ leading ++ rest) × IsLegalOrderFrom (queue ++ values) others rest

@@ -1,21 +1,24 @@
 -- The way of the argument, from one thread's events to complete histories and their operations:
 -- Turns: calls and returns of one thread, event by event.
 -- Tracking, KnownValues, Gathered: what a walk over events keeps (pending calls, called values, operations), and one more event.
--- TheirEvents: the operations and the places of those that returned tell the events.
+-- TheirEvents: the operations, and the places of those that returned, determine the events.
 -- NextEvents: the same walk from the last event to the first.
--- Completeness, Distinct: what the operations of a complete history have in common, and what tells them apart.
--- FirstFaults, ExactFaults: a list of events is a complete history exactly where it has no fault. FaultKinds: the kinds of faults.
+-- Completeness, Distinct: what the operations of a complete history have in common, and what distinguishes them.
+-- FirstFaults, ExactFaults: a list of events is a complete history if and only if it has no fault. FaultKinds: the kinds of faults.
 -- Formed, MetFaults: what the builder holds after each event, and at the end: the operations, or the first fault.
 -- OneFault: a list of events has one first fault.
--- InitialValues, InitialFaults, OneFaultFrom: the same of a queue that holds some values first.
--- Cancelling, Leading: enqueues that precede all other operations stand first in each legal order.
--- Later, Filled, Enqueued: a history whose initial values are enqueued before all else is complete, and has the same legal orders.
--- Runs, Places: what a run of the sequential queue enqueued and dequeued, and where.
+-- Searching, Clashes: the first event with a property, and what contradicts what.
+-- InitialValues, InitialFaults, OneFaultFrom: the faults if the queue holds some values first.
+-- Cancelling, Leading: enqueues that precede all other operations stand first in each linearization.
+-- Later, Filled, Enqueued: a history whose initial values are enqueued before all else is complete, and has the same linearizations.
+-- Runs, Places: what a run of the sequential specification enqueued and dequeued, and where.
 -- DistinctValues: values that no two calls share.
 pub mod Gathered
 pub mod TheirEvents
 pub mod KnownValues
 pub mod MetFaults
+pub mod Clashes
+pub mod Searching
 pub mod Formed
 pub mod Runs
 pub mod Places

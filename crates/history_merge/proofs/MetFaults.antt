@@ -17,16 +17,16 @@ use Rattle.history_merge.specs.Faults.{IsLeastPending}
 use Rattle.history_merge.specs.Progress.{HasTracked}
 use Rattle.history_merge.proofs.ExactFaults.{complete_has_no_fault, first_fault_at}
 
-slice_get-append_left : (xs ys : List Event) (i : ℕ) → i < length xs → slice_get (xs ++ ys) i ≡ slice_get xs i
+pub slice_get-append_left : (xs ys : List Event) (i : ℕ) → i < length xs → slice_get (xs ++ ys) i ≡ slice_get xs i
 slice_get-append_left [] ys i below = absurd (omega arith)
 slice_get-append_left (x ∷ xs) ys zero below = refl
 slice_get-append_left (x ∷ xs) ys (suc i) below = slice_get-append_left xs ys i (omega arith)
 
-slice_get-append_seam : (xs : List Event) (y : Event) → slice_get (xs ++ y ∷ []) (length xs) ≡ Some y
+pub slice_get-append_seam : (xs : List Event) (y : Event) → slice_get (xs ++ y ∷ []) (length xs) ≡ Some y
 slice_get-append_seam [] y = refl
 slice_get-append_seam (x ∷ xs) y = slice_get-append_seam xs y
 
--- events behind change nothing of those before
+-- later events change nothing of those before
 pub no_fault-append : (events later : List Event) (n : ℕ) → n ≤ length events → NoFaultBefore events n → NoFaultBefore (events ++ later) n
 no_fault-append events later n within none i e below here =
     rw (take-append-le i events later (omega (arith, below, within))) (none i e below (sym (slice_get-append_left events later i (omega arith)) ∙ here))
@@ -95,7 +95,7 @@ gathered_without_fault events builder none known = join builder.fault none
     join None h = known
     join (Some fault) h = cc
 
--- where no fault is kept, the events have none so far
+-- if no fault is kept, the events have none so far
 pub still_forming : (events : List Event) (builder : OperationsBuilder) → builder.fault ≡ None → HasGatheredEvents events builder → IsForming events builder
 still_forming events builder none gathered = subst (λ fault. MatchOption fault (IsForming events builder) (HasMetFault events)) none gathered
 
@@ -104,7 +104,7 @@ pub kept_is_met : (events : List Event) (builder : OperationsBuilder) (fault : H
     → HasMetFault events fault
 kept_is_met events builder fault kept gathered = subst (λ kept. MatchOption kept (IsForming events builder) (HasMetFault events)) kept gathered
 
--- a call that is left pending where no fault is kept: then the history isn't complete
+-- a call that is left pending if no fault is kept: then the history isn't complete
 pub left_pending : (builder : OperationsBuilder) (ticket : ℕ) (events : List Event) → builder.fault ≡ None
     → ((before : List Event) → HasTracked before builder.progress → IsLeastPending before ticket)
     → HasGatheredEvents events builder → IsCompleteHistory events → Pending ticket ≡ Memory

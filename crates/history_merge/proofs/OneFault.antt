@@ -13,7 +13,7 @@ use Rattle.history_merge.proofs.Distinct.{one_at}
 abbrev EndsPending : List Event → HistoryFault → Type 0
 EndsPending events fault = (ticket : ℕ) × (fault ≡ Pending ticket) × NoFaultBefore events (length events) × IsLeastPending events ticket
 
--- a fault that isn't want of memory is that of an event, or of what is pending at the end
+-- a fault that isn't out of memory is that of an event, or of what is pending at the end
 where_it_is : (events : List Event) (fault : HistoryFault) → IsFirstFault events fault → fault ≢ Memory
     → ((i : ℕ) × IsFirstFaultAt events i fault) ⊎ EndsPending events fault
 where_it_is events (TicketOrder i) first known = inl (i, first)
@@ -59,7 +59,7 @@ one_least events t u least_t least_u =
     let is_t : a.1.ticket ≡ t = a.3 in
     let is_u : b.1.ticket ≡ u = b.3 in omega arith
 
--- two first faults of the same events, neither of which is want of memory, are equal
+-- two first faults of the same events, neither of which is out of memory, are equal
 pub one_first_fault : (events : List Event) (f g : HistoryFault) → f ≢ Memory → g ≢ Memory → IsFirstFault events f → IsFirstFault events g → f ≡ g
 one_first_fault events f g known_f known_g first_f first_g = by_places (where_it_is events f first_f known_f) (where_it_is events g first_g known_g)
   where

@@ -25,7 +25,7 @@ abbrev EndsPending : List ℕ → List Event → HistoryFault → Type 0
 EndsPending initial events fault =
     (ticket : ℕ) × (fault ≡ Pending ticket) × (AreDistinct initial × NoFaultBeforeFrom initial events (length events) × IsLeastPending events ticket)
 
--- a fault that isn't want of memory is that of an initial value, of an event, or of what is pending at the end
+-- a fault that isn't out of memory is that of an initial value, of an event, or of what is pending at the end
 where_it_is : (initial : List ℕ) (events : List Event) (fault : HistoryFault) → IsFirstFaultFrom initial events fault → fault ≢ Memory
     → StandsTwice initial fault ⊎ (IsOfEvent initial events fault ⊎ EndsPending initial events fault)
 where_it_is initial events (TicketOrder i) first known = inr (inl (i, first))
@@ -72,7 +72,7 @@ one_twice initial j k at_j at_k = elim (cases_order j k) [
   | inr (inr later) ↦ absurd (twice_before initial k j later at_j.0 at_k)
 ]
 
--- two first faults of the same initial values and events, neither of which is want of memory, are equal
+-- two first faults of the same initial values and events, neither of which is out of memory, are equal
 pub one_first_fault_from : (initial : List ℕ) (events : List Event) (f g : HistoryFault) → f ≢ Memory → g ≢ Memory
     → IsFirstFaultFrom initial events f → IsFirstFaultFrom initial events g → f ≡ g
 one_first_fault_from initial events f g known_f known_g first_f first_g =

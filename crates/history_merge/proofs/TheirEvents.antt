@@ -1,7 +1,7 @@
--- The events of the operations of a history in the making, by the places of those that returned.
-use Rattle.std.proofs.Common.{◌≡◌, ◌≢◌, ℕ, zero, suc, ◌+◌, ◌<◌, ◌≤◌, Bool, true, false, not, cond, List, [], ◌∷◌, ◌++◌, length, get_or, set, Option, Some, None}
+-- The events of the operations in a history builder, by the places of those that returned.
+use Rattle.std.proofs.Common.{◌≡◌, ◌≢◌, ℕ, zero, suc, ◌+◌, ◌<◌, Bool, true, false, not, List, [], ◌∷◌, ◌++◌, length, set, Option, Some, None}
 use Rattle.std.proofs.Common.{refl, sym, ◌∙◌, ap, subst, arith, nat_lt}
-use Rattle.std.specs.Prelude.{All, AllPairs, filter, map, slice_get}
+use Rattle.std.specs.Prelude.{All, filter, map, slice_get}
 use Rattle.std.specs.List.{AllZip}
 use Rattle.std.proofs.lemmas.Bool.{lt-ltb, le-ltb}
 use Rattle.std.proofs.lemmas.List.{append-nil, length-map}
@@ -62,7 +62,7 @@ answered_again CallDeq (RetDeq v) h = refl
 answered_again CallDeq RetEmpty h = refl
 answered_again _ _ h = cc
 
--- an operation that returned tells its return
+-- an operation that returned determines its return
 return_told : (operations : List Operation) (place : ℕ) (answer : Event) → IsReturnedBy operations place answer → return_at operations place ≡ answer
 return_told operations place answer is =
     let here = get_or_from_slice_get operations place (operation_so_far is.call (Some answer)) _ is.at in
@@ -234,14 +234,19 @@ length-events_by operations by_call by_return =
     length-by_ticket (map call_event by_call) (map (return_at operations) by_return)
     ∙ rw (length-map by_call call_event, length-map by_return (return_at operations)) refl
 
--- ---- at the end
+-- ---- so far, and at the end
 
--- what is formed of events whose tickets rise tells them
-pub tells_events : (events : List Event) (formed : Formed) → TicketsRise events → operations_so_far events ≡ operations_of events
+-- what is formed of events whose tickets rise determines them, also while calls are pending
+pub tells_so_far : (events : List Event) (operations : List Operation) (places : List ℕ) → TicketsRise events → operations ≡ operations_so_far events
+    → AreReturned events operations places → events_by operations operations places ≡ events
+tells_so_far events operations places rise so_far returned =
+    rw (returns_so_far operations places (returns_of events) returned) (rw (so_far, calls_so_far events) (put_together events rise))
+
+-- what is formed of events whose tickets rise determines them
+pub events_of_formed : (events : List Event) (formed : Formed) → TicketsRise events → operations_so_far events ≡ operations_of events
     → formed.operations.items ≡ operations_so_far events → AreReturned events formed.operations.items formed.by_return.items → IsFormedOf events formed
-tells_events events formed rise all so_far returned = record {
+events_of_formed events formed rise all so_far returned = record {
   operations = so_far ∙ all;
-  events_are = rw (returns_so_far formed.operations.items formed.by_return.items (returns_of events) returned)
-      (rw (so_far, calls_so_far events) (put_together events rise));
+  events_are = tells_so_far events formed.operations.items formed.by_return.items rise so_far returned;
   within = returned_within formed.operations.items formed.by_return.items (returns_of events) returned;
 }

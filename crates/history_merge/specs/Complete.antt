@@ -31,7 +31,7 @@ pub record IsCompleteUpTo (greatest : ℕ) (events : List Event) : Type 0 where
   pub threads_take_turns : (thread : ℕ) → TakesTurns (projection thread events)
   pub values_are_distinct : AreDistinct (called_values events)
 
--- the same with any ticket that an event may have
+-- the events are complete, with any ticket that an event may have
 abbrev pub IsCompleteHistory : List Event → Type 0
 IsCompleteHistory events = IsCompleteUpTo MAX_TICKET events
 

@@ -1,4 +1,4 @@
--- Operations of events behind which more may come.
+-- Operations of events after which more may come.
 use Rattle.std.specs.Prelude.{ℕ, suc, List, [], ◌∷◌, Option, Some, None, find, nat_eq, if◌then◌else◌}
 use Rattle.event_records.specs.declared.event.Event.{Event}
 use Rattle.event_records.specs.declared.event.What.{What}
@@ -30,7 +30,7 @@ operations_so_far [] = []
 operations_so_far (e ∷ later) =
     (if is_call e.what then operation_so_far e (find (λ r. nat_eq r.thread e.thread) later) ∷ operations_so_far later else operations_so_far later)
 
--- the call of this thread behind which no event of the thread comes, with its place among the operations
+-- the call of this thread after which no event of the thread comes, with its place among the operations
 abbrev pub waiting : ℕ → List Event → Option (ℕ × Event)
 waiting thread [] = None
 waiting thread (e ∷ later) = elim (waiting thread later) [

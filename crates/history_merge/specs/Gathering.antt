@@ -1,6 +1,6 @@
--- What a history in the making keeps of its events, and of what its queue holds first.
-use Rattle.std.specs.Prelude.{◌≡◌, ℕ, ◌+◌, ◌<◌, ◌≤◌, ◌/◌, ◌%◌, ◌⊎◌, true, false, List, [], length, MatchOption, MatchResult, ⊤}
-use Rattle.std.specs.Prelude.{option_map, slice_get, slice_index_or, Option, Some, Result}
+-- What a history builder keeps of its events, and of what its queue holds at first.
+use Rattle.std.specs.Prelude.{◌≡◌, ℕ, ◌+◌, ◌<◌, ◌≤◌, ◌/◌, ◌%◌, ◌⊎◌, true, false, List, [], length, IfSome, MatchOption, MatchResult, ⊤}
+use Rattle.std.specs.Prelude.{option_map, slice_get, slice_index_or, IsSome, Option, Some, Result}
 use Rattle.std.specs.Ordering.{nat_cmp}
 use Rattle.std.specs.BTreeSet.{contains}
 use Rattle.event_records.specs.declared.event.Event.{Event}
@@ -12,7 +12,7 @@ use Rattle.history_merge.specs.declared.forming.Forming.{Forming}
 use Rattle.history_merge.specs.declared.gathering.OperationsBuilder.{OperationsBuilder}
 use Rattle.history_merge.specs.declared.initial_values.InitialValues.{InitialValues}
 use Rattle.history_merge.specs.declared.initial_values.InitialCalls.{InitialCalls}
-use Rattle.history_merge.specs.declared.builder.HistoryBuilder.{HistoryBuilder}
+use Rattle.history_merge.specs.Clashes.{IsClash, Stands}
 use Rattle.history_merge.specs.Complete.{AreDistinct}
 use Rattle.history_merge.specs.Faults.{was_called, pending_call, NoFaultBefore, IsFirstFaultAt, calls_initial, is_initial, IsFirstTwice}
 use Rattle.history_merge.specs.Forming.{operations_so_far, waiting}
@@ -45,13 +45,17 @@ pub record IsForming (events : List Event) (builder : OperationsBuilder) : Type 
   pub count : builder.count ≡ length events
   pub no_fault : NoFaultBefore events (length events)
 
--- the fault is the first of the events, whatever comes behind them; or want of memory, which says nothing of them
+-- the fault is the first of the events, whatever follows them; or out of memory, which says nothing of them
 abbrev pub HasMetFault : List Event → HistoryFault → Type 0
 HasMetFault events fault = (fault ≡ Memory) ⊎ ((i : ℕ) × IsFirstFaultAt events i fault)
 
 -- these events were added, one after another
 abbrev pub HasGatheredEvents : List Event → OperationsBuilder → Type 0
 HasGatheredEvents events builder = MatchOption builder.fault (IsForming events builder) (HasMetFault events)
+
+-- what it keeps for the first fault are events that contradict each other
+abbrev pub HasClash : List ℕ → List Event → OperationsBuilder → Type 0
+HasClash initial events builder = IfSome builder.clash (IsClash initial events)
 
 -- ---- of a queue that holds some values first
 
@@ -69,28 +73,41 @@ abbrev pub IsFirstInitialCall : List ℕ → List Event → ℕ → Type 0
 IsFirstInitialCall initial events i = NoInitialCallBefore initial events i × ((e : Event) × (slice_get events i ≡ Some e) × (calls_initial initial e ≡ true))
 
 -- it is the place of the first call with an initial value, if there is one
-abbrev pub TellsFirstCall : List ℕ → List Event → Option ℕ → Type 0
-TellsFirstCall initial events first = MatchOption first (NoInitialCallBefore initial events (length events)) (IsFirstInitialCall initial events)
+abbrev pub HasFirstInitialCall : List ℕ → List Event → Option ℕ → Type 0
+HasFirstInitialCall initial events first = MatchOption first (NoInitialCallBefore initial events (length events)) (IsFirstInitialCall initial events)
 
 -- the initial values are known, and which of the events was the first to call with one
 pub record HasWatched (initial : List ℕ) (events : List Event) (calls : InitialCalls) : Type 0 where
   pub values : KnowsInitial initial calls.values
   pub count : calls.count ≡ length events
-  pub first : TellsFirstCall initial events calls.first
+  pub first : HasFirstInitialCall initial events calls.first
+  pub event : IfSome calls.call (Stands events)
 
--- an initial value stands twice; or want of memory, which says nothing of them
+-- an initial value stands twice; or out of memory, which says nothing of them
 abbrev pub HasRefusedInitial : List ℕ → HistoryFault → Type 0
 HasRefusedInitial initial fault = (fault ≡ Memory) ⊎ ((j : ℕ) × (fault ≡ InitialTwice j) × IsFirstTwice initial j)
 
--- the initial values are distinct, and the calls with them are watched where there are some; or the fault is theirs
+-- the initial values are distinct, and the calls with them are watched if there are some; or the fault is theirs
 abbrev pub AreJudged : List ℕ → List Event → Result (Option InitialCalls) HistoryFault → Type 0
 AreJudged initial events judged =
     MatchResult judged (λ calls. AreDistinct initial × MatchOption calls (initial ≡ []) (HasWatched initial events)) (HasRefusedInitial initial)
 
+-- what a history builder holds: the initial values and the calls with them, the operations of the events, and room for more events
+pub record BuilderView : Type 0 where
+  pub initial : List ℕ
+  pub calls : Result (Option InitialCalls) HistoryFault
+  pub events : OperationsBuilder
+  pub room : ℕ
+
 -- the builder started with these initial values, and these events were added, one after another
-pub record HasGathered (initial : List ℕ) (events : List Event) (builder : HistoryBuilder) : Type 0 where
+pub record HasGathered (initial : List ℕ) (events : List Event) (builder : BuilderView) : Type 0 where
   pub few_initial : length initial ≤ MAX_INITIAL
-  pub few_events : length events ≤ MAX_EVENTS
-  pub started : builder.initial.items ≡ initial
+  pub room : length events + builder.room ≡ MAX_EVENTS
+  pub started : builder.initial ≡ initial
   pub judged : AreJudged initial events builder.calls
   pub gathered : HasGatheredEvents events builder.events
+  pub clash : HasClash initial events builder.events
+
+-- the builder keeps a fault of the events, or that there was no room for one
+abbrev pub KeepsFault : BuilderView → Type 0
+KeepsFault builder = IsSome builder.events.fault

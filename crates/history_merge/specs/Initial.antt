@@ -23,7 +23,7 @@ abbrev pub filling_from : ℕ → List ℕ → List Operation
 filling_from clock [] = []
 filling_from clock (v ∷ rest) = record { call = clock; ret = clock + 1; thread = 0; kind = Enq v } ∷ filling_from (clock + 2) rest
 
--- the same operation, so much later
+-- the operation, this much later
 abbrev pub later_by : ℕ → Operation → Operation
 later_by n o = record { call = o.call + n; ret = o.ret + n; thread = o.thread; kind = o.kind }
 
@@ -31,7 +31,7 @@ later_by n o = record { call = o.call + n; ret = o.ret + n; thread = o.thread; k
 abbrev pub filled : List ℕ → List Operation → List Operation
 filled initial operations = filling_from 0 initial ++ map (later_by (2 * length initial)) operations
 
--- ---- the same of events
+-- ---- the events of the filled history
 
 -- the calls and returns of these enqueues
 abbrev pub filling_events_from : ℕ → List ℕ → List Event
@@ -39,7 +39,7 @@ filling_events_from clock [] = []
 filling_events_from clock (v ∷ rest) =
     record { ticket = clock; thread = 0; what = CallEnq v } ∷ record { ticket = clock + 1; thread = 0; what = RetEnq } ∷ filling_events_from (clock + 2) rest
 
--- the same event, so much later
+-- the event, this much later
 abbrev pub event_later_by : ℕ → Event → Event
 event_later_by n e = record { ticket = e.ticket + n; thread = e.thread; what = e.what }
 

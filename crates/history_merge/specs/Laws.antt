@@ -24,17 +24,17 @@ abbrev pub FilledAreComplete : Type 0
 FilledAreComplete = (initial : List ℕ) (events : List Event) → IsCompleteFrom initial events → length initial ≤ MAX_INITIAL
     → AreComplete (filled initial (operations_of events))
 
--- an order is legal from the initial values exactly where, behind their enqueues, it is one of the filled history
+-- an order is a linearization from the initial values if and only if, after their enqueues, it is one of the filled history
 abbrev pub FilledOrders : Type 0
 FilledOrders = (initial : List ℕ) (operations order : List Operation)
     → IsLegalOrderFrom initial operations order ↔ IsLegalOrder (filled initial operations) (filled initial order)
 
--- the filled history has no other legal orders
+-- the filled history has no other linearizations
 abbrev pub FilledOrdersAreAll : Type 0
 FilledOrdersAreAll = (initial : List ℕ) (operations found : List Operation) → IsLegalOrder (filled initial operations) found
     → (order : List Operation) × (found ≡ filled initial order) × IsLegalOrderFrom initial operations order
 
--- a legal order from the initial values exists exactly where the filled history has one
+-- a linearization from the initial values exists if and only if the filled history has one
 abbrev pub LinearizableFromExactly : Type 0
 LinearizableFromExactly = (initial : List ℕ) (operations : List Operation)
     → IsLinearizableFrom initial operations ↔ IsLinearizable (filled initial operations)
@@ -43,7 +43,7 @@ LinearizableFromExactly = (initial : List ℕ) (operations : List Operation)
 abbrev pub FilledWithNone : Type 0
 FilledWithNone = (operations : List Operation) → filled [] operations ≡ operations
 
--- a history is complete from no initial values exactly where it is complete
+-- a history is complete from no initial values if and only if it is complete
 abbrev pub CompleteFromNone : Type 0
 CompleteFromNone = (events : List Event) → IsCompleteFrom [] events ↔ IsCompleteHistory events
 

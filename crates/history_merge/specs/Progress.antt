@@ -1,4 +1,4 @@
--- What a walk over the events keeps of those behind it.
+-- What a walk over events keeps of those that it has passed.
 use Rattle.std.specs.Prelude.{◌≡◌, ℕ, ◌+◌, ◌≤◌, List, length, None, All, option_map, slice_index_or}
 use Rattle.std.specs.List.{last_or}
 use Rattle.event_records.specs.declared.event.Event.{Event}

@@ -10,14 +10,32 @@ use crate::fault::HistoryFault;
 use event_records::{Event, MAX_EVENTS, MAX_INITIAL};
 use std::alloc::Global;
 
-/// The complete history of these events (Herlihy and Wing 1990) of a queue that is empty first, or their first fault.
+/// Makes the complete history of these events (Herlihy and Wing 1990) of a queue that is empty at first, or returns
+/// their first fault.
 ///
-/// The events are judged one by one. The first faulty event decides, and of its faults the one that stands first in
-/// [`HistoryFault`]. Where no event has a fault, the least call ticket without return is `Pending`. `Memory` comes where
-/// a growth is refused, and then says nothing of the events.
+/// It judges the events one by one. The first faulty event decides, and of its faults the one that [`HistoryFault`]
+/// lists first. If no event has a fault, `Pending` names the least call ticket without a return. `Memory` comes if
+/// memory runs out, and then says nothing of the events.
 ///
-/// The answer takes some six words for each operation. Time O(n) for n events whose values have a recorder's names, else
-/// O(n log n) and memory for a set of the values.
+/// The history takes some six words for each operation. Time O(n) for n events whose values have a recorder's names,
+/// otherwise O(n log n) and memory for a set of the values.
+///
+/// An enqueue of 7 is a history of one operation:
+///
+/// ```rust
+/// let call = Event {
+///     ticket: 0,
+///     thread: 0,
+///     what: What::CallEnq(7),
+/// };
+/// let ret = Event {
+///     ticket: 1,
+///     thread: 0,
+///     what: What::RetEnq,
+/// };
+/// let recorded = history(alloc, &[call, ret])?;
+/// assert_eq!(rt; recorded.operations().len(), 1);
+/// ```
 pub fn history(alloc: Global, events: &[Event]) -> Result<History, HistoryFault>
     requires { length events.now ≤ MAX_EVENTS }
     ensures outcome { MatchResult result (λ h. h.events ≡ events.now) (IsFirstFault events.now) }
@@ -28,14 +46,23 @@ pub fn history(alloc: Global, events: &[Event]) -> Result<History, HistoryFault>
     history_from(alloc, Vec::new(alloc), events)
 }
 
-/// The complete history of these events (Herlihy and Wing 1990) of a queue that holds these values first, its front first; or
-/// the first fault.
+/// Makes the complete history of these events (Herlihy and Wing 1990) of a queue that holds these values at first,
+/// its front first; or returns the first fault.
 ///
-/// The initial values are judged first: where one stands twice, the first that stands earlier too is `InitialTwice`. Then the
-/// events are judged as in [`history`], and a call with an initial value has the fault `DuplicateValue` too. `Memory` comes
-/// where a growth is refused, and then says nothing of the values and the events.
+/// It judges the initial values first: `InitialTwice` names the first that stands among them earlier too. It judges
+/// the events as [`history`] does, and a call with an initial value has the fault `DuplicateValue` too. `Memory`
+/// comes if memory runs out, and then says nothing of the values and the events.
 ///
-/// Time and memory are those of [`history`], and where there are initial values a set of them: O(k log k) for k values, and O(log k) for each call with a value among them.
+/// Time and memory are those of [`history`]; if there are initial values, also a set of them: O(k log k) for k
+/// values, and O(log k) for each call with a value among them.
+///
+/// The queue holds 7 at first, and `events` dequeue it:
+///
+/// ```rust
+/// let recorded = history_from(alloc, vec![in alloc; 7]?, &events)?;
+/// assert_eq!(rt; recorded.initial(), [7].as_slice());
+/// assert_eq!(rt; recorded.operations().len(), 1);
+/// ```
 pub fn history_from(
     alloc: Global,
     initial: Vec<u64>,

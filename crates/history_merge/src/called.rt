@@ -17,8 +17,9 @@ use std::collections::BTreeSet;
 
 /// The values that calls had so far.
 ///
-/// A recorder names its values, the thread in the upper half of the bits, and those of one name rise; as long as they do, one
-/// number for each name tells that a value is new. From the first value on that doesn't rise they stand in a set.
+/// A recorder puts the thread into the upper half of a value's bits, and the values of one thread rise. As long as
+/// they do, one number for each thread shows that a value is new. From the first value that doesn't rise, a set holds
+/// them.
 #[derive(Drop)]
 pub struct CalledValues {
     alloc: Global,
@@ -37,8 +38,8 @@ impl CalledValues {
         }
     }
 
-    /// Whether the event calls with a value that an earlier one called with; its value is noted. The operations are those of
-    /// the events before.
+    /// Whether the event calls with a value that an earlier one called with; it notes the value. The operations are
+    /// those of the events before.
     pub fn note(&mut self, what: What, operations: &[Operation]) -> Result<bool, AllocError>
         ensures { (events : List Event) (e : Event) → e.what ≡ what → KnowsCalled events self.old → operations.now ≡ operations_so_far events
             → IfOk result (λ repeats. (repeats ≡ repeats_value events e) × KnowsCalled (events ++ e ∷ []) self.new) }
@@ -60,7 +61,7 @@ impl CalledValues {
         }
     }
 
-    /// The same, as long as the values rise.
+    /// Does so as long as the values rise.
     #[inline(always)]
     fn note_rising(&mut self, value: u64, operations: &[Operation]) -> Result<bool, AllocError>
         requires { self.old.others ≡ None }
@@ -79,14 +80,14 @@ impl CalledValues {
     }
 }
 
-/// The thread, of all that there may be, in the upper half of a value's bits.
+/// Returns the thread, of all that there may be, in the upper half of a value's bits.
 fn name_in(value: u64) -> usize
     ensures { result ≡ value / NAMES_OF_A_THREAD % MAX_THREADS }
 {
     (value / NAMES_OF_A_THREAD % MAX_THREADS as u64) as usize
 }
 
-/// The value that a call enqueues.
+/// Returns the value that a call enqueues.
 pub fn called_value(what: What) -> Option<u64>
     ensures { result ≡ called_value what }
 {
@@ -96,7 +97,7 @@ pub fn called_value(what: What) -> Option<u64>
     }
 }
 
-/// The values of the calls of these operations.
+/// Returns the values of the calls of these operations.
 fn values_of(alloc: Global, operations: &[Operation]) -> Result<BTreeSet<u64>, AllocError>
     ensures { IfOk result (λ values. (v : ℕ) → contains nat_cmp values v ≡ is_called_in operations.now v) }
 {

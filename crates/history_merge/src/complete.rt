@@ -12,13 +12,14 @@ use crate::operation::Operation;
 use event_records::{MAX_EVENTS, MAX_INITIAL};
 use std::marker::Model;
 
-/// A complete history of distinct values (Herlihy and Wing 1990, section 2.1), seen as what its queue holds first and the list
-/// of its events.
+/// A complete history of distinct values (Herlihy and Wing 1990, section 2.1), seen as what its queue holds at first
+/// and the list of its events.
 ///
-/// Each value of this type is one: tickets rise, each thread's calls and returns take turns, no call is without return, no two
-/// calls enqueue one value, and the initial values are distinct and enqueued by no call.
+/// Each value of this type is one: tickets rise, each thread's calls and returns alternate, each call has a return,
+/// no two calls enqueue one value, and the initial values are distinct and enqueued by no call.
 ///
-/// It keeps the initial values and the operations, which tell the events: some six words for each operation.
+/// It keeps the initial values and the operations, from which it restores the events: some six words for each
+/// operation.
 #[derive(Debug, Drop)]
 pub struct History {
     initial: Vec<u64>,
@@ -37,7 +38,7 @@ impl Model for History {
 }
 
 impl History {
-    /// The history of these initial values and the events whose operations were formed.
+    /// Makes the history of these initial values and the events whose operations were formed.
     pub(crate) fn new(initial: Vec<u64>, formed: Formed) -> History
         requires formed { (events : List Event) × IsFormedOf events formed × IsCompleteFrom initial.items events × (length events ≤ MAX_EVENTS) }
         requires few_initial { length initial.items ≤ MAX_INITIAL }
@@ -47,7 +48,7 @@ impl History {
         History { initial, formed }
     }
 
-    /// The values that the queue holds before the first event, front first.
+    /// Returns the values that the queue holds before the first event, front first.
     pub fn initial(&self) -> &[u64]
         ensures initial { result.now ≡ self.now.initial }
         ensures complete { IsCompleteFrom self.now.initial self.now.events }
@@ -56,7 +57,7 @@ impl History {
         self.initial.as_slice()
     }
 
-    /// The events, by rising ticket, put together from the operations. It takes no memory.
+    /// Returns the events, by rising ticket. It restores them from the operations, and takes no memory.
     pub fn events(&self) -> Events<'_>
         ensures events { result ≡ self.now.events }
         ensures complete { IsCompleteHistory self.now.events }
@@ -69,7 +70,7 @@ impl History {
         )
     }
 
-    /// The operations, in the order of their calls. The place of one in this list is its [`crate::OpId`].
+    /// Returns the operations, in the order of their calls. The place of one in this list is its [`crate::OpId`].
     pub fn operations(&self) -> &[Operation]
         ensures operations { result.now ≡ operations_of self.now.events }
         ensures complete { IsCompleteHistory self.now.events }

@@ -10,7 +10,7 @@ use std::marker::Model;
 
 /// The events of a history by rising ticket, seen as the list of those that are left.
 ///
-/// They are put together from the operations one by one. It takes no memory, and each step takes time O(1).
+/// It restores them from the operations one by one. It takes no memory, and each step takes time O(1).
 #[derive(Debug, Drop)]
 pub struct Events<'a> {
     operations: &'a [Operation],
@@ -33,7 +33,7 @@ impl<'a> Model for Events<'a> {
 }
 
 impl<'a> Events<'a> {
-    /// The events of these operations, which come by call, and whose places by return these are.
+    /// Makes the events of operations in the order of their calls, with their places in the order of their returns.
     pub(crate) fn new(operations: &'a [Operation], by_return: &'a [u32]) -> Events<'a>
         requires { All (λ place. place < length operations.now) by_return.now }
         ensures { result ≡ events_by operations.now operations.now by_return.now }

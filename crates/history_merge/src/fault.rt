@@ -8,7 +8,7 @@ use thiserror::Error;
 
 /// Why initial values and a list of events are no complete history. Places count from 0.
 ///
-/// Of one event's faults the one that stands first here is answered.
+/// If one event has several faults, the one that stands first here is returned.
 #[derive(Clone, Copy, Debug, PartialEq, Eq, Error)]
 pub enum HistoryFault {
     /// The ticket of the event at this place is not above that of the event before, or is above `MAX_TICKET`.
@@ -20,22 +20,22 @@ pub enum HistoryFault {
     /// The event at this place is a call, and the last event of its thread was a call too.
     #[error("{name} {0}", name = self.name())]
     CallWhilePending(usize),
-    /// The event at this place is a return, and its thread has no call that waits for one.
+    /// The event at this place is a return, and its thread has no pending call.
     #[error("{name} {0}", name = self.name())]
     ReturnWithoutCall(usize),
-    /// The event at this place is a return of the other kind than its thread's call.
+    /// The event at this place is a return of another kind than its thread's call.
     #[error("{name} {0}", name = self.name())]
     WrongReturn(usize),
     /// The event at this place calls to enqueue a value that an earlier event called to enqueue.
     #[error("{name} {0}", name = self.name())]
     DuplicateValue(usize),
-    /// No event has a fault, but the call of this ticket has no return, and no call before it lacks one.
+    /// No event has a fault, but the call of this ticket has no return, and each call before it has one.
     #[error("{name} {0}", name = self.name())]
     Pending(u64),
-    /// A growth was refused for want of memory.
+    /// Memory ran out.
     #[error("{name}", name = self.name())]
     Memory,
-    /// The initial value at this place stands earlier among them too. It is looked for before the events.
+    /// The initial value at this place stands among them earlier too. This is looked for before the events.
     #[error("{name} {0}", name = self.name())]
     InitialTwice(usize),
 }
@@ -49,7 +49,7 @@ impl From<AllocError> for HistoryFault {
 }
 
 impl HistoryFault {
-    /// Its name, as it is printed before its place or its ticket.
+    /// Returns its name, which is printed before its place or its ticket.
     pub fn name(self) -> &'static str
         ensures name { result.now ≡ name_of self }
         ensures short { length result.now ≤ 20 }
@@ -67,8 +67,8 @@ impl HistoryFault {
         }
     }
 
-    /// Whether it decides where the event at this place is the first that calls with an initial value: that event or an earlier one
-    /// has it, or memory was refused.
+    /// Whether it decides if the event at this place is the first that calls with an initial value: that event or an
+    /// earlier one has it, or memory ran out.
     pub(crate) fn comes_by(self, place: usize) -> bool
         ensures { result ≡ comes_by place self }
     {
@@ -79,7 +79,7 @@ impl HistoryFault {
         }
     }
 
-    /// The place of its event or of its initial value, or the ticket of a call without return.
+    /// Returns the place of its event or of its initial value, or the ticket of a call without a return.
     pub fn place(self) -> Option<u64>
         ensures { result ≡ place_in self }
     {

@@ -9,11 +9,11 @@ use crate::operation::{OpKind, Operation};
 use event_records::{MAX_CLOCK, MAX_INITIAL};
 use std::alloc::{AllocError, Global};
 
-/// The operations of the filled history: thread 0 enqueues the initial values alone, one after another, and then come the
-/// operations, all by two tickets later for each initial value.
+/// Makes the operations of the filled history: thread 0 enqueues the initial values alone, one after another, and
+/// then the operations follow, each later by two tickets for each initial value.
 ///
-/// The filled history is complete, and its legal orders are those of the history behind the enqueues. Time O(n), and the memory
-/// for the answer is taken at once.
+/// The filled history is complete, and its linearizations are those of the history after the enqueues. Time O(n); it
+/// takes the memory for the answer at once.
 pub fn fill(
     alloc: Global,
     initial: &[u64],
@@ -47,7 +47,7 @@ fn add_enqueues(filled: &mut Vec<Operation>, values: &[u64]) -> Result<(), Alloc
     Ok(())
 }
 
-/// Adds the operations, so many tickets later.
+/// Adds the operations, later by this many tickets.
 fn add_later(
     filled: &mut Vec<Operation>,
     operations: &[Operation],

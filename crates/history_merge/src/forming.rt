@@ -1,26 +1,27 @@
-//! Operations of events behind which more may come.
-ghost use Rattle.std.specs.Prelude.{◌≡◌, ◌≤◌, true, false, List, [], ◌∷◌, ◌++◌, Some, None, IfOk};
+//! The operations of events after which more may come.
+ghost use Rattle.std.specs.Prelude.{◌≡◌, ◌≤◌, true, false, List, [], ◌∷◌, ◌++◌, Some, None, IfOk, IfSome, IsTrue, ◌↔◌, ◌<◌, All, length};
 ghost use Rattle.event_records.specs.declared.event.Event.{Event};
-ghost use Rattle.event_records.specs.Turns.{is_call};
+ghost use Rattle.event_records.specs.Turns.{TicketsRise, is_call};
 ghost use Rattle.history_merge.specs.Faults.{pending_call};
 ghost use Rattle.history_merge.specs.Forming as judged;
 ghost use Rattle.history_merge.specs.Forming.{operations_so_far};
 ghost use Rattle.history_merge.specs.Inner.Forming.{AreReturned, Follows};
 ghost use Rattle.history_merge.specs.Gathering.{HasFormed};
 
+use crate::events::Events;
 use crate::matching::is_call;
 use crate::operation::{OpKind, Operation};
 use event_records::{Event, MAX_THREAD, MAX_THREADS, What};
 use std::alloc::{AllocError, Global};
 
-/// Operations by call, and the places of those that returned, by return.
+/// Operations in the order of their calls, and the places of those that returned, in the order of their returns.
 #[derive(Debug, Drop)]
 pub struct Formed {
     pub operations: Vec<Operation>,
     pub by_return: Vec<u32>,
 }
 
-/// The operations of the events so far, and where that of each thread's last call stands.
+/// The operations of the events so far, and the place of each thread's last call.
 #[derive(Drop)]
 pub struct Forming {
     formed: Formed,
@@ -40,11 +41,24 @@ impl Forming {
         }
     }
 
-    /// The operations; of one that is pending the return is 0, and it counts as accepted or as empty.
+    /// Returns the operations; a pending one has the return 0, and counts as a successful enqueue or as empty.
     pub fn operations(&self) -> &[Operation]
         ensures { (events : List Event) → HasFormed events self.now → result.now ≡ operations_so_far events }
     {
         self.formed.operations.as_slice()
+    }
+
+    /// The events so far, where the places are those of operations.
+    pub fn events(&self) -> Option<Events<'_>>
+        ensures { (events : List Event) → HasFormed events self.now → TicketsRise events → IfSome result (λ so_far. so_far ≡ events) }
+    {
+        let operations = self.formed.operations.as_slice();
+        let by_return = self.formed.by_return.as_slice();
+        if are_places_of(operations, by_return) {
+            Some(Events::new(operations, by_return))
+        } else {
+            None
+        }
     }
 
     pub fn into_formed(self) -> Formed
@@ -58,7 +72,7 @@ impl Forming {
         formed
     }
 
-    /// Goes on past an event that may come next in its thread.
+    /// Adds an event that may come next in its thread.
     #[inline(always)]
     pub fn add(&mut self, event: Event) -> Result<(), AllocError>
         requires { event.thread ≤ MAX_THREAD }
@@ -72,7 +86,7 @@ impl Forming {
         }
     }
 
-    /// Goes on past a call, of a thread that has none pending.
+    /// Adds a call, of a thread that has none pending.
     #[inline(always)]
     fn call(&mut self, event: Event) -> Result<(), AllocError>
         requires { event.thread ≤ MAX_THREAD }
@@ -93,7 +107,7 @@ impl Forming {
         Ok(())
     }
 
-    /// Goes on past the return of its thread's pending call.
+    /// Adds the return of its thread's pending call.
     #[inline(always)]
     fn answer(&mut self, event: Event) -> Result<(), AllocError>
         requires { event.thread ≤ MAX_THREAD }
@@ -116,7 +130,16 @@ impl Forming {
     }
 }
 
-/// What an operation counts as while it is pending: an enqueue as accepted, a dequeue as empty.
+/// Returns whether these are places of operations.
+fn are_places_of(operations: &[Operation], places: &[u32]) -> bool
+    ensures { IsTrue result ↔ All (λ place. place < length operations.now) places.now }
+{
+    places
+        .iter()
+        .all(|place| (*place as usize) < operations.len())
+}
+
+/// Returns what an operation counts as while it is pending: a successful enqueue, or an empty dequeue.
 #[inline(always)]
 fn begun(call: What) -> OpKind
     ensures { result ≡ judged.begun call }
@@ -127,7 +150,7 @@ fn begun(call: What) -> OpKind
     }
 }
 
-/// What it did, when the answer is there.
+/// Returns what the operation did, now that the answer is there.
 #[inline(always)]
 fn answered(kind: OpKind, answer: What) -> OpKind
     ensures { result ≡ judged.answered kind answer }

@@ -1,24 +1,26 @@
-//! A history in the making, of a queue that is empty first.
-ghost use Rattle.std.specs.Prelude.{◌≡◌, ◌<◌, List, [], ◌∷◌, ◌++◌, IfErr, IfOk, MatchResult, length};
+//! The builder of the operations of a history whose queue is empty at first.
+ghost use Rattle.std.specs.Prelude.{◌≡◌, ◌<◌, ◌≤◌, ℕ, List, [], ◌∷◌, ◌++◌, IfErr, IfOk, IfSome, IsErr, IsSome, MatchResult, length};
 ghost use Rattle.event_records.specs.declared.event.Event.{Event};
 ghost use Rattle.event_records.specs.declared.limits.TheConstants.{MAX_EVENTS};
+ghost use Rattle.history_merge.specs.Clashes.{IsClash};
 ghost use Rattle.history_merge.specs.Complete.{IsCompleteHistory};
 ghost use Rattle.history_merge.specs.Faults.{IsFirstFault};
-ghost use Rattle.history_merge.specs.Gathering.{HasGatheredEvents, HasMetFault, IsForming};
+ghost use Rattle.history_merge.specs.Gathering.{HasClash, HasGatheredEvents, HasMetFault, IsForming};
 ghost use Rattle.history_merge.specs.Inner.Forming.{IsFormedOf};
 
 use crate::called::CalledValues;
+use crate::clash::{Clash, Placed, Sought, clash_of, first_event};
 use crate::fault::HistoryFault;
 use crate::forming::{Formed, Forming};
 use crate::progress::Progress;
 use event_records::Event;
 use std::alloc::Global;
 
-/// The operations of a complete history in the making (Herlihy and Wing 1990, section 2.1): events are added one by one and not
-/// kept, and their operations come out, or their first fault.
+/// Builds the operations of a complete history (Herlihy and Wing 1990, section 2.1): it takes events one by one and
+/// doesn't keep them, and `finish` returns their operations or their first fault.
 ///
-/// Memory for the operations alone, as long as the values of each thread have its name and rise; else also for a set of the
-/// values.
+/// It keeps the operations alone, as long as the values of each thread have its name and rise; otherwise also a set
+/// of the values.
 #[derive(Drop)]
 pub struct OperationsBuilder {
     progress: Progress,
@@ -26,12 +28,14 @@ pub struct OperationsBuilder {
     forming: Forming,
     count: usize,
     fault: Option<HistoryFault>,
+    clash: Option<Clash>,
 }
 
 impl OperationsBuilder {
-    /// Of no events yet. It takes no memory.
+    /// Begins with no events. It takes no memory.
     pub fn new(alloc: Global) -> OperationsBuilder
-        ensures { HasGatheredEvents [] result }
+        ensures gathered { HasGatheredEvents [] result }
+        ensures clash { (initial : List ℕ) → HasClash initial [] result }
     {
         OperationsBuilder {
             progress: Progress::new(),
@@ -39,15 +43,19 @@ impl OperationsBuilder {
             forming: Forming::new(alloc),
             count: 0,
             fault: None,
+            clash: None,
         }
     }
 
-    /// Goes on past an event. A fault is kept, want of memory too, and answered by `finish`.
+    /// Adds an event. It keeps a fault, also out of memory, for `finish`.
     ///
-    /// Time O(1) where the values rise, else O(log n) after n events; at times a growth.
+    /// Time O(1) if the values rise, otherwise O(log n) after n events; sometimes it grows its memory.
     #[inline(always)]
     pub fn add(&mut self, event: Event)
-        ensures { (events : List Event) → HasGatheredEvents events self.old → length events < MAX_EVENTS → HasGatheredEvents (events ++ event ∷ []) self.new }
+        ensures gathered { (events : List Event) → HasGatheredEvents events self.old → length events < MAX_EVENTS
+            → HasGatheredEvents (events ++ event ∷ []) self.new }
+        ensures clash { (initial : List ℕ) (events : List Event) → HasGatheredEvents events self.old → length events < MAX_EVENTS
+            → HasClash initial events self.old → HasClash initial (events ++ event ∷ []) self.new }
     {
         if self.fault.is_some() {
             return;
@@ -57,15 +65,33 @@ impl OperationsBuilder {
         }
     }
 
-    /// Judges an event behind events without a fault, and goes on past it.
+    /// Keeps `Memory` for an event that there is no room for, unless it keeps another fault.
+    pub fn refuse(&mut self)
+        ensures gathered { (events : List Event) → HasGatheredEvents events self.old → HasGatheredEvents events self.new }
+        ensures clash { self.new.clash ≡ self.old.clash }
+        ensures kept { IsSome self.new.fault }
+    {
+        if self.fault.is_none() {
+            self.fault = Some(HistoryFault::Memory);
+        }
+    }
+
+    /// Judges an event after events without a fault, and adds it.
     #[inline(always)]
     fn follow(&mut self, event: Event) -> Result<(), HistoryFault>
         ensures judged { (events : List Event) → IsForming events self.old → length events < MAX_EVENTS
             → MatchResult result (λ _. IsForming (events ++ event ∷ []) self.new) (λ fault. HasMetFault (events ++ event ∷ []) fault) }
+        ensures clash { (initial : List ℕ) (events : List Event) → IsForming events self.old → length events < MAX_EVENTS
+            → HasClash initial events self.old → HasClash initial (events ++ event ∷ []) self.new }
         ensures fault { self.new.fault ≡ self.old.fault }
     {
         let repeats = self.called.note(event.what, self.forming.operations())?;
         if let Some(fault) = self.progress.fault_of(event, self.count, repeats) {
+            let placed = Placed {
+                place: self.count,
+                event,
+            };
+            self.clash = clash_of(fault, placed, &self.progress, &self.forming);
             return Err(fault);
         }
         self.forming.add(event)?;
@@ -74,15 +100,35 @@ impl OperationsBuilder {
         Ok(())
     }
 
-    /// The operations of the events in the order of their calls, where these are a complete history; else their first fault.
+    /// Returns whether it keeps a fault that decides if the event at this place is the first that calls with an initial value.
+    pub fn is_refused_by(&self, place: usize) -> bool {
+        self.fault.is_some_and(|fault| fault.comes_by(place))
+    }
+
+    /// Returns what the first event with a fault contradicts, or the first call without a return. Time O(n) if there is one.
+    pub fn clash(&self) -> Option<Clash>
+        ensures { (initial : List ℕ) (events : List Event) → HasGatheredEvents events self.now → HasClash initial events self.now
+            → length events ≤ MAX_EVENTS → IfSome result (IsClash initial events) }
+    {
+        if self.fault.is_some() {
+            return self.clash;
+        }
+        let ticket = self.progress.least_pending()?;
+        let call = first_event(&self.forming, Sought::Ticket(ticket))?;
+        Some(Clash::Pending(call))
+    }
+
+    /// Returns the operations of the events in the order of their calls if the events are a complete history,
+    /// otherwise their first fault.
     ///
-    /// The events were judged one by one, the first faulty one decides, and of its faults the one that stands first in
-    /// [`HistoryFault`]. Where no event has a fault, the least call ticket without return is `Pending`. `Memory` comes where a
-    /// growth was refused, and then says nothing of the events.
+    /// The first faulty event decides, and of its faults the one that [`HistoryFault`] lists first. If no event has a
+    /// fault, `Pending` names the least call ticket without a return. `Memory` comes if memory ran out, and then says
+    /// nothing of the events.
     pub fn finish(self) -> Result<Formed, HistoryFault>
         ensures outcome { (events : List Event) → HasGatheredEvents events self → MatchResult result (IsFormedOf events) (IsFirstFault events) }
         ensures complete { (events : List Event) → HasGatheredEvents events self → IfOk result (λ _. IsCompleteHistory events) }
         ensures refused { (events : List Event) → HasGatheredEvents events self → IfErr result (λ fault. IsCompleteHistory events → fault ≡ HistoryFault.Memory) }
+        ensures kept { IsSome self.fault → IsErr result }
     {
         let OperationsBuilder {
             progress,
@@ -90,6 +136,7 @@ impl OperationsBuilder {
             forming,
             count: _count,
             fault,
+            clash: _clash,
         } = self;
         if let Some(fault) = fault {
             return Err(fault);

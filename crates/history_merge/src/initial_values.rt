@@ -1,4 +1,4 @@
-//! The values that a queue holds first, and the calls that enqueue one of them.
+//! The values that a queue holds at first, and the calls that enqueue one of them.
 ghost use Rattle.std.specs.Prelude.{◌≡◌, ◌<◌, not, ℕ, List, [], ◌∷◌, ◌++◌, IfOk, MatchResult, length};
 ghost use Rattle.event_records.specs.declared.event.Event.{Event};
 ghost use Rattle.event_records.specs.declared.limits.TheConstants.{MAX_EVENTS};
@@ -7,6 +7,7 @@ ghost use Rattle.history_merge.specs.Faults.{calls_initial, is_initial};
 ghost use Rattle.history_merge.specs.Gathering.{HasRefusedInitial, HasWatched, KnowsInitial};
 
 use crate::called::called_value;
+use crate::clash::Placed;
 use crate::fault::HistoryFault;
 use event_records::{Event, What};
 use std::alloc::{AllocError, Global};
@@ -21,7 +22,7 @@ pub struct InitialValues {
 }
 
 impl InitialValues {
-    /// These values, or the first of them that stands twice.
+    /// Takes these values, or returns the fault of the first that stands twice.
     pub fn new(alloc: Global, initial: &[u64]) -> Result<InitialValues, HistoryFault>
         ensures outcome { MatchResult result (λ known. KnowsInitial initial.now known) (HasRefusedInitial initial.now) }
         ensures distinct { IfOk result (λ _. AreDistinct initial.now) }
@@ -45,7 +46,7 @@ impl InitialValues {
         }
     }
 
-    /// Whether the value is new. It is there then.
+    /// Whether the value is new. It adds the value.
     fn add(&mut self, value: u64) -> Result<bool, AllocError>
         ensures { (initial : List ℕ) → KnowsInitial initial self.old
             → IfOk result (λ is_new. (not is_new ≡ is_initial initial value) × KnowsInitial (initial ++ value ∷ []) self.new) }
@@ -56,7 +57,8 @@ impl InitialValues {
         Ok(is_new)
     }
 
-    /// Whether the event calls with one of these values. A recorder's names lie below them, and then the set isn't asked.
+    /// Whether the event calls with one of these values. If the value is below all of them, as a recorder's names
+    /// are, it needs no look-up.
     pub fn are_called(&self, what: What) -> bool
         ensures { (initial : List ℕ) (e : Event) → e.what ≡ what → KnowsInitial initial self.now → result ≡ calls_initial initial e }
     {
@@ -79,10 +81,11 @@ pub struct InitialCalls {
     values: InitialValues,
     count: usize,
     first: Option<usize>,
+    call: Option<Placed>,
 }
 
 impl InitialCalls {
-    /// Of no events yet.
+    /// Begins with no events.
     pub fn new(values: InitialValues) -> InitialCalls
         ensures { (initial : List ℕ) → KnowsInitial initial values → HasWatched initial [] result }
     {
@@ -90,21 +93,31 @@ impl InitialCalls {
             values,
             count: 0,
             first: None,
+            call: None,
         }
     }
 
-    /// Goes on past an event.
+    /// Adds an event.
     pub fn add(&mut self, event: Event)
         ensures { (initial : List ℕ) (events : List Event) → HasWatched initial events self.old → length events < MAX_EVENTS
             → HasWatched initial (events ++ event ∷ []) self.new }
     {
         if self.first.is_none() && self.values.are_called(event.what) {
-            self.first = Some(self.count);
+            let place = self.count;
+            self.first = Some(place);
+            self.call = Some(Placed { place, event });
         }
         self.count = self.count.saturating_add(1);
     }
 
-    /// The place of the first call with an initial value.
+    /// Returns the first call with an initial value.
+    pub fn call(&self) -> Option<Placed>
+        ensures { result ≡ self.now.call }
+    {
+        self.call
+    }
+
+    /// Returns the place of the first call with an initial value.
     pub fn first(&self) -> Option<usize>
         ensures { result ≡ self.now.first }
     {

@@ -1,23 +1,24 @@
 ghost use Rattle.history_merge.specs.Laws.{CompleteFromNone, FilledAreComplete, FilledIsComplete, FilledOperations, FilledWithNone};
 ghost use Rattle.history_merge.specs.Laws.{FilledOrders, FilledOrdersAreAll, FirstFaultFromNone, LinearizableFromExactly};
 
-/// A history that starts with some values is a complete history itself, where these are enqueued alone, one after another, before
-/// all events. The laws are the contract; the body is empty.
+/// Proves that a history whose queue starts with some values is a complete history itself if these are enqueued
+/// alone, one after another, before all events. The laws are the contract; the body is empty.
 pub fn filled_is_complete()
     ensures events { FilledIsComplete }
     ensures operations { FilledOperations }
     ensures complete { FilledAreComplete }
 {}
 
-/// The legal orders of that history are those that begin with the initial values and go on with a legal order from these. The
-/// laws are the contract; the body is empty.
+/// Proves that the linearizations of that history are those that begin with the initial values and go on with a
+/// linearization from these. The laws are the contract; the body is empty.
 pub fn filled_has_the_same_orders()
     ensures orders { FilledOrders }
     ensures all { FilledOrdersAreAll }
     ensures linearizable { LinearizableFromExactly }
 {}
 
-/// A history that starts with no values is that of its events. The laws are the contract; the body is empty.
+/// Proves that a history that starts with no values is that of its events. The laws are the contract; the body is
+/// empty.
 pub fn no_initial_values()
     ensures filled { FilledWithNone }
     ensures complete { CompleteFromNone }

@@ -4,6 +4,7 @@
 mod build;
 mod builder;
 mod called;
+mod clash;
 mod complete;
 mod events;
 mod fault;
@@ -20,6 +21,7 @@ mod recorded;
 
 pub use build::{history, history_from};
 pub use builder::HistoryBuilder;
+pub use clash::{Clash, Placed};
 pub use complete::History;
 pub use events::Events;
 pub use fault::HistoryFault;

@@ -6,7 +6,7 @@ ghost use Rattle.history_merge.specs.Operations.{kind_of};
 use crate::operation::OpKind;
 use event_records::{Event, MAX_THREADS, What};
 
-/// No event for any thread.
+/// Returns no event for any thread.
 pub fn no_events() -> [Option<Event>; MAX_THREADS]
     ensures none { (thread : ℕ) → slice_index_or result thread None ≡ None }
     ensures length { length result ≡ MAX_THREADS }
@@ -21,7 +21,7 @@ pub fn is_call(what: What) -> bool
     matches!(what, What::CallEnq(_) | What::CallDeq)
 }
 
-/// What an operation with this call and this return did, if the second is a return of the first's kind.
+/// Returns what an operation with this call and this return did, if the second is a return of the first's kind.
 pub fn kind_of(call: What, answer: What) -> Option<OpKind>
     ensures { result ≡ kind_of call answer }
 {

@@ -4,8 +4,7 @@ ghost use Rattle.history_merge.specs.Merge.{IsMerged};
 use event_records::{Event, Lists};
 use std::alloc::{AllocError, Global};
 
-/// All events of the lists by their tickets; equal tickets in the order of the lists, and within one list as they stand
-/// there.
+/// Merges the lists by ticket. Events of equal tickets keep the order of their lists, and within one list their own.
 ///
 /// Time O(n log n) for n events, memory for the answer and a buffer of the sort.
 pub fn merge(alloc: Global, lists: &Lists) -> Result<Vec<Event>, AllocError>
@@ -16,7 +15,7 @@ pub fn merge(alloc: Global, lists: &Lists) -> Result<Vec<Event>, AllocError>
     Ok(events)
 }
 
-/// The events of the lists, list after list.
+/// Returns the events of the lists, list after list.
 fn joined(alloc: Global, lists: &Lists) -> Result<Vec<Event>, AllocError>
     ensures { IfOk result (λ events. events.items ≡ flat_map (λ list. list) lists.now) }
 {

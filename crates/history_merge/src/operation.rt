@@ -6,13 +6,13 @@ use std::marker::Model;
 /// What an operation did.
 #[derive(Clone, Copy, Debug, PartialEq, Eq)]
 pub enum OpKind {
-    /// An enqueue of this value, which the queue took.
+    /// An enqueue of this value, which succeeded.
     Enq(u64),
     /// A dequeue that gave this value.
     Deq(u64),
     /// A dequeue that found the queue empty.
     Empty,
-    /// An enqueue of this value, which the queue did not take: it was full, or had no memory.
+    /// An enqueue of this value, which failed: the queue was full or out of memory.
     Not(u64),
 }
 
@@ -20,7 +20,7 @@ impl OpKind {
     ghost use Rattle.history_merge.specs.Events.{answered_by, called_by};
     ghost use Rattle.history_merge.specs.Operations.{enqueued_value};
 
-    /// The value that the operation called to enqueue, taken or not.
+    /// Returns the value that the operation called to enqueue, whether taken or not.
     #[inline(always)]
     pub fn enqueued_value(self) -> Option<u64>
         ensures { result ≡ enqueued_value self }
@@ -31,7 +31,7 @@ impl OpKind {
         }
     }
 
-    /// What was called.
+    /// Returns what was called.
     #[inline(always)]
     pub fn called(self) -> What
         ensures { result ≡ called_by self }
@@ -42,7 +42,7 @@ impl OpKind {
         }
     }
 
-    /// What was answered.
+    /// Returns what was answered.
     #[inline(always)]
     pub fn answered(self) -> What
         ensures { result ≡ answered_by self }
@@ -58,7 +58,7 @@ impl OpKind {
 
 /// A call with its return (Herlihy and Wing 1990, section 2.1).
 ///
-/// Plain data: only in the operations of a history is it known that `call` is below `ret`.
+/// Plain data: only in the operations of a history is `call` known to be below `ret`.
 #[derive(Clone, Copy, Debug, PartialEq, Eq)]
 pub struct Operation {
     /// The ticket of the call.
@@ -74,7 +74,7 @@ pub struct Operation {
 impl Operation {
     ghost use Rattle.history_merge.specs.Events.{call_event, return_event};
 
-    /// The event of its call.
+    /// Returns the event of its call.
     #[inline(always)]
     pub fn call_event(&self) -> Event
         ensures { result ≡ call_event self.now }
@@ -86,7 +86,7 @@ impl Operation {
         }
     }
 
-    /// The event of its return.
+    /// Returns the event of its return.
     #[inline(always)]
     pub fn return_event(&self) -> Event
         ensures { result ≡ return_event self.now }
@@ -116,14 +116,14 @@ impl Model for OpId {
 }
 
 impl OpId {
-    /// The name of the operation at this place.
+    /// Names the operation at this place.
     pub fn new(place: usize) -> OpId
         ensures { result ≡ place }
     {
         OpId { place }
     }
 
-    /// The place.
+    /// Returns the place.
     pub fn place(self) -> usize
         ensures { result ≡ self }
     {

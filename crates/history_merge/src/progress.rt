@@ -1,6 +1,6 @@
-ghost use Rattle.std.specs.Prelude.{◌≡◌, ◌++◌, ◌∷◌, ◌≤◌, List, [], IfNone, MatchOption};
+ghost use Rattle.std.specs.Prelude.{◌≡◌, ◌++◌, ◌∷◌, ◌≤◌, List, [], IfNone, IfSome, MatchOption, Some};
 ghost use Rattle.event_records.specs.declared.event.Event.{Event};
-ghost use Rattle.history_merge.specs.Faults.{IsLeastPending, fault_at, repeats_value};
+ghost use Rattle.history_merge.specs.Faults.{IsLeastPending, fault_at, pending_call, repeats_value};
 ghost use Rattle.history_merge.specs.Inner.Faults.{NothingPending};
 ghost use Rattle.history_merge.specs.Progress.{HasTracked};
 
@@ -8,7 +8,7 @@ use crate::fault::HistoryFault;
 use crate::matching::{is_call, kind_of, no_events};
 use event_records::{Event, MAX_THREAD, MAX_THREADS, MAX_TICKET};
 
-/// What the next event is judged by: the last ticket, and the call of each thread that is not answered yet.
+/// What the next event is judged by: the last ticket, and each thread's pending call.
 #[derive(Drop)]
 pub struct Progress {
     last_ticket: Option<u64>,
@@ -25,8 +25,8 @@ impl Progress {
         }
     }
 
-    /// The fault of the event at this place, after the events so far; `repeats` tells whether it calls with a value
-    /// that one of these called with.
+    /// Returns the fault of the event at this place, after the events so far; `repeats` says whether it calls with a
+    /// value that one of these called with.
     pub fn fault_of(&self, event: Event, place: usize, repeats: bool) -> Option<HistoryFault>
         ensures fault { (before : List Event) → HasTracked before self.now → repeats ≡ repeats_value before event → result ≡ fault_at before place event }
         ensures in_range { IfNone result (event.thread ≤ MAX_THREAD) }
@@ -49,7 +49,7 @@ impl Progress {
         }
     }
 
-    /// Goes on past an event.
+    /// Adds an event.
     pub fn add(&mut self, event: Event)
         requires { event.thread ≤ MAX_THREAD }
         ensures { (before : List Event) → HasTracked before self.old → HasTracked (before ++ event ∷ []) self.new }
@@ -59,7 +59,17 @@ impl Progress {
         self.last_ticket = Some(event.ticket);
     }
 
-    /// The least ticket of a call that is not answered yet.
+    /// Returns the pending call of this thread.
+    pub fn call_of(&self, thread: u8) -> Option<Event>
+        ensures { (before : List Event) → HasTracked before self.now → IfSome result (λ call. pending_call thread before ≡ Some call) }
+    {
+        if thread > MAX_THREAD {
+            return None;
+        }
+        self.pending[usize::from(thread)]
+    }
+
+    /// Returns the least ticket of a pending call.
     pub fn least_pending(&self) -> Option<u64>
         ensures { (before : List Event) → HasTracked before self.now → MatchOption result (NothingPending before) (IsLeastPending before) }
     {

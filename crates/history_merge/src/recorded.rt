@@ -12,10 +12,10 @@ use crate::merging::merge;
 use event_records::{Event, Lists, MAX_EVENTS};
 use std::alloc::{AllocError, Global};
 
-/// The history of lists that merge to a complete one, as those of a recorded run do, of a queue that is empty first.
+/// Makes the history of lists that merge to a complete one, as those of a recorded run do, of a queue that is empty
+/// at first.
 ///
-/// A complete history is refused for want of memory alone, so no other fault comes. Time O(n log n) for n events, memory for
-/// them and for the history.
+/// No other fault than out of memory can come. Time O(n log n) for n events, memory for them and for the history.
 pub fn merged_history(alloc: Global, lists: &Lists) -> Result<History, AllocError>
     requires complete { (merged : List Event) → IsMerged lists.now merged → IsCompleteHistory merged }
     requires few { length (flat_map (λ list. list) lists.now) ≤ MAX_EVENTS }
@@ -27,7 +27,7 @@ pub fn merged_history(alloc: Global, lists: &Lists) -> Result<History, AllocErro
     complete_history(alloc, events.as_slice())
 }
 
-/// The same of a queue that holds these values first, its front first. `AllocError` comes only where a growth was refused.
+/// Does so for a queue that holds these values at first, its front first. `AllocError` comes only if memory runs out.
 pub fn merged_from(alloc: Global, initial: &[u64], lists: &Lists) -> Result<History, AllocError>
     requires complete { (merged : List Event) → IsMerged lists.now merged → IsCompleteFrom initial.now merged }
     requires few { length (flat_map (λ list. list) lists.now) ≤ MAX_EVENTS }
@@ -38,13 +38,13 @@ pub fn merged_from(alloc: Global, initial: &[u64], lists: &Lists) -> Result<Hist
 {
     let events = merge(alloc, lists)?;
     let initial = Vec::from_slice(alloc, initial)?;
-    // A complete history is refused for want of memory alone.
+    // A complete history has no other fault than out of memory.
     history_from(alloc, initial, events.as_slice()).map_err(|_| AllocError)
 }
 
-/// The history of events that are known to be those of a complete one, of a queue that is empty first.
+/// Makes the history of events that are known to be those of a complete one, of a queue that is empty at first.
 ///
-/// Time and memory are those of [`history`]. `AllocError` comes only where a growth was refused.
+/// Time and memory are those of [`history`]. `AllocError` comes only if memory runs out.
 pub fn complete_history(alloc: Global, events: &[Event]) -> Result<History, AllocError>
     requires few { length events.now ≤ MAX_EVENTS }
     requires complete { IsCompleteHistory events.now }

@@ -1,4 +1,4 @@
--- How many tickets lie below a gap, where they lie in order.
+-- How many tickets lie below a gap, if they lie in order.
 use Rattle.std.proofs.Common.{◌≡◌, ℕ, zero, suc, ◌+◌, ◌<◌, ◌≤◌, List, [], ◌∷◌, length, get_or, Bool, true, false, cond, refl, sym, ◌∙◌, ap, inl, inr, arith, nat_lt}
 use Rattle.std.specs.List.Sorted.{IsNonDecreasing, IsPermutation}
 use Rattle.std.proofs.lemmas.Bool.{cases_lt, lt-ltb, le-ltb}
@@ -20,18 +20,18 @@ count_above gap x xs above =
     let e : count_before gap (x ∷ xs) ≡ 0 + count_before gap xs = count_cons gap x xs ∙ ap (λ b. cond b 1 0 + count_before gap xs) (le-ltb x gap above) in
     omega (arith, e)
 
--- what lies behind the first lies in order
+-- what comes after the first lies in order
 pub rest_in_order : (x : ℕ) (xs : List ℕ) → IsNonDecreasing (x ∷ xs) → IsNonDecreasing xs
 rest_in_order x xs up = λ i j d le below. up (suc i) (suc j) d (omega arith) (omega arith)
 
--- where the first doesn't lie below, none does
+-- if the first doesn't lie below, none does
 pub none_below : (gap x : ℕ) (xs : List ℕ) → IsNonDecreasing (x ∷ xs) → gap ≤ x → count_before gap (x ∷ xs) ≡ 0
 none_below gap x [] up above = count_above gap x [] above
 none_below gap x (y ∷ ys) up above =
     let first : x ≤ y = up zero (suc zero) 0 (omega arith) (omega arith) in
     count_above gap x (y ∷ ys) above ∙ none_below gap y ys (rest_in_order x (y ∷ ys) up) (omega arith)
 
--- where the ticket at a place lies below, so do those before it
+-- if the ticket at a place lies below, so do those before it
 pub at_least : (gap : ℕ) (xs : List ℕ) (i : ℕ) → IsNonDecreasing xs → i < length xs → get_or xs i 0 < gap → i + 1 ≤ count_before gap xs
 at_least gap [] i up within below = absurd (omega arith)
 at_least gap (x ∷ xs) zero up within below = omega (arith, count_below_more gap x xs below)
@@ -40,7 +40,7 @@ at_least gap (x ∷ xs) (suc i) up within below =
     let more = at_least gap xs i (rest_in_order x xs up) (omega arith) below in
     omega (arith, count_below_more gap x xs (omega arith), more)
 
--- and of so many that lie below each lies below
+-- of the tickets that are counted as lying below a gap each lies below it
 pub below_at : (gap : ℕ) (xs : List ℕ) (i : ℕ) → IsNonDecreasing xs → i < count_before gap xs → get_or xs i 0 < gap
 below_at gap [] i up few = absurd (omega arith)
 below_at gap (x ∷ xs) zero up few = elim (cases_lt x gap) [
@@ -52,7 +52,7 @@ below_at gap (x ∷ xs) (suc i) up few = elim (cases_lt x gap) [
   | inr above ↦ absurd (omega (arith, few, none_below gap x xs up above))
 ]
 
--- behind a later gap lie no fewer
+-- below a later gap lie no fewer
 pub count_rises : (gap later : ℕ) (xs : List ℕ) → gap ≤ later → count_before gap xs ≤ count_before later xs
 count_rises gap later xs le =
     sum_by-le-sum_by (λ t. cond (nat_lt t gap) 1 0) (λ t. cond (nat_lt t later) 1 0) xs (λ t. grind (arith, nat_tests))

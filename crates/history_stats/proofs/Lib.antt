@@ -1,5 +1,5 @@
 -- Counted: counts of tickets that lie in order. AtOnce: the sweep over what comes and goes, and what pends and stays.
--- Threads: threads that have an event. Overlaps: what an operation overlaps, before it and behind it.
+-- Threads: threads that have an event. Overlaps: what an operation overlaps, earlier and later in the list.
 pub mod Counted
 pub mod AtOnce
 pub mod Threads

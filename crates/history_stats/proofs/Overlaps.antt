@@ -1,4 +1,4 @@
--- What an operation overlaps: of the operations before it and of those behind it.
+-- What an operation overlaps: of the operations before it and of those after it.
 use Rattle.std.proofs.Common.{◌≡◌, ℕ, zero, suc, ◌+◌, ◌<◌, ◌≤◌, List, [], ◌∷◌, ◌++◌, length, get_or, take, drop, Bool, true, false, cond, max, not, refl, sym, ◌∙◌, ap, subst, arith, nat_lt, nat_eq}
 use Rattle.std.specs.Prelude.{All, AllPairs, count_by, nat_le, ◌&&◌, ◌||◌}
 use Rattle.std.specs.List.{list_any}
@@ -19,14 +19,14 @@ any_alike p q (x ∷ xs) alike =
     let more = any_alike p q xs (All-tail (λ x. p x ≡ q x) x xs alike) in
     λ i. here i || more i
 
--- one is found before a place, at it, or behind it
+-- one is found before a place, at it, or after it
 pub any_around : {X : Type 0} (p : X → Bool) (xs : List X) (i : ℕ) (d : X) → i < length xs
     → list_any p xs ≡ (list_any p (take i xs) || (p (get_or xs i d) || list_any p (drop (i + 1) xs)))
 any_around p xs i d within =
     ap (list_any p) (sym (take-append-drop i xs)) ∙ list_any-append p (take i xs) (drop i xs)
     ∙ ap (λ rest. list_any p (take i xs) || list_any p rest) (drop_more xs i d within)
 
--- an operation overlaps an earlier one that returns at its call or behind
+-- an operation overlaps an earlier one that returns at its call or later
 pub overlaps_earlier : (x o : Operation) → o.call < x.call → x.call < x.ret → overlap x o ≡ nat_le x.call o.ret
 overlaps_earlier x o before forward = grind (arith, nat_tests)
 
@@ -38,7 +38,7 @@ overlaps_later x o behind forward = grind (arith, nat_tests)
 pub not_itself : (x : Operation) → overlap x x ≡ false
 not_itself x = grind (arith, nat_tests)
 
--- an operation overlaps another one where the last return before it comes at its call or behind, or the next call by its return
+-- an operation overlaps another one if the last return before it comes at its call or later, or the next call by its return
 pub overlaps_one : (operations : List Operation) (i : ℕ) (x : Operation) → i < length operations → x ≡ get_or operations i x
     → AllPairs (λ a b. a.call < b.call) operations → All (λ o. o.call < o.ret) operations
     → list_any (overlap x) operations
@@ -78,7 +78,7 @@ overlaps_one operations i x within at rise forward =
             overlaps_later x (get_or (drop (i + 1) operations) k x) (subst (λ (o : Operation). x.call < o.call) (sym same) behind)
             (subst (λ (o : Operation). o.call < o.ret) (sym same) on)
 
--- where calls rise, one of them comes by a ticket where the first does
+-- if calls rise, one of them comes by a ticket if the first does
 pub first_decides : (ticket : ℕ) (x : Operation) (rest : List Operation) → All (λ o. x.call < o.call) rest
     → list_any (λ o. nat_le o.call ticket) (x ∷ rest) ≡ nat_le x.call ticket
 first_decides ticket x [] behind = grind (arith, nat_tests)
@@ -111,14 +111,14 @@ last_more operations i last d within none is ticket =
         → ((nat_lt 0 n && nat_le ticket last) || (nat_le ticket ret || false)) ≡ (nat_lt 0 m && nat_le ticket (max last ret))
     both n m ret e h = grind (arith, nat_tests)
 
--- what holds of each two holds of those behind a place
+-- what holds of each two holds of those after a place
 pub pairs_behind : {X : Type 0} (R : X → X → Type 0) (xs : List X) (n : ℕ) → AllPairs R xs → AllPairs R (drop n xs)
 pairs_behind R xs n pairs = λ i j d lt below.
     let there : n + j < length xs = omega (arith, length-drop n xs) in
     subst (λ a. R a (get_or (drop n xs) j d)) (sym (get_or-drop n xs i d)) (subst (λ b. R (get_or xs (n + i) d) b) (sym (get_or-drop n xs j d))
     (pairs (n + i) (n + j) d (omega arith) there))
 
--- those behind the first
+-- those after the first
 pub behind_first : (x : Operation) (rest : List Operation) → AllPairs (λ a b. a.call < b.call) (x ∷ rest) → All (λ o. x.call < o.call) rest
 behind_first x rest rise = All-from_get_or (λ (o : Operation). x.call < o.call) rest x (λ k below. rise zero (suc k) x (omega arith) (omega arith))
 
@@ -130,14 +130,14 @@ counted_more p xs i n d within is = (
   λ no. let e = count_by_more_no p xs i d within no in omega (arith, e, is),
 )
 
--- where calls rise, one of some operations is called by a ticket where the first is
+-- if calls rise, one of some operations is called by a ticket if the first is
 pub first_called : (ticket : ℕ) (operations : List Operation) (d : Operation) → 1 ≤ length operations
     → AllPairs (λ a b. a.call < b.call) operations
     → nat_le (get_or operations 0 d).call ticket ≡ list_any (λ o. nat_le o.call ticket) operations
 first_called ticket [] d some rise = absurd (omega arith)
 first_called ticket (x ∷ rest) d some rise = sym (first_decides ticket x rest (behind_first x rest rise))
 
--- what an operation overlaps is told by both tests
+-- both tests decide whether an operation overlaps another one
 pub overlap_told : (operations : List Operation) (i : ℕ) (d x : Operation) (earlier later : Bool) → i < length operations
     → ((e : Operation) → get_or operations i e ≡ x) → AllPairs (λ a b. a.call < b.call) operations → All (λ o. o.call < o.ret) operations
     → earlier ≡ list_any (λ o. nat_le x.call o.ret) (take i operations) → later ≡ list_any (λ o. nat_le o.call x.ret) (drop (i + 1) operations)

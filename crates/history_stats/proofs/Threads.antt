@@ -4,7 +4,7 @@ use Rattle.std.specs.Prelude.{count_by}
 use Rattle.std.specs.List.{range_with_len}
 use Rattle.std.proofs.lemmas.List.Sums.{sum_by-cons}
 
--- as many marks are set as numbers pass, where each mark tells whether its number does
+-- as many marks are set as numbers pass, if each mark says whether its number passes
 pub marks_count : (passes : ℕ → Bool) (marks : List Bool) (from : ℕ) → ((k : ℕ) → k < length marks → get_or marks k false ≡ passes (from + k))
     → count_by (λ mark. mark) marks ≡ count_by passes (range_with_len from (length marks))
 marks_count passes [] from same = refl

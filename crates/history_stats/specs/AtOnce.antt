@@ -1,4 +1,4 @@
--- The most that there was at once: at a gap of a history. Gap g lies behind all tickets below g, so gap 0 lies before all events.
+-- The most that there was at once: at a gap of a history. Gap g comes after all tickets below g, so gap 0 comes before all events.
 use Rattle.std.specs.Prelude.{◌≡◌, ◌≤◌, ℕ, Bool, true, false, List, ◌++◌, not, ◌&&◌, nat_eq, nat_lt, count_by, Option, Some, None, if◌then◌else◌}
 use Rattle.std.specs.List.{list_any, filter_map}
 use Rattle.history_merge.specs.Initial.{HistoryView}
@@ -15,7 +15,7 @@ pub record IsMost (number_at : ℕ → ℕ) (most : ℕ) : Type 0 where
 
 -- ---- pending operations
 
--- the operation is pending at the gap: it was called before, and returns behind
+-- the operation is pending at the gap: it was called before, and returns after
 abbrev pub is_pending_at : ℕ → Operation → Bool
 is_pending_at gap o = nat_lt o.call gap && not (nat_lt o.ret gap)
 
@@ -47,11 +47,11 @@ values_put_before gap operations = filter_map (value_put_before gap) operations
 abbrev pub is_taken_before : ℕ → List Operation → ℕ → Bool
 is_taken_before gap operations v = list_any (λ o. gave v o.kind && nat_lt o.call gap) operations
 
--- how many of the values surely were in the queue at the gap, each of them put there before: no dequeue was called that gave it
+-- how many of the values were definitely in the queue at the gap, each of them put there before: no dequeue was called that gave it
 abbrev pub stay_count : ℕ → List Operation → List ℕ → ℕ
 stay_count gap operations values = count_by (λ v. not (is_taken_before gap operations v)) values
 
--- how many values surely were in the queue at the gap: initial ones, and those whose enqueues returned before
+-- how many values were definitely in the queue at the gap: initial ones, and those whose enqueues returned before
 abbrev pub queued_at : HistoryView → ℕ → ℕ
 queued_at history gap =
     let operations = operations_of history.events in

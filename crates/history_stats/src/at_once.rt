@@ -1,11 +1,11 @@
-//! The most that was there at once, of what comes and goes at tickets.
+//! The most that are there at once, of what comes and goes at tickets.
 ghost use Rattle.std.specs.Prelude.{◌≡◌, ◌+◌, ◌-◌, ◌<◌, ◌≤◌, ◌^◌, length, vec_len};
 ghost use Rattle.std.specs.List.Sorted.{IsNonDecreasing};
 ghost use Rattle.history_stats.specs.AtOnce.{IsMost};
 ghost use Rattle.history_stats.specs.Inner.AtOnce.{count_before};
 
-/// The most that was there at a gap, where some are there from the beginning, one more comes at each of the first tickets, and
-/// one goes at each of the second.
+/// Returns the most that are there at one gap: `first` are there from the beginning, one more comes at each of the
+/// first tickets, and one goes at each of the second.
 ///
 /// Takes time O(n log n) for n tickets, and no memory.
 pub(crate) fn most_of(first: usize, mut comes: Vec<u64>, mut goes: Vec<u64>) -> usize
@@ -17,7 +17,7 @@ pub(crate) fn most_of(first: usize, mut comes: Vec<u64>, mut goes: Vec<u64>) -> 
     most_in_order(first, &comes, &goes)
 }
 
-/// The same of tickets that lie in order, in time in proportion to them.
+/// Does so for tickets that lie in order, in time in proportion to them.
 fn most_in_order(first: usize, comes: &[u64], goes: &[u64]) -> usize
     requires comes { IsNonDecreasing comes.now }
     requires goes { IsNonDecreasing goes.now }
@@ -33,7 +33,7 @@ fn most_in_order(first: usize, comes: &[u64], goes: &[u64]) -> usize
     most
 }
 
-/// How many go at this ticket or before it, of which some are known to.
+/// Returns how many go at this ticket or before it, of which some are known to.
 fn gone_by(goes: &[u64], known: usize, ticket: u64) -> usize
     requires goes { IsNonDecreasing goes.now }
     requires known { known ≤ count_before (ticket + 1) goes.now }

@@ -7,7 +7,7 @@ ghost use Rattle.history_stats.specs.Counts.{change_count, has_event, is_dequeue
 use event_records::{Event, MAX_THREADS};
 use history_merge::{OpKind, Operation};
 
-/// How many threads have an event.
+/// Counts the threads that have an event.
 pub(crate) fn thread_count(events: &[Event]) -> usize
     requires { All (λ e. e.thread ≤ MAX_THREAD) events.now }
     ensures { result ≡ thread_count events.now }
@@ -15,7 +15,7 @@ pub(crate) fn thread_count(events: &[Event]) -> usize
     count_set(&threads_in(events))
 }
 
-/// Of each thread that there may be, whether it has an event.
+/// Returns for each thread that there may be whether it has an event.
 fn threads_in(events: &[Event]) -> [bool; MAX_THREADS]
     requires { All (λ e. e.thread ≤ MAX_THREAD) events.now }
     ensures marks { (thread : ℕ) → thread < MAX_THREADS → slice_index_or result thread false ≡ has_event events.now thread }
@@ -28,14 +28,14 @@ fn threads_in(events: &[Event]) -> [bool; MAX_THREADS]
     seen
 }
 
-/// How many are true.
+/// Counts the marks that are set.
 fn count_set(marks: &[bool; MAX_THREADS]) -> usize
     ensures { result ≡ count_by (λ mark. mark) marks.now }
 {
     marks.iter().filter(|mark| **mark).count()
 }
 
-/// How many events are of another thread than the event before.
+/// Counts the events that are of another thread than the event before.
 pub(crate) fn change_count(events: &[Event]) -> usize
     ensures { result ≡ change_count events.now }
 {
@@ -45,7 +45,7 @@ pub(crate) fn change_count(events: &[Event]) -> usize
     }
 }
 
-/// How many events are of another thread than the one at the same place of the second list.
+/// Counts the events that are of another thread than the one at the same place of the second list.
 fn change_count_with(events: &[Event], later: &[Event]) -> usize
     ensures { result ≡ count_by (λ pair. not (nat_eq pair.0.thread pair.1.thread)) (zip events.now later.now) }
 {
@@ -56,7 +56,7 @@ fn change_count_with(events: &[Event], later: &[Event]) -> usize
         .count()
 }
 
-/// How many enqueues the queue took.
+/// Counts the successful enqueues.
 pub(crate) fn enqueued_count(operations: &[Operation]) -> usize
     ensures { result ≡ kind_count is_enqueued operations.now }
 {
@@ -66,7 +66,7 @@ pub(crate) fn enqueued_count(operations: &[Operation]) -> usize
         .count()
 }
 
-/// How many enqueues the queue refused.
+/// Counts the failed enqueues.
 pub(crate) fn refused_count(operations: &[Operation]) -> usize
     ensures { result ≡ kind_count is_refused operations.now }
 {
@@ -76,7 +76,7 @@ pub(crate) fn refused_count(operations: &[Operation]) -> usize
         .count()
 }
 
-/// How many dequeues gave a value.
+/// Counts the dequeues that gave a value.
 pub(crate) fn dequeued_count(operations: &[Operation]) -> usize
     ensures { result ≡ kind_count is_dequeued operations.now }
 {
@@ -86,7 +86,7 @@ pub(crate) fn dequeued_count(operations: &[Operation]) -> usize
         .count()
 }
 
-/// How many dequeues found the queue empty.
+/// Counts the dequeues that found the queue empty.
 pub(crate) fn empty_count(operations: &[Operation]) -> usize
     ensures { result ≡ kind_count is_empty operations.now }
 {

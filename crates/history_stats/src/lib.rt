@@ -1,5 +1,5 @@
-//! What a history is like, in numbers: how many events, operations and threads it has, how far its operations overlap, and how
-//! full its queue surely was.
+//! What a history is like, in numbers: how many events, operations and threads it has, how far its operations
+//! overlap, and how many values its queue definitely held.
 #![tactic(auto)]
 
 mod at_once;

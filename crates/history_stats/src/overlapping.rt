@@ -8,7 +8,7 @@ ghost use Rattle.history_stats.specs.Inner.AtOnce.{IsLastReturn};
 
 use history_merge::Operation;
 
-/// How many operations overlap another one.
+/// Counts the operations that overlap another one.
 ///
 /// Takes time in proportion to the operations, and no memory.
 pub(crate) fn overlapping_count(operations: &[Operation]) -> usize
@@ -28,7 +28,7 @@ pub(crate) fn overlapping_count(operations: &[Operation]) -> usize
     count
 }
 
-/// Whether the operation at this place overlaps another one, where the last return of those before it is known.
+/// Whether the operation at this place overlaps another one, if the last return of those before it is known.
 fn overlaps_another(
     operations: &[Operation],
     place: usize,
@@ -47,7 +47,7 @@ fn overlaps_another(
     returns_from(earlier, last_return, operation.call) || is_called_by(later, operation.ret)
 }
 
-/// Whether one of the operations returns at the ticket or behind it, where the last return of them is known.
+/// Whether one of the operations returns at the ticket or later, if the last return of them is known.
 fn returns_from(operations: &[Operation], last_return: u64, ticket: u64) -> bool
     requires { IsLastReturn operations.now last_return }
     ensures { result ≡ list_any (λ o. nat_le ticket o.ret) operations.now }
@@ -66,7 +66,7 @@ fn is_called_by(operations: &[Operation], ticket: u64) -> bool
     }
 }
 
-/// The tenths of a percent that a part is of the whole, rounded down.
+/// Returns the tenths of a percent that a part is of the whole, rounded down.
 pub(crate) fn tenths_of_percent(part: usize, whole: usize) -> usize
     requires { part ≤ MAX_EVENTS }
     ensures { result ≡ tenths_of_percent part whole }

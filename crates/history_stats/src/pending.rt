@@ -8,7 +8,7 @@ use crate::at_once::most_of;
 use history_merge::Operation;
 use std::alloc::{AllocError, Global};
 
-/// The most operations that were pending at one gap.
+/// Returns the most operations that were pending at one gap.
 ///
 /// Takes time O(n log n) for n operations, and memory for two tickets of each.
 pub(crate) fn most_pending(alloc: Global, operations: &[Operation]) -> Result<usize, AllocError>
@@ -21,7 +21,7 @@ pub(crate) fn most_pending(alloc: Global, operations: &[Operation]) -> Result<us
     Ok(most_of(0, calls, returns))
 }
 
-/// The tickets of the calls.
+/// Returns the tickets of the calls.
 fn calls_of(alloc: Global, operations: &[Operation]) -> Result<Vec<u64>, AllocError>
     ensures { IfOk result (λ v. v.items ≡ map (λ o. o.call) operations.now) }
 {
@@ -31,7 +31,7 @@ fn calls_of(alloc: Global, operations: &[Operation]) -> Result<Vec<u64>, AllocEr
         .collect(alloc)
 }
 
-/// The tickets of the returns.
+/// Returns the tickets of the returns.
 fn returns_of(alloc: Global, operations: &[Operation]) -> Result<Vec<u64>, AllocError>
     ensures { IfOk result (λ v. v.items ≡ map (λ o. o.ret) operations.now) }
 {

@@ -1,4 +1,4 @@
-//! The most values that surely were in the queue at once.
+//! The most values that were definitely in the queue at once.
 ghost use Rattle.std.specs.Prelude.{◌≡◌, ◌+◌, ◌≤◌, ◌++◌, ◌&&◌, ◌||◌, ◌==◌, ◌∷◌, [], ℕ, IfOk, OnOk, count_by, false, if◌then◌else◌, length, nat_lt, not, vec_len};
 ghost use Rattle.std.specs.Option.{option_map_or};
 ghost use Rattle.event_records.specs.declared.limits.TheConstants.{MAX_EVENTS, MAX_INITIAL};
@@ -12,7 +12,7 @@ use history_merge::{OpKind, Operation};
 use std::alloc::{AllocError, Global};
 use std::collections::BTreeMap;
 
-/// The most values that surely were in the queue at one gap.
+/// Returns the most values that were definitely in the queue at one gap.
 ///
 /// Takes time O(n log n) for n operations and initial values, and memory in proportion to them.
 pub(crate) fn most_queued(
@@ -32,7 +32,7 @@ pub(crate) fn most_queued(
     Ok(most_of(initial.len(), comes, goes))
 }
 
-/// Of each value that a dequeue gave, the ticket at which the first such dequeue was called.
+/// Returns for each value that a dequeue gave the ticket at which the first such dequeue was called.
 fn first_takes(alloc: Global, operations: &[Operation]) -> Result<BTreeMap<u64, u64>, AllocError>
     ensures { IfOk result (λ takes. (gap v : ℕ) → is_kept_before gap takes v ≡ is_taken_before gap operations.now v) }
 {
@@ -45,7 +45,7 @@ fn first_takes(alloc: Global, operations: &[Operation]) -> Result<BTreeMap<u64, 
     Ok(takes)
 }
 
-/// Keeps the ticket for the value, where no lower one is kept for it.
+/// Keeps the ticket for the value, if no lower one is kept for it.
 fn keep_least(kept: &mut BTreeMap<u64, u64>, value: u64, ticket: u64) -> Result<(), AllocError>
     ensures { OnOk result ((gap v : ℕ) → is_kept_before gap kept.new v ≡ (is_kept_before gap kept.old v || (v == value && nat_lt ticket gap))) }
 {
@@ -57,7 +57,7 @@ fn keep_least(kept: &mut BTreeMap<u64, u64>, value: u64, ticket: u64) -> Result<
     Ok(())
 }
 
-/// The ticket that is kept for the value, if one is.
+/// Returns the ticket that is kept for the value, if one is.
 fn ticket_for(kept: &BTreeMap<u64, u64>, value: u64) -> Option<u64>
     ensures { (gap : ℕ) → option_map_or (λ t. nat_lt t gap) result false ≡ is_kept_before gap kept.now value }
 {
@@ -107,7 +107,7 @@ fn add_enqueued(
     Ok(())
 }
 
-/// The same of one operation.
+/// Adds the tickets at which the value of one operation comes and goes, if it is an enqueue.
 fn add_one(
     comes: &mut Vec<u64>,
     goes: &mut Vec<u64>,

@@ -21,9 +21,9 @@ pub struct Statistics {
     pub operations: usize,
     /// The threads that have an event.
     pub threads: usize,
-    /// The enqueues that the queue took.
+    /// The successful enqueues.
     pub enqueued: usize,
-    /// The enqueues that the queue refused.
+    /// The failed enqueues.
     pub refused: usize,
     /// The dequeues that gave a value.
     pub dequeued: usize,
@@ -39,11 +39,11 @@ pub struct Statistics {
     pub overlapping_tenths: usize,
     /// The most operations that were pending at once.
     pub most_pending: usize,
-    /// The most values that surely were in the queue at once.
+    /// The most values that were definitely in the queue at once.
     pub most_queued: usize,
 }
 
-/// The events of a history, in a list of their own.
+/// Returns the events of a history, in a list of their own.
 fn listed_events(alloc: Global, history: &History) -> Result<Vec<Event>, AllocError>
     ensures listed { IfOk result (λ events. events.items ≡ history.now.events) }
     ensures complete { IsCompleteHistory history.now.events }
@@ -51,9 +51,9 @@ fn listed_events(alloc: Global, history: &History) -> Result<Vec<Event>, AllocEr
     history.events().collect(alloc)
 }
 
-/// The statistics of a history.
+/// Computes the statistics of a history.
 ///
-/// `AllocError` comes only where a growth was refused. Takes time O(n log n) for n events and initial values, and memory in
+/// `AllocError` comes only if memory runs out. Takes time O(n log n) for n events and initial values, and memory in
 /// proportion to them.
 pub fn statistics_of(alloc: Global, history: &History) -> Result<Statistics, AllocError>
     ensures { IfOk result (AreStatisticsOf history.now) }

@@ -1,4 +1,4 @@
-//! Writing statistics.
+//! How statistics are written.
 ghost use Rattle.std.specs.Prelude.{◌≡◌, ◌+◌, ◌≤◌, ◌||◌, ◌++◌, OnOk, OnErr, codes, decimal, is_err, length, []};
 ghost use Rattle.std.specs.Io.KnownBytes.{Appends};
 ghost use Rattle.text_lines.specs.Writing.{AppendsFront, IsWritten, IsRefused};
@@ -7,7 +7,7 @@ ghost use Rattle.history_stats.specs.Text.{decimal_of_tenths, statistic_line, st
 use crate::statistics::Statistics;
 use text_lines::{Kept, TextSink, WriteFault, write_piece};
 
-/// Writes the lines of statistics, each a name, a space and a value. The writer isn't flushed.
+/// Writes the lines of statistics, each a name, a space and a value. It doesn't flush the writer.
 pub fn write_statistics<W: TextSink>(
     statistics: &Statistics,
     writer: &mut W,
@@ -23,7 +23,7 @@ pub fn write_statistics<W: TextSink>(
     write_piece(kept.as_slice(), writer)
 }
 
-/// All lines.
+/// Adds all lines.
 fn push_statistics(kept: &mut Kept, statistics: &Statistics)
     requires { kept.old ≡ [] }
     ensures { kept.new ≡ statistics_text statistics.now }
@@ -43,7 +43,7 @@ fn push_statistics(kept: &mut Kept, statistics: &Statistics)
     push_line(kept, b"most-in-queue", statistics.most_queued);
 }
 
-/// The line of a number.
+/// Adds the line of a number.
 fn push_line(kept: &mut Kept, name: &[u8], value: usize)
     requires room { length kept.old + 64 ≤ 4096 }
     requires short_name { length name.now ≤ 20 }
@@ -56,7 +56,7 @@ fn push_line(kept: &mut Kept, name: &[u8], value: usize)
     kept.push(b"\n");
 }
 
-/// The line of a number of tenths.
+/// Adds the line of a number of tenths.
 fn push_tenths_line(kept: &mut Kept, name: &[u8], tenths: usize)
     requires room { length kept.old + 64 ≤ 4096 }
     requires short_name { length name.now ≤ 20 }

@@ -16,9 +16,9 @@ use Rattle.verdicts.specs.declared.verifying.ClaimLine.{ClaimLine}
 use Rattle.verdicts.specs.declared.verifying.ClaimLine.TheVariants.{Op, Initial}
 use Rattle.text_lines.specs.Lines.{greatest_value, front_of, ◌>>=◌}
 use Rattle.text_lines.specs.Input.{Ending}
-use Rattle.text_lines.specs.Forms.{judged, numbers_in, spelled, AreOfForm}
+use Rattle.text_lines.specs.Forms.{parse_line, numbers_in, spelled, AreOfForm}
 use Rattle.text_lines.proofs.Numbers.{both, bind_ok, chosen}
-use Rattle.text_lines.proofs.Tables.{judged_says, is_line_form}
+use Rattle.text_lines.proofs.Tables.{parse_line_says, is_line_form}
 use Rattle.text_lines.proofs.WrittenLines.{all_digits}
 use Rattle.history_text.specs.Items.{line_of, item_at_front, read_by}
 use Rattle.history_text.specs.Verdicts.{kind_fields, operation_fields, claim_line_fields}
@@ -68,12 +68,12 @@ rows = (
 )
 
 -- what a line is judged as spells it
-pub operation_said : (n : ℕ) (fields : List (List ℕ)) (said : OpKind × List ℕ) → judged n operation_forms fields ≡ Ok said
+pub operation_said : (n : ℕ) (fields : List (List ℕ)) (said : OpKind × List ℕ) → parse_line n operation_forms fields ≡ Ok said
     → IsSpelled operation_format fields (operation_of said.0 said.1)
 operation_said n fields said e =
-    judged_says (λ kind numbers f. IsSpelled operation_format f (operation_of kind numbers)) n operation_forms fields said rows refl e
+    parse_line_says (λ kind numbers f. IsSpelled operation_format f (operation_of kind numbers)) n operation_forms fields said rows refl e
 
--- the fields of a line of a yes are spelled as its operation is written
+-- the fields of a line of a `YES` are spelled as its operation is written
 pub operation_ok : (n : ℕ) (fields : List (List ℕ)) (o : Operation) → operation_in n fields ≡ Ok o → IsSpelled operation_format fields o
 operation_ok n fields o e =
     elim (chosen (is_initial fields) _ _ _ e) [
@@ -86,7 +86,7 @@ initial_row [] h = absurd h
 initial_row (v ∷ []) h = record { text = refl; line = h.1 }
 initial_row (v ∷ x ∷ xs) h = absurd (h.2)
 
--- the fields of a line of a no are spelled as it is written
+-- the fields of a line of a `NO` are spelled as it is written
 pub claim_line_ok : (n : ℕ) (fields : List (List ℕ)) (l : ClaimLine) → claim_line_in n fields ≡ Ok l → IsSpelled claim_line_format fields l
 claim_line_ok n fields l e =
     elim (chosen (is_initial fields) _ _ _ e) [
@@ -106,7 +106,7 @@ read_operation n fields = read_by operation_forms operation_of n fields
 
 module _ (c r t : ℕ) (a : c ≤ MAX_TICKET) (b : r ≤ MAX_TICKET) (few : t ≤ MAX_THREAD) where
   valued_back : (v : ℕ) (word : List ℕ) (kind : OpKind) → v ≤ greatest_value → is_line_form (valued_operation word) ≡ true
-      → ((n : ℕ) → judged n operation_forms (decimal c ∷ decimal r ∷ decimal t ∷ word ∷ decimal v ∷ [])
+      → ((n : ℕ) → parse_line n operation_forms (decimal c ∷ decimal r ∷ decimal t ∷ word ∷ decimal v ∷ [])
       ≡ (numbers_in n (valued_operation word) (decimal c ∷ decimal r ∷ decimal t ∷ word ∷ decimal v ∷ []) >>= λ found. Ok (kind, found)))
       → IsReadAs read_operation (decimal c ∷ decimal r ∷ decimal t ∷ word ∷ decimal v ∷ []) (operation_of kind (c ∷ r ∷ t ∷ v ∷ []))
   valued_back v word kind range is_line finds =
@@ -154,7 +154,7 @@ claim_line_back (Initial v) range =
     let is = row_back initial_forms initial_of tt initial_form (v ∷ []) refl refl (λ n. refl) (omega arith, range, tt) in
     record { one = is.one; read_back = λ n. is.read_back n }
 
--- the line of a no is read as that line
+-- the line of a `NO` is read as that line
 pub claim_line_front : (n k : ℕ) (ending : Ending) (l : ClaimLine) (rest : List ℕ) → HasClaimLine l → k < MAX_CLAIM_LINES
     → item_at_front claim_line_format n k ending (front_of (line_of claim_line_format l ++ rest)) ≡ Ok (Some l, rest)
 claim_line_front n k ending l rest range few =

@@ -8,8 +8,8 @@ use Rattle.event_records.specs.declared.event.What.TheVariants.{CallEnq, RetEnq,
 use Rattle.event_records.specs.declared.limits.TheConstants.{MAX_TICKET, MAX_THREAD, MAX_EVENTS}
 use Rattle.text_lines.specs.Lines.{greatest_value, front_of, ◌>>=◌}
 use Rattle.text_lines.specs.Input.{Ending}
-use Rattle.text_lines.specs.Forms.{judged, numbers_in, spelled, AreOfForm}
-use Rattle.text_lines.proofs.Tables.{judged_says, is_line_form}
+use Rattle.text_lines.specs.Forms.{parse_line, numbers_in, spelled, AreOfForm}
+use Rattle.text_lines.proofs.Tables.{parse_line_says, is_line_form}
 use Rattle.history_text.specs.Items.{item_at_front}
 use Rattle.history_text.specs.Histories.{what_fields, event_line, HasValueInRange, HasEventLine, plain_event, valued_event, event_forms}
 use Rattle.history_text.specs.Histories.{what_with, event_of, event_in, event_format}
@@ -60,9 +60,9 @@ rows = (
 )
 
 -- what a line is judged as spells it
-pub event_said : (n : ℕ) (fields : List (List ℕ)) (said : What × List ℕ) → judged n event_forms fields ≡ Ok said
+pub event_said : (n : ℕ) (fields : List (List ℕ)) (said : What × List ℕ) → parse_line n event_forms fields ≡ Ok said
     → IsSpelled event_format fields (event_of said.0 said.1)
-event_said n fields said e = judged_says (λ what numbers f. IsSpelled event_format f (event_of what numbers)) n event_forms fields said rows refl e
+event_said n fields said e = parse_line_says (λ what numbers f. IsSpelled event_format f (event_of what numbers)) n event_forms fields said rows refl e
 
 -- the fields of an event are spelled as it is written
 pub event_ok : (n : ℕ) (fields : List (List ℕ)) (e : Event) → event_in n fields ≡ Ok e → IsSpelled event_format fields e
@@ -72,14 +72,14 @@ event_ok n fields e h = read_says event_forms event_of (IsSpelled event_format) 
 
 module _ (t th : ℕ) (a : t ≤ MAX_TICKET) (b : th ≤ MAX_THREAD) (what : What) (word : List ℕ) where
   plain_back : is_line_form (plain_event word) ≡ true
-      → ((n : ℕ) → judged n event_forms (decimal t ∷ decimal th ∷ word ∷ [])
+      → ((n : ℕ) → parse_line n event_forms (decimal t ∷ decimal th ∷ word ∷ [])
       ≡ (numbers_in n (plain_event word) (decimal t ∷ decimal th ∷ word ∷ []) >>= λ found. Ok (what, found)))
       → IsReadAs event_in (decimal t ∷ decimal th ∷ word ∷ []) (event_of what (t ∷ th ∷ []))
   plain_back is_line finds =
       row_back event_forms event_of what (plain_event word) (t ∷ th ∷ []) refl is_line finds (omega arith, a, (omega arith, b, tt))
 
   valued_back : (v : ℕ) → v ≤ greatest_value → is_line_form (valued_event word) ≡ true
-      → ((n : ℕ) → judged n event_forms (decimal t ∷ decimal th ∷ word ∷ decimal v ∷ [])
+      → ((n : ℕ) → parse_line n event_forms (decimal t ∷ decimal th ∷ word ∷ decimal v ∷ [])
       ≡ (numbers_in n (valued_event word) (decimal t ∷ decimal th ∷ word ∷ decimal v ∷ []) >>= λ found. Ok (what, found)))
       → IsReadAs event_in (decimal t ∷ decimal th ∷ word ∷ decimal v ∷ []) (event_of what (t ∷ th ∷ v ∷ []))
   valued_back v r is_line finds =

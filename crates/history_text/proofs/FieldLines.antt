@@ -21,7 +21,7 @@ no_header expected ending fault TooLong h = ap Some (sym h)
 no_header expected ending fault Unfinished h = ap Some (sym h)
 no_header expected ending fault Nothing h = ap Some (sym h)
 
--- where no line is whole, none is the expected first one
+-- if no line is whole, none is the expected first one
 pub no_header_line : (expected : List ℕ) (old : Option Ahead) (fault : TextFault) → HasNoLine Header old fault → HasHeaderFault expected old fault
 no_header_line expected None fault h = tt
 no_header_line expected (Some a) fault h = no_header expected a.ending fault (front_of a.bytes) h
@@ -33,7 +33,7 @@ nothing_said read n ending fault TooLong h = ap Err (sym h)
 nothing_said read n ending fault Unfinished h = ap Err (sym h)
 nothing_said read n ending fault Nothing h = ap Err (sym h)
 
--- where no line is whole, none says anything
+-- if no line is whole, none says anything
 pub no_line_said : {A : Type 0} (read : ℕ → List (List ℕ) → Result A TextFault) (n : ℕ) (old : Option Ahead) (fault : TextFault)
     → HasNoLine (Line n) old fault → HasLineFault read n old fault
 no_line_said read n None fault h = tt
@@ -48,7 +48,7 @@ line_faulty read n old new bytes (Ok said) taken part e = tt
 line_faulty read n old new bytes (Err fault) taken part e =
     at_line (λ end front. line_at_front read n end front ≡ Err fault) old new bytes taken part (λ end rest. rw (← e) refl)
 
--- the same of the next line, which has then been counted
+-- a faulty next line has been counted
 pub next_line_faulty : {A : Type 0} (read : ℕ → List (List ℕ) → Result A TextFault) (n m : ℕ) (old new : Option Ahead) (bytes : List ℕ)
     (r : Result A TextFault) → m ≡ n → Takes old new (line bytes) × IsPartOfLine bytes → r ≡ read m (fields_of bytes) → IfErr r (HasLineFault read n old)
 next_line_faulty read n m old new bytes r same taken e = line_faulty read n old new bytes r taken.0 taken.1 (rw same at e)
@@ -70,7 +70,7 @@ said_taken read fields Fits n old new bytes (Ok said) taken spelled e =
 said_taken read fields Fits n old new bytes (Err fault) taken spelled e = tt
 
 -- the line of an item is taken
-pub told_taken : {A : Type 0} (format : Format A) (old new : Option Ahead) (bytes : List ℕ) (r : Result A TextFault) → Takes old new (line bytes)
+pub required_taken : {A : Type 0} (format : Format A) (old new : Option Ahead) (bytes : List ℕ) (r : Result A TextFault) → Takes old new (line bytes)
     → IfOk r (IsSpelled format (fields_of bytes)) → IfOk r (λ item. Takes old new (line_of format item) × format.HasLine item)
-told_taken format old new bytes (Ok item) taken spelled = (fields_taken old new bytes (format.fields item) taken spelled.text, spelled.line)
-told_taken format old new bytes (Err fault) taken spelled = tt
+required_taken format old new bytes (Ok item) taken spelled = (fields_taken old new bytes (format.fields item) taken spelled.text, spelled.line)
+required_taken format old new bytes (Err fault) taken spelled = tt

@@ -20,13 +20,13 @@ other_fault : (Lacking : Type 0) (IsFault : TextFault → Type 0) (fault : TextF
 other_fault L F Memory other h = absurd other
 other_fault L F fault other h = h
 
--- a fault of the input is no want of memory
+-- a fault of the input isn't out of memory
 pub first_is : (IsFault : Ending → List ℕ → TextFault → Type 0) (LacksRoom : List ℕ → Type 0) (old : Option Ahead) (fault : TextFault)
     → IsOfInput fault → IfSome old (λ a. IsFault a.ending a.bytes fault) → HasFirstFault IsFault LacksRoom old fault
 first_is F L None fault other h = tt
 first_is F L (Some a) fault other h = other_fault (L a.bytes) (F a.ending a.bytes) fault other h
 
--- the same of what is such a fault however the input goes on
+-- a fault that implies such a fault is first too
 pub is_first : (P IsFault : Ending → List ℕ → TextFault → Type 0) (LacksRoom : List ℕ → Type 0) (old : Option Ahead) (fault : TextFault) → IsOfInput fault
     → ((e : Ending) (b : List ℕ) → P e b fault → IsFault e b fault) → IfSome old (λ a. P a.ending a.bytes fault) → HasFirstFault IsFault LacksRoom old fault
 is_first P F L None fault other step h = tt
@@ -40,14 +40,14 @@ moved P Q (Some a) None front taken step h = absurd taken
 moved P Q (Some a) (Some b) front taken step h = subst (Q a.ending) (sym taken.0)
     (subst (λ (e : Ending). Q e (front ++ b.bytes)) taken.1 (step b.ending b.bytes h))
 
--- the same of a fault of one line
+-- a fault of what follows a taken front is one of the whole input
 pub line_fault : (P Q : Ending → List ℕ → TextFault → Type 0) (LacksRoom : List ℕ → Type 0) (old mid : Option Ahead) (front : List ℕ)
     (fault : TextFault) → IsOfInput fault → Takes old mid front → ((e : Ending) (r : List ℕ) → P e r fault → Q e (front ++ r) fault)
     → IfSome mid (λ a. P a.ending a.bytes fault) → HasFirstFault Q LacksRoom old fault
 line_fault P Q L old mid front fault of_input taken step h = first_is Q L old fault of_input
     (moved (λ e r. P e r fault) (λ e r. Q e r fault) old mid front taken step h)
 
--- the same of a first fault
+-- a first fault of what follows a taken front is a first one of the whole input
 pub later_fault : (P Q : Ending → List ℕ → TextFault → Type 0) (L M : List ℕ → Type 0) (old mid : Option Ahead) (front : List ℕ) (fault : TextFault)
     → Takes old mid front → ((e : Ending) (r : List ℕ) (f : TextFault) → P e r f → Q e (front ++ r) f) → ((r : List ℕ) → L r → M (front ++ r))
     → HasFirstFault P L mid fault → HasFirstFault Q M old fault
@@ -70,7 +70,7 @@ all_and_last : {A : Type 0} (P : A → Type 0) (items : List A) (x : A) → AllB
 all_and_last P [] x all last = (last, tt)
 all_and_last P (y ∷ ys) x all last = (all.0, all_and_last P ys x all.1 last)
 
--- one item more, where there is room for it
+-- one item more, if there is room for it
 pub HaveLines-push : {A : Type 0} (format : Format A) (items : List A) (x : A) → HaveLines format items → format.HasLine x → length items < format.most
     → HaveLines format (items ++ x ∷ [])
 HaveLines-push format items x right last few = record {
@@ -104,7 +104,7 @@ no_room format items x (Some a) (Some b) (Some c) right taken few range now = re
 
 -- ---- answers
 
--- what holds on success holds where there was no error
+-- what holds on success holds if there was no error
 pub on_ok : {V E : Type 0} (r : Result V E) (P : Type 0) → false ≡ is_err r → OnOk r P → P
 on_ok (Ok v) P ok h = h
 on_ok (Err e) P ok h = cc
@@ -114,7 +114,7 @@ pub faults_by : {V : Type 0} (r : Result V TextFault) (P Q : TextFault → Type 
 faults_by (Ok v) P Q step h = tt
 faults_by (Err fault) P Q step h = step fault h
 
--- where the input has no fault, only memory can run out
+-- if the input has no fault, only memory can run out
 only_memory : (IsFault : Ending → List ℕ → TextFault → Type 0) (LacksRoom : List ℕ → Type 0) (a : Ahead) (fault : TextFault)
     → ((f : TextFault) → IsFault a.ending a.bytes f → ⊥) → HasFirstFault IsFault LacksRoom (Some a) fault → fault ≡ Memory
 only_memory F L a fault none h =

@@ -21,7 +21,7 @@ no_line n ending fault TooLong h = h
 no_line n ending fault Unfinished h = h
 no_line n ending fault Nothing h = h
 
--- where no line is whole, none is a first one
+-- if no line is whole, none is a first one
 pub no_first_line : (n : ℕ) (old : Option Ahead) (fault : TextFault) → HasNoLine (Line n) old fault → HasFirstLineFault n old fault
 no_first_line n None fault h = tt
 no_first_line n (Some a) fault h = no_line n a.ending fault (front_of a.bytes) h
@@ -42,7 +42,7 @@ first_line_is_first lines n (Some a) fault n_is of_input h =
     first_is (IsVerdictTextFault lines) NoRoomForVerdict (Some a) fault of_input
     (inl (subst (λ (m : ℕ). FirstLineFault m a.ending fault (front_of a.bytes)) n_is h))
 
--- an operation of a yes has it
+-- an operation of a `YES` has it
 pub operation_is_first : (lines n : ℕ) (old mid : Option Ahead) (fault : TextFault) → n ≡ lines + 2
     → Takes old mid (line (first_line None)) → HasItemsFault operation_format n mid fault → HasVerdictTextFault lines old fault
 operation_is_first lines n old mid fault n_is taken h =
@@ -50,7 +50,7 @@ operation_is_first lines n old mid fault n_is taken h =
     (line (first_line None)) fault taken
     (λ e r f k. inr (None, (r, refl, subst (λ (m : ℕ). ItemFault operation_format m e f r) n_is k))) (λ r k. (None, (r, refl, k))) h
 
--- a line of a no has it
+-- a line of a `NO` has it
 pub claim_line_is_first : (lines n : ℕ) (kind : ViolationKind) (old mid : Option Ahead) (fault : TextFault) → n ≡ lines + 2
     → Takes old mid (line (first_line (Some kind))) → HasItemsFault claim_line_format n mid fault → HasVerdictTextFault lines old fault
 claim_line_is_first lines n kind old mid fault n_is taken h =

@@ -5,9 +5,9 @@ use Rattle.std.specs.List.{AllByRecursion, list_all}
 use Rattle.text_lines.specs.declared.fault.TextFault.{TextFault}
 use Rattle.text_lines.specs.Lines.{line, spaced, front_of, ◌>>=◌}
 use Rattle.text_lines.specs.Input.{Ending}
-use Rattle.text_lines.specs.Forms.{Table, FieldForm, judged, numbers_in, spelled, AreOfForm}
+use Rattle.text_lines.specs.Forms.{Table, FieldForm, parse_line, numbers_in, spelled, AreOfForm}
 use Rattle.text_lines.proofs.Numbers.{bind_ok}
-use Rattle.text_lines.proofs.Tables.{has_bits, numbers_back, judged_says, is_line_form, spelled_is_line}
+use Rattle.text_lines.proofs.Tables.{has_bits, numbers_back, parse_line_says, is_line_form, spelled_is_line}
 use Rattle.text_lines.proofs.WrittenLines.{IsLineOf}
 use Rattle.history_text.specs.Items.{Format, line_of, item_at_front, read_by}
 use Rattle.history_text.proofs.ItemFronts.{item_front}
@@ -21,7 +21,7 @@ pub record IsReadAs {A : Type 0} (read : ℕ → List (List ℕ) → Result A Te
 module _ {T A : Type 0} (table : Table T) (make : T → List ℕ → A) where
   -- what a row of the table writes is read as what is made of it
   pub row_back : (what : T) (form : List FieldForm) (numbers : List ℕ) → list_all has_bits form ≡ true → is_line_form form ≡ true
-      → ((n : ℕ) → judged n table (spelled form numbers) ≡ (numbers_in n form (spelled form numbers) >>= λ found. Ok (what, found)))
+      → ((n : ℕ) → parse_line n table (spelled form numbers) ≡ (numbers_in n form (spelled form numbers) >>= λ found. Ok (what, found)))
       → AreOfForm form numbers → IsReadAs (read_by table make) (spelled form numbers) (make what numbers)
   row_back what form numbers bits is_line finds within = record {
     one = spelled_is_line form numbers is_line within;
@@ -29,14 +29,14 @@ module _ {T A : Type 0} (table : Table T) (make : T → List ℕ → A) where
         (finds n ∙ ap (λ (r : Result (List ℕ) TextFault). r >>= λ found. Ok (what, found)) (numbers_back n form numbers bits within));
   }
 
-  -- where it holds of each line that a row writes, it holds of what is read
+  -- if it holds of each line that a row writes, it holds of what is read
   pub read_says : (Q : List (List ℕ) → A → Type 0) (n : ℕ) (fields : List (List ℕ)) (item : A)
       → AllByRecursion (λ row. (numbers : List ℕ) → AreOfForm row.1 numbers → Q (spelled row.1 numbers) (make row.0 numbers)) table
       → list_all (λ row. list_all has_bits row.1) table ≡ true → read_by table make n fields ≡ Ok item → Q fields item
   read_says Q n fields item each bits e =
-      let said = bind_ok (judged n table fields) _ item e in
+      let said = bind_ok (parse_line n table fields) _ item e in
       let same : make said.0.0 said.0.1 ≡ item = cc (said.2) in
-      subst (Q fields) same (judged_says (λ what numbers f. Q f (make what numbers)) n table fields said.0 each bits said.1)
+      subst (Q fields) same (parse_line_says (λ what numbers f. Q f (make what numbers)) n table fields said.0 each bits said.1)
 
 -- an item whose line is read back is read at the front
 pub item_read : {A : Type 0} (format : Format A) (n k : ℕ) (ending : Ending) (item : A) (rest : List ℕ)
@@ -51,10 +51,10 @@ line_read read fields said is = λ n ending rest. line_front read n ending field
 
 -- what a table says of a line is made an item
 pub read_as : {T A : Type 0} (table : Table T) (make : T → List ℕ → A) (n : ℕ) (fields : List (List ℕ)) (t : T) (numbers : List ℕ)
-    → Ok (t, numbers) ≡ judged n table fields → Ok (make t numbers) ≡ read_by table make n fields
+    → Ok (t, numbers) ≡ parse_line n table fields → Ok (make t numbers) ≡ read_by table make n fields
 read_as table make n fields t numbers said = rw (← said) refl
 
 -- a fault that a table finds in a line is what it is read as
 pub read_faulty : {T A : Type 0} (table : Table T) (make : T → List ℕ → A) (n : ℕ) (fields : List (List ℕ)) (fault : TextFault)
-    → Err fault ≡ judged n table fields → Err fault ≡ read_by table make n fields
+    → Err fault ≡ parse_line n table fields → Err fault ≡ read_by table make n fields
 read_faulty table make n fields fault said = rw (← said) refl

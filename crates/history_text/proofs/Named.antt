@@ -81,7 +81,7 @@ operation_or_none : (here : Option Operation) → flat_map operation_line (optio
 operation_or_none None = refl
 operation_or_none (Some o) = refl
 
--- the lines of the operations of a yes
+-- the lines of the operations of a `YES`
 pub order_is : (operations : List Operation) (places : List ℕ)
     → flat_map operation_line (filter_map (slice_get operations) places) ≡ flat_map (operation_text operations) places
 order_is operations [] = refl

@@ -104,7 +104,7 @@ module _ {A : Type 0} (format : Format A) (says : (item : A) → format.HasLine 
       let more = as_many_agree xs ys r s all_x.1 all_y.1 (omega (arith, many)) parts.1 in
       (ap₂ (λ (z : A) (zs : List A). z ∷ zs) parts.0 more.0, more.1)
 
-  -- where some items stand, the line after fewer has no fault
+  -- if some items stand, the line after fewer has no fault
   pub more_or_fault : (n : ℕ) (ending : Ending) (fault : TextFault) (xs ys : List A) (r s : List ℕ) → AllByRecursion format.HasLine xs
       → AllByRecursion format.HasLine ys → length ys < length xs → lines_of format xs ++ r ≡ lines_of format ys ++ s
       → LineFault format.read n ending fault s → ⊥

@@ -40,7 +40,7 @@ events_agree es fs r s text_e text_f same =
 pub rest_is : (front bytes r s : List ℕ) (P : List ℕ → Type 0) → bytes ≡ front ++ r → bytes ≡ front ++ s → P r → P s
 rest_is front bytes r s P is_r is_s h = subst P (append_cancel_left front r s (sym is_r ∙ is_s)) h
 
--- where the events and the last line stand, none of these lines has a fault
+-- if the events and the last line stand, none of these lines has a fault
 pub events_have_no_fault : (n : ℕ) (ending : Ending) (fault : TextFault) (es : List Event) (r : List ℕ) → HasHistoryText es
     → ItemFault event_format n ending fault (lines_to_end es ++ r) → ⊥
 events_have_no_fault n ending fault es r text h =

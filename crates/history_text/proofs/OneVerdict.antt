@@ -132,7 +132,7 @@ no_fault lines a c fault text is ending h =
     text_has_no_fault lines c fault text (subst (λ (e : Ending). IsVerdictTextFault lines e (verdict_text c) fault) ending
     (subst (λ (b : List ℕ). IsVerdictTextFault lines a.ending b fault) is h))
 
--- what is read where the rest of the input is a text
+-- what is read if the rest of the input is a text
 pub reads_what_is_there : (lines : ℕ) (old new : Option Ahead) (r : Result Claimed TextFault)
     → IfOk r (λ c. HasVerdictText c × Takes old new (verdict_text c) × IsOver EndOfInput new) → IfErr r (HasVerdictTextFault lines old)
     → (claimed : Claimed) → HasVerdictText claimed → IsAll old (verdict_text claimed) → MatchResult r (λ c. c ≡ claimed) (λ fault. fault ≡ Memory)

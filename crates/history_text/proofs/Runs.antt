@@ -78,13 +78,13 @@ module _ {A : Type 0} (format : Format A) (back : IsReadBack format) where
       let more = same_run (k + 1) i j n m ending xs ys r s (omega arith) (omega arith) all_x.1 all_y.1 few_i few_j stop_r stop_s parts.1 in
       (ap₂ (λ (z : A) (zs : List A). z ∷ zs) parts.0 more.0, more.1)
 
-  -- bytes that two lists of items begin, behind which each stops, begin with one list
+  -- bytes that two lists of items begin, after which each stops, begin with one list
   pub same_items : (n m : ℕ) (ending : Ending) (xs ys : List A) (r s : List ℕ) → HaveLines format xs → HaveLines format ys
       → Stops format n (length xs) ending r → Stops format m (length ys) ending s → lines_of format xs ++ r ≡ lines_of format ys ++ s → (xs ≡ ys) × (r ≡ s)
   same_items n m ending xs ys r s right_x right_y stop_r stop_s same =
       same_run 0 (length xs) (length ys) n m ending xs ys r s (omega arith) (omega arith) right_x.each right_y.each right_x.few right_y.few stop_r stop_s same
 
-  -- where the last line stands after items, none of these lines has a fault
+  -- if the last line stands after items, none of these lines has a fault
   pub no_item_fault : (n : ℕ) (ending : Ending) (fault : TextFault) (xs : List A) (r after : List ℕ) → HaveLines format xs
       → ((m : ℕ) → item_at_front format m (length xs) ending (front_of r) ≡ Ok (None, after)) → ItemFault format n ending fault (lines_of format xs ++ r) → ⊥
   no_item_fault n ending fault xs r after right last faulty =

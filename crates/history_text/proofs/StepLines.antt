@@ -9,8 +9,8 @@ use Rattle.event_records.specs.declared.kind.Answer.{Answer}
 use Rattle.event_records.specs.declared.kind.Answer.TheVariants.{Taken, Not, Got, Empty}
 use Rattle.text_lines.specs.Lines.{line, spaced, front_of, ◌>>=◌}
 use Rattle.text_lines.specs.Input.{Ending}
-use Rattle.text_lines.specs.Forms.{judged, numbers_in, spelled, AreOfForm}
-use Rattle.text_lines.proofs.Tables.{judged_says, is_line_form}
+use Rattle.text_lines.specs.Forms.{parse_line, numbers_in, spelled, AreOfForm}
+use Rattle.text_lines.proofs.Tables.{parse_line_says, is_line_form}
 use Rattle.history_text.specs.Items.{line_of, item_at_front}
 use Rattle.history_text.specs.Schedules.{step_fields, setting_fields, IsAnswerInRange, HasStepLine, plain_step, plain_saying, valued_saying}
 use Rattle.history_text.specs.Schedules.{draining, step_forms, step_with, step_of, step_in}
@@ -82,9 +82,9 @@ rows = (
 )
 
 -- what a line is judged as spells it
-pub step_said : (n : ℕ) (fields : List (List ℕ)) (said : Step × List ℕ) → judged n step_forms fields ≡ Ok said
+pub step_said : (n : ℕ) (fields : List (List ℕ)) (said : Step × List ℕ) → parse_line n step_forms fields ≡ Ok said
     → IsSpelled step_format fields (step_of said.0 said.1)
-step_said n fields said e = judged_says (λ step numbers f. IsSpelled step_format f (step_of step numbers)) n step_forms fields said rows refl e
+step_said n fields said e = parse_line_says (λ step numbers f. IsSpelled step_format f (step_of step numbers)) n step_forms fields said rows refl e
 
 -- the thread of a step that has a line
 pub thread_is_few : (step : Step) (t v : ℕ) → HasStepLine (step_with step t v) → t ≤ MAX_THREAD
@@ -123,13 +123,13 @@ setting_ok n fields setting e = read_says setting_forms setting_of IsSpelledSett
 
 module _ (t : ℕ) (few : t ≤ MAX_THREAD) where
   plain_back : (word : List ℕ) (step : Step) → is_line_form (plain_step word) ≡ true
-      → ((n : ℕ) → judged n step_forms (word ∷ decimal t ∷ [])
+      → ((n : ℕ) → parse_line n step_forms (word ∷ decimal t ∷ [])
       ≡ (numbers_in n (plain_step word) (word ∷ decimal t ∷ []) >>= λ found. Ok (step, found)))
       → IsReadAs step_in (word ∷ decimal t ∷ []) (step_of step (t ∷ []))
   plain_back word step is_line finds = row_back step_forms step_of step (plain_step word) (t ∷ []) refl is_line finds (omega arith, few, tt)
 
   saying_back : (word : List ℕ) (answer : Answer) → is_line_form (plain_saying word) ≡ true
-      → ((n : ℕ) → judged n step_forms (codes "say" ∷ decimal t ∷ word ∷ [])
+      → ((n : ℕ) → parse_line n step_forms (codes "say" ∷ decimal t ∷ word ∷ [])
       ≡ (numbers_in n (plain_saying word) (codes "say" ∷ decimal t ∷ word ∷ []) >>= λ found. Ok (Say 0 answer, found)))
       → IsReadAs step_in (codes "say" ∷ decimal t ∷ word ∷ []) (step_of (Say 0 answer) (t ∷ []))
   saying_back word answer is_line finds =

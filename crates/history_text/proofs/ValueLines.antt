@@ -23,7 +23,7 @@ no_blank b bytes =
       | false ↦ rw rest.2 refl
     ]
 
--- a line is blank where it has no byte
+-- a line is blank if it has no byte
 pub blank_line : (bytes : List ℕ) → is_blank (fields_of bytes) ≡ (length bytes == 0)
 blank_line [] = refl
 blank_line (b ∷ bytes) = let some : (length (b ∷ bytes) == 0) ≡ false = grind (arith, nat_tests) in rw (no_blank b bytes, some) refl

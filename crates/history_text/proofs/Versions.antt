@@ -28,10 +28,10 @@ use Rattle.history_text.proofs.FirstFaults.{first_is, line_fault, later_fault, t
 -- ---- as many items as were told
 
 -- the line after some of them has the first fault
-pub told_is_first : {A : Type 0} (format : Format A) (k n m : ℕ) (items : List A) (old mid : Option Ahead) (fault : TextFault) → IsOfInput fault
+pub required_is_first : {A : Type 0} (format : Format A) (k n m : ℕ) (items : List A) (old mid : Option Ahead) (fault : TextFault) → IsOfInput fault
     → AllByRecursion format.HasLine items → Takes old mid (lines_of format items) → length items < k → m ≡ n + length items
     → HasLineFault format.read m mid fault → HasFaultAmong format k n old fault
-told_is_first format k n m items old mid fault of_input each taken fewer m_is h =
+required_is_first format k n m items old mid fault of_input each taken fewer m_is h =
     line_fault (λ e r f. LineFault format.read m e f r) (λ e b f. FaultAmong format k n e f b) (NoRoomAmong format k) old mid
     (lines_of format items) fault of_input taken
     (λ e r next. record { items = items; rest = r; fewer = fewer; each = each; front = refl; next = rw (← m_is) next }) h
@@ -60,7 +60,7 @@ no_version : (old : Option Ahead) (fault : TextFault) → ((version : Version) �
 no_version None fault h = tt
 no_version (Some a) fault h = h
 
--- where no line is whole, none is the first of a version
+-- if no line is whole, none is the first of a version
 pub no_version_line : (old : Option Ahead) (fault : TextFault) → HasNoLine Header old fault → HasNoVersion old fault
 no_version_line old fault h = no_version old fault (λ version. no_header_line (header_of version) old fault h)
 
@@ -97,7 +97,7 @@ pub takes_initial : (k : ℕ) (initial : List ℕ) (old mid new : Option Ahead) 
 takes_initial k initial old mid new is count values =
     Takes-append old mid new _ _ (subst (λ (i : ℕ). Takes old mid (line (spaced (count_fields i)))) (sym is) count) values
 
--- where the values of so many lines are read, they and the line that counts them are taken
+-- if the values of this many lines are read, they and the line that counts them are taken
 pub initial_taken : {V E : Type 0} (items : V → List ℕ) (k : ℕ) (old mid new : Option Ahead) (r : Result V E)
     → Takes old mid (line (spaced (count_fields k)))
     → IfOk r (λ v. HaveLines value_format (items v) × Takes mid new (lines_of value_format (items v))) → IfOk r (λ v. length (items v) ≡ k)

@@ -20,11 +20,11 @@ use Rattle.text_lines.proofs.Appending.{front_first, front_next, front_of_kept, 
 -- ---- three texts in turn
 
 module _ (a b c : Option (List ℕ)) (mid xs ys zs : List ℕ) where
-  -- a front of the second goes out, after what was kept back of the first
+  -- a prefix of the second goes out, after what was held back of the first
   pub stops_second : Puts a b [] mid xs → AppendsFront b c (mid ++ ys) → AppendsFront a c (xs ++ (ys ++ zs))
   stops_second h k = front_next a b c [] mid xs (ys ++ zs) h (subst (AppendsFront b c) (append_assoc mid ys zs) (front_first b c (mid ++ ys) zs k))
 
-  -- a front of what was kept back of both goes out
+  -- a prefix of what was held back of both goes out
   pub stops_third : (d : Option (List ℕ)) (last : List ℕ) → Puts a b [] mid xs → Puts b c mid last ys → AppendsFront c d last
       → AppendsFront a d (xs ++ (ys ++ zs))
   stops_third d last h k l = front_next a b d [] mid xs (ys ++ zs) h (front_of_kept b c d mid last ys zs k l)
@@ -51,7 +51,7 @@ complete_has_text events complete values few = record {
   few = few;
 }
 
--- a complete history has a text of this version, where its values and events fit
+-- a complete history has a text of this version, if its values and events fit
 pub written_has_text : (version : Version) (initial : List ℕ) (events : List Event) → (version ≡ One → initial ≡ []) → length initial ≤ MAX_INITIAL
     → IsCompleteHistory events → length events ≤ MAX_EVENTS → (version ≡ Two → All (λ v. v ≤ greatest_value) initial)
     → All (λ e. HasValueInRange e.what) events → HasText (record { version = version; initial = initial; events = events })
@@ -66,12 +66,12 @@ written_has_text Two initial events none few_initial complete few values_fit eve
 
 -- ---- what is kept back goes out last
 
--- all of it, where that succeeds
+-- all of it, if that succeeds
 pub all_out : {T E : Type 0} (r : Result T E) (a b c : Option (List ℕ)) (kept text : List ℕ) → Puts a b [] kept text → OnOk r (Appends b c kept)
     → OnOk r (Appends a c text)
 all_out r a b c kept text put = on_ok_weaker r (puts_all a b c kept text put)
 
--- a front of it, where that fails
+-- a prefix of it, if that fails
 pub front_out : {T E : Type 0} (r : Result T E) (a b c : Option (List ℕ)) (kept text : List ℕ) → Puts a b [] kept text → OnErr r (AppendsFront b c kept)
     → OnErr r (AppendsFront a c text)
 front_out r a b c kept text put = on_err_weaker r (puts_front a b c kept text put)

@@ -75,13 +75,13 @@ few_places at (p ∷ places) =
     let others = few_places at places in
     omega (arith, more, others)
 
--- ---- the operations of a yes
+-- ---- the operations of a `YES`
 
 module _ (initial : List ℕ) (events : List Event) (values : AllByRecursion (λ v. v ≤ greatest_value) initial) (text : HasHistoryText events) where
   has_line_at : (p : ℕ) (o : Operation) → slice_get (operations_of events) p ≡ Some o → HasOperationLine o
   has_line_at p o at = has_line events o text.each (contains_at (operations_of events) p o at)
 
-  -- ---- the lines of a no
+  -- ---- the lines of a `NO`
 
   has_claim_line : (p : LinePlace) (l : ClaimLine) → line_at initial (operations_of events) p ≡ Some l → HasClaimLine l
   has_claim_line (place.Op p) l is = held (slice_get (operations_of events) p) refl is

@@ -22,7 +22,7 @@ use Rattle.history_text.specs.Verdicts.{operation_fields, claim_line_fields, kin
 
 -- ---- operations
 
--- a value of 64 bits, where there is one
+-- a value of 64 bits, if there is one
 abbrev pub IsKindInRange : OpKind → Type 0
 IsKindInRange Empty = Unit {0}
 IsKindInRange (Enq v) = v ≤ greatest_value
@@ -44,13 +44,13 @@ empty_operation = a_ticket ∷ a_ticket ∷ a_thread ∷ Word (codes "empty") �
 abbrev pub valued_operation : List ℕ → List FieldForm
 valued_operation word = a_ticket ∷ a_ticket ∷ a_thread ∷ Word word ∷ a_value ∷ []
 
--- the forms of the lines of operations, and what these did by them, where 0 stands for a value
+-- the forms of the lines of operations, and what each form stands for, with 0 as the value
 abbrev pub operation_forms : Table OpKind
 operation_forms =
     (Enq 0, valued_operation (codes "enq")) ∷ (Deq 0, valued_operation (codes "deq")) ∷ (Empty, empty_operation)
     ∷ (Not 0, valued_operation (codes "not")) ∷ []
 
--- the same with this value, where it has one
+-- puts this value into it, if it has one
 abbrev pub kind_with : OpKind → ℕ → OpKind
 kind_with (Enq _) v = Enq v
 kind_with (Deq _) v = Deq v
@@ -67,17 +67,17 @@ abbrev pub is_initial : List (List ℕ) → Bool
 is_initial (word ∷ others) = bytes_eq word (codes "init")
 is_initial [] = false
 
--- what line n of a yes says, by its fields
+-- what line n of a `YES` says, by its fields
 abbrev pub operation_in : ℕ → List (List ℕ) → Result Operation TextFault
 operation_in n fields = if is_initial fields then Err (Line n) else read_by operation_forms operation_of n fields
 
--- what a yes lists
+-- what a `YES` lists
 abbrev pub operation_format : Format Operation
 operation_format = record { fields = operation_fields; HasLine = HasOperationLine; most = MAX_CLAIM_LINES; is_counted = false; read = operation_in }
 
--- ---- the lines of a no
+-- ---- the lines of a `NO`
 
--- which lines a no may have
+-- which lines a `NO` may have
 abbrev pub HasClaimLine : ClaimLine → Type 0
 HasClaimLine (Op o) = HasOperationLine o
 HasClaimLine (Initial v) = v ≤ greatest_value
@@ -94,12 +94,12 @@ initial_forms = (tt, initial_form) ∷ []
 abbrev pub initial_of : Unit {0} → List ℕ → ClaimLine
 initial_of _ numbers = Initial (slice_index numbers 0)
 
--- what line n of a no says, by its fields
+-- what line n of a `NO` says, by its fields
 abbrev pub claim_line_in : ℕ → List (List ℕ) → Result ClaimLine TextFault
 claim_line_in n fields =
     if is_initial fields then read_by initial_forms initial_of n fields else (read_by operation_forms operation_of n fields >>= λ o. Ok (Op o))
 
--- what a no lists
+-- what a `NO` lists
 abbrev pub claim_line_format : Format ClaimLine
 claim_line_format = record { fields = claim_line_fields; HasLine = HasClaimLine; most = MAX_CLAIM_LINES; is_counted = false; read = claim_line_in }
 
@@ -115,7 +115,7 @@ abbrev pub HasVerdictText : Claimed → Type 0
 HasVerdictText (Yes operations) = HaveLines operation_format operations
 HasVerdictText (No kind lines) = HaveLines claim_line_format lines
 
--- the first line of a yes, or of a no of this kind
+-- the first line of a `YES`, or of a `NO` of this kind
 abbrev pub first_line : Option ViolationKind → List ℕ
 first_line None = codes "YES"
 first_line (Some kind) = codes "NO " ++ kind_name kind

@@ -44,7 +44,7 @@ lines_to_end events = flat_map event_line events ++ end_line (length events)
 abbrev pub history_text : List Event → List ℕ
 history_text events = line header ++ lines_to_end events
 
--- a value of 64 bits, where there is one
+-- a value of 64 bits, if there is one
 abbrev pub HasValueInRange : What → Type 0
 HasValueInRange (CallEnq v) = v ≤ greatest_value
 HasValueInRange (RetDeq v) = v ≤ greatest_value
@@ -66,13 +66,13 @@ plain_event word = a_ticket ∷ a_thread ∷ Word word ∷ []
 abbrev pub valued_event : List ℕ → List FieldForm
 valued_event word = a_ticket ∷ a_thread ∷ Word word ∷ a_value ∷ []
 
--- the forms of the lines of events, and what happened by them, where 0 stands for a value
+-- the forms of the lines of events, and what each form stands for, with 0 as the value
 abbrev pub event_forms : Table What
 event_forms =
     (CallEnq 0, valued_event (codes "call-enq")) ∷ (RetEnq, plain_event (codes "ret-enq")) ∷ (RetNot, plain_event (codes "ret-not"))
     ∷ (CallDeq, plain_event (codes "call-deq")) ∷ (RetDeq 0, valued_event (codes "ret-deq")) ∷ (RetEmpty, plain_event (codes "ret-empty")) ∷ []
 
--- the same with this value, where it has one
+-- puts this value into it, if it has one
 abbrev pub what_with : What → ℕ → What
 what_with (CallEnq _) v = CallEnq v
 what_with (RetDeq _) v = RetDeq v

@@ -7,7 +7,7 @@ use Rattle.event_records.specs.declared.limits.TheConstants.{MAX_TICKET, MAX_THR
 use Rattle.text_lines.specs.declared.fault.TextFault.{TextFault}
 use Rattle.text_lines.specs.declared.fault.TextFault.TheVariants.{Line, Limit}
 use Rattle.text_lines.specs.Input.{Ending, EndOfInput, Failure}
-use Rattle.text_lines.specs.Forms.{Table, FieldForm, Number, judged}
+use Rattle.text_lines.specs.Forms.{Table, FieldForm, Number, parse_line}
 use Rattle.text_lines.specs.Lines.{line, spaced, Front, Whole, TooLong, Unfinished, Nothing, front_of, fault_at, fields_of, ◌>>=◌, begins_as_end, end_in}
 use Rattle.text_lines.specs.Lines.{greatest_value}
 
@@ -16,7 +16,7 @@ pub record Format (A : Type 0) : Type 1 where
   pub fields : A → List (List ℕ)  -- the fields of an item's line
   pub HasLine : A → Type 0  -- which items have a line
   pub most : ℕ  -- how many items a text may have
-  pub is_counted : Bool  -- whether a last line counts the items; else they go on to the end of the input, or a line before them tells how many they are
+  pub is_counted : Bool  -- whether a last line counts the items; otherwise they go on to the end of the input, or a line before them counts them
   pub read : ℕ → List (List ℕ) → Result A TextFault  -- what the fields of line n say
 
 -- ---- what is written
@@ -52,7 +52,7 @@ a_value = Number 0 greatest_value
 
 -- what the fields of line n say, by a table and by what is made of its rows and of their numbers
 abbrev pub read_by : {T A : Type 0} → Table T → (T → List ℕ → A) → ℕ → List (List ℕ) → Result A TextFault
-read_by table make n fields = judged n table fields >>= λ said. Ok (make said.0 said.1)
+read_by table make n fields = parse_line n table fields >>= λ said. Ok (make said.0 said.1)
 
 -- the line that the input begins with, line n, by what its fields say, and the bytes after it
 abbrev pub line_at_front : {A : Type 0} → (ℕ → List (List ℕ) → Result A TextFault) → ℕ → Ending → Front → Result (A × List ℕ) TextFault
@@ -65,13 +65,13 @@ line_at_front read n ending Nothing = Err (fault_at ending)
 abbrev pub LineFault : {A : Type 0} → (ℕ → List (List ℕ) → Result A TextFault) → ℕ → Ending → TextFault → List ℕ → Type 0
 LineFault read n ending fault bytes = line_at_front read n ending (front_of bytes) ≡ Err fault
 
--- a whole line, line n after k items: an item, or none where it is the last line
+-- a whole line, line n after k items: an item, or none if it is the last line
 abbrev pub item_in : {A : Type 0} → Format A → ℕ → ℕ → List ℕ → Result (Option A) TextFault
 item_in format n k bytes =
     if format.is_counted && begins_as_end bytes then (end_in n k (drop 4 bytes) >>= λ _. Ok None)
     else (if nat_lt k format.most then (format.read n (fields_of bytes) >>= λ item. Ok (Some item)) else Err (Limit n))
 
--- no byte where a line could begin: that is right at the end of the input, where no last line counts the items
+-- no byte where a line could begin: that is right at the end of the input, if no last line counts the items
 abbrev pub item_at_nothing : {A : Type 0} → Bool → Ending → Result (Option A × List ℕ) TextFault
 item_at_nothing true ending = Err (fault_at ending)
 item_at_nothing false EndOfInput = Ok (None, [])
@@ -100,7 +100,7 @@ pub record NoRoom {A : Type 0} (format : Format A) (bytes : List ℕ) : Type 0 w
   pub right : HaveLines format (items ++ last ∷ [])
   pub front : bytes ≡ lines_of format (items ++ last ∷ []) ++ rest
 
--- ---- items of which a line before them tells how many they are
+-- ---- items that a line before them counts
 
 -- of k items, each in its line from line n on, some come, and the line after them has this fault
 pub record FaultAmong {A : Type 0} (format : Format A) (k n : ℕ) (ending : Ending) (fault : TextFault) (bytes : List ℕ) : Type 0 where

@@ -8,7 +8,7 @@ use Rattle.history_text.specs.Versions.{IsTextFault, NoRoomForText}
 use Rattle.history_text.specs.Schedules.{IsScheduleTextFault, NoRoomForSchedule}
 use Rattle.history_text.specs.Claims.{IsVerdictTextFault, NoRoomForVerdict}
 
--- a reader of texts: what is still to be judged, where the source tells it, and what became of the rest
+-- a reader of texts: what is still to be judged, if the source says it, and what became of the rest
 pub record Input : Type 0 where
   pub left : Option Ahead
   pub lines : ℕ  -- how many lines were taken
@@ -19,7 +19,7 @@ abbrev pub with_front : List ℕ → Option Ahead → Option Ahead
 with_front front None = None
 with_front front (Some a) = Some (record { bytes = front ++ a.bytes; ending = a.ending })
 
--- the first fault of what is ahead, as far as that is known; want of memory says that a line without fault was there
+-- the first fault of what is ahead, as far as that is known; out of memory says that a line without fault was there
 abbrev pub HasFirstFault : (Ending → List ℕ → TextFault → Type 0) → (List ℕ → Type 0) → Option Ahead → TextFault → Type 0
 HasFirstFault IsFault LacksRoom left fault = IfSome left (λ a. MemoryOr (LacksRoom a.bytes) (IsFault a.ending a.bytes) fault)
 
@@ -49,13 +49,13 @@ IsAll (Some a) text = (a.bytes ≡ text) × (a.ending ≡ EndOfInput)
 abbrev pub HasMore : Ahead → Type 0
 HasMore a = (b : ℕ) × (more : List ℕ) × (a.bytes ≡ b ∷ more)
 
--- the fault where the input should be over: a byte is ahead, or the source failed
+-- the fault if the input should be over: a byte is ahead, or the source failed
 abbrev pub HasEndFault : Option Ahead → TextFault → Type 0
 HasEndFault left Trailing = IfSome left HasMore
 HasEndFault left Read = IsOver Failure left
 HasEndFault left _ = ⊥
 
 -- whether the input is over: it is, and the source didn't fail; or a byte is ahead
-abbrev pub TellsEnd : Option Ahead → Bool → Type 0
-TellsEnd left true = IsOver EndOfInput left
-TellsEnd left false = IfSome left HasMore
+abbrev pub IsOverIf : Option Ahead → Bool → Type 0
+IsOverIf left true = IsOver EndOfInput left
+IsOverIf left false = IfSome left HasMore

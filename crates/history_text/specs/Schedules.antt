@@ -82,7 +82,7 @@ valued_saying = Word (codes "say") ∷ a_thread ∷ Word (codes "got") ∷ a_val
 abbrev pub draining : List FieldForm
 draining = Word (codes "drain") ∷ a_thread ∷ Number 0 MOST_DRAINED ∷ []
 
--- the forms of the lines of steps, and the steps by them, where 0 stands for a thread and for another number
+-- the forms of the lines of steps, and the step that each form stands for, with 0 as the thread and as another number
 abbrev pub step_forms : Table Step
 step_forms =
     (AskEnq 0, plain_step (codes "ask-enq")) ∷ (AskDeq 0, plain_step (codes "ask-deq")) ∷ (Push 0, plain_step (codes "push"))
@@ -90,12 +90,12 @@ step_forms =
     ∷ (Drain 0 0, draining) ∷ (Say 0 Taken, plain_saying (codes "taken")) ∷ (Say 0 Not, plain_saying (codes "not"))
     ∷ (Say 0 Empty, plain_saying (codes "empty")) ∷ (Say 0 (Got 0), valued_saying) ∷ []
 
--- the same answer with this value, where it has one
+-- puts this value into the answer, if it has one
 abbrev pub answer_with : Answer → ℕ → Answer
 answer_with (Got _) v = Got v
 answer_with answer v = answer
 
--- the same step of this thread, and with this number, where it has another one
+-- puts this thread into the step, and this number, if it has another one
 abbrev pub step_with : Step → ℕ → ℕ → Step
 step_with (AskEnq _) t v = AskEnq t
 step_with (AskDeq _) t v = AskDeq t

@@ -31,12 +31,12 @@ operation_fields o = decimal o.call ∷ decimal o.ret ∷ decimal o.thread ∷ k
 abbrev pub operation_line : Operation → List ℕ
 operation_line o = line (spaced (operation_fields o))
 
--- what a line of a no says: an operation, or a value that the queue holds first
+-- what a line of a `NO` says: an operation, or a value that the queue holds at first
 abbrev pub claim_line_fields : ClaimLine → List (List ℕ)
 claim_line_fields (Op o) = operation_fields o
 claim_line_fields (Initial v) = codes "init" ∷ decimal v ∷ []
 
--- a line of a no
+-- a line of a `NO`
 abbrev pub claim_line : ClaimLine → List ℕ
 claim_line l = line (spaced (claim_line_fields l))
 
@@ -47,7 +47,7 @@ kind_name VRepeat = codes "VRepeat"
 kind_name VOrd = codes "VOrd"
 kind_name VWit = codes "VWit"
 
--- the text of a verdict: a yes with its order, or a no with its kind and the lines that show it
+-- the text of a verdict: a `YES` with its linearization, or a `NO` with its kind and the lines that show it
 abbrev pub verdict_text : Claimed → List ℕ
 verdict_text (claimed.Yes operations) = line (codes "YES") ++ flat_map operation_line operations
 verdict_text (claimed.No kind lines) = line (codes "NO " ++ kind_name kind) ++ flat_map claim_line lines

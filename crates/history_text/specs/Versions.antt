@@ -4,8 +4,7 @@ use Rattle.std.specs.Prelude.{List, [], ◌∷◌, ◌++◌, length, codes, deci
 use Rattle.std.specs.declared.result.Result.{Result}
 use Rattle.event_records.specs.declared.event.Event.{Event}
 use Rattle.event_records.specs.declared.limits.TheConstants.{MAX_INITIAL}
-use Rattle.history_merge.specs.declared.builder.HistoryBuilder.{HistoryBuilder}
-use Rattle.history_merge.specs.Gathering.{HasGathered}
+use Rattle.history_merge.specs.Gathering.{BuilderView, HasGathered}
 use Rattle.history_merge.specs.Initial.{HistoryView}
 use Rattle.text_lines.specs.declared.fault.TextFault.{TextFault}
 use Rattle.text_lines.specs.declared.fault.TextFault.TheVariants.{Line}
@@ -63,7 +62,7 @@ count_forms = (tt, Word (codes "initial") ∷ Number 0 MAX_INITIAL ∷ []) ∷ [
 abbrev pub count_in : ℕ → List (List ℕ) → Result ℕ TextFault
 count_in n fields = read_by count_forms number_of n fields
 
--- the line that tells how many initial values there are, and theirs
+-- the line that counts the initial values, and theirs
 abbrev pub lines_of_initial : List ℕ → List ℕ
 lines_of_initial initial = line (spaced (count_fields (length initial))) ++ lines_of value_format initial
 
@@ -117,7 +116,7 @@ pub record HasText (t : HistoryText) : Type 0 where
 -- ---- what is read
 
 -- the text is of this version, and its values and events were gathered by the builder
-pub record IsReadAs (text : HistoryText) (version : Version) (builder : HistoryBuilder) : Type 0 where
+pub record IsReadAs (text : HistoryText) (version : Version) (builder : BuilderView) : Type 0 where
   pub same_version : version ≡ text.version
   pub gathered : HasGathered text.initial text.events builder
 

@@ -1,4 +1,4 @@
-//! What takes the items of a text.
+//! What collects the items of a text.
 ghost use Rattle.std.specs.Prelude.{◌≡◌, ◌<◌, ◌++◌, ◌∷◌, [], List, ℕ, OnOk, length};
 ghost use Rattle.event_records.specs.declared.event.Event.{Event};
 ghost use Rattle.event_records.specs.declared.limits.TheConstants.{MAX_EVENTS};
@@ -9,16 +9,16 @@ use event_records::Event;
 use history_merge::HistoryBuilder;
 use std::alloc::AllocError;
 
-/// What takes the items of a text, one after another.
+/// What collects the items of a text, one after another.
 pub(crate) trait Collects<T> {
-    /// These were added, one after another, to what was so first.
+    /// Whether these items were added, one after another, to what stood before.
     ghost Adds: { Self → Self → List T → Type 0 };
 
     fn add(&mut self, item: T) -> Result<(), AllocError>
         ensures { (first : Self) (items : List T) → Adds first self.old items → length items < MAX_EVENTS
             → OnOk result (Adds first self.new (items ++ item ∷ [])) };
 
-    /// None was added yet.
+    /// With no items nothing changes.
     ghost none: { (first : Self) → Adds first first [] };
 }
 

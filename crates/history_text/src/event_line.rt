@@ -1,7 +1,7 @@
-//! The line of an event, judged by its form, or found in one pass.
+//! The line of an event, judged by its form, or read in one pass.
 ghost use Rattle.std.specs.Prelude.{◌≡◌, ◌≤◌, ◌++◌, IfErr, IfSome, slice_index};
 ghost use Rattle.text_lines.specs.Lines.{IsLineFault, fields_of, spaced};
-ghost use Rattle.history_text.specs.Histories as judged;
+ghost use Rattle.history_text.specs.Histories as wanted;
 ghost use Rattle.history_text.specs.Histories.{event_line, what_fields, HasValueInRange, HasEventLine, event_format};
 ghost use Rattle.std.proofs.Common.{lit≤};
 
@@ -27,7 +27,7 @@ pub(crate) const VALUE: Field = Field::Number {
     greatest: u64::MAX,
 };
 
-/// The forms of the lines of events, and what happened by them, where 0 stands for a value.
+/// The forms of the lines of events, and what each form stands for, with 0 as the value.
 const EVENT_FORMS: [(What, &[Field]); 6] = [
     (
         What::CallEnq(0),
@@ -43,9 +43,9 @@ const EVENT_FORMS: [(What, &[Field]); 6] = [
     (What::RetEmpty, &[TICKET, THREAD, Field::Word(b"ret-empty")]),
 ];
 
-/// The same with this value, where it has one.
+/// Puts this value into it, if it has one.
 fn what_with(what: What, value: u64) -> What
-    ensures { result ≡ judged.what_with what value }
+    ensures { result ≡ wanted.what_with what value }
 {
     match what {
         What::CallEnq(_) => What::CallEnq(value),
@@ -54,10 +54,10 @@ fn what_with(what: What, value: u64) -> What
     }
 }
 
-/// The event that a line says by its form and its numbers.
+/// Makes the event that a line says, from its form and its numbers.
 fn event_of(what: What, numbers: &NumberFields) -> Event
     requires { slice_index numbers.now 1 ≤ MAX_THREAD }
-    ensures { result ≡ judged.event_of what numbers.now }
+    ensures { result ≡ wanted.event_of what numbers.now }
 {
     Event {
         ticket: numbers.at(0),
@@ -66,16 +66,16 @@ fn event_of(what: What, numbers: &NumberFields) -> Event
     }
 }
 
-/// The event of a line, or the first fault of its fields.
+/// Returns the event of a line, or the first fault of its fields.
 fn event_in(line: u64, bytes: &[u8]) -> Result<Event, TextFault>
-    ensures value { result ≡ judged.event_in line (fields_of bytes.now) }
+    ensures value { result ≡ wanted.event_in line (fields_of bytes.now) }
     ensures of_line { IfErr result IsLineFault }
 {
-    let (what, numbers) = text_lines::judged(line, &EVENT_FORMS, bytes)?;
+    let (what, numbers) = text_lines::parse_line(line, &EVENT_FORMS, bytes)?;
     Ok(event_of(what, &numbers))
 }
 
-/// What a thread called or was answered, at the front, and the bytes after it.
+/// Returns what a thread called or the queue answered, if its word stands at the front, and the bytes after it.
 #[inline(always)]
 fn what_front(bytes: &[u8]) -> Option<(What, &[u8])>
     ensures { IfSome result (λ p. (bytes.now ≡ spaced (what_fields p.0) ++ p.1.now) × HasValueInRange p.0) }
@@ -103,9 +103,9 @@ fn what_front(bytes: &[u8]) -> Option<(What, &[u8])>
     Some((What::RetNot, rest))
 }
 
-/// The event whose line stands whole at the front, and the bytes after it.
+/// Returns the event whose line stands whole at the front, and the bytes after it.
 ///
-/// It finds most lines that are right and none that is wrong. What it doesn't find, `event_in` judges.
+/// It reads most right lines and no wrong one. `event_in` judges what it doesn't read.
 #[inline(always)]
 fn event_front(bytes: &[u8]) -> Option<(Event, &[u8])>
     ensures { IfSome result (λ p. (bytes.now ≡ event_line p.0 ++ p.1.now) × HasEventLine p.0) }

@@ -1,4 +1,4 @@
-//! Writing the text of a history.
+//! How the text of a history is written.
 ghost use Rattle.std.specs.Prelude.{◌≡◌, ◌+◌, ◌≤◌, ◌||◌, ◌++◌, [], length, is_err, OnOk, OnErr, All};
 ghost use Rattle.std.specs.List.{flat_map};
 ghost use Rattle.std.specs.Io.KnownBytes.{Appends};
@@ -9,7 +9,7 @@ ghost use Rattle.history_text.specs.Histories.{what_fields, event_line, HasValue
 ghost use Rattle.history_text.specs.Versions.{value_format, lines_before_events, text_by, text_of, said_in, HasText};
 ghost use Rattle.text_lines.specs.Writing.{AppendsFront, Puts, IsWritten, IsRefused};
 
-use crate::lines::{Lines, put_each};
+use crate::lines::{WritesLine, put_each};
 use crate::version::Version;
 use event_records::{Event, What};
 use history_merge::{Events, History};
@@ -37,7 +37,7 @@ fn push_what(kept: &mut Kept, what: What)
     }
 }
 
-/// The line of an event.
+/// Adds the line of an event.
 #[inline(always)]
 fn push_event(kept: &mut Kept, event: Event)
     requires { length kept.old + 96 ≤ 4096 }
@@ -50,7 +50,7 @@ fn push_event(kept: &mut Kept, event: Event)
     kept.push(b"\n");
 }
 
-/// The line of an event, of which a last part may be kept back.
+/// Puts the line of an event, and may hold back the end of the text.
 #[inline(always)]
 fn put_event<W: TextSink>(event: Event, kept: &mut Kept, writer: &mut W) -> Result<(), WriteFault>
     ensures ok { OnOk result (Puts (W.contents writer.old) (W.contents writer.new) kept.old kept.new (event_line event)) }
@@ -65,7 +65,7 @@ fn put_event<W: TextSink>(event: Event, kept: &mut Kept, writer: &mut W) -> Resu
     Ok(())
 }
 
-/// The lines of events, of which a last part may be kept back.
+/// Puts the lines of events, and may hold back the end of the text.
 fn put_events<W: TextSink>(
     events: Events<'_>,
     kept: &mut Kept,
@@ -88,7 +88,7 @@ fn put_events<W: TextSink>(
 #[derive(Clone, Copy)]
 struct ValueLines;
 
-impl Lines<u64> for ValueLines {
+impl WritesLine<u64> for ValueLines {
     ghost line = { λ _. line_of value_format };
 
     ghost Fits = { λ _ value. value ≤ greatest_value };
@@ -100,7 +100,7 @@ impl Lines<u64> for ValueLines {
     }
 }
 
-/// The lines before the events, of which a last part may be kept back.
+/// Puts the lines before the events, and may hold back the end of the text.
 fn put_before_events<W: TextSink>(
     version: Version,
     initial: &[u64],
@@ -129,7 +129,7 @@ fn put_before_events<W: TextSink>(
     }
 }
 
-/// The last line, after so many events.
+/// Puts the last line, after this many events.
 fn put_end<W: TextSink>(count: usize, kept: &mut Kept, writer: &mut W) -> Result<(), WriteFault>
     ensures ok { OnOk result (Puts (W.contents writer.old) (W.contents writer.new) kept.old kept.new (end_line count)) }
     ensures err { OnErr result (AppendsFront (W.contents writer.old) (W.contents writer.new) kept.old) }
@@ -144,7 +144,7 @@ fn put_end<W: TextSink>(count: usize, kept: &mut Kept, writer: &mut W) -> Result
     Ok(())
 }
 
-/// The whole text, of which a last part may be kept back.
+/// Puts the whole text, and may hold back its end.
 fn put_text<W: TextSink>(
     version: Version,
     history: &History,
@@ -167,13 +167,13 @@ fn put_text<W: TextSink>(
 
 /// Writes the text of a history in a version. It takes no memory, and its time is linear in the text.
 ///
-/// The bytes go out in pieces of up to 4,096. The writer isn't flushed.
+/// The bytes go out in pieces of up to 4,096. It doesn't flush the writer.
 pub fn write_history<W: TextSink>(
     version: Version,
     history: &History,
     writer: &mut W,
 ) -> Result<(), WriteFault>
-    // In version 1 stands no initial value.
+    // Version 1 has no initial values.
     requires { version ≡ One → history.now.initial ≡ [] }
     ensures ok { OnOk result (Appends (W.contents writer.old) (W.contents writer.new) (text_of (said_in version history.now))) }
     ensures err { OnErr result (AppendsFront (W.contents writer.old) (W.contents writer.new) (text_of (said_in version history.now))) }
@@ -181,7 +181,7 @@ pub fn write_history<W: TextSink>(
     ensures written { OnOk result (IsWritten W.goes writer.old writer.new) }
     ensures stopped { OnErr result (IsRefused W.goes writer.old writer.new) }
 
-    // What is written is read again, since `read_history` reads each text that stands at the front of its input.
+    // `read_history` reads back what is written, as it reads each text at the front of its input.
     ensures readable { OnOk result (HasText (said_in version history.now)) }
 {
     let mut kept = Kept::new();

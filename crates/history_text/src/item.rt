@@ -1,8 +1,8 @@
-//! What texts list: events, steps or operations, each in its line.
+//! What texts list: events, steps or operations, one in each line.
 ghost use Rattle.std.specs.Prelude.{◌≡◌, ◌≤◌, ◌&&◌, ◌++◌, IfOk, IfErr, IfSome};
 ghost use Rattle.event_records.specs.declared.limits.TheConstants.{MAX_EVENTS};
 ghost use Rattle.text_lines.specs.Lines.{IsLineFault, fields_of, begins_as_end};
-ghost use Rattle.history_text.specs.Items as judged;
+ghost use Rattle.history_text.specs.Items as wanted;
 ghost use Rattle.history_text.specs.Items.{Format, line_of};
 ghost use Rattle.history_text.specs.Inner.Taking.{IsSpelled, IsItemLine};
 
@@ -17,19 +17,19 @@ pub(crate) trait Item: Drop {
     fn most() -> usize
         ensures { result ≡ format.most };
 
-    /// Whether a last line counts the items. Else they go on to the end of the input.
+    /// Whether a last line counts the items. Otherwise they go on to the end of the input.
     fn is_counted() -> bool
         ensures { result ≡ format.is_counted };
 
-    /// The item of a whole line, or the first fault of its fields.
+    /// Returns the item of a whole line, or the first fault of its fields.
     fn from_line(line: u64, bytes: &[u8]) -> Result<Self, TextFault>
         ensures value { result ≡ format.read line (fields_of bytes.now) }
         ensures of_line { IfErr result IsLineFault }
         ensures spelled { IfOk result (IsSpelled format (fields_of bytes.now)) };
 
-    /// The item whose line stands whole at the front, and the bytes after it.
+    /// Returns the item whose line stands whole at the front, and the bytes after it.
     ///
-    /// It may find some lines that are right and none that is wrong. What it doesn't find, `from_line` judges.
+    /// It may read some right lines, and reads no wrong one. `from_line` judges what it doesn't read.
     fn at_front(bytes: &[u8]) -> Option<(Self, &[u8])>
         ensures { IfSome result (λ p. (bytes.now ≡ line_of format p.0 ++ p.1.now) × format.HasLine p.0) }
     {
@@ -37,7 +37,7 @@ pub(crate) trait Item: Drop {
         None
     }
 
-    /// No text has more items than that, so that its lines can be counted.
+    /// No text has more items than this, so its lines can be counted.
     ghost few: { format.most ≤ MAX_EVENTS };
 }
 
@@ -48,13 +48,13 @@ fn is_last<T: Item>(bytes: &[u8]) -> bool
     T::is_counted() && bytes.starts_with(b"end ")
 }
 
-/// A whole line after so many items: an item, or none where it is the last line.
+/// Reads a whole line after this many items: an item, or none if it is the last line.
 pub(crate) fn item_in<T: Item>(
     line: u64,
     count: usize,
     bytes: &[u8],
 ) -> Result<Option<T>, TextFault>
-    ensures value { result ≡ judged.item_in T.format line count bytes.now }
+    ensures value { result ≡ wanted.item_in T.format line count bytes.now }
     ensures of_line { IfErr result IsLineFault }
     ensures spelled { IfOk result (IsItemLine T.format count bytes.now) }
 {

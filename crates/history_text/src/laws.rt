@@ -1,4 +1,4 @@
-//! Laws of texts. They do nothing when they run.
+//! Laws of texts. The functions do nothing when they run.
 ghost use Rattle.std.specs.Prelude.{◌≡◌, ◌≤◌, ◌++◌, ℕ, List, [], length};
 ghost use Rattle.event_records.specs.declared.limits.TheConstants.{MAX_CLAIM_LINES};
 ghost use Rattle.history_merge.specs.Operations.{operations_of};
@@ -12,41 +12,42 @@ ghost use Rattle.history_text.specs.Versions.{HasText, HistoryText, text_of, IsT
 ghost use Rattle.history_text.specs.Schedules.{HasScheduleText, schedule_text, IsScheduleTextFault};
 ghost use Rattle.text_lines.specs.Input.{Ending, EndOfInput};
 
-/// A text of a history says one thing: it has one version, one list of initial values, and one of events.
+/// Proves that a text of a history says one thing: it has one version, one list of initial values, and one of events.
 pub fn a_text_has_one_history()
     ensures { (first second : HistoryText) → HasText first → HasText second → text_of first ≡ text_of second → first ≡ second }
 {}
 
-/// No text of a history is a proper front of another, whatever their versions.
+/// Proves that no text of a history is a proper prefix of another, whatever their versions.
 pub fn no_text_begins_another()
     ensures { (first second : HistoryText) (more : List ℕ) → HasText first → HasText second → text_of first ++ more ≡ text_of second → more ≡ [] }
 {}
 
-/// A text is the text of one schedule.
+/// Proves that a text is the text of one schedule.
 pub fn a_text_has_one_schedule()
     ensures { (first second : Schedule) → HasScheduleText first → HasScheduleText second → schedule_text first ≡ schedule_text second → first ≡ second }
 {}
 
-/// No text of a schedule is a proper front of another.
+/// Proves that no text of a schedule is a proper prefix of another.
 pub fn no_schedule_text_begins_another()
     ensures { (first second : Schedule) (more : List ℕ) → HasScheduleText first → HasScheduleText second
         → schedule_text first ++ more ≡ schedule_text second → more ≡ [] }
 {}
 
-/// A text is the text of one claim.
+/// Proves that a text is the text of one claim.
 pub fn a_text_has_one_claim()
     ensures { (first second : Claimed) → HasVerdictText first → HasVerdictText second → verdict_text first ≡ verdict_text second → first ≡ second }
 {}
 
-/// The claim of a verdict on a history that has a text has one too, where it has no more lines than a text may have.
+/// Proves that if a history has a text, the claim of a verdict on it has one too, unless it has more lines than a
+/// text may have.
 ///
-/// So `read_verdict` reads what `write_verdict` wrote of it.
+/// So `read_verdict` reads back what `write_verdict` wrote.
 pub fn a_claim_on_a_text_has_a_text()
     ensures { (text : HistoryText) (verdict : Verdict) → HasText text → length (places_of verdict) ≤ MAX_CLAIM_LINES
         → HasVerdictText (claim_of text.initial (operations_of text.events) verdict) }
 {}
 
-/// An input has one first fault, as the text of a history, of a schedule or of a verdict.
+/// Proves that an input has one first fault, as the text of a history, of a schedule or of a verdict.
 pub fn one_first_fault()
     ensures history { (lines : ℕ) (ending : Ending) (bytes : List ℕ) (f g : TextFault)
         → IsTextFault lines ending bytes f → IsTextFault lines ending bytes g → f ≡ g }
@@ -56,8 +57,9 @@ pub fn one_first_fault()
         → IsVerdictTextFault lines ending bytes g → f ≡ g }
 {}
 
-/// Where a text stands at the front of the input, that has no fault of such a text; for a verdict, where the text is all of the
-/// input. So `read_history`, `read_schedule` and `read_verdict` answer a fault exactly where no text stands, or want of memory.
+/// Proves that an input has no fault if a text stands at its front; for a verdict, if the text is all of the input.
+/// So `read_history`, `read_schedule` and `read_verdict` return a fault if and only if no text stands there or memory
+/// runs out.
 pub fn a_text_has_no_fault()
     ensures history { (lines : ℕ) (ending : Ending) (text : HistoryText) (rest : List ℕ) (fault : TextFault) → HasText text
         → IsTextFault lines ending (text_of text ++ rest) fault → ⊥ }

@@ -1,9 +1,9 @@
 //! Texts of histories, verdicts and schedules, read and written.
 //!
-//! A history's text is one line of bytes for each event, between a first line and a last one that counts them; a schedule's
-//! is the same for steps, with a second line for its setting. A verdict's is a first line and one for each operation, to the
-//! end of the input. A reader judges any bytes, in any pieces, from any source: it gives what is written exactly where its
-//! text stands, and otherwise the first fault with its line.
+//! A history's text has a first line, one line for each event, and a last line that counts them; a schedule's has
+//! steps in place of events, and a second line for its setting. A verdict's is a first line and one line for each
+//! operation, to the end of the input. A reader judges any bytes, in any pieces, from any source: it returns what was
+//! written if and only if its text stands there, otherwise the first fault with its line.
 #![tactic(auto)]
 
 mod collecting;

@@ -1,28 +1,28 @@
-//! Lines that are written one after another, of which a last part is kept back.
+//! How lines are written one after another, while the end of the text is held back.
 ghost use Rattle.std.specs.Prelude.{◌≡◌, ◌+◌, ◌≤◌, ◌||◌, ◌++◌, List, ℕ, length, is_err, OnOk, OnErr, All};
 ghost use Rattle.std.specs.List.{flat_map};
 ghost use Rattle.text_lines.specs.Writing.{AppendsFront, Puts, IsWritten, IsRefused};
 
 use text_lines::{Kept, TextSink, WriteFault, make_room};
 
-/// How items stand in a text, each in its line.
-pub(crate) trait Lines<T> {
-    /// The line of an item, where it has one.
+/// How items are written in a text, one in each line.
+pub(crate) trait WritesLine<T> {
+    /// The line of an item, if it has one.
     ghost line: { Self → T → List ℕ };
 
-    /// What is known of an item whose line was written.
+    /// Whether an item whose line was written is one that a text may have.
     ghost Fits: { Self → T → Type 0 };
 
-    /// The item's line goes behind what is kept back.
+    /// Adds the item's line to what is held back.
     fn push(&self, item: &T, kept: &mut Kept)
         requires { length kept.old + 96 ≤ 4096 }
         ensures line { kept.new ≡ kept.old ++ line self.now item.now }
         ensures fits { Fits self.now item.now };
 }
 
-/// The line of an item.
+/// Puts the line of an item.
 #[inline(always)]
-fn put_one<T, L: Lines<T>, W: TextSink>(
+fn put_one<T, L: WritesLine<T>, W: TextSink>(
     lines: &L,
     item: &T,
     kept: &mut Kept,
@@ -40,8 +40,8 @@ fn put_one<T, L: Lines<T>, W: TextSink>(
     Ok(())
 }
 
-/// The lines of the items, in their order.
-pub(crate) fn put_each<T, L: Lines<T>, W: TextSink>(
+/// Puts the lines of the items, in order.
+pub(crate) fn put_each<T, L: WritesLine<T>, W: TextSink>(
     lines: &L,
     items: &[T],
     kept: &mut Kept,

@@ -1,9 +1,9 @@
-//! The lines of a verdict: its first one, its operations and the initial values of a no, judged by their forms.
+//! The lines of a verdict: its first one, its operations and the initial values of a `NO`, judged by their forms.
 ghost use Rattle.std.specs.Prelude.{◌≡◌, ◌≤◌, IfErr, MatchOption, slice_index};
 ghost use Rattle.std.proofs.Common.{lit≤};
 ghost use Rattle.text_lines.specs.Lines.{IsLineFault, fields_of};
 ghost use Rattle.history_text.specs.Items.{read_by};
-ghost use Rattle.history_text.specs.Claims as judged;
+ghost use Rattle.history_text.specs.Claims as wanted;
 ghost use Rattle.history_text.specs.Claims.{operation_format, claim_line_format, IsNoFirstLine, first_line};
 
 use crate::event_line::{THREAD, TICKET, VALUE};
@@ -13,7 +13,7 @@ use history_merge::{OpKind, Operation};
 use text_lines::{Field, NumberFields, TextFault, split_field};
 use verdicts::{ClaimLine, ViolationKind};
 
-/// What the first line of a verdict answers: a yes, for which no kind stands, or a no of some kind.
+/// Returns what the first line of a verdict answers: no kind for a `YES`, the kind for a `NO`.
 pub(crate) fn answer_in(bytes: &[u8]) -> Option<Option<ViolationKind>>
     ensures { MatchOption result (IsNoFirstLine bytes.now) (λ answer. bytes.now ≡ first_line answer) }
 {
@@ -32,7 +32,7 @@ pub(crate) fn answer_in(bytes: &[u8]) -> Option<Option<ViolationKind>>
     }
 }
 
-/// The forms of the lines of operations, and what these did by them, where 0 stands for a value.
+/// The forms of the lines of operations, and what each form stands for, with 0 as the value.
 const OPERATION_FORMS: [(OpKind, &[Field]); 4] = [
     (
         OpKind::Enq(0),
@@ -55,9 +55,9 @@ const OPERATION_FORMS: [(OpKind, &[Field]); 4] = [
 /// The form of an initial value.
 const INITIAL_FORMS: [((), &[Field]); 1] = [((), &[Field::Word(b"init"), VALUE])];
 
-/// The same with this value, where it has one.
+/// Puts this value into it, if it has one.
 fn kind_with(kind: OpKind, value: u64) -> OpKind
-    ensures { result ≡ judged.kind_with kind value }
+    ensures { result ≡ wanted.kind_with kind value }
 {
     match kind {
         OpKind::Enq(_) => OpKind::Enq(value),
@@ -67,10 +67,10 @@ fn kind_with(kind: OpKind, value: u64) -> OpKind
     }
 }
 
-/// The operation that a line says by its form and its numbers.
+/// Makes the operation that a line says, from its form and its numbers.
 fn operation_of(kind: OpKind, numbers: &NumberFields) -> Operation
     requires { slice_index numbers.now 2 ≤ MAX_THREAD }
-    ensures { result ≡ judged.operation_of kind numbers.now }
+    ensures { result ≡ wanted.operation_of kind numbers.now }
 {
     Operation {
         call: numbers.at(0),
@@ -80,18 +80,18 @@ fn operation_of(kind: OpKind, numbers: &NumberFields) -> Operation
     }
 }
 
-/// The operation of a line, or the first fault of its fields.
+/// Returns the operation of a line, or the first fault of its fields.
 fn read_operation(line: u64, bytes: &[u8]) -> Result<Operation, TextFault>
-    ensures value { result ≡ read_by judged.operation_forms judged.operation_of line (fields_of bytes.now) }
+    ensures value { result ≡ read_by wanted.operation_forms wanted.operation_of line (fields_of bytes.now) }
     ensures of_line { IfErr result IsLineFault }
 {
-    let (kind, numbers) = text_lines::judged(line, &OPERATION_FORMS, bytes)?;
+    let (kind, numbers) = text_lines::parse_line(line, &OPERATION_FORMS, bytes)?;
     Ok(operation_of(kind, &numbers))
 }
 
 /// Whether the first field is that of an initial value.
 fn is_initial(bytes: &[u8]) -> bool
-    ensures { result ≡ judged.is_initial (fields_of bytes.now) }
+    ensures { result ≡ wanted.is_initial (fields_of bytes.now) }
 {
     match split_field(bytes) {
         Some((word, _rest)) => word == b"init".as_slice(),
@@ -99,9 +99,9 @@ fn is_initial(bytes: &[u8]) -> bool
     }
 }
 
-/// What a line of a yes says, or the first fault of its fields.
+/// Returns what a line of a `YES` says, or the first fault of its fields.
 fn operation_in(line: u64, bytes: &[u8]) -> Result<Operation, TextFault>
-    ensures value { result ≡ judged.operation_in line (fields_of bytes.now) }
+    ensures value { result ≡ wanted.operation_in line (fields_of bytes.now) }
     ensures of_line { IfErr result IsLineFault }
 {
     if is_initial(bytes) {
@@ -110,13 +110,13 @@ fn operation_in(line: u64, bytes: &[u8]) -> Result<Operation, TextFault>
     read_operation(line, bytes)
 }
 
-/// What a line of a no says, or the first fault of its fields.
+/// Returns what a line of a `NO` says, or the first fault of its fields.
 fn claim_line_in(line: u64, bytes: &[u8]) -> Result<ClaimLine, TextFault>
-    ensures value { result ≡ judged.claim_line_in line (fields_of bytes.now) }
+    ensures value { result ≡ wanted.claim_line_in line (fields_of bytes.now) }
     ensures of_line { IfErr result IsLineFault }
 {
     if is_initial(bytes) {
-        let (_, numbers) = text_lines::judged(line, &INITIAL_FORMS, bytes)?;
+        let (_, numbers) = text_lines::parse_line(line, &INITIAL_FORMS, bytes)?;
         return Ok(ClaimLine::Initial(numbers.at(0)));
     }
     let operation = read_operation(line, bytes)?;

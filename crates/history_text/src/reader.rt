@@ -1,4 +1,4 @@
-//! Reading texts line by line.
+//! How texts are read, line by line.
 ghost use Rattle.std.specs.Prelude.{◌≡◌, ◌+◌, ◌<◌, ◌^◌, ◌≤◌, ◌∷◌, true, false, IfOk, IfErr, OnErr, OnOk, MatchResult, IfNone, IfSome};
 ghost use Rattle.std.specs.Prelude.{option_to_list, is_err, not, Err, Ok, length, List, []};
 ghost use Rattle.event_records.specs.declared.limits.TheConstants.{MAX_INITIAL};
@@ -12,7 +12,7 @@ ghost use Rattle.history_text.specs.Versions.{lines_before_events, count_before_
 ghost use Rattle.history_text.specs.Schedules.{schedule_text, setting_fields, setting_in as judged_setting, HasScheduleText, IsSetting};
 ghost use Rattle.history_text.specs.Verdicts.{verdict_text};
 ghost use Rattle.history_text.specs.Claims.{claim_length, HasVerdictText, first_line};
-ghost use Rattle.history_text.specs.Reading.{HasTextFault, HasScheduleTextFault, HasVerdictTextFault, HasEndFault, TellsEnd};
+ghost use Rattle.history_text.specs.Reading.{HasTextFault, HasScheduleTextFault, HasVerdictTextFault, HasEndFault, IsOverIf};
 ghost use Rattle.history_text.specs.Reading.{BeginsWith, IsAll};
 ghost use Rattle.history_text.specs.Inner.Taking.{TakesLine, StopsInLine, TakesItem, TakesItems, HasNoLine, HasHeaderFault, HasNoVersion};
 ghost use Rattle.history_text.specs.Inner.Taking.{HasLineFault, HasFirstLineFault, HasItemFault, HasItemsFault, HasFaultAmong};
@@ -32,15 +32,16 @@ use std::marker::Model;
 use text_lines::{LONGEST_LINE, Line, ReadFailed, TextFault, TextSource};
 use verdicts::{ClaimLines, Claimed, Lines, ViolationKind};
 
-/// The most bytes that a source is asked for at a time.
+/// The most bytes that one read asks a source for.
 const BUFFER_LEN: usize = 4096;
 
 /// A reader of texts, one after another, from one source.
 ///
-/// Contracts see what is left to be judged, how many lines were taken, and whether the reader is stopped: at the first
-/// fault that a call answers it stops for good.
+/// Contracts see what is left to be judged, how many lines were taken, and whether the reader is stopped: after the
+/// first fault that a call returns it stays stopped.
 ///
-/// It asks its source for at most 4,096 bytes at a time, and not before each line that stands whole in what it has is judged.
+/// It asks its source for at most 4,096 bytes at a time, and only after it has judged each line that stands whole in
+/// what it has.
 #[derive(Drop)]
 pub struct TextReader<R: TextSource> {
     source: R,
@@ -70,16 +71,16 @@ impl<R: TextSource> Model for TextReader<R> {
 #[derive(Drop)]
 pub(crate) enum FrontLine {
     Whole(Line),
-    /// More bytes come than a line may have.
+    /// The line goes on after as many bytes as a line may have.
     TooLong,
-    /// The input ends first, after some byte.
+    /// The input ends within the line.
     Unfinished,
-    /// No byte comes any more.
+    /// The input is over.
     Nothing,
 }
 
 impl<R: TextSource> TextReader<R> {
-    /// A reader at the beginning of its source. It takes no memory, and asks for nothing yet.
+    /// Makes a reader at the beginning of its source. It takes no memory, and asks for nothing yet.
     pub fn new(source: R) -> Self
         ensures { result ≡ record { left = R.ahead source; lines = 0; is_stopped = false } }
     {
@@ -93,7 +94,7 @@ impl<R: TextSource> TextReader<R> {
         }
     }
 
-    /// The next byte, or none at the end of the input.
+    /// Returns the next byte, or none at the end of the input.
     fn next_byte(&mut self) -> Result<Option<u8>, ReadFailed>
         ensures byte { IfOk result (λ found. Takes self.old.left self.new.left (option_to_list found)) }
         ensures end { IfOk result (λ found. IfNone found (IsOver EndOfInput self.new.left)) }
@@ -116,10 +117,10 @@ impl<R: TextSource> TextReader<R> {
         Ok(Some(self.buffer[0]))
     }
 
-    /// Whether there is a next byte, which is not taken.
+    /// Whether there is a next byte. It doesn't take the byte.
     fn has_byte(&mut self) -> Result<bool, ReadFailed>
         ensures left { Takes self.old.left self.new.left [] }
-        ensures over { IfOk result (λ more. TellsEnd self.new.left (not more)) }
+        ensures over { IfOk result (λ more. IsOverIf self.new.left (not more)) }
         ensures failed { OnErr result (IsOver Failure self.new.left) }
         ensures lines { self.new.lines ≡ self.old.lines }
         ensures is_stopped { self.new.is_stopped ≡ self.old.is_stopped }
@@ -133,7 +134,7 @@ impl<R: TextSource> TextReader<R> {
         Ok(self.filled > 0)
     }
 
-    /// The next line, as far as it is there.
+    /// Returns the next line, as far as it is there.
     fn next_line(&mut self) -> Result<FrontLine, ReadFailed>
         requires { self.old.lines + 1 < 2 ^ 64 }
         ensures taken { MatchResult result (TakesLine self.old.left self.new.left) (λ _. StopsInLine self.old.left self.new.left) }
@@ -157,7 +158,7 @@ impl<R: TextSource> TextReader<R> {
         }
     }
 
-    /// The next line, where it is whole. A line that is too long has the given fault.
+    /// Returns the next line if it is whole. A line that is too long has the given fault.
     fn whole_line(&mut self, too_long: TextFault) -> Result<Line, TextFault>
         requires lines { self.old.lines + 1 < 2 ^ 64 }
         requires of_input { IsOfInput too_long }
@@ -176,7 +177,7 @@ impl<R: TextSource> TextReader<R> {
         }
     }
 
-    /// The first line, which is to be `expected`.
+    /// Takes the first line, which must be `expected`.
     fn header_line(&mut self, expected: &[u8]) -> Result<(), TextFault>
         requires { self.old.lines + 1 < 2 ^ 64 }
         ensures ok { OnOk result (Takes self.old.left self.new.left (line expected.now)) }
@@ -193,7 +194,7 @@ impl<R: TextSource> TextReader<R> {
         }
     }
 
-    /// The version of a history's text, by its first line.
+    /// Returns the version of a history's text, by its first line.
     fn version(&mut self) -> Result<Version, TextFault>
         requires { self.old.lines + 1 < 2 ^ 64 }
         ensures ok { IfOk result (λ version. Takes self.old.left self.new.left (line (header_of version))) }
@@ -209,7 +210,7 @@ impl<R: TextSource> TextReader<R> {
         }
     }
 
-    /// The item of the next line, where that stands whole in the buffer.
+    /// Returns the item of the next line, if that stands whole in the buffer.
     #[inline(always)]
     fn item_in_buffer<T: Item>(&mut self) -> Option<T>
         requires { self.old.lines + 1 < 2 ^ 64 }
@@ -225,7 +226,7 @@ impl<R: TextSource> TextReader<R> {
         Some(item)
     }
 
-    /// The same for any line.
+    /// Returns the item of the next line, however it comes.
     #[inline(never)]
     fn item_by_line<T: Item>(&mut self, count: usize) -> Result<Option<T>, TextFault>
         requires { self.old.lines + 1 < 2 ^ 64 }
@@ -250,7 +251,8 @@ impl<R: TextSource> TextReader<R> {
         item_in(self.lines, count, line.as_slice())
     }
 
-    /// The next line of a text after so many items: an item, or none at the last line or the end of the input.
+    /// Reads the next line of a text after this many items: an item, or none at the last line or the end of the
+    /// input.
     #[inline(always)]
     fn next_item<T: Item>(&mut self, count: usize) -> Result<Option<T>, TextFault>
         requires { self.old.lines + 1 < 2 ^ 64 }
@@ -268,8 +270,8 @@ impl<R: TextSource> TextReader<R> {
         self.item_by_line(count)
     }
 
-    /// The item of the next line, which is to be one.
-    fn told_by_line<T: Item>(&mut self) -> Result<T, TextFault>
+    /// Returns the item of the next line, which must be one.
+    fn required_by_line<T: Item>(&mut self) -> Result<T, TextFault>
         requires { self.old.lines + 1 < 2 ^ 64 }
         ensures ok { IfOk result (λ item. Takes self.old.left self.new.left (line_of T.format item) × T.format.HasLine item) }
         ensures fault { IfErr result (HasLineFault T.format.read (self.old.lines + 1) self.old.left) }
@@ -281,8 +283,8 @@ impl<R: TextSource> TextReader<R> {
         T::from_line(self.lines, line.as_slice())
     }
 
-    /// The same, in one pass where the line stands whole in the buffer and is right.
-    fn told_item<T: Item>(&mut self) -> Result<T, TextFault>
+    /// Returns the item of the next line, in one pass if the line stands whole in the buffer and is right.
+    fn required_item<T: Item>(&mut self) -> Result<T, TextFault>
         requires { self.old.lines + 1 < 2 ^ 64 }
         ensures ok { IfOk result (λ item. Takes self.old.left self.new.left (line_of T.format item) × T.format.HasLine item) }
         ensures fault { IfErr result (HasLineFault T.format.read (self.old.lines + 1) self.old.left) }
@@ -293,11 +295,11 @@ impl<R: TextSource> TextReader<R> {
         if let Some(item) = self.item_in_buffer() {
             return Ok(item);
         }
-        self.told_by_line()
+        self.required_by_line()
     }
 
-    /// So many items, each in its line.
-    fn told_items<T: Item>(&mut self, alloc: Global, count: usize) -> Result<Vec<T>, TextFault>
+    /// Returns this many items, one in each line.
+    fn required_items<T: Item>(&mut self, alloc: Global, count: usize) -> Result<Vec<T>, TextFault>
         requires few { count ≤ T.format.most }
         requires lines { self.old.lines < 2 ^ 63 + 2 ^ 32 }
         ensures items { IfOk result (λ v. HaveLines T.format v.items × Takes self.old.left self.new.left (lines_of T.format v.items)) }
@@ -308,7 +310,7 @@ impl<R: TextSource> TextReader<R> {
     {
         let mut items = Vec::new(alloc);
         while items.len() < count {
-            let item = self.told_item()?;
+            let item = self.required_item()?;
             if items.push(item).is_err() {
                 return Err(TextFault::Memory);
             }
@@ -316,7 +318,7 @@ impl<R: TextSource> TextReader<R> {
         Ok(items)
     }
 
-    /// The items from here on, up to the last line or the end of the input, go where they are collected.
+    /// Collects the items from here on, up to the last line or the end of the input.
     fn collect_items<T: Item, C: Collects<T>>(&mut self, into: &mut C) -> Result<(), TextFault>
         requires { self.old.lines < 2 ^ 63 + 2 ^ 33 }
         ensures collected { IfOk result (λ _. (items : List T) × HaveLines T.format items × TakesItems T.format self.old.left self.new.left items
@@ -334,7 +336,7 @@ impl<R: TextSource> TextReader<R> {
         Ok(())
     }
 
-    /// The items from here on, up to the last line or the end of the input.
+    /// Returns the items from here on, up to the last line or the end of the input.
     fn items<T: Item>(&mut self, alloc: Global) -> Result<Vec<T>, TextFault>
         requires { self.old.lines < 2 ^ 63 + 2 ^ 33 }
         ensures each { IfOk result (λ v. HaveLines T.format v.items) }
@@ -348,7 +350,7 @@ impl<R: TextSource> TextReader<R> {
         Ok(items)
     }
 
-    /// How many initial values there are, by the next line.
+    /// Returns how many initial values there are, by the next line.
     fn initial_count(&mut self) -> Result<usize, TextFault>
         requires { self.old.lines + 1 < 2 ^ 64 }
         ensures ok { IfOk result (λ k. Takes self.old.left self.new.left (line (spaced (count_fields k))) × (k ≤ MAX_INITIAL)) }
@@ -361,7 +363,7 @@ impl<R: TextSource> TextReader<R> {
         count_in(self.lines, line.as_slice())
     }
 
-    /// The initial values, behind the line that counts them.
+    /// Returns the initial values, after the line that counts them.
     fn initial_values(&mut self, alloc: Global) -> Result<Vec<u64>, TextFault>
         requires { self.old.lines < 2 ^ 63 + 2 }
         ensures values { IfOk result (λ v. HaveLines value_format v.items × Takes self.old.left self.new.left (lines_of_initial v.items)) }
@@ -370,10 +372,10 @@ impl<R: TextSource> TextReader<R> {
         ensures is_stopped { self.new.is_stopped ≡ self.old.is_stopped }
     {
         let count = self.initial_count()?;
-        self.told_items(alloc, count)
+        self.required_items(alloc, count)
     }
 
-    /// The version of the history's text that the input begins with, and its initial values.
+    /// Returns the version of the history's text that the input begins with, and its initial values.
     fn before_events(&mut self, alloc: Global) -> Result<(Version, Vec<u64>), TextFault>
         requires { self.old.lines < 2 ^ 63 }
         ensures values { IfOk result (λ p. HaveValueLines p.0 p.1.items × Takes self.old.left self.new.left (lines_before_events p.0 p.1.items)) }
@@ -390,8 +392,7 @@ impl<R: TextSource> TextReader<R> {
         Ok((version, initial))
     }
 
-    /// The version of the history's text that the input begins with, and its initial values and events, as those of a history in
-    /// the making.
+    /// Returns the version of the history's text that the input begins with, and the builder of its history.
     fn history(&mut self, alloc: Global) -> Result<(Version, HistoryBuilder), TextFault>
         requires { self.old.lines < 2 ^ 63 }
         ensures text { IfOk result (λ read. (text : HistoryText) × HasText text × Takes self.old.left self.new.left (text_of text)
@@ -405,7 +406,7 @@ impl<R: TextSource> TextReader<R> {
         Ok((version, builder))
     }
 
-    /// The setting in the next line.
+    /// Returns the setting in the next line.
     fn setting(&mut self) -> Result<(usize, usize), TextFault>
         requires { self.old.lines + 1 < 2 ^ 64 }
         ensures ok { IfOk result (λ s. Takes self.old.left self.new.left (line (spaced (setting_fields s.0 s.1))) × IsSetting s.0 s.1) }
@@ -418,7 +419,7 @@ impl<R: TextSource> TextReader<R> {
         setting_in(self.lines, line.as_slice())
     }
 
-    /// The schedule that the input begins with.
+    /// Returns the schedule that the input begins with.
     fn schedule(&mut self, alloc: Global) -> Result<Schedule, TextFault>
         requires { self.old.lines < 2 ^ 63 }
         ensures schedule { IfOk result (λ s. HasScheduleText s × Takes self.old.left self.new.left (schedule_text s)) }
@@ -436,7 +437,7 @@ impl<R: TextSource> TextReader<R> {
         })
     }
 
-    /// What the next line answers, as the first one of a verdict.
+    /// Returns what the next line answers, as the first one of a verdict.
     fn answer(&mut self) -> Result<Option<ViolationKind>, TextFault>
         requires { self.old.lines + 1 < 2 ^ 64 }
         ensures ok { IfOk result (λ answer. Takes self.old.left self.new.left (line (first_line answer))) }
@@ -452,7 +453,7 @@ impl<R: TextSource> TextReader<R> {
         }
     }
 
-    /// The verdict that the input is. The end of the input is counted as one line more.
+    /// Returns the verdict that the input is. The end of the input counts as one line more.
     fn lines_of_claim(&mut self, alloc: Global) -> Result<Claimed, TextFault>
         requires { self.old.lines < 2 ^ 63 }
         ensures claim { IfOk result (λ c. HasVerdictText c × Takes self.old.left self.new.left (verdict_text c) × IsOver EndOfInput self.new.left) }
@@ -472,7 +473,7 @@ impl<R: TextSource> TextReader<R> {
         }
     }
 
-    /// The verdict that the input is.
+    /// Returns the verdict that the input is.
     fn claim(&mut self, alloc: Global) -> Result<Claimed, TextFault>
         requires { self.old.lines < 2 ^ 63 }
         ensures claim { IfOk result (λ c. HasVerdictText c × Takes self.old.left self.new.left (verdict_text c) × IsOver EndOfInput self.new.left) }
@@ -486,7 +487,7 @@ impl<R: TextSource> TextReader<R> {
     }
 }
 
-/// Checks that the input is over: `Trailing` where one more byte is there, `Read` where the source fails.
+/// Checks that the input is over: `Trailing` comes if one more byte is there, `Read` if the source fails.
 pub fn at_end<R: TextSource>(reader: &mut TextReader<R>) -> Result<(), TextFault>
     requires { reader.old.is_stopped ≡ false }
     ensures ok { OnOk result (IsOver EndOfInput reader.old.left) }
@@ -504,12 +505,12 @@ pub fn at_end<R: TextSource>(reader: &mut TextReader<R>) -> Result<(), TextFault
     result
 }
 
-/// Tells whether the input is over, and takes nothing of it: what is ahead is read afterwards as if nothing had been asked.
-/// `Read` comes where the source fails; it is asked only where no byte that it gave is left.
+/// Returns whether the input is over. It takes nothing, so later reads see the same input. `Read` comes if the source
+/// fails, which is asked only if no byte that it gave is left.
 pub fn is_at_end<R: TextSource>(reader: &mut TextReader<R>) -> Result<bool, TextFault>
     requires { reader.old.is_stopped ≡ false }
     ensures left { IfOk result (λ _. Takes reader.old.left reader.new.left []) }
-    ensures over { IfOk result (λ is_over. TellsEnd reader.new.left is_over) }
+    ensures over { IfOk result (λ is_over. IsOverIf reader.new.left is_over) }
     ensures fault { IfErr result (λ fault. (fault ≡ TextFault.Read) × IsOver Failure reader.old.left) }
     ensures lines { reader.new.lines ≡ reader.old.lines }
     ensures stopped { reader.new.is_stopped ≡ is_err result }
@@ -522,12 +523,22 @@ pub fn is_at_end<R: TextSource>(reader: &mut TextReader<R>) -> Result<bool, Text
     result
 }
 
-/// Reads the text of a history, of either version, that the input begins with, up to the line feed of its last line: its version,
-/// and a history in the making that starts with its initial values and to which its events were added.
+/// Reads the text of a history, of either version, that the input begins with, up to the line feed of its last line:
+/// returns its version, and a builder that holds its initial values and events.
 ///
-/// Whether they make a complete history is for [`HistoryBuilder::finish`] to answer. The time is linear in the bytes read, beside
-/// that of the adding. Memory is taken for the initial values and by the history in the making, and `Memory` is answered only at a
-/// line that, like those before it, is whole and without fault.
+/// [`HistoryBuilder::finish`] returns whether they make a complete history. The time is linear in the bytes read,
+/// beside that of the builder. The initial values and the builder take memory, and `Memory` comes only at a line
+/// that, like those before it, is whole and without fault.
+///
+/// The text of one operation:
+///
+/// ```rust
+/// let text = b"fifo-history 1\n0 0 call-enq 7\n1 0 ret-enq\nend 2\n";
+/// let mut reader = TextReader::new(MemorySource::new(text));
+/// let (_version, builder) = read_history(alloc, &mut reader)?;
+/// let recorded = builder.finish()?;
+/// assert_eq!(rt; recorded.operations().len(), 1);
+/// ```
 pub fn read_history<R: TextSource>(
     alloc: Global,
     reader: &mut TextReader<R>,
@@ -535,11 +546,12 @@ pub fn read_history<R: TextSource>(
     requires running { reader.old.is_stopped ≡ false }
     requires lines { reader.old.lines < 2 ^ 63 }
 
-    // What is read is the text of this version, some values and events, nothing else is taken, and just these are gathered.
+    // What is read is the text of this version, these values and these events, nothing else is taken, and just these
+    // are in the builder.
     ensures text { IfOk result (λ read. (text : HistoryText) × HasText text × Takes reader.old.left reader.new.left (text_of text)
         × ((reader.new.lines ≡ reader.old.lines + line_count text) × IsReadAs text read.0 read.1)) }
 
-    // Where a text of either version stands at the front it is read, unless memory is refused.
+    // A text of either version that stands at the front is read, unless memory runs out.
     ensures whole { (text : HistoryText) → HasText text → BeginsWith reader.old.left (text_of text)
         → MatchResult result (λ read. IsReadAs text read.0 read.1) (λ fault. fault ≡ TextFault.Memory) }
 
@@ -555,9 +567,9 @@ pub fn read_history<R: TextSource>(
 
 /// Reads the text of a schedule that the input begins with, up to the line feed of its last line.
 ///
-/// Whether its threads are those of the setting, and its steps are accepted, isn't judged here. The time is linear in the
-/// bytes read. Memory is taken for the steps alone, and `Memory` is answered only at a line that, like those before it, is
-/// whole and without fault.
+/// It doesn't judge whether the threads are those of the setting, nor whether the steps are accepted. The time is
+/// linear in the bytes read. Only the steps take memory, and `Memory` comes only at a line that, like those before
+/// it, is whole and without fault.
 pub fn read_schedule<R: TextSource>(
     alloc: Global,
     reader: &mut TextReader<R>,
@@ -568,7 +580,7 @@ pub fn read_schedule<R: TextSource>(
     // What is read is the text of this schedule, and nothing else is taken.
     ensures schedule { IfOk result (λ s. HasScheduleText s × Takes reader.old.left reader.new.left (schedule_text s)) }
 
-    // Where the text of a schedule stands at the front it is read, unless memory is refused.
+    // A text of a schedule that stands at the front is read, unless memory runs out.
     ensures whole { (schedule : Schedule) → HasScheduleText schedule → BeginsWith reader.old.left (schedule_text schedule)
         → MatchResult result (λ s. s ≡ schedule) (λ fault. fault ≡ TextFault.Memory) }
 
@@ -585,9 +597,9 @@ pub fn read_schedule<R: TextSource>(
 
 /// Reads the text of a verdict, which goes on to the end of the input.
 ///
-/// Any operations may stand in it, and in a no any initial values: whether the claim is true is for `verify` to tell. The time
-/// is linear in the bytes read. Memory is taken for the lines alone, and `Memory` is answered only at a line that, like those before it, is
-/// whole and without fault.
+/// It may list any operations, and a `NO` any initial values: `verify` decides whether the claim is true. The time is
+/// linear in the bytes read. Only the lines take memory, and `Memory` comes only at a line that, like those before
+/// it, is whole and without fault.
 pub fn read_verdict<R: TextSource>(
     alloc: Global,
     reader: &mut TextReader<R>,
@@ -598,7 +610,7 @@ pub fn read_verdict<R: TextSource>(
     // What is read is the text of this claim, and the input is over after it.
     ensures claim { IfOk result (λ c. HasVerdictText c × Takes reader.old.left reader.new.left (verdict_text c) × IsOver EndOfInput reader.new.left) }
 
-    // Where the rest of the input is the text of a claim it is read, unless memory is refused.
+    // If the rest of the input is the text of a claim it is read, unless memory runs out.
     ensures whole { (claimed : Claimed) → HasVerdictText claimed → IsAll reader.old.left (verdict_text claimed)
         → MatchResult result (λ c. c ≡ claimed) (λ fault. fault ≡ TextFault.Memory) }
 

@@ -5,15 +5,15 @@ use recorder_core::Step;
 /// The most events that one step of a schedule's text drains.
 pub const MOST_DRAINED: u32 = MAX_RING as u32;
 
-/// The steps of a schedule in their order, seen as a list.
+/// The steps of a schedule in order, seen as a list.
 pub type Steps = Listed<Step>;
 
-/// What a schedule's text says. Any numbers and steps may stand in it; `read_schedule` gives those of a text.
+/// What a schedule's text says. It may have any numbers and steps; `read_schedule` returns those of a text.
 #[derive(Debug, Drop)]
 pub struct Schedule {
     /// How many threads the machine has.
     pub threads: usize,
-    /// For how many events each thread's ring has room.
+    /// The capacity of each thread's ring, in events.
     pub ring: usize,
     /// The steps that are tried, one after another. Some may be refused.
     pub steps: Steps,

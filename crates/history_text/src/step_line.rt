@@ -2,7 +2,7 @@
 ghost use Rattle.std.specs.Prelude.{◌≡◌, ◌≤◌, IfErr, slice_index};
 ghost use Rattle.std.proofs.Common.{lit≤};
 ghost use Rattle.text_lines.specs.Lines.{IsLineFault, fields_of};
-ghost use Rattle.history_text.specs.Schedules as judged;
+ghost use Rattle.history_text.specs.Schedules as wanted;
 ghost use Rattle.history_text.specs.Schedules.{step_format, HasStepLine};
 
 use crate::event_line::{THREAD, VALUE};
@@ -12,7 +12,8 @@ use event_records::{MAX_STEPS, MAX_THREAD};
 use recorder_core::{Answer, MAX_RING, MAX_THREADS, MIN_RING, Step};
 use text_lines::{Field, NumberFields, TextFault};
 
-/// The forms of the lines of steps, and the steps by them, where 0 stands for a thread and for another number.
+/// The forms of the lines of steps, and the step that each form stands for, with 0 as the thread and as another
+/// number.
 const STEP_FORMS: [(Step, &[Field]); 11] = [
     (Step::AskEnq(0), &[Field::Word(b"ask-enq"), THREAD]),
     (Step::AskDeq(0), &[Field::Word(b"ask-deq"), THREAD]),
@@ -49,9 +50,9 @@ const STEP_FORMS: [(Step, &[Field]); 11] = [
     ),
 ];
 
-/// The same answer with this value, where it has one.
+/// Puts this value into the answer, if it has one.
 fn answer_with(answer: Answer, value: u64) -> Answer
-    ensures { result ≡ judged.answer_with answer value }
+    ensures { result ≡ wanted.answer_with answer value }
 {
     match answer {
         Answer::Got(_) => Answer::Got(value),
@@ -59,11 +60,11 @@ fn answer_with(answer: Answer, value: u64) -> Answer
     }
 }
 
-/// The step that a line says by its form and its numbers.
+/// Makes the step that a line says, from its form and its numbers.
 fn step_of(step: Step, numbers: &NumberFields) -> Step
     requires thread { slice_index numbers.now 0 ≤ MAX_THREAD }
-    requires has_line { HasStepLine (judged.step_of step numbers.now) }
-    ensures { result ≡ judged.step_of step numbers.now }
+    requires has_line { HasStepLine (wanted.step_of step numbers.now) }
+    ensures { result ≡ wanted.step_of step numbers.now }
 {
     let thread = numbers.at(0) as u8;
     match step {
@@ -78,12 +79,12 @@ fn step_of(step: Step, numbers: &NumberFields) -> Step
     }
 }
 
-/// The step of a line, or the first fault of its fields.
+/// Returns the step of a line, or the first fault of its fields.
 fn step_in(line: u64, bytes: &[u8]) -> Result<Step, TextFault>
-    ensures value { result ≡ judged.step_in line (fields_of bytes.now) }
+    ensures value { result ≡ wanted.step_in line (fields_of bytes.now) }
     ensures of_line { IfErr result IsLineFault }
 {
-    let (step, numbers) = text_lines::judged(line, &STEP_FORMS, bytes)?;
+    let (step, numbers) = text_lines::parse_line(line, &STEP_FORMS, bytes)?;
     Ok(step_of(step, &numbers))
 }
 
@@ -122,11 +123,11 @@ const SETTING_FORMS: [((), &[Field]); 1] = [(
     ],
 )];
 
-/// The numbers of threads and of places in a ring that a line says, or the first fault of its fields.
+/// Returns the numbers of threads and of places in a ring that a line says, or the first fault of its fields.
 pub(crate) fn setting_in(line: u64, bytes: &[u8]) -> Result<(usize, usize), TextFault>
-    ensures value { result ≡ judged.setting_in line (fields_of bytes.now) }
+    ensures value { result ≡ wanted.setting_in line (fields_of bytes.now) }
     ensures of_line { IfErr result IsLineFault }
 {
-    let (_, numbers) = text_lines::judged(line, &SETTING_FORMS, bytes)?;
+    let (_, numbers) = text_lines::parse_line(line, &SETTING_FORMS, bytes)?;
     Ok((numbers.at(0) as usize, numbers.at(1) as usize))
 }

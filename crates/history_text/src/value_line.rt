@@ -3,7 +3,7 @@ ghost use Rattle.std.specs.Prelude.{◌≡◌, ◌++◌, IfErr, IfSome, MatchOpt
 ghost use Rattle.std.proofs.Common.{lit≤};
 ghost use Rattle.text_lines.specs.Lines.{IsLineFault, fields_of};
 ghost use Rattle.history_text.specs.Items.{line_of};
-ghost use Rattle.history_text.specs.Versions as judged;
+ghost use Rattle.history_text.specs.Versions as wanted;
 ghost use Rattle.history_text.specs.Versions.{value_format, header_of};
 
 use crate::event_line::VALUE;
@@ -12,7 +12,7 @@ use crate::version::Version;
 use event_records::MAX_INITIAL;
 use text_lines::{Field, TextFault, after_word, number_front};
 
-/// The version of which this is the first line.
+/// Returns the version of which this is the first line.
 pub(crate) fn version_in(bytes: &[u8]) -> Option<Version>
     ensures { MatchOption result ((version : Version) → bytes.now ≡ header_of version → ⊥) (λ version. bytes.now ≡ header_of version) }
 {
@@ -40,38 +40,38 @@ const COUNT_FORMS: [((), &[Field]); 1] = [(
 /// The form of the line of an initial value.
 const VALUE_FORMS: [((), &[Field]); 1] = [((), &[VALUE])];
 
-/// The number of initial values that a line says, or the first fault of its fields.
+/// Returns the number of initial values that a line says, or the first fault of its fields.
 pub(crate) fn count_in(line: u64, bytes: &[u8]) -> Result<usize, TextFault>
-    ensures value { result ≡ judged.count_in line (fields_of bytes.now) }
+    ensures value { result ≡ wanted.count_in line (fields_of bytes.now) }
     ensures of_line { IfErr result IsLineFault }
 {
-    let (_, numbers) = text_lines::judged(line, &COUNT_FORMS, bytes)?;
+    let (_, numbers) = text_lines::parse_line(line, &COUNT_FORMS, bytes)?;
     Ok(numbers.at(0) as usize)
 }
 
 /// Whether the line has no byte.
 #[tactic(auto, using(crate::proofs::ValueLines::blank_line))]
 fn is_blank(bytes: &[u8]) -> bool
-    ensures { result ≡ judged.is_blank (fields_of bytes.now) }
+    ensures { result ≡ wanted.is_blank (fields_of bytes.now) }
 {
     bytes.is_empty()
 }
 
-/// The value of a line, or the first fault of its fields.
+/// Returns the value of a line, or the first fault of its fields.
 fn value_in(line: u64, bytes: &[u8]) -> Result<u64, TextFault>
-    ensures value { result ≡ judged.value_in line (fields_of bytes.now) }
+    ensures value { result ≡ wanted.value_in line (fields_of bytes.now) }
     ensures of_line { IfErr result IsLineFault }
 {
     if is_blank(bytes) {
         return Err(TextFault::Line(line));
     }
-    let (_, numbers) = text_lines::judged(line, &VALUE_FORMS, bytes)?;
+    let (_, numbers) = text_lines::parse_line(line, &VALUE_FORMS, bytes)?;
     Ok(numbers.at(0))
 }
 
-/// The value whose line stands whole at the front, and the bytes after it.
+/// Returns the value whose line stands whole at the front, and the bytes after it.
 ///
-/// It finds each line that is right and none that is wrong. What it doesn't find, `value_in` judges.
+/// It reads each right line and no wrong one. `value_in` judges what it doesn't read.
 #[inline(always)]
 fn value_front(bytes: &[u8]) -> Option<(u64, &[u8])>
     ensures { IfSome result (λ p. bytes.now ≡ line_of value_format p.0 ++ p.1.now) }

@@ -1,4 +1,4 @@
-//! Writing the text of a verdict.
+//! How the text of a verdict is written.
 ghost use Rattle.std.specs.Prelude.{◌≡◌, ◌+◌, ◌≤◌, ◌||◌, ◌∷◌, ◌++◌, [], length, is_err, OnOk, OnErr, All, codes, option_map, slice_get};
 ghost use Rattle.std.specs.List.{flat_map};
 ghost use Rattle.std.specs.Io.KnownBytes.{Appends};
@@ -12,7 +12,7 @@ ghost use Rattle.verdicts.specs.declared.verifying.ClaimLine.TheVariants.{Op};
 ghost use Rattle.verdicts.specs.declared.shown.LinePlace.TheVariants as place;
 ghost use Rattle.text_lines.specs.Writing.{AppendsFront, Puts, IsWritten, IsRefused};
 
-use crate::lines::{Lines, put_each};
+use crate::lines::{WritesLine, put_each};
 use history_merge::{History, OpId, OpKind, Operation};
 use text_lines::{Kept, TextSink, WriteFault, write_piece};
 use value_match::{CoverStep, Violation};
@@ -68,14 +68,14 @@ fn push_line(kept: &mut Kept, shown: &ClaimLine)
     }
 }
 
-/// The line of the operation at the place.
+/// Returns the line of the operation at the place.
 fn order_line_at(operations: &[Operation], place: OpId) -> Option<ClaimLine>
     ensures { result ≡ option_map Op (slice_get operations.now place) }
 {
     operations.get(place.place()).copied().map(ClaimLine::Op)
 }
 
-/// A line, if there is one.
+/// Puts a line, if there is one.
 #[inline(always)]
 fn push_if_shown(kept: &mut Kept, shown: Option<ClaimLine>)
     requires { length kept.old + 96 ≤ 4096 }
@@ -93,7 +93,7 @@ struct PlaceLines<'a> {
     operations: &'a [Operation],
 }
 
-impl<'a> Lines<OpId> for PlaceLines<'a> {
+impl<'a> WritesLine<OpId> for PlaceLines<'a> {
     ghost line = { λ all id. operation_text all.operations.now id };
 
     ghost Fits = { λ _ _. Unit {0} };
@@ -104,7 +104,7 @@ impl<'a> Lines<OpId> for PlaceLines<'a> {
     }
 }
 
-impl<'a> Lines<LinePlace> for PlaceLines<'a> {
+impl<'a> WritesLine<LinePlace> for PlaceLines<'a> {
     ghost line = { λ all place. line_text all.initial.now all.operations.now place };
 
     ghost Fits = { λ _ _. Unit {0} };
@@ -135,7 +135,7 @@ fn put_maybe<W: TextSink>(
     }
 }
 
-/// The lines of the operations at the first places, and then of the last one if there is one.
+/// Puts the lines of the operations at the first places, and then that of the last one if there is one.
 fn put_with_last<W: TextSink>(
     lines: &PlaceLines,
     first: &[LinePlace],
@@ -200,7 +200,7 @@ fn put_witness<W: TextSink>(
     put_cover(lines, cover, kept, writer)
 }
 
-/// The first line of a no.
+/// Returns the first line of a `NO`.
 fn violation_line(violation: &Violation) -> &'static [u8]
     ensures line { result.now ≡ line (codes "NO " ++ kind_name (violation_kind violation.now)) }
     ensures short { length result.now ≤ 11 }
@@ -261,7 +261,7 @@ fn put_violation<W: TextSink>(
     }
 }
 
-/// The whole text, of which a last part may be kept back.
+/// Puts the whole text, and may hold back its end.
 fn put_verdict<W: TextSink>(
     initial: &[u64],
     operations: &[Operation],
@@ -295,8 +295,20 @@ fn put_verdict<W: TextSink>(
 
 /// Writes the text of a verdict on a history. It takes no memory, and its time is linear in the text.
 ///
-/// A yes lists its operations in their order, a no those that show the violation. The bytes go out in pieces of up to
-/// 4,096. The writer isn't flushed.
+/// A `YES` lists its operations in their order, a `NO` those that show the violation. The bytes go out in pieces of
+/// up to 4,096. It doesn't flush the writer.
+///
+/// The `history` dequeues 7, which was never enqueued:
+///
+/// ```rust
+/// let verdict = decide(alloc, &history)?;
+/// let mut output = Watched::new(Vec::new(alloc));
+/// write_verdict(&history, &verdict, &mut output)?;
+/// assert_eq!(rt;
+///     output.into_inner().as_slice(),
+///     b"NO VFresh\n0 1 0 deq 7\n".as_slice()
+/// );
+/// ```
 pub fn write_verdict<W: TextSink>(
     history: &History,
     verdict: &Verdict,

@@ -87,7 +87,7 @@ stands_refused operations lives o (Enq v) is = cc
 stands_refused operations lives o (Deq v) is = cc
 stands_refused operations lives o Empty is = cc
 
--- an empty answer at its least free gap, and a refused enqueue at its call
+-- an empty dequeue at its least free gap, and a failed enqueue at its call
 pub adds_empty : (operations : List Operation) (k p gap call : ℕ) (old new : List Placed) (placed : Placed)
     (is : IsNamed operations (filter is_empty_answer operations) k p)
     → Adds operations (take k (filter is_empty_answer operations)) old new → IsLeastFreeGap operations is.o gap → placed.operation ≡ p → call ≡ is.o.call
@@ -104,7 +104,7 @@ adds_empty operations k p gap call old new placed is adds free names calls stand
     here : position_of placed.position ≡ idle_position is.o gap
     here = stands ∙ ap (λ c. record { gap = gap; class = idle_answers; rank = c }) calls
 
--- one refused enqueue more
+-- one failed enqueue more
 pub adds_refused : (operations : List Operation) (k p call : ℕ) (old new : List Placed) (placed : Placed)
     (is : IsNamed operations (filter is_refused operations) k p)
     → Adds operations (take k (filter is_refused operations)) old new → placed.operation ≡ p → call ≡ is.o.call

@@ -73,7 +73,7 @@ enqueue_of_dequeued operations o v clear did = elim (one_did (Enq v) (decided pu
   ]
 ]
 
--- an accepted enqueue begins a life
+-- a successful enqueue begins a life
 pub life_of_enqueue : (operations : List Operation) (e : Operation) (v : ℕ) → Did operations e (Enq v)
     → (life : Life) × IsLife operations life × (enqueue_of life ≡ e)
 life_of_enqueue operations e v did = (
@@ -152,7 +152,7 @@ record IsIdleAt (o : Operation) (p : Position) : Type 0 where
 idle_at_gap : (o : Operation) (c : ℕ) (p : Position) → p ≡ idle_position o c → IsIdleAt o p
 idle_at_gap o c p is = record { class = ap (λ r. r.class) is; rank = ap (λ r. r.rank) is }
 
--- the operation is an enqueue, a dequeue, or changes nothing, and its position tells which
+-- the operation is an enqueue, a dequeue, or changes nothing, and its position shows which
 data Stands (lives : List Life) (o : Operation) (p : Position) : Type 0 where
   enters : (i : ℕ) (life : Life) → slice_get lives i ≡ Some life → enqueue_of life ≡ o → p ≡ enqueue_position lives i → Stands lives o p
   leaves : (i : ℕ) (life : Life) → slice_get lives i ≡ Some life → dequeue_of life ≡ Some o → p ≡ dequeue_position lives i → Stands lives o p

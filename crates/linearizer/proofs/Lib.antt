@@ -1,4 +1,4 @@
--- The way of the argument, from a history without violations to its legal order:
+-- The way of the argument, from a history without violations to its linearization:
 -- Times, DifferentTimes: the tickets of lives, which all differ.
 -- Choices, Opposites, ValueOrder: the next value is chosen by the least entry or the first return; so there is one order of values.
 -- Sweeping, Choosing, OrderedPlaces: two sorted lists and flags make that choice again and again.
@@ -7,7 +7,7 @@
 -- Runs, LegalOrder, OneOrder: by their positions the operations are a run that the queue accepts, the one chosen order.
 -- PlacedValues, Additions, Merging, Keys, Sorting, ChosenPlaces: the lists of placed operations, merged, are that order.
 -- NoneTwice, Partition: each operation stands in one of these lists, once.
--- Told: the order of a filled history is told by the places of the history, and takes its gaps by tickets.
+-- Told: the order of a filled history, by the places of the history, and from gaps by tickets.
 pub mod Choices
 pub mod Times
 pub mod Opposites
@@ -35,3 +35,4 @@ pub mod NoneTwice
 pub mod Partition
 pub mod ChosenPlaces
 pub mod Told
+pub mod Fitting

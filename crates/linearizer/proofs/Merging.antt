@@ -191,7 +191,7 @@ pub below_next : (Is : Position → Type 0) (limit : Option Stored) (x : Placed)
 below_next Is None x none after p is = absurd (none p is)
 below_next Is (Some q) x none after p is = through p (position_of q) (position_of x.position) (none p is) (after q refl)
 
--- what is told of an operation and the limit
+-- what the comparison says of an operation and the limit
 pub stands_not_after : (limit : Option Stored) (x : Placed) (told : Bool)
     → MatchOption limit (told ≡ false) (λ q. IsTrue told ↔ StandsBefore (position_of q) (position_of x.position)) → told ≡ false
     → (q : Stored) → limit ≡ Some q → ¬ (StandsBefore (position_of q) (position_of x.position))
@@ -201,7 +201,7 @@ stands_not_after (Some r) x told tells not q same before =
     let is : told ≡ true = tells.1 (subst (λ s. StandsBefore (position_of s) (position_of x.position)) (sym r_is) before) in
     cc
 
--- an operation that is told to stand after another does
+-- an operation stands after another if the comparison says so
 pub stands_after : (limit : Option Stored) (x : Placed) (told : Bool)
     → MatchOption limit (told ≡ false) (λ q. IsTrue told ↔ StandsBefore (position_of q) (position_of x.position)) → told ≡ true
     → IsSomeAnd limit (λ q. StandsBefore (position_of q) (position_of x.position))

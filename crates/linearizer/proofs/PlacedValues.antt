@@ -60,7 +60,7 @@ module _ (operations : List Operation) (lives : List Life) (order : IsValueOrder
   longer : take (i + 1) lives ≡ take i lives ++ life ∷ []
   longer = take_more lives i life (slice_get_within lives i life at) ∙ ap (λ x. take i lives ++ x ∷ []) (get_or_from_slice_get lives i life life at)
 
-  greatest_more : greatest_leaves_from (take (i + 1) lives) ≡ max (greatest_leaves_from (take i lives)) (leaves_from life)
+  pub greatest_more : greatest_leaves_from (take (i + 1) lives) ≡ max (greatest_leaves_from (take i lives)) (leaves_from life)
   greatest_more =
       ap greatest_leaves_from longer ∙ ap (fold max 0) (map-append leaves_from (take i lives) (life ∷ []))
       ∙ fold_max-append 0 (map leaves_from (take i lives)) (leaves_from life ∷ [])

@@ -29,7 +29,7 @@ pub record IsValueOrder (operations : List Operation) (lives : List Life) : Type
   pub holds_each_once : IsPermutation (lives_of operations) lives
   pub each_is_choice : EachIsChoice lives
 
--- the first time at which one of the values has surely entered
+-- the first time at which one of the values has definitely entered
 abbrev pub least_entered_by : List Life → ℕ
 least_entered_by lives = fold min NEVER (map entered_by lives)
 
@@ -37,7 +37,7 @@ least_entered_by lives = fold min NEVER (map entered_by lives)
 abbrev pub greatest_leaves_from : List Life → ℕ
 greatest_leaves_from lives = fold max 0 (map leaves_from lives)
 
--- the gap just before one of the values from place i on has surely entered
+-- the gap just before one of the values from place i on has definitely entered
 abbrev pub enqueue_gap : List Life → ℕ → ℕ
 enqueue_gap lives i = least_entered_by (drop i lives) - 1
 

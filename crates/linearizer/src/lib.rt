@@ -1,10 +1,12 @@
-//! The legal order of a history in which nothing is violated.
+//! The linearization of a history without violations.
 #![tactic(auto)]
 
 mod choice;
 mod order;
+mod ordered_values;
 mod placing;
 mod position;
 mod timed;
 
 pub use order::linearize;
+pub use ordered_values::{OrderedValues, order_values};

@@ -6,31 +6,38 @@ ghost use Rattle.value_match.specs.Unfilling.{place_behind};
 ghost use Rattle.value_match.specs.Violations.{NoOrderViolation};
 ghost use Rattle.linearizer.specs.Order.{AreChosenAndLegal, AreChosenAndLegalFrom, AreLeastFreeGapsFrom};
 
+use crate::ordered_values::OrderedValues;
 use crate::placing::{idles_of, merge};
 use history_merge::OpId;
 use std::alloc::{AllocError, Global};
 use value_match::{FilledMatching, Matching};
 
-/// The chosen order of all operations of a history without violations, as their places in
-/// `matching.operations()`. The queue, which holds the initial values first, accepts it, and it keeps precedence (Herlihy and
-/// Wing 1990).
+/// Returns the chosen linearization of a history without violations (Herlihy and Wing 1990), by the order of its values:
+/// the operations' places in `matching.operations()`. The queue holds the initial values first.
 ///
-/// Of two operations the one at the lower gap stands first, where gap `c` is the time between
-/// tickets `c` and `c + 1`. `gaps` has the least free gap of each empty answer, in the order of
-/// their calls. The only error is want of memory, of which the call takes a few words for each accepted value, empty answer
-/// and refused enqueue, and one for each operation; where there are initial values, one more for each operation and empty answer.
-/// Its time grows as that of a sort.
-pub fn linearize(alloc: Global, matching: &Matching, gaps: &[u64]) -> Result<Vec<OpId>, AllocError>
+/// Of two operations the one at the lower gap stands first, where gap `c` is the time between tickets `c` and `c + 1`.
+/// `gaps` has the least free gap of each empty dequeue, in the order of their calls.
+///
+/// The call takes a few words for each empty dequeue and failed enqueue, and one for each operation; if there are initial
+/// values, one more for each operation and empty dequeue. Its time grows as that of a sort of the empty dequeues and failed
+/// enqueues. The only error is out of memory.
+pub fn linearize(
+    alloc: Global,
+    matching: &Matching,
+    values: &OrderedValues,
+    gaps: &[u64],
+) -> Result<Vec<OpId>, AllocError>
+    requires values { values.now ≡ filled_operations matching.now }
     requires no_order_violation { NoOrderViolation (filled_operations matching.now) }
     requires least_free_gaps { AreLeastFreeGapsFrom matching.now.initial matching.now.operations gaps.now }
     ensures { IfOk result (λ places. AreChosenAndLegalFrom matching.now.initial matching.now.operations places.items) }
 {
     let initial_count = matching.initial().len();
     if initial_count == 0 {
-        return order_in_filled(alloc, matching.filled(), gaps);
+        return order_in_filled(alloc, matching.filled(), values, gaps);
     }
     let clocks = filled_gaps(alloc, initial_count, gaps)?;
-    let places = order_in_filled(alloc, matching.filled(), clocks.as_slice())?;
+    let places = order_in_filled(alloc, matching.filled(), values, clocks.as_slice())?;
     unfilled(alloc, initial_count, places.as_slice())
 }
 
@@ -38,14 +45,16 @@ pub fn linearize(alloc: Global, matching: &Matching, gaps: &[u64]) -> Result<Vec
 fn order_in_filled(
     alloc: Global,
     matching: &FilledMatching,
+    values: &OrderedValues,
     gaps: &[u64],
 ) -> Result<Vec<OpId>, AllocError>
+    requires values { values.now ≡ matching.now }
     requires no_order_violation { NoOrderViolation matching.now }
     requires least_free_gaps { AreLeastFreeGaps matching.now gaps.now }
     ensures { IfOk result (λ places. AreChosenAndLegal matching.now places.items) }
 {
     let idles = idles_of(alloc, matching, gaps)?;
-    merge(alloc, matching, &idles)
+    merge(alloc, matching, values, &idles)
 }
 
 /// The gaps by the clocks of the filled history.

@@ -8,7 +8,7 @@ ghost use Rattle.linearizer.specs.Order.{StandsBefore};
 ghost use Rattle.linearizer.specs.Inner.Placement.{Adds, AreEnqueueGaps, HoldsIdles, IsOrderOfPlaces, NeverFall, lives_at, position_of};
 ghost use Rattle.linearizer.specs.Inner.Merging.{IsDequeueFrom, IsEnqueueFrom, IsIdleFrom, IsMerge, IsMergedUpTo, IsValueFrom, NoneBelow};
 
-use crate::choice::ordered_places;
+use crate::ordered_values::OrderedValues;
 use crate::position::{Placed, Position};
 use history_merge::{OpId, Operation};
 use std::alloc::{AllocError, Global};
@@ -20,25 +20,18 @@ use value_match::{FilledMatching, NEVER};
 pub(crate) fn merge(
     alloc: Global,
     matching: &FilledMatching,
+    values: &OrderedValues,
     idles: &[Placed],
 ) -> Result<Vec<OpId>, AllocError>
-    requires { NeverFall idles.now }
+    requires values { values.now ≡ matching.now }
+    requires idles { NeverFall idles.now }
     ensures clear { IsClear matching.now }
     ensures merged { IfOk result (λ places. IsMerge matching.now idles.now places.items) }
 {
-    let order = ordered_places(alloc, matching)?;
-    let gaps = enqueue_gaps(alloc, matching, &order)?;
+    let (order, gaps) = values.parts();
     let mut places = Vec::with_capacity(alloc, matching.operations().len())?;
-    let mut so_far = place_enqueues(&mut places, matching, &order, &gaps, idles)?;
-    place_dequeues(
-        &mut places,
-        &mut so_far,
-        matching,
-        &order,
-        &gaps,
-        idles,
-        None,
-    )?;
+    let mut so_far = place_enqueues(&mut places, matching, order, gaps, idles)?;
+    place_dequeues(&mut places, &mut so_far, matching, order, gaps, idles, None)?;
     place_idles(&mut places, &mut so_far.idles, idles, None)?;
     Ok(places)
 }
@@ -53,7 +46,7 @@ pub(crate) struct Merged {
 }
 
 /// The gap of the enqueue of each value, in the order of the values.
-fn enqueue_gaps(
+pub(crate) fn enqueue_gaps(
     alloc: Global,
     matching: &FilledMatching,
     order: &[usize],

@@ -1,12 +1,12 @@
 //! What a message is about.
-use history_merge::HistoryFault;
+use history_merge::{Clash, HistoryFault};
 use stress_run::RunFault;
 use text_lines::TextFault;
 
 /// What a command reads.
 #[derive(Clone, Copy, Debug, PartialEq, Eq)]
 pub enum Reads {
-    /// A history, and nothing behind it.
+    /// A history, and nothing after it.
     History,
     /// A history and a verdict.
     Claim,
@@ -32,13 +32,13 @@ pub struct Given<'a> {
 pub enum Complaint<'a> {
     /// The input isn't the text that it should be.
     Text(TextFault, Given<'a>),
-    /// The events of the input are no complete history.
-    History(HistoryFault, Given<'a>),
+    /// The events of the input are no complete history; what clashes there, if that is known.
+    History(HistoryFault, Option<Clash>, Given<'a>),
     /// The history or the verdict is too large to be drawn.
     Size,
     /// None of these queues has this name.
     Queue { name: &'a str, names: &'a [&'a str] },
-    /// So many threads, with so many operations each, are more than a run may have.
+    /// This many threads, with this many operations each, are more than a run may have.
     Limit { threads: u64, operations: u64 },
     /// Memory ran out.
     Memory,
@@ -46,6 +46,6 @@ pub enum Complaint<'a> {
     Run(RunFault),
     /// The answer wasn't written whole.
     Write,
-    /// Some word isn't a word of a command that reads standard input: it may be a file.
+    /// A command that reads standard input has an operand, which may be the name of a file.
     File { command: &'a str, reads: Reads },
 }

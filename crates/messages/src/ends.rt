@@ -38,18 +38,18 @@ fn within_line(alloc: Global, given: &Given<'_>) -> Result<Message, AllocError> 
     )
 }
 
-/// The input ends behind a whole line.
+/// The input ends after a whole line.
 fn behind_line(alloc: Global, given: &Given<'_>) -> Result<Message, AllocError> {
     let number = line_feeds(given.front);
     if given.reads == Reads::Claim && end_line(given).is_some() {
         let said = format!(in alloc;
-            "the input ends behind line {number}, and a verdict has to follow the history"
+            "the input ends after line {number}, and a verdict has to follow the history"
         )?;
-        return Message::with_hint(alloc, said, "a history alone goes to fifobench check");
+        return Message::with_hint(alloc, said, "a history on its own goes to fifobench check");
     }
     let things = counted_in(given.reads);
     let said = format!(in alloc;
-        "the input ends behind line {number}, before a last line 'end <number of {things}>'"
+        "the input ends after line {number}, before a last line 'end <number of {things}>'"
     )?;
     Ok(Message::alone(alloc, said))
 }
@@ -73,22 +73,22 @@ pub(crate) fn cut_message(alloc: Global, given: &Given<'_>) -> Result<Message, A
     within_line(alloc, given)
 }
 
-/// What is to be done about a line behind the text.
+/// What is to be done about a line after the text.
 fn hint_behind(reads: Reads, line: &[u8]) -> &'static str {
     if reads == Reads::Schedule {
-        "sim takes one schedule: take the first alone by sed '/^end /q'"
+        "sim takes one schedule: take the first by sed '/^end /q'"
     } else if line.starts_with(b"YES") || line.starts_with(b"NO") {
-        "a verdict stands behind the history: fifobench verify takes both, and sed '/^end /q' the history alone"
+        "a verdict follows the history: fifobench verify takes both, and sed '/^end /q' keeps the history"
     } else {
-        "one history is taken at a time: take the first alone by sed '/^end /q'"
+        "one history is taken at a time: take the first by sed '/^end /q'"
     }
 }
 
-/// The input goes on behind its text.
+/// The input goes on after its text.
 pub(crate) fn trailing_message(alloc: Global, given: &Given<'_>) -> Result<Message, AllocError> {
     let name = text_name(given.reads);
     let Some(end) = end_line(given) else {
-        let said = format!(in alloc; "the input goes on behind its {name}")?;
+        let said = format!(in alloc; "the input goes on after its {name}")?;
         return Message::with_hint(alloc, said, hint_behind(given.reads, b"YES"));
     };
     let line = line_of(given, end.saturating_add(1)).unwrap_or(b"");

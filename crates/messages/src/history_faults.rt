@@ -1,22 +1,28 @@
 //! Messages about events that are no complete history.
 use crate::complaints::Given;
-use crate::input::{field_of, first_line, line_of, lines_before, number_of};
+use crate::input::{line_of, lines_before};
 use crate::message::Message;
 use crate::quoting::quoted;
-use history_merge::HistoryFault;
+use event_records::What;
+use history_merge::{Clash, HistoryFault, Placed};
 use std::alloc::{AllocError, Global};
 
-/// What is to be done about tickets.
+/// How tickets come to rise.
 const BY_TICKET: &str =
     "events stand by rising ticket: draw each ticket from one counter that all threads share";
 
-/// What is to be done about values.
+/// How values come to be distinct.
 const DISTINCT: &str =
     "each enqueue needs a value of its own: give the thread and a count in one number";
 
-/// What is to be done about open calls.
+/// How calls come to have returns.
 const OPEN_CALLS: &str =
     "a history has the return of each call: wait for all threads before it is written";
+
+/// The line of the initial value at a place from 0.
+fn initial_line(place: usize) -> u64 {
+    (place as u64).saturating_add(3)
+}
 
 /// The line of the event at a place from 0.
 fn event_line(given: &Given<'_>, place: usize) -> u64 {
@@ -25,13 +31,8 @@ fn event_line(given: &Given<'_>, place: usize) -> u64 {
         .saturating_add(lines_before(given))
 }
 
-/// The number in a field of a line, where that is kept.
-fn number_at(given: &Given<'_>, number: u64, place: usize) -> Option<u64> {
-    number_of(field_of(line_of(given, number)?, place)?)
-}
-
-/// What is wrong with a line, which is shown where it is kept.
-fn of_line(
+/// What is wrong with the event at a place, whose line is shown if it is kept.
+fn event_message(
     alloc: Global,
     given: &Given<'_>,
     place: usize,
@@ -48,132 +49,149 @@ fn of_line(
     Ok(Message::alone(alloc, said))
 }
 
-/// A ticket isn't above that before.
-fn order_message(alloc: Global, given: &Given<'_>, place: usize) -> Result<Message, AllocError> {
-    let number = event_line(given, place);
-    let before = number.saturating_sub(1);
-    let said = match (number_at(given, number, 0), number_at(given, before, 0)) {
-        (Some(ticket), Some(last)) => {
-            format!(in alloc;
-                "line {number}: ticket {ticket} isn't above ticket {last} of line {before}"
-            )?
-        }
-        _ => format!(in alloc; "line {number}: its ticket isn't above that of line {before}")?,
-    };
+/// A ticket isn't above that of the event before.
+fn order_message(
+    alloc: Global,
+    given: &Given<'_>,
+    before: &Placed,
+    later: &Placed,
+) -> Result<Message, AllocError> {
+    let (number, ticket) = (event_line(given, later.place), later.event.ticket);
+    let (first, last) = (event_line(given, before.place), before.event.ticket);
+    let said = format!(in alloc;
+        "line {number}: ticket {ticket} isn't above ticket {last} of line {first}"
+    )?;
     Message::with_hint(alloc, said, BY_TICKET)
 }
 
-/// Whether a line enqueues this value.
-fn enqueues(line: &[u8], value: u64) -> bool {
-    field_of(line, 2) == Some(b"call-enq") && field_of(line, 3).and_then(number_of) == Some(value)
+/// A thread calls while its last call is pending.
+fn calls_message(
+    alloc: Global,
+    given: &Given<'_>,
+    pending: &Placed,
+    later: &Placed,
+) -> Result<Message, AllocError> {
+    let (number, ticket) = (event_line(given, later.place), later.event.ticket);
+    let (first, last) = (event_line(given, pending.place), pending.event.ticket);
+    let thread = later.event.thread;
+    let said = format!(in alloc;
+        "line {number}: thread {thread} calls at ticket {ticket}, and its call at ticket {last} in line {first} hasn't returned"
+    )?;
+    Ok(Message::alone(alloc, said))
 }
 
-/// Where a value that is enqueued in a line stands first.
-fn first_with(given: &Given<'_>, value: u64) -> Option<u64> {
-    let stands = first_line(given.front, |line| number_of(line) == Some(value));
-    match stands {
-        Some(number) if number <= lines_before(given) => Some(number),
-        _ => first_line(given.front, |line| enqueues(line, value)),
+/// The value that a call enqueues; of another event any.
+fn value_of(call: &Placed) -> u64 {
+    match call.event.what {
+        What::CallEnq(value) => value,
+        _ => 0,
     }
 }
 
-/// A value is enqueued that was there before.
-fn twice_message(alloc: Global, given: &Given<'_>, place: usize) -> Result<Message, AllocError> {
-    let number = event_line(given, place);
-    let Some(value) = number_at(given, number, 3) else {
-        let said = format!(in alloc;
-            "line {number}: its value was enqueued before, or is in the queue first"
-        )?;
-        return Message::with_hint(alloc, said, DISTINCT);
-    };
-    let first = first_with(given, value).unwrap_or(0);
-    let said = match (number_at(given, number, 0), number_at(given, first, 0)) {
-        (Some(ticket), Some(last)) if first > lines_before(given) => {
-            format!(in alloc;
-                "line {number}: value {value} is enqueued at ticket {ticket}, and in line {first} at ticket {last} already"
-            )?
-        }
-        _ => format!(in alloc;
-            "line {number}: value {value} is enqueued, and in the queue first, as line {first} says"
-        )?,
-    };
+/// A value is enqueued that was enqueued before.
+fn values_message(
+    alloc: Global,
+    given: &Given<'_>,
+    first: &Placed,
+    later: &Placed,
+) -> Result<Message, AllocError> {
+    let (number, ticket) = (event_line(given, later.place), later.event.ticket);
+    let (before, last) = (event_line(given, first.place), first.event.ticket);
+    let value = value_of(later);
+    let said = format!(in alloc;
+        "line {number}: value {value} is enqueued at ticket {ticket}, and in line {before} at ticket {last} already"
+    )?;
+    Message::with_hint(alloc, said, DISTINCT)
+}
+
+/// An initial value is enqueued.
+fn initial_message(
+    alloc: Global,
+    given: &Given<'_>,
+    initial: usize,
+    call: &Placed,
+) -> Result<Message, AllocError> {
+    let (number, ticket) = (event_line(given, call.place), call.event.ticket);
+    let (value, first) = (value_of(call), initial_line(initial));
+    let said = format!(in alloc;
+        "line {number}: value {value} is enqueued at ticket {ticket}, and in the queue first, as line {first} says"
+    )?;
+    Message::with_hint(alloc, said, DISTINCT)
+}
+
+/// An initial value stands twice.
+fn twice_message(
+    alloc: Global,
+    value: u64,
+    earlier: usize,
+    later: usize,
+) -> Result<Message, AllocError> {
+    let (number, first) = (initial_line(later), initial_line(earlier));
+    let said = format!(in alloc;
+        "line {number}: the initial value {value} stands in line {first} too"
+    )?;
     Message::with_hint(alloc, said, DISTINCT)
 }
 
 /// A call has no return.
-fn pending_message(alloc: Global, given: &Given<'_>, ticket: u64) -> Result<Message, AllocError> {
-    let behind = lines_before(given);
-    let is_called = |line: &[u8]| {
-        field_of(line, 0).and_then(number_of) == Some(ticket) && field_of(line, 2).is_some()
-    };
-    let said = match first_line(given.front, is_called) {
-        Some(number) if number > behind => {
-            let shown = quoted(alloc, line_of(given, number).unwrap_or(b""))?;
-            format!(in alloc;
-                "line {number}: the call of ticket {ticket} never returns: '{shown}'"
-            )?
-        }
-        _ => format!(in alloc; "the call of ticket {ticket} never returns")?,
+fn pending_message(alloc: Global, given: &Given<'_>, call: &Placed) -> Result<Message, AllocError> {
+    let number = event_line(given, call.place);
+    let (ticket, thread) = (call.event.ticket, call.event.thread);
+    let said = match call.event.what {
+        What::CallEnq(value) => format!(in alloc;
+            "line {number}: the call of ticket {ticket} never returns: '{ticket} {thread} call-enq {value}'"
+        )?,
+        _ => format!(in alloc;
+            "line {number}: the call of ticket {ticket} never returns: '{ticket} {thread} call-deq'"
+        )?,
     };
     Message::with_hint(alloc, said, OPEN_CALLS)
 }
 
-/// An initial value stands twice.
-fn initial_message(alloc: Global, given: &Given<'_>, place: usize) -> Result<Message, AllocError> {
-    let number = (place as u64).saturating_add(3);
-    let said = match number_at(given, number, 0) {
-        Some(value) => {
-            let first = first_line(given.front, |line| number_of(line) == Some(value)).unwrap_or(0);
-            format!(in alloc;
-                "line {number}: the initial value {value} stands in line {first} too"
-            )?
+/// What a clash is.
+fn clash_message(alloc: Global, clash: &Clash, given: &Given<'_>) -> Result<Message, AllocError> {
+    match clash {
+        Clash::Tickets(before, later) => return order_message(alloc, given, before, later),
+        Clash::Calls(pending, later) => return calls_message(alloc, given, pending, later),
+        Clash::Values(first, later) => return values_message(alloc, given, first, later),
+        Clash::Initial(initial, call) => return initial_message(alloc, given, *initial, call),
+        Clash::Twice(value, earlier, later) => {
+            return twice_message(alloc, *value, *earlier, *later);
         }
-        None => format!(in alloc; "line {number}: its initial value stands before it too")?,
-    };
-    Message::with_hint(alloc, said, DISTINCT)
+        Clash::Pending(call) => return pending_message(alloc, given, call),
+    }
 }
 
-/// What is said of a history's fault.
-pub(crate) fn history_message(
+/// What is wrong with an event on its own.
+fn fault_message(
     alloc: Global,
     fault: HistoryFault,
     given: &Given<'_>,
 ) -> Result<Message, AllocError> {
-    match fault {
-        HistoryFault::TicketOrder(place) => return order_message(alloc, given, place),
-        HistoryFault::BadThread(place) => return of_line(
-            alloc,
-            given,
-            place,
-            "its thread is above 63",
-        ),
-        HistoryFault::CallWhilePending(place) => {
-            return of_line(
-                alloc,
-                given,
-                place,
-                "a thread calls before its last call has returned",
-            );
-        }
+    let (place, what) = match fault {
+        HistoryFault::BadThread(place) => (place, "its thread is above 63"),
         HistoryFault::ReturnWithoutCall(place) => {
-            return of_line(
-                alloc,
-                given,
-                place,
-                "a thread returns, and has no call that waits for it",
-            );
+            (place, "a thread returns, and has no call that waits for it")
         }
-        HistoryFault::WrongReturn(place) => {
-            return of_line(
-                alloc,
-                given,
-                place,
-                "a thread returns from another kind of call than it made",
-            );
-        }
-        HistoryFault::DuplicateValue(place) => return twice_message(alloc, given, place),
-        HistoryFault::Pending(ticket) => return pending_message(alloc, given, ticket),
-        HistoryFault::InitialTwice(place) => return initial_message(alloc, given, place),
+        HistoryFault::WrongReturn(place) => (
+            place,
+            "a thread returns from another kind of call than it made",
+        ),
         HistoryFault::Memory => return Message::fixed(alloc, "memory ran out", ""),
+        _ => return Message::fixed(alloc, "memory ran out for saying which events clash", ""),
+    };
+    event_message(alloc, given, place, what)
+}
+
+/// What a history's fault is, with what clashes if that is known.
+pub(crate) fn history_message(
+    alloc: Global,
+    fault: HistoryFault,
+    clash: Option<&Clash>,
+    given: &Given<'_>,
+) -> Result<Message, AllocError> {
+    match clash {
+        Some(clash) => clash_message(alloc, clash, given),
+        None => fault_message(alloc, fault, given),
     }
 }

@@ -92,7 +92,7 @@ pub(crate) fn end_line(given: &Given<'_>) -> Option<u64> {
     first_line(given.front, |line| line.starts_with(b"end "))
 }
 
-/// What the line of this number, behind those of the history's initial values, should be.
+/// What the line of this number, after those of the history's initial values, should be.
 fn part_behind(given: &Given<'_>, number: u64) -> Part {
     let item = if given.reads == Reads::Schedule {
         Part::Step

@@ -1,6 +1,6 @@
 //! Bytes as a message shows them.
-ghost use Rattle.std.specs.Prelude.{◌≤◌, ◌<◌, All, IfOk, OnOk, string_bytes};
-ghost use Rattle.messages.specs.Quoting.{IsPrintable};
+ghost use Rattle.std.specs.Prelude.{◌≡◌, ◌≤◌, ◌<◌, ◌++◌, All, IfOk, OnOk, string_bytes};
+ghost use Rattle.messages.specs.Quoting.{IsPrintable, hex_digit, shown_byte};
 
 use std::alloc::{AllocError, Global};
 
@@ -10,6 +10,7 @@ pub const MOST_QUOTED: usize = 60;
 /// The digit of a number below 16.
 fn hex_digit(number: u8) -> char
     requires { number < 16 }
+    ensures digit { result ≡ hex_digit number }
     ensures printable { IsPrintable result }
 {
     char::from(if number < 10 {
@@ -21,8 +22,8 @@ fn hex_digit(number: u8) -> char
 
 /// One more byte: itself where it is printable, else its escape.
 fn push_quoted(text: &mut String, byte: u8) -> Result<(), AllocError>
-    requires { All IsPrintable (string_bytes text.old) }
-    ensures { OnOk result (All IsPrintable (string_bytes text.new)) }
+    ensures shown { OnOk result (string_bytes text.new ≡ string_bytes text.old ++ shown_byte byte) }
+    ensures printable { All IsPrintable (string_bytes text.old) → OnOk result (All IsPrintable (string_bytes text.new)) }
 {
     match byte {
         b'\r' => text.push_str("\\r"),
@@ -36,15 +37,23 @@ fn push_quoted(text: &mut String, byte: u8) -> Result<(), AllocError>
     }
 }
 
-/// The bytes in printable ASCII, at most 60 of them, with three dots behind these where there are more.
+/// The bytes in printable ASCII: what isn't printable is escaped.
+pub(crate) fn printable(alloc: Global, bytes: &[u8]) -> Result<String, AllocError>
+    ensures { IfOk result (λ text. All IsPrintable (string_bytes text)) }
+{
+    let mut text = String::new(alloc);
+    for byte in bytes {
+        push_quoted(&mut text, *byte)?;
+    }
+    Ok(text)
+}
+
+/// The bytes in printable ASCII, at most 60 of them, followed by three dots if there are more.
 pub fn quoted(alloc: Global, bytes: &[u8]) -> Result<String, AllocError>
     ensures { IfOk result (λ text. All IsPrintable (string_bytes text)) }
 {
     let shown = &bytes[..bytes.len().min(MOST_QUOTED)];
-    let mut text = String::new(alloc);
-    for byte in shown {
-        push_quoted(&mut text, *byte)?;
-    }
+    let mut text = printable(alloc, shown)?;
     if shown.len() < bytes.len() {
         text.push_str("...")?;
     }

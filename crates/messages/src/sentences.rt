@@ -1,8 +1,11 @@
 //! The one function from a fault to its message.
+ghost use Rattle.std.specs.Prelude.{◌≡◌, ◌++◌, IfOk, string_bytes};
+ghost use Rattle.messages.specs.Messages.{IsMessage, IsMessageLine};
+
 use crate::complaints::{Complaint, Reads};
 use crate::history_faults::history_message;
 use crate::message::Message;
-use crate::quoting::quoted;
+use crate::quoting::{printable, quoted};
 use crate::text_faults::text_message;
 use event_records::MAX_OPERATIONS;
 use std::alloc::{AllocError, Global};
@@ -106,14 +109,16 @@ fn limit_message(alloc: Global, threads: u64, operations: u64) -> Result<Message
 fn message_of(alloc: Global, complaint: &Complaint<'_>) -> Result<Message, AllocError> {
     match complaint {
         Complaint::Text(fault, given) => return text_message(alloc, *fault, given),
-        Complaint::History(fault, given) => return history_message(alloc, *fault, given),
+        Complaint::History(fault, clash, given) => {
+            return history_message(alloc, *fault, clash.as_ref(), given);
+        }
         Complaint::Size => {
             let said =
                 "more than 400 operations, initial values or lines of a verdict aren't drawn";
             return Message::fixed(
                 alloc,
                 said,
-                "shrink a no first: fifobench shrink < FILE | fifobench draw",
+                "shrink the history first: fifobench shrink < FILE | fifobench draw",
             );
         }
         Complaint::Queue { name, names } => return queue_message(alloc, name, names),
@@ -134,28 +139,55 @@ fn message_of(alloc: Global, complaint: &Complaint<'_>) -> Result<Message, Alloc
     }
 }
 
+/// A line of a message, which begins with the program's name.
+fn line_of(alloc: Global, said: &str) -> Result<String, AllocError>
+    ensures { IfOk result (λ text. IsMessageLine (string_bytes text)) }
+{
+    let said = printable(alloc, said.as_bytes())?;
+    format!(in alloc; "fifobench: {said}\n")
+}
+
+/// Two lines, one after the other.
+fn joined(first: String, second: String) -> Result<String, AllocError>
+    ensures { IfOk result (λ text. string_bytes text ≡ string_bytes first ++ string_bytes second) }
+{
+    let mut text = first;
+    text.push_str(second.as_str())?;
+    Ok(text)
+}
+
 /// What standard error says of a fault: what is wrong, and in a second line what to do, where there is something.
 ///
 /// Takes time in proportion to the front of the input that is kept.
-pub fn sentence<'a>(alloc: Global, complaint: &Complaint<'a>) -> Result<String, AllocError> {
+pub fn sentence<'a>(alloc: Global, complaint: &Complaint<'a>) -> Result<String, AllocError>
+    ensures { IfOk result (λ text. IsMessage (string_bytes text)) }
+{
     let Message { said, hint } = message_of(alloc, complaint)?;
+    let said = line_of(alloc, &said)?;
     if hint.is_empty() {
-        return format!(in alloc; "fifobench: {said}\n");
+        return Ok(said);
     }
-    format!(in alloc; "fifobench: {said}\nfifobench: {hint}\n")
+    let hint = line_of(alloc, &hint)?;
+    joined(said, hint)
 }
 
 /// What a command says that reads from a terminal.
-pub fn greeting(alloc: Global, command: &str, reads: Reads) -> Result<String, AllocError> {
+pub fn greeting(alloc: Global, command: &str, reads: Reads) -> Result<String, AllocError>
+    ensures { IfOk result (λ text. IsMessageLine (string_bytes text)) }
+{
     let content = content(reads);
-    format!(in alloc;
-        "fifobench: reading {content} from the terminal; Ctrl-D ends it, fifobench {command} < FILE reads a file\n"
-    )
+    let said = format!(in alloc;
+        "reading {content} from the terminal; Ctrl-D ends it, fifobench {command} < FILE reads a file"
+    )?;
+    line_of(alloc, &said)
 }
 
-/// What `stress` says that wrote so many events to a terminal.
-pub fn keeping(alloc: Global, events: u64) -> Result<String, AllocError> {
-    format!(in alloc;
-        "fifobench: {events} events were written; fifobench stress .. > FILE keeps them in a file\n"
-    )
+/// What `stress` says that wrote this many events to a terminal.
+pub fn keeping(alloc: Global, events: u64) -> Result<String, AllocError>
+    ensures { IfOk result (λ text. IsMessageLine (string_bytes text)) }
+{
+    let said = format!(in alloc;
+        "{events} events were written; fifobench stress .. > FILE keeps them in a file"
+    )?;
+    line_of(alloc, &said)
 }

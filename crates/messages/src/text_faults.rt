@@ -9,7 +9,7 @@ use event_records::MAX_EVENTS;
 use std::alloc::{AllocError, Global};
 use text_lines::{LONGEST_LINE, TextFault};
 
-/// What is said of lines that end as those of other systems.
+/// What a line needs that ends as those of other systems.
 const CARRIAGE_RETURNS: &str =
     "a line ends with a line feed alone: tr -d '\\r' takes carriage returns away";
 
@@ -52,7 +52,7 @@ fn words_of(part: Part) -> &'static str {
             "<what> is call-enq <value>, ret-enq, ret-not, call-deq, ret-deq <value> or ret-empty",
         Part::Answer => "<kind> is VFresh, VRepeat, VOrd or VWit",
         Part::Operation =>
-            "<what> is enq <value>, deq <value>, empty or not <value>; a no may have lines init <value>",
+            "<what> is enq <value>, deq <value>, empty or not <value>; with NO also lines init <value>",
         Part::Step => "<step> is ask-enq, ask-deq, push, effect, ret, close, drain or say",
         _ => "",
     }
@@ -178,7 +178,7 @@ fn count_message(alloc: Global, given: &Given<'_>) -> Result<Message, AllocError
     Ok(Message::alone(alloc, said))
 }
 
-/// What is said of a text's fault.
+/// What a text's fault is.
 pub(crate) fn text_message(
     alloc: Global,
     fault: TextFault,

@@ -106,7 +106,7 @@ values_of operations values enq_a enq_b deq_b deq_a clear holds violation =
       overtakes = subst (λ l. Overtakes l value_a.0.life) (sym value_b.2) (subst (λ l. Overtakes b l) (sym value_a.2) overtakes);
     }
 
--- where no value overtakes another, there is no order violation
+-- if no value overtakes another, there is no order violation
 pub no_overtaking : (operations : List Operation) (values : List MatchedValue) → IsClear operations → HoldsLives operations values
     → All (λ b. NonePasses (Overtakes b.life) values) values → NoOrderViolation operations
 no_overtaking operations values clear holds none enq_a enq_b deq_b deq_a violation =

@@ -52,7 +52,7 @@ sooner_is_first values low high a b r is_a is_b sooner = elim sooner.is_one [
       first = first;
     }
 
--- where none of the others overtakes a value, the first is the first of all
+-- if none of the others overtakes a value, the first is the first of all
 pub low_is_first : (values low high : List MatchedValue) (a : MatchedValue) → IsFirstOvertaking values low a
     → All (λ b. NonePasses (Overtakes b.life) values) high → IsFirstOvertaking values (low ++ high) a
 low_is_first values low high a is none = record {
@@ -63,7 +63,7 @@ low_is_first values low high a is none = record {
   first = All-append (ComesNoLater values a) low high is.first (overtake_nobody values high a none);
 }
 
--- where none of the first part overtakes, the first of the second part is the first
+-- if none of the first part overtakes, the first of the second part is the first
 pub high_is_first : (values low high : List MatchedValue) (found : Option MatchedValue) → All (λ b. NonePasses (Overtakes b.life) values) low
     → FindsFirst values high found → FindsFirst values (low ++ high) found
 high_is_first values low high None none not = All-append (λ b. NonePasses (Overtakes b.life) values) low high none not
@@ -133,7 +133,7 @@ longest_is_overtaken values b a is later = record {
       (λ other stays overtakes. stays overtakes.0) values is.longest;
 }
 
--- where the longest of those before isn't overtaken, none is
+-- if the longest of those before isn't overtaken, none is
 pub longest_is_not_overtaken : (values : List MatchedValue) (b : Life) (a : MatchedValue) → IsLongestOf (EntersBefore (enqueue_call b)) values a
     → dequeue_call a.life ≤ dequeue_return b → NonePasses (Overtakes b) values
 longest_is_not_overtaken values b a is sooner =
@@ -142,13 +142,13 @@ longest_is_not_overtaken values b a is sooner =
     none : (other : MatchedValue) → (EntersBefore (enqueue_call b) other.life → StaysAtLeast a.life other.life) → ¬ (Overtakes b other.life)
     none other stays overtakes = let past = stays overtakes.0 in omega (arith, past.0, overtakes.1)
 
--- where a longest overtaken value was found, a value is overtaken, and else none is
+-- if a longest overtaken value was found, a value is overtaken, otherwise none is
 pub overtaken_one : (values : List MatchedValue) (b : Life) (longest : Option MatchedValue) → FindsLongest (Overtakes b) values longest
     → is_some longest ≡ true → (a : MatchedValue) × Contains values a × Overtakes b a.life
 overtaken_one values b None none some = cc
 overtaken_one values b (Some a) is some = (a, is.among, is.passes)
 
--- where none is found, none is overtaken
+-- if none is found, none is overtaken
 pub overtaken_none : (values : List MatchedValue) (b : Life) (longest : Option MatchedValue) → FindsLongest (Overtakes b) values longest
     → is_some longest ≡ false → NonePasses (Overtakes b) values
 overtaken_none values b None none not = none

@@ -23,6 +23,6 @@ pub record IsFirstOvertaking (values candidates : List MatchedValue) (b : Matche
   pub overtakes : Overtakes b.life overtaken.life
   pub first : All (λ other. (a : MatchedValue) → Contains values a → Overtakes other.life a.life → dequeue_return b.life ≤ dequeue_return other.life) candidates
 
--- the candidate that overtakes a value and is dequeued first, or none where none overtakes
+-- the candidate that overtakes a value and is dequeued first, or none if none overtakes
 abbrev pub FindsFirst : List MatchedValue → List MatchedValue → Option MatchedValue → Type 0
 FindsFirst values candidates found = MatchOption found (All (λ b. NonePasses (Overtakes b.life) values) candidates) (λ b. IsFirstOvertaking values candidates b)

@@ -23,7 +23,7 @@ pub record IsChosenPair (operations : List Operation) (pair : OrderPair) : Type 
   pub dequeued_a : IsMaybeAt operations pair.deq_a deq_a
   pub is_chosen : IsChosenOrderViolation operations enq_a enq_b deq_b deq_a
 
--- the chosen pair, or none where no values are dequeued against the order of their enqueues
+-- the chosen pair, or none if no values are dequeued against the order of their enqueues
 abbrev pub IsOrderAnswer : List Operation → Option OrderPair → Type 0
 IsOrderAnswer operations None = NoOrderViolation operations
 IsOrderAnswer operations (Some pair) = IsChosenPair operations pair

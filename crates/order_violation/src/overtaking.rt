@@ -6,7 +6,7 @@ ghost use Rattle.order_violation.specs.Overtaking.{Overtakes, IsSoonerOf, FindsF
 
 use value_match::{Life, LongestTable, MatchedValue, Values};
 
-/// The one of two values that is dequeued first.
+/// Returns the one of two values that is dequeued first.
 pub fn sooner_of(first: MatchedValue, second: MatchedValue) -> MatchedValue
     ensures { IsSoonerOf first second result }
 {
@@ -17,7 +17,7 @@ pub fn sooner_of(first: MatchedValue, second: MatchedValue) -> MatchedValue
     }
 }
 
-/// Of the values that b overtakes, the one that stays longest.
+/// Returns of the values that b overtakes the one that stays longest.
 pub fn longest_overtaken(table: &LongestTable, b: &Life) -> Option<MatchedValue>
     ensures { FindsLongest (Overtakes b.now) table.now result }
 {
@@ -25,7 +25,7 @@ pub fn longest_overtaken(table: &LongestTable, b: &Life) -> Option<MatchedValue>
     if_overtaken(b, longest)
 }
 
-/// The longest of the values that entered before b, if b overtakes it; else b overtakes none.
+/// Returns the longest of the values that entered before b, if b overtakes it; otherwise b overtakes none.
 fn if_overtaken(b: &Life, longest: Option<MatchedValue>) -> Option<MatchedValue>
     ensures { (values : List MatchedValue) → FindsLongest (EntersBefore (enqueue_call b.now)) values longest → FindsLongest (Overtakes b.now) values result }
 {
@@ -38,10 +38,10 @@ fn if_overtaken(b: &Life, longest: Option<MatchedValue>) -> Option<MatchedValue>
     }
 }
 
-/// Of the candidates that overtake a value of the table, the one that is dequeued first.
+/// Returns of the candidates that overtake a value of the table the one that is dequeued first.
 ///
-/// Time O(m log n) for m candidates and n values. Where the candidates come by the calls of their enqueues each look-up goes
-/// on where the one before ended, and all take little more than a pass.
+/// Time O(m log n) for m candidates and n values. If the candidates come by the calls of their enqueues, each look-up
+/// starts where the one before ended, and all take little more than a pass.
 pub fn first_overtaking(table: &LongestTable, candidates: &Values) -> Option<MatchedValue>
     ensures { FindsFirst table.now candidates.now result }
 {

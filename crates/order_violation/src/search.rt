@@ -12,11 +12,11 @@ use crate::pair::OrderPair;
 use std::alloc::{AllocError, Global};
 use value_match::{LongestTable, MatchedValue, Matching, Source, unfilled_place, unfilled_source};
 
-/// The chosen pair of values dequeued against the order of their enqueues, if there is one: of the values dequeued
-/// before another that was enqueued before them the one dequeued first, and of those others the one that stays longest.
-///
-/// The kinds of violation are this project's own. Time O(n log n) for n values, and two words of memory for each while
-/// it runs. `AllocError` comes only where this memory is refused.
+/// Finds the chosen pair of values dequeued against the order of their enqueues, if there is one: of the values
+/// dequeued before another that was enqueued before them the one dequeued first, and of those others the one that
+/// stays longest.
+/// The kinds of violation are this project's own. Time O(n log n) for n values, and two words of memory for each
+/// while it runs. `AllocError` comes only if there isn't as much.
 pub fn find_order(alloc: Global, matching: &Matching) -> Result<Option<OrderPair>, AllocError>
     ensures { IfOk result (IsOrderAnswerFrom matching.now.initial matching.now.operations) }
 {
@@ -25,8 +25,8 @@ pub fn find_order(alloc: Global, matching: &Matching) -> Result<Option<OrderPair
     Ok(chosen_pair(matching, &table, first))
 }
 
-/// The pair of the value that overtakes another and is dequeued first, if there is one, and the longest of those that it
-/// overtakes.
+/// Returns the pair of the value that overtakes another and is dequeued first, if there is one, and the longest of
+/// those that it overtakes.
 ///
 /// Time O(log n) for n values.
 pub fn chosen_pair(
@@ -43,7 +43,7 @@ pub fn chosen_pair(
     Some(unfilled_pair(initial_count, pair))
 }
 
-/// The pair by the places of a history with so many initial values.
+/// Returns the pair by the places of a history with this many initial values.
 fn unfilled_pair(initial_count: usize, pair: OrderPair) -> OrderPair
     ensures { result ≡ unfilled_pair initial_count pair }
 {
@@ -55,7 +55,7 @@ fn unfilled_pair(initial_count: usize, pair: OrderPair) -> OrderPair
     }
 }
 
-/// The same by the places of the filled history.
+/// Returns the pair by the places of the filled history.
 fn pair_by(table: &LongestTable, first: Option<MatchedValue>) -> Option<OrderPair>
     requires { FindsFirst table.now table.now first }
     ensures { (operations : List Operation) → IsClear operations → HoldsLives operations table.now → IsOrderAnswer operations result }

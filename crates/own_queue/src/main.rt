@@ -1,8 +1,8 @@
-//! A queue of one's own, put to the test: workers run a plan on it, and what they did is written with the verdict on it, as
-//! texts that `fifobench` reads.
+//! A test of a queue of one's own: workers run a plan on it, and it writes what they did, with the verdict, as texts
+//! that `fifobench` reads.
 //!
-//! `own_queue [WORKERS [OPERATIONS [SEED]]]`: how many workers run, each in a thread of its own, how many operations each of
-//! them makes, and the number from which the plan is made. The status is 0 for a yes and 1 for a no.
+//! `own_queue [WORKERS [OPERATIONS [SEED]]]`: how many workers run, each in a thread of its own, how many operations
+//! each of them makes, and the seed of the plan. The status is 0 for a `YES` and 1 for a `NO`.
 #![tactic(auto)]
 
 ghost use Rattle.std.specs.Prelude.{◌≡◌, []};
@@ -10,33 +10,34 @@ ghost use Rattle.std.specs.Prelude.{◌≡◌, []};
 mod two_stacks;
 
 use anyhow::{Result, bail};
-use history_text::{Version, Watched, write_history, write_verdict};
+use fifobench_core::{
+    History, MAX_OPERATIONS, MAX_THREAD_OPERATIONS, MAX_WORKERS, Plan, Verdict, Version, Watched,
+    decide, run, write_history, write_verdict,
+};
 use std::alloc::Global;
 use std::process::ExitCode;
 use std::{env, io};
-use stress_run::{MAX_OPERATIONS, MAX_THREAD_OPERATIONS, MAX_WORKERS, Plan, run};
 use two_stacks::TwoStacks;
-use verdicts::{History, Verdict, decide};
 
-/// How many workers run where nothing else is told.
+/// The number of workers, if no other is given.
 const WORKERS: u64 = 4;
 
-/// How many operations each worker makes where nothing else is told.
+/// The number of operations of each worker, if no other is given.
 const OPERATIONS: u64 = 1000;
 
-/// The plan is made from this number where nothing else is told.
+/// The seed of the plan, if no other is given.
 const SEED: u64 = 1;
 
 /// How many of a hundred operations are enqueues.
 const PERCENT: u8 = 50;
 
-/// For how many events the ring of each worker has room.
+/// The capacity of each worker's ring, in events.
 const RING: usize = 1024;
 
 /// How often a push into a full ring is tried.
 const TRIES: u32 = 1_000_000;
 
-/// The number that a word tells, or another one where there is no word.
+/// Returns the number that a word says, or another one if there is no word.
 fn number_or(word: Option<String>, other: u64) -> Result<u64> {
     match word {
         Some(word) => Ok(word.parse::<u64>()?),
@@ -44,7 +45,7 @@ fn number_or(word: Option<String>, other: u64) -> Result<u64> {
     }
 }
 
-/// Judges the history of a queue that was empty first, and writes it with the verdict.
+/// Judges the history of a queue that was empty at first, and writes it with the verdict.
 fn show<R: Print>(rt: &R, alloc: Global, history: &History) -> Result<Verdict>
     requires { history.now.initial ≡ [] }
 {
@@ -55,7 +56,7 @@ fn show<R: Print>(rt: &R, alloc: Global, history: &History) -> Result<Verdict>
     Ok(verdict)
 }
 
-/// The plan of a run with these numbers, if they are within the limits of a run.
+/// Makes the plan of a run with these numbers, if they are within the limits of a run.
 fn plan_of(alloc: Global, workers: u64, operations: u64, seed: u64) -> Result<Plan> {
     if !(1..=MAX_WORKERS as u64).contains(&workers) || operations > MAX_THREAD_OPERATIONS {
         bail!(
@@ -69,7 +70,7 @@ fn plan_of(alloc: Global, workers: u64, operations: u64, seed: u64) -> Result<Pl
     Ok(plan)
 }
 
-/// The plan that the words of the command ask for.
+/// Makes the plan that the arguments ask for.
 fn asked_plan(rt: HostRuntime) -> Result<Plan> {
     let mut words = env::args(&rt)?.skip(1);
     let workers = number_or(words.next(), WORKERS)?;

@@ -1,5 +1,5 @@
 //! The tested queue: two stacks under one lock.
-use queue_interface::{AnsweredDeq, AnsweredEnq, AskDeq, AskEnq, TestQueue};
+use fifobench_core::{AnsweredDeq, AnsweredEnq, AskDeq, AskEnq, TestQueue};
 use std::alloc::Global;
 use std::mem::swap;
 use std::sync::{Mutex, Wait};
@@ -12,12 +12,12 @@ struct Stacks {
 }
 
 impl Stacks {
-    /// Takes a value in, and tells whether there was memory for it.
+    /// Adds a value, and returns whether there was memory for it.
     fn push(&mut self, value: u64) -> bool {
         self.inbox.push(value).is_ok()
     }
 
-    /// Gives the value out that was taken in first, or none.
+    /// Removes and returns the value that was added first, if there is one.
     fn pop(&mut self) -> Option<u64> {
         if self.outbox.is_empty() {
             swap(&mut self.inbox, &mut self.outbox);
@@ -27,7 +27,7 @@ impl Stacks {
     }
 }
 
-/// A queue of two stacks. Whoever calls it waits for the lock by the queue's own runtime.
+/// A queue of two stacks. A caller waits for the lock by the queue's own runtime.
 #[derive(Drop)]
 pub struct TwoStacks<R: Wait + Drop> {
     rt: R,
@@ -35,7 +35,7 @@ pub struct TwoStacks<R: Wait + Drop> {
 }
 
 impl<R: Wait + Drop> TwoStacks<R> {
-    /// An empty queue. Its memory grows with its values.
+    /// Makes an empty queue. Its memory grows with its values.
     pub fn new(alloc: Global, rt: R) -> TwoStacks<R> {
         TwoStacks {
             rt,
@@ -48,7 +48,7 @@ impl<R: Wait + Drop> TwoStacks<R> {
 }
 
 impl<R: Wait + Drop + Send + Sync> TestQueue for TwoStacks<R> {
-    ghost use Rattle.queue_interface.specs.Answers.{AnswersInKind, TakesOrRefuses};
+    ghost use Rattle.fifobench_core.specs.Answers.{AnswersInKind, TakesOrRefuses};
 
     // Any answer of the question's kind.
     ghost may = { λ _. AnswersInKind };

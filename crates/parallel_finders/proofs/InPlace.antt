@@ -24,7 +24,7 @@ pub moved_twice : {X : Type 0} (before items slice sorted : List X) (len : ℕ) 
 moved_twice before items slice sorted len first same all long second =
     IsPermutation-trans before items _ first (moved_in_place items slice sorted len same all long second)
 
--- what a test of two neighbours tells
+-- what a test of two neighbours decides
 tested : (a b : ℕ) → true ≡ is_some_and is_le (Some (nat_cmp a b)) → a ≤ b
 tested a b answer = non_decreasing_from_is_sorted (a ∷ b ∷ []) true at 0 1 0 (omega arith) (omega arith)
   where

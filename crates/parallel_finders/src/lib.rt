@@ -1,5 +1,5 @@
-//! The searches for values dequeued against the order of their enqueues and for covered empty answers, made in pieces that
-//! may run at once; what they answer is what the searches in one piece answer.
+//! Searches for values dequeued against the order of their enqueues and for covered empty dequeues, in pieces that
+//! may run at once. They find what the searches in one piece find.
 #![tactic(auto)]
 
 mod order;
@@ -11,8 +11,8 @@ mod witness;
 pub use order::{find_order_par, order_in_pieces};
 pub use witness::{find_witness_par, witness_in_pieces};
 
-/// Into how many pieces a search may be cut.
+/// The most pieces of a search.
 pub const MAX_PIECES: usize = 64;
 
-/// Among fewer values than this, and of fewer empty answers, a search is made in one piece, and starts no thread.
+/// A search among fewer values than this, and of fewer empty dequeues, is made in one piece, and starts no thread.
 pub const MIN_ITEMS: usize = 100_000;

@@ -10,11 +10,12 @@ use std::alloc::{AllocError, Global};
 use std::thread::Threads;
 use value_match::{LongestTable, Matching, Values, fronts_of};
 
-/// What `find_order` answers, by a search in pieces that may run at once.
+/// Finds what `find_order` finds, by a search in pieces that may run at once.
 ///
-/// Each piece gives the value of its own that overtakes another and is dequeued first; of these the one dequeued first
-/// counts, whichever piece ends first. Few values are searched in one piece. Where no thread can be started the caller's
-/// thread does the work. Time and memory are those of `find_order`. `AllocError` comes only where a growth was refused.
+/// Each piece finds its own value that overtakes another and is dequeued first; of these the one dequeued first
+/// counts, whichever piece ends first. Few values are searched in one piece. If no thread can be started, the
+/// caller's thread does the work. Time and memory are those of `find_order`. `AllocError` comes only if memory runs
+/// out.
 pub fn find_order_par<R: Threads + Sync>(
     rt: &R,
     alloc: Global,
@@ -31,7 +32,7 @@ pub fn find_order_par<R: Threads + Sync>(
     }
 }
 
-/// The same for any number of values.
+/// Searches any number of values in this many pieces.
 pub fn order_in_pieces<R: Threads + Sync>(
     rt: &R,
     alloc: Global,
@@ -45,7 +46,7 @@ pub fn order_in_pieces<R: Threads + Sync>(
     Ok(chosen_pair(matching, &table, first))
 }
 
-/// The table of these values.
+/// Returns the table of these values.
 fn table_of<'a, R: Threads + Sync>(
     rt: &R,
     alloc: Global,

@@ -7,7 +7,7 @@ use order_violation::{first_overtaking, sooner_of};
 use std::thread::{Threads, join};
 use value_match::{LongestTable, MatchedValue, Values};
 
-/// Of the candidates that overtake a value of the table, the one that is dequeued first, searched for in pieces.
+/// Finds, in pieces, the candidate that is dequeued first of those that overtake a value of the table.
 #[cycle(halves)]
 pub fn first_overtaking_par<R: Threads + Sync>(
     rt: &R,
@@ -35,7 +35,7 @@ pub fn first_overtaking_par<R: Threads + Sync>(
     first_of_both(first, second)
 }
 
-/// What the candidates of two pieces give together.
+/// Returns what the candidates of two pieces give together.
 fn first_of_both(low: Option<MatchedValue>, high: Option<MatchedValue>) -> Option<MatchedValue>
     ensures { (values xs ys : List MatchedValue) → FindsFirst values xs low → FindsFirst values ys high → FindsFirst values (xs ++ ys) result }
 {

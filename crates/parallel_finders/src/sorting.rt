@@ -23,7 +23,7 @@ pub fn sort_stays<R: Threads + Sync>(rt: &R, stays: &mut Vec<Span>)
     sort_by_number(rt, stays, |stay: &Span| stay.start);
 }
 
-/// Sorts by rising number: in one pass where each item stands near its place, and else in several threads.
+/// Sorts by rising number: in one pass if each item stands near its place, otherwise in several threads.
 fn sort_by_number<R: Threads + Sync, T: Copy + Send, F: Fn(&T) -> u64 + Copy + Send + Sync>(
     rt: &R,
     items: &mut Vec<T>,

@@ -11,12 +11,13 @@ use std::alloc::{AllocError, Global};
 use std::thread::Threads;
 use value_match::{FilledMatching, Matching};
 
-/// What `find_witness` answers, by a search in pieces that may run at once.
+/// Finds what `find_witness` finds, by a search in pieces that may run at once.
 ///
-/// Each piece gives the gaps of its empty answers, or that of its own whose window is covered and that returned first; of
-/// these the one that returned first counts, whichever piece ends first. Few empty answers, or any among few values, are searched
-/// in one piece. Where no thread can be started the caller's thread does the work. Time and memory are those of `find_witness`,
-/// and the gaps of some pieces once more. `AllocError` comes only where a growth was refused.
+/// Each piece finds the gaps of its empty dequeues, or the one of its own whose window is covered and that returned
+/// first; of these the one that returned first counts, whichever piece ends first. Few empty dequeues, or any among
+/// few values, are searched in one piece. If no thread can be started, the caller's thread does the work. Time and
+/// memory are those of `find_witness`, and the gaps of some pieces once more. `AllocError` comes only if memory runs
+/// out.
 pub fn find_witness_par<R: Threads + Sync>(
     rt: &R,
     alloc: Global,
@@ -26,14 +27,14 @@ pub fn find_witness_par<R: Threads + Sync>(
     requires { (1 ≤ pieces) × (pieces ≤ MAX_PIECES) }
     ensures { IfOk result (IsWitnessAnswerFrom matching.now.initial matching.now.operations) }
 {
-    if matching.filled().values().len() < MIN_ITEMS {
+    if matching.filled().values().len() < MIN_ITEMS || matching.filled().empties().is_empty() {
         return find_witness(alloc, matching);
     }
     let few = matching.filled().empties().len() < MIN_ITEMS;
     witness_in_pieces(rt, alloc, matching, if few { 1 } else { pieces })
 }
 
-/// The same for any number of values and empty answers.
+/// Searches any number of values and empty dequeues in this many pieces.
 pub fn witness_in_pieces<R: Threads + Sync>(
     rt: &R,
     alloc: Global,
@@ -55,7 +56,7 @@ pub fn witness_in_pieces<R: Threads + Sync>(
     witness_of(alloc, matching, windows)
 }
 
-/// The spans in which the gaps lie at which some value surely is in the queue.
+/// Returns the spans of the gaps at which some value is definitely in the queue.
 fn spans_of_par<R: Threads + Sync>(
     rt: &R,
     alloc: Global,

@@ -29,7 +29,7 @@ where
     run_command(rt, words, source, writer, &mut errors, Terminals::NONE, &[])
 }
 
-/// What a run of the program writes, and its status. Want of memory is an error of its own.
+/// What a run of the program writes, and its status. Out of memory is an error of its own.
 fn run<'a, R: AllocGlobal + Threads + Sync, S: TextSource + Drop>(
     rt: &R,
     words: &'a [&'a str],

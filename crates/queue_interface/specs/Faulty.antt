@@ -16,7 +16,7 @@ pub record InventingView : Type 0 where
   pub list : CountedView
   pub invented : ℕ
 
--- the value that is made up after so many: from 2^63 on, one after another
+-- the value that is made up after this many: from 2^63 on, one after another
 abbrev pub invention : ℕ → ℕ
 invention before = (2 ^ 63 + before) % 2 ^ 64
 
@@ -28,11 +28,11 @@ CountsCall old new = new.count ≡ next old.count
 abbrev pub IsFourth : CountedView → Type 0
 IsFourth list = list.count % 4 ≡ 0
 
--- the value is put last where it is taken, and else nothing changes
+-- the value is appended if it is taken, otherwise nothing changes
 abbrev pub PutsLast : List ℕ → ℕ → Bool → List ℕ → Type 0
 PutsLast old value taken new = new ≡ (if taken then old ++ value ∷ [] else old)
 
--- the first value is given out where there is one
+-- the first value is given out if there is one
 pub record TakesFirst (old : List ℕ) (got : Option ℕ) (new : List ℕ) : Type 0 where
   pub first : old ≡ option_to_list got ++ new
   pub none : IfNone got (old ≡ [])

@@ -1,4 +1,4 @@
-// Answers by what became of a value.
+// Answers by what happened to a value.
 ghost use Rattle.std.specs.Prelude.{◌≡◌, if◌then◌else◌, OnOk, OnErr};
 ghost use Rattle.event_records.specs.Question.{dequeued as answer_of};
 ghost use Rattle.event_records.specs.declared.kind.Answer.TheVariants.{Taken, Not};
@@ -6,7 +6,7 @@ ghost use Rattle.queue_interface.specs.Answers.{AnswersInKind};
 
 use event_records::{AnsweredDeq, AnsweredEnq, AskDeq, AskEnq};
 
-// The answer of an enqueue whose value was taken, or not.
+// Returns the answer of an enqueue whose value was taken, or not.
 pub(crate) fn enqueued(ask: AskEnq, taken: bool) -> AnsweredEnq
     ensures question { result.question ≡ ask }
     ensures in_kind { AnswersInKind ask result.answer }
@@ -15,7 +15,7 @@ pub(crate) fn enqueued(ask: AskEnq, taken: bool) -> AnsweredEnq
     if taken { ask.taken() } else { ask.not_taken() }
 }
 
-// The answer of an enqueue whose value was pushed, or was given back.
+// Returns the answer of an enqueue whose value was pushed, or was given back.
 pub(crate) fn pushed(ask: AskEnq, push: Result<(), u64>) -> AnsweredEnq
     ensures question { result.question ≡ ask }
     ensures in_kind { AnswersInKind ask result.answer }
@@ -28,7 +28,7 @@ pub(crate) fn pushed(ask: AskEnq, push: Result<(), u64>) -> AnsweredEnq
     }
 }
 
-// The answer of a dequeue that got this.
+// Returns the answer of a dequeue that got this.
 pub(crate) fn dequeued(ask: AskDeq, got: Option<u64>) -> AnsweredDeq
     ensures question { result.question ≡ ask }
     ensures in_kind { AnswersInKind ask result.answer }

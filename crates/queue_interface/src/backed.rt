@@ -1,4 +1,4 @@
-// Queues without a lock, of the crate crossbeam_queue.
+// Lock-free queues, of the crate crossbeam_queue.
 ghost use Rattle.std.specs.Prelude.{◌≡◌, ◌<◌, IfOk};
 
 use crate::TestQueue;
@@ -9,9 +9,9 @@ use std::alloc::{AllocError, Global};
 use std::marker::Model;
 use std::sync::Wait;
 
-/// A bounded queue: an `ArrayQueue`. Full, it answers `not_taken`.
+/// A bounded lock-free queue: an `ArrayQueue`. If it is full, it answers `not_taken`.
 ///
-/// Contracts see for how many values it has room.
+/// Contracts see its capacity.
 #[derive(Drop)]
 pub struct ArrayBack<R: Wait + Drop> {
     rt: R,
@@ -28,7 +28,7 @@ impl<R: Wait + Drop> Model for ArrayBack<R> {
 }
 
 impl<R: Wait + Drop> ArrayBack<R> {
-    /// An empty queue with room for `capacity` values, for which it takes memory at once.
+    /// Makes an empty queue with room for `capacity` values, and takes memory for them at once.
     pub fn new(alloc: Global, rt: R, capacity: usize) -> Result<ArrayBack<R>, AllocError>
         requires { 0 < capacity }
         ensures { IfOk result (λ queue. queue ≡ capacity) }
@@ -60,7 +60,8 @@ impl<R: Wait + Drop + Send + Sync> TestQueue for ArrayBack<R> {
     }
 }
 
-/// An unbounded queue: a `SegQueue`. Without memory for a further block of values, it answers `not_taken`.
+/// An unbounded lock-free queue: a `SegQueue`. If it has no memory for a further block of values, it answers
+/// `not_taken`.
 #[derive(Drop)]
 pub struct SegBack<R: Wait + Drop> {
     rt: R,
@@ -68,7 +69,7 @@ pub struct SegBack<R: Wait + Drop> {
 }
 
 impl<R: Wait + Drop> SegBack<R> {
-    /// An empty queue. It takes memory for its first block of values.
+    /// Makes an empty queue. It takes memory for its first block of values.
     pub fn new(alloc: Global, rt: R) -> Result<SegBack<R>, AllocError> {
         let queue = SegQueue::new(alloc)?;
         Ok(SegBack { rt, queue })

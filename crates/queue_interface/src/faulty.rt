@@ -6,7 +6,7 @@ use std::alloc::Global;
 use std::collections::VecDeque;
 use std::marker::Model;
 
-// Counts from 1, and tells which counts are fourth ones.
+// Counts from 1, and says which counts are fourth ones.
 #[derive(Drop)]
 struct Fourths {
     count: u64,
@@ -19,7 +19,7 @@ impl Fourths {
         Fourths { count: 0 }
     }
 
-    // One more. True at the 4th, the 8th and so on.
+    // Counts one more. Returns true at the 4th, the 8th and so on.
     fn is_next_fourth(&mut self) -> bool
         ensures count { self.new.count ≡ (self.old.count + 1) % 2 ^ 64 }
         ensures fourth { IsTrue result ↔ (self.new.count % 4 ≡ 0) }
@@ -29,7 +29,7 @@ impl Fourths {
     }
 }
 
-/// Values of which the last is given out first. Contracts see them as a list.
+/// Values of which the last comes out first. Contracts see them as a list.
 #[derive(Drop)]
 pub struct Stack {
     values: VecDeque<u64>,
@@ -75,10 +75,10 @@ impl ValueList for Stack {
     }
 }
 
-/// A queue that gives the last value out first.
+/// A queue that returns the last value first.
 pub type Lifo<R> = Locked<Stack, R>;
 
-/// Values of which each 4th that is given out stays in its place, and so is given out again.
+/// Values of which each 4th that comes out also stays in its place, and so comes out again.
 #[derive(Drop)]
 pub struct DoublingList {
     fifo: Fifo,
@@ -118,7 +118,7 @@ impl ValueList for DoublingList {
         ensures last { PutsLast self.old.values value result self.new.values }
         ensures uncounted { self.new.count ≡ self.old.count }
     {
-        // No value is found.
+        // No dequeue finds a value here.
         self.put(value)
     }
 
@@ -143,7 +143,7 @@ pub type Doubling<R> = Locked<DoublingList, R>;
 // The first value that an `InventingList` makes up.
 const FIRST_INVENTION: u64 = 1 << 63;
 
-/// Values beside which each 4th call to give one out makes one up: 2^63 and the number of those made up before.
+/// Values with a dequeue that makes one up at each 4th call: 2^63 and the number of those made up before.
 #[derive(Drop)]
 pub struct InventingList {
     fifo: Fifo,
@@ -188,7 +188,7 @@ impl ValueList for InventingList {
         ensures uncounted { self.new.list.count ≡ self.old.list.count }
         ensures none { self.new.invented ≡ self.old.invented }
     {
-        // Nothing is given out, nor made up.
+        // Nothing comes out, and nothing is made up.
         self.put(value)
     }
 
@@ -207,10 +207,10 @@ impl ValueList for InventingList {
     }
 }
 
-/// A queue of which each 4th dequeue call answers a value that nobody enqueued.
+/// A queue whose every 4th dequeue returns a value that nobody enqueued.
 pub type Inventing<R> = Locked<InventingList, R>;
 
-/// Values of which each 4th call to give one out gives none, without looking.
+/// Values with a dequeue that returns none at each 4th call, without looking.
 #[derive(Drop)]
 pub struct ShyList {
     fifo: Fifo,
@@ -250,7 +250,7 @@ impl ValueList for ShyList {
         ensures last { PutsLast self.old.values value result self.new.values }
         ensures uncounted { self.new.count ≡ self.old.count }
     {
-        // Nothing is given out.
+        // Nothing comes out.
         self.put(value)
     }
 
@@ -267,10 +267,10 @@ impl ValueList for ShyList {
     }
 }
 
-/// A queue of which each 4th dequeue call answers empty.
+/// A queue whose every 4th dequeue answers empty.
 pub type Shy<R> = Locked<ShyList, R>;
 
-/// Values of which each 4th is taken in and lost.
+/// Values of which each 4th is taken and lost.
 #[derive(Drop)]
 pub struct LosingList {
     values: Fifo,
@@ -322,5 +322,5 @@ impl ValueList for LosingList {
     }
 }
 
-/// A queue that loses the value of each 4th enqueue, and answers that it was taken.
+/// A queue that loses the value of each 4th enqueue, and answers that it took it.
 pub type Losing<R> = Locked<LosingList, R>;

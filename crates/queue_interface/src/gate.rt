@@ -7,10 +7,10 @@ use event_records::{AnsweredDeq, AnsweredEnq, AskDeq, AskEnq};
 use std::sync::atomic::{AtomicU64, Ordering};
 use std::thread;
 
-/// A queue that takes nothing in, and shows that calls of all workers are inside it at once.
+/// A queue that takes no value, and shows that calls of all workers are inside it at once.
 ///
-/// The n-th call of a thread, from 0, stays until all calls of all workers up to the n-th have arrived, or until it has
-/// yielded as often as `turns` says. So it waits for nobody for ever.
+/// The n-th call of a thread, from 0, stays until all calls of all workers up to the n-th have arrived, or until it
+/// has yielded `turns` times. So it never waits for ever.
 #[derive(Drop)]
 pub struct GateQueue {
     workers: u64,
@@ -21,7 +21,7 @@ pub struct GateQueue {
 }
 
 impl GateQueue {
-    /// A gate for so many workers.
+    /// Makes a gate for this many workers.
     pub fn new(workers: u64, turns: u64) -> GateQueue
         requires { (2 ≤ workers) × (workers ≤ MAX_THREADS) }
     {
@@ -33,7 +33,7 @@ impl GateQueue {
         }
     }
 
-    /// How many calls saw the others arrive in time.
+    /// Returns how many calls saw the others arrive in time.
     pub fn passed(&self) -> u64 {
         self.passed.load(Ordering::SeqCst)
     }
@@ -48,7 +48,7 @@ impl GateQueue {
         }
     }
 
-    // Whether so many calls have arrived before the turns are used up.
+    // Whether this many calls arrive before the turns are used up.
     fn sees_arrivals(&self, wanted: u64) -> bool {
         for _ in 0..self.turns {
             if self.arrivals.load(Ordering::SeqCst) >= wanted {

@@ -1,8 +1,8 @@
-//! Queues under test. Each consumes a question and gives it back with an answer that it may give.
+//! Queues under test. Each consumes a question and returns it with an answer that it may give.
 //!
-//! A queue of one's own is tested by an `impl` of `TestQueue`. The others are built in: four that keep the order,
-//! `LockedQueue`, `TwoLockQueue`, `ArrayBack` and `SegBack`; five that break it now and then, `Lifo`, `Doubling`,
-//! `Inventing`, `Shy` and `Losing`; and two for tests of the recorder, `ScriptQueue` and `GateQueue`.
+//! To test a queue of your own, write an `impl` of `TestQueue`. The others are built in: four right ones,
+//! `LockedQueue`, `TwoLockQueue`, `ArrayBack` and `SegBack`; five that break the order now and then, `Lifo`,
+//! `Doubling`, `Inventing`, `Shy` and `Losing`; and two for tests of the recorder, `ScriptQueue` and `GateQueue`.
 #![tactic(auto)]
 
 mod answers;
@@ -27,12 +27,57 @@ pub use locked::{Fifo, Locked, LockedQueue, ValueList};
 pub use script::{Entry, ScriptQueue};
 pub use two_lock::TwoLockQueue;
 
-/// A queue that threads share, by what it may answer to a question, and to a value that is put in before a run.
+/// A queue that threads share. `may` says which answers it may give to a question, and `may_preload` to a value that
+/// is put in before a run.
 ///
-/// A question is used up by the call, and the answered value holds it. So an answer is of the very question that was
-/// asked: of its thread, number, kind, call ticket and ticket word. Want of memory is answered by `not_taken`.
+/// A call uses its question up, and the answered value holds it. So an answer belongs to the very question that was
+/// asked: to its thread, number, kind, call ticket and ticket word. A queue that is out of memory answers
+/// `not_taken`.
 ///
 /// A queue that may wait for another thread holds the runtime that its `new` was given.
+///
+/// A queue with room for one value:
+///
+/// ```rust
+/// #[derive(Drop)]
+/// struct OneSlot<R: Wait + Drop> {
+///     rt: R,
+///     slot: Mutex<Option<u64>>,
+/// }
+///
+/// impl<R: Wait + Drop + Send + Sync> TestQueue for OneSlot<R> {
+///     ghost use Rattle.fifobench_core.specs.Answers.{AnswersInKind, TakesOrRefuses};
+///
+///     ghost may = { λ _. AnswersInKind };
+///
+///     ghost may_preload = { λ _. TakesOrRefuses };
+///
+///     fn enqueue(&self, ask: AskEnq) -> AnsweredEnq {
+///         if self.preload(ask.value()) {
+///             ask.taken()
+///         } else {
+///             ask.not_taken()
+///         }
+///     }
+///
+///     fn dequeue(&self, ask: AskDeq) -> AnsweredDeq {
+///         let taken = self.slot.lock(&self.rt).take();
+///         match taken {
+///             Some(value) => ask.got(value),
+///             None => ask.empty(),
+///         }
+///     }
+///
+///     fn preload(&self, value: u64) -> bool {
+///         let mut slot = self.slot.lock(&self.rt);
+///         if slot.is_some() {
+///             return false;
+///         }
+///         *slot = Some(value);
+///         true
+///     }
+/// }
+/// ```
 pub trait TestQueue: Drop + Send + Sync {
     ghost may: { Self → Question → Answer → Type 0 };
 
@@ -48,11 +93,11 @@ pub trait TestQueue: Drop + Send + Sync {
         ensures question { result.question ≡ ask }
         ensures allowed { may self.now ask result.answer };
 
-    /// Puts a value last before a run, and tells whether it did: false where the queue is full or has no memory for it.
+    /// Appends a value before a run, and returns whether it did: false if the queue is full or out of memory.
     ///
-    /// It is no operation: it is asked by no question, recorded nowhere, and not counted among the calls by which some of the
-    /// built-in queues break the order. It may wait as `enqueue` may. That the value is there afterwards is the queue's own
-    /// affair, as everything that it holds; a queue that holds nothing answers true.
+    /// This is no operation: no question asks it, it is recorded nowhere, and it isn't one of the calls by whose
+    /// count some built-in queues break the order. It may wait as `enqueue` may. Whether the value is there
+    /// afterwards is the queue's own affair, like all that it holds; a queue that holds nothing returns true.
     fn preload(&self, value: u64) -> bool
         ensures allowed { may_preload self.now value result };
 }

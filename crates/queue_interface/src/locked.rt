@@ -9,22 +9,23 @@ use std::collections::VecDeque;
 use std::marker::Model;
 use std::sync::{Mutex, Wait};
 
-/// Values that are put in and taken out, by one thread at a time.
+/// Values that one thread at a time puts in and takes out.
 pub trait ValueList: Drop + Send {
-    /// With no value. It takes no memory.
+    /// Makes a list without values. It takes no memory.
     fn empty(alloc: Global) -> Self;
 
-    /// Takes a value in, and tells whether it did. False for want of memory.
+    /// Adds a value, and returns whether it did: false if memory ran out.
     fn put(&mut self, value: u64) -> bool;
 
-    /// Puts a value last before a run, and tells whether it did. It is no call by whose count a list breaks the order.
+    /// Appends a value before a run, and returns whether it did. This isn't one of the calls by whose count a list
+    /// breaks the order.
     fn preload(&mut self, value: u64) -> bool;
 
-    /// Gives a value out, or none.
+    /// Takes a value out, if it finds one.
     fn take(&mut self) -> Option<u64>;
 }
 
-/// A queue that is a list under one lock, which it waits for by its own runtime.
+/// A queue that is a list under one lock. It waits for the lock by its own runtime.
 #[derive(Drop)]
 pub struct Locked<L: ValueList, R: Wait + Drop> {
     rt: R,
@@ -32,7 +33,7 @@ pub struct Locked<L: ValueList, R: Wait + Drop> {
 }
 
 impl<L: ValueList, R: Wait + Drop> Locked<L, R> {
-    /// An empty queue. Its memory grows with its values.
+    /// Makes an empty queue. Its memory grows with its values.
     pub fn new(alloc: Global, rt: R) -> Locked<L, R> {
         Locked {
             rt,
@@ -80,7 +81,7 @@ impl Model for Fifo {
 impl Fifo {
     ghost use Rattle.std.specs.Prelude.{◌≡◌, slice_get};
 
-    // The value that the next `take` gives.
+    // Returns the value that the next `take` returns.
     pub(crate) fn first(&self) -> Option<u64>
         ensures { result ≡ slice_get self.now 0 }
     {

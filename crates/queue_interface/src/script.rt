@@ -3,7 +3,7 @@ use crate::TestQueue;
 use event_records::{AnsweredDeq, AnsweredEnq, AskDeq, AskEnq};
 use std::marker::Model;
 
-/// What a script says to one operation.
+/// What a script answers to one operation.
 #[derive(Clone, Copy, Debug, PartialEq, Eq)]
 pub enum Entry {
     /// The value of an enqueue is taken.
@@ -12,13 +12,14 @@ pub enum Entry {
     NotTaken,
     /// A dequeue gets this value.
     Got(u64),
-    /// A dequeue finds nothing.
+    /// A dequeue finds the queue empty.
     Empty,
 }
 
 /// A queue that answers from a table: the n-th operation of a thread by the n-th entry of that thread's row.
 ///
-/// Outside the table, and where the entry is of the other kind, an enqueue is not taken and a dequeue finds nothing.
+/// Outside the table, and if the entry is of another kind, an enqueue is not taken and a dequeue finds the queue
+/// empty.
 #[derive(Drop)]
 pub struct ScriptQueue {
     rows: Vec<Vec<Entry>>,
@@ -37,14 +38,14 @@ impl ScriptQueue {
     ghost use Rattle.std.specs.Prelude.{◌≡◌, map};
     ghost use Rattle.queue_interface.specs.Answers.{entry_at};
 
-    /// A queue over these rows, one for each thread from 0 on.
+    /// Makes a queue over these rows, one for each thread from 0 on.
     pub fn new(rows: Vec<Vec<Entry>>) -> ScriptQueue
         ensures { result ≡ map (λ row. row.items) rows.items }
     {
         ScriptQueue { rows }
     }
 
-    // The entry of a thread's n-th operation.
+    // Returns the entry of a thread's n-th operation.
     fn entry(&self, thread: u8, number: u64) -> Option<Entry>
         ensures { result ≡ entry_at self.now thread number }
     {

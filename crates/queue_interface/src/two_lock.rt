@@ -18,7 +18,7 @@ pub struct TwoLockQueue<R: Wait + Drop> {
 }
 
 impl<R: Wait + Drop> TwoLockQueue<R> {
-    /// An empty queue. Its memory grows with its values.
+    /// Makes an empty queue. Its memory grows with its values.
     pub fn new(alloc: Global, rt: R) -> TwoLockQueue<R> {
         TwoLockQueue {
             rt,

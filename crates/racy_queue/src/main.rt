@@ -1,9 +1,10 @@
-//! A queue that breaks the order only where threads overlap: runs of it are judged, one seed after another, until a verdict
-//! is a no.
+//! A queue that breaks the order only if threads overlap. This program judges runs of it, one seed after another,
+//! until a verdict is a `NO`.
 //!
-//! `racy_queue [WORKERS [SEEDS]]`: how many workers run, each in a thread of its own, and how many seeds are tried, from 1 on.
-//! Of the first run whose verdict is a no the history is written with its verdict, and then the history that shows the
-//! violation alone, with its verdict too: texts that `fifobench` reads. The status is 1 then, and 0 where no run shows one.
+//! `racy_queue [WORKERS [SEEDS]]`: how many workers run, each in a thread of its own, and how many seeds it tries,
+//! from 1 on. It writes the history of the first run whose verdict is a `NO`, with the verdict, and then a history of
+//! the violation's operations alone, with its verdict: texts that `fifobench` reads. Then the status is 1; if no run
+//! shows a violation, it is 0.
 #![tactic(auto)]
 
 ghost use Rattle.std.specs.Prelude.{◌≡◌, []};
@@ -11,20 +12,20 @@ ghost use Rattle.std.specs.Prelude.{◌≡◌, []};
 mod sized_apart;
 
 use anyhow::{Result, bail};
-use history_text::{Version, Watched, write_history, write_verdict};
-use queue_interface::TestQueue;
+use fifobench_core::{
+    History, MAX_WORKERS, Plan, TestQueue, Verdict, Version, Watched, decide, run, shrink,
+    write_history, write_verdict,
+};
 use sized_apart::SizedApart;
 use std::alloc::Global;
 use std::process::ExitCode;
 use std::thread::Threads;
 use std::{env, io};
-use stress_run::{MAX_WORKERS, Plan, run};
-use verdicts::{History, Verdict, decide, shrink};
 
-/// How many workers run where nothing else is told.
+/// The number of workers, if no other is given.
 const WORKERS: u64 = 4;
 
-/// How many seeds are tried where nothing else is told.
+/// The number of seeds, if no other is given.
 const SEEDS: u64 = 100;
 
 /// How many operations each worker makes.
@@ -33,13 +34,13 @@ const OPERATIONS: usize = 4000;
 /// How many of a hundred operations are enqueues: fewer than half, so that the queue is often empty or nearly so.
 const PERCENT: u8 = 40;
 
-/// For how many events the ring of each worker has room.
+/// The capacity of each worker's ring, in events.
 const RING: usize = 1024;
 
 /// How often a push into a full ring is tried.
 const TRIES: u32 = 1_000_000;
 
-/// The number that a word tells, or another one where there is no word.
+/// Returns the number that a word says, or another one if there is no word.
 fn number_or(word: Option<String>, other: u64) -> Result<u64> {
     match word {
         Some(word) => Ok(word.parse::<u64>()?),
@@ -47,8 +48,8 @@ fn number_or(word: Option<String>, other: u64) -> Result<u64> {
     }
 }
 
-/// Whether a history of a queue that was empty first shows a violation. If so, it is written with its verdict, and then
-/// what shows the violation alone.
+/// Whether the history of a queue that was empty at first shows a violation. If so, writes it with its verdict, and
+/// then the violation's operations alone.
 fn shows_violation<R: Print>(rt: &R, alloc: Global, history: &History) -> Result<bool>
     requires { history.now.initial ≡ [] }
 {
@@ -66,7 +67,7 @@ fn shows_violation<R: Print>(rt: &R, alloc: Global, history: &History) -> Result
     Ok(true)
 }
 
-/// The plan of a run of so many workers, if a run may have them.
+/// Makes the plan of a run of this many workers, if a run may have them.
 fn plan_of(alloc: Global, workers: u64, seed: u64) -> Result<Plan> {
     if !(1..=MAX_WORKERS as u64).contains(&workers) {
         bail!("a run has 1 to {MAX_WORKERS} workers");

@@ -1,5 +1,5 @@
 //! The tested queue: its size is counted apart from the list.
-use queue_interface::{AnsweredDeq, AnsweredEnq, AskDeq, AskEnq, TestQueue};
+use fifobench_core::{AnsweredDeq, AnsweredEnq, AskDeq, AskEnq, TestQueue};
 use std::alloc::Global;
 use std::collections::VecDeque;
 use std::sync::atomic::{AtomicU64, Ordering};
@@ -14,7 +14,7 @@ pub struct SizedApart<R: Wait + Drop> {
 }
 
 impl<R: Wait + Drop> SizedApart<R> {
-    /// An empty queue. Its memory grows with its values.
+    /// Makes an empty queue. Its memory grows with its values.
     pub fn new(alloc: Global, rt: R) -> SizedApart<R> {
         SizedApart {
             rt,
@@ -25,7 +25,7 @@ impl<R: Wait + Drop> SizedApart<R> {
 }
 
 impl<R: Wait + Drop> SizedApart<R> {
-    /// Puts a value last, and counts it where there was memory for it.
+    /// Appends a value, and counts it if there was memory for it.
     fn put(&self, value: u64) -> bool {
         let taken = self.values.lock(&self.rt).push_back(value).is_ok();
         if taken {
@@ -36,7 +36,7 @@ impl<R: Wait + Drop> SizedApart<R> {
 }
 
 impl<R: Wait + Drop + Send + Sync> TestQueue for SizedApart<R> {
-    ghost use Rattle.queue_interface.specs.Answers.{AnswersInKind, TakesOrRefuses};
+    ghost use Rattle.fifobench_core.specs.Answers.{AnswersInKind, TakesOrRefuses};
 
     // Any answer of the question's kind.
     ghost may = { λ _. AnswersInKind };

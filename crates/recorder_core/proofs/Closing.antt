@@ -13,7 +13,7 @@ use Rattle.recorder_core.specs.Laws.{IsDone, NeedsOpenThread, events_in, collect
 use Rattle.recorder_core.proofs.Runs.{same_number, after_each, may_ask, may_push, may_return, may_close}
 use Rattle.recorder_core.proofs.Counts.{Counted, counted}
 
--- where a thread is closed, no event of it is held and no operation is pending
+-- if a thread is closed, no event of it is held and no operation is pending
 abbrev pub ClosedIdle : ℕ → List Step → Type 0
 ClosedIdle t steps = is_closed t steps ≡ true → (asks t steps + returns t steps ≤ pushes t steps) × (asks t steps ≤ returns t steps)
 

@@ -1,4 +1,4 @@
--- The sequential queue accepts the effects in their order.
+-- The sequential specification accepts the effects in order.
 use Rattle.std.proofs.Common.{◌≡◌, ℕ, List, [], ◌∷◌, ◌++◌, Option, Some, None, refl, ap, ◌∙◌}
 use Rattle.std.specs.Option.{option_map, option_map_or, option_and_then}
 use Rattle.history_merge.specs.declared.OpKind.{OpKind}

@@ -45,7 +45,7 @@ pub record IsBusy (asked : Option Request) (events : List Event) : Type 0 where
   pub asked_is : asked ≡ Some request
   pub call_is : call.what ≡ call_of request
 
--- the events of t, after so many asks, answers and returns of t and so many tickets, with what it asked and was answered last
+-- the events of t, after this many asks, answers and returns of t and this many tickets, with what it asked and was answered last
 pub record AreEventsOf (t a n r next : ℕ) (asked : Option Request) (told : Option Answer) (events : List Event) : Type 0 where
   pub own : All (λ e. e.thread ≡ t) events
   pub below : All (λ e. e.ticket < next) events

@@ -29,7 +29,7 @@ use Rattle.history_merge.proofs.Turns.{answer_is_return}
 pub place_in : {X : Type 0} (xs : List X) (x : X) → Contains xs x → (k : ℕ) × (slice_get xs k ≡ Some x)
 place_in xs x among = (among.0, slice_get_read xs (length xs) among.0 x refl among.1 (sym among.2))
 
--- where calls and returns take turns, calls stand at even places
+-- if calls and returns take turns, calls stand at even places
 pub call_at_even : (events : List Event) (k : ℕ) (e : Event) → TakesTurns events → slice_get events k ≡ Some e → is_call e.what ≡ true → (n : ℕ) × (k ≡ 2 * n)
 call_at_even [] k e turns at calls = cc
 call_at_even (call ∷ []) k e turns at calls = absurd turns

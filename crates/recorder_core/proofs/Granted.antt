@@ -67,7 +67,7 @@ close_granted setting u before m = rw (lt-leb _ _ m.known, m.open_still, le-ltb 
 abbrev pub granted_attempt : Step → Attempt
 granted_attempt step = record { step = step; starved = false }
 
--- each of these steps is accepted, where no growth is refused
+-- each of these steps is accepted, if no growth is refused
 abbrev pub AllGranted : Setting → List Step → Type 0
 AllGranted setting steps = accepted setting (map granted_attempt steps) ≡ steps
 
@@ -88,7 +88,7 @@ granted_added setting steps all = subst (Added setting) all (added setting (map 
 
 -- ---- a thread whose events so far are collected
 
--- of the list of t the first events are recorded, and collected but for so many that are held; the rest has this ticket or later ones
+-- of the list of t the first events are recorded, and collected but for this many that are held; the rest has this ticket or later ones
 pub record IsOnTurn (setting : Setting) (n t held : ℕ) (list : List Event) (steps : List Step) : Type 0 where
   pub still_open : is_closed t steps ≡ false
   pub pushed : pushes t steps + held ≡ asks t steps + returns t steps

@@ -30,7 +30,7 @@ use Rattle.recorder_core.proofs.Events.{CountedAndRecorded, recorded, recorded_g
 use Rattle.recorder_core.proofs.Starting.{slice_get_front}
 use Rattle.recorder_core.proofs.Threads.{slice_get_at}
 
--- an effect: the operation of this thread and number took it when so many tickets were drawn, and did this
+-- an effect: the operation of this thread and number took it when this many tickets were drawn, and did this
 pub record TakenEffect : Type 0 where
   pub thread : ℕ
   pub number : ℕ
@@ -56,11 +56,11 @@ taken setting (Effect t ∷ before) = taken setting before ++ record {
 } ∷ []
 taken setting (_ ∷ before) = taken setting before
 
--- no step tells an answer
+-- no step gives an answer from outside
 abbrev pub without_says : List Step → Bool
 without_says steps = list_all (λ step. not (is_say step)) steps
 
--- what an effect has to do with the events of its thread, after so many tickets, answers and returns, where this was answered last
+-- what an effect has to do with the events of its thread, after this many tickets, answers and returns, if this was answered last
 pub record IsTaken (next n r : ℕ) (told : Option Answer) (list : List Event) (number time : ℕ) (kind : OpKind) : Type 0 where
   pub in_time : time ≤ next
   pub was_answered : number < n
@@ -218,7 +218,7 @@ taken_on setting (Push u) starved before x all honest none k = k
 taken_on setting (Drain u n) starved before x all honest none k = k
 taken_on setting (Close u) starved before x all honest none k = k
 
--- the effects in the order of their times, with what the sequential queue did
+-- the effects in the order of their times, with what the machine's queue did
 pub record AreTaken (setting : Setting) (steps : List Step) : Type 0 where
   pub each : All (IsTakenAt setting steps) (taken setting steps)
   pub in_order : AllPairs (λ x y. x.time ≤ y.time) (taken setting steps)

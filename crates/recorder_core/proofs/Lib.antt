@@ -6,7 +6,7 @@
 -- Turns, Fitting: the recorded lists merge to a complete history.
 -- Collecting: a done schedule's collected lists fit together and hold each thread's events once.
 -- Precedence, Ticketed, Operating: operations precede one another as their steps stand, so as they are ticketed.
--- Effects, Honest, Legal: the effects of an honest schedule that is done are a legal order.
+-- Effects, Honest, Legal: the effects of an honest schedule that is done are a linearization.
 -- Replaying, Replayed: recorded lists are collected by some schedule.
 pub mod Runs
 pub mod Counts

@@ -23,7 +23,7 @@ contains_tail x xs y (k, below, same) = (suc k, omega arith, same)
 pub none_in_nil : {X : Type 0} (x : X) → Contains [] x → ⊥
 none_in_nil x among = let below = among.1 in omega arith
 
--- in a list that begins with an item where that passes
+-- in a list that begins with an item if that passes
 in_kept : {X : Type 0} (b : Bool) (y x : X) (kept : List X) → b ≡ true → (y ≡ x) ⊎ Contains kept x → Contains (cond b (y ∷ kept) kept) x
 in_kept {X} true y x kept is (inl same) = subst (λ (z : X). Contains (z ∷ kept) x) (sym same) (contains_head x kept)
 in_kept true y x kept is (inr later) = contains_tail y kept x later

@@ -19,7 +19,7 @@ pub passed : {X : Type 0} (b : Bool) (x : X) (rest : Option X) → cond b (Some 
 passed true x rest h = cc
 passed false x rest h = (refl, h)
 
--- the same of the first four
+-- the first four of a list of refusals are not met, and none of the rest is
 four_passed : {X : Type 0} (a b c d : Bool) (w x y z : X) (rest : Option X)
     → cond a (Some w) (cond b (Some x) (cond c (Some y) (cond d (Some z) rest))) ≡ None
     → (a ≡ false) × (b ≡ false) × (c ≡ false) × (d ≡ false) × (rest ≡ None)

@@ -125,7 +125,7 @@ step_refused old new step r same h = record {
   threads = ap (λ (m : MachineView). length m.threads) same;
 }
 
--- where a step leads, some schedule leads
+-- if a step leads, some schedule leads
 pub reachable_on : (old new : MachineView) (step : Step) (result : Result Done StepRefused) → TakesStep old step result new → IsReachable old → IsReachable new
 reachable_on old new step result takes (setting, schedule, after) = (setting, attempt_at step result ∷ schedule, takes.goes_on setting schedule after)
 

@@ -65,13 +65,13 @@ pub drop-with_last : {X : Type 0} (n : ℕ) (xs : List X) (o : Option X) → n �
 drop-with_last n xs None h = refl
 drop-with_last n xs (Some x) h = drop-append-le n xs (x ∷ []) h
 
--- a place has an element where it is in range
+-- a place has an element if it is in range
 pub is_some-slice_get : {X : Type 0} (xs : List X) (n : ℕ) → is_some (slice_get xs n) ≡ ltb n (length xs)
 is_some-slice_get [] n = sym (le-ltb n 0 (omega arith))
 is_some-slice_get (x ∷ xs) zero = sym (lt-ltb 0 (suc (length xs)) (omega arith))
 is_some-slice_get (x ∷ xs) (suc n) = rw compare.suc-suc (is_some-slice_get xs n)
 
--- a place has none where it isn't
+-- a place has none if it isn't
 pub is_none-slice_get : {X : Type 0} (xs : List X) (n : ℕ) → is_none (slice_get xs n) ≡ leb (length xs) n
 is_none-slice_get [] n = sym (le-leb 0 n (omega arith))
 is_none-slice_get (x ∷ xs) zero = sym (lt-leb (suc (length xs)) 0 (omega arith))
@@ -214,7 +214,7 @@ module _ (setting : Setting) (u : ℕ) (before : List Step) (k : Counted setting
   pub seen_held : is_some (thread_after setting u before).held ≡ ltb (pushes u before) (asks u before + returns u before)
   seen_held = is_some-slice_get (events setting u before) (pushes u before) ∙ ap (ltb (pushes u before)) k.events_are
 
-  -- a thread holds no event where it pushed as many as it asked and returned
+  -- a thread holds no event if it pushed as many as it asked and returned
   pub seen_none_held : is_none (thread_after setting u before).held ≡ leb (asks u before + returns u before) (pushes u before)
   seen_none_held = is_none-slice_get (events setting u before) (pushes u before) ∙ ap (λ (n : ℕ). leb n (pushes u before)) k.events_are
 
@@ -231,7 +231,7 @@ module _ (setting : Setting) (u : ℕ) (before : List Step) (k : Counted setting
   is_some-mapped f None h = cc
   is_some-mapped f (Some x) h = (refl, refl)
 
-  -- an operation is pending where more were asked than returned
+  -- an operation is pending if more were asked than returned
   pub seen_pending : (is_some (thread_after setting u before).pending ≡ ltb (returns u before) (asks u before))
       × (is_none (thread_after setting u before).pending ≡ leb (asks u before) (returns u before))
   seen_pending = elim (cases_lt (returns u before) (asks u before)) [
@@ -269,7 +269,7 @@ module _ (setting : Setting) (u : ℕ) (before : List Step) (k : Counted setting
     | inr more ↦ rw (le-ltb a b more, le-leb b a more) refl
   ]
 
-  -- the pending operation has its answer where more were answered than returned
+  -- the pending operation has its answer if more were answered than returned
   pub seen_given : (is_some (given_answer (thread_after setting u before).pending) ≡ ltb (returns u before) (answers u before))
       × (is_none (given_answer (thread_after setting u before).pending) ≡ leb (answers u before) (returns u before))
   seen_given = elim (cases_lt (returns u before) (asks u before)) [

@@ -91,7 +91,7 @@ module _ (setting : Setting) (schedule : List Attempt) (merged : List Event) (is
       let l = list_at (λ t. collected_in setting schedule t) setting.threads j.0 j.1 j.2 in
       (j.0, collected_is_event setting schedule j.0 e (subst (λ (list : List Event). Contains list e) l.1 j.3))
 
-  -- an operation precedes another exactly where its return step stands before the other's ask
+  -- an operation precedes another if and only if its return step stands before the other's ask
   pub precedes_as_stands : (x y : Operation) → Contains (operations_of merged) x → Contains (operations_of merged) y
       → Precedes x y ↔ ReturnsBeforeAsk setting schedule x y
   precedes_as_stands x y in_x in_y =

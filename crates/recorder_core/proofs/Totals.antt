@@ -113,7 +113,7 @@ pub total_doubled : (f g : ℕ → ℕ) (n : ℕ) → ((t : ℕ) → t < n → 2
 total_doubled f g zero h = omega arith
 total_doubled f g (suc n) h = omega (arith, total_doubled f g n (λ t below. h t (omega arith)), h n (omega arith))
 
--- the same, with two to spare at one thread
+-- the bound, with two to spare at one thread
 pub total_doubled_less : (f g : ℕ → ℕ) (u n : ℕ) → ((t : ℕ) → t < n → 2 * f t ≤ g t) → u < n → 2 * f u + 2 ≤ g u → 2 * total f n + 2 ≤ total g n
 total_doubled_less f g u zero h within more = absurd (omega arith)
 total_doubled_less f g u (suc n) h within more = elim (cases_eq u n) [

@@ -61,6 +61,6 @@ abbrev pub is_out_of_memory : {A : Type 0} → Result A StepRefused → Bool
 is_out_of_memory (Ok x) = false
 is_out_of_memory (Err refused) = is_memory refused
 
--- the attempt at a step, by its answer: growth was refused where the answer says so
+-- the attempt at a step, by its answer: growth was refused if the answer says so
 abbrev pub attempt_at : {A : Type 0} → Step → Result A StepRefused → Attempt
 attempt_at step result = record { step = step; starved = is_out_of_memory result }

@@ -30,19 +30,19 @@ abbrev pub is_effect : Step → Bool
 is_effect (Effect t) = true
 is_effect _ = false
 
--- whether it tells an answer
+-- whether it gives an answer from outside
 abbrev pub is_say : Step → Bool
 is_say (Say t answer) = true
 is_say _ = false
 
--- no accepted step tells an answer: each is that of the sequential queue
+-- no accepted step gives an answer from outside: each answer is that of the machine's queue
 abbrev pub IsHonest : Setting → List Attempt → Type 0
 IsHonest setting schedule = IsTrue (list_all (λ step. not (is_say step)) (accepted setting schedule))
 
 -- ---- recorded lists
 
--- the list of thread t: its events alone, in turn, of no more operations than a thread may ask; where its n-th operation, from 0, is an
--- enqueue, the call has the value that is named by t and n
+-- the list of thread t: its events alone, in turn, of no more operations than a thread may ask; if its n-th operation, from 0, is an enqueue, the call has the value that is
+-- named by t and n
 pub record IsListOf (t : ℕ) (events : List Event) : Type 0 where
   pub own : All (λ event. event.thread ≡ t) events
   pub alternates : Alternates events

@@ -114,7 +114,7 @@ in_ring t steps = pushes t steps - drained t steps
 abbrev pub is_closed : ℕ → List Step → Bool
 is_closed t steps = list_any (is_close t) steps
 
--- ---- requests, answers and the sequential queue
+-- ---- requests, answers and the machine's queue, which is the sequential specification
 
 -- what t asked last
 abbrev pub request : ℕ → List Step → Option Request
@@ -123,25 +123,25 @@ request t (AskEnq u ∷ before) = if u == t then Some (Enqueue (value_name t (as
 request t (AskDeq u ∷ before) = if u == t then Some Dequeue else request t before
 request t (_ ∷ before) = request t before
 
--- what the sequential queue answers
+-- what a queue answers
 abbrev pub queue_answer : Request → List ℕ → Answer
 queue_answer (Enqueue value) queue = Taken
 queue_answer Dequeue [] = Empty
 queue_answer Dequeue (first ∷ rest) = Got first
 
--- what the sequential queue contains after a request
+-- what a queue contains after a request
 abbrev pub queue_after : Request → List ℕ → List ℕ
 queue_after (Enqueue value) queue = queue ++ value ∷ []
 queue_after Dequeue queue = drop 1 queue
 
--- the sequential queue, which holds the initial values first, after the effects among these steps
+-- the machine's queue, which holds the initial values at first, after the effects among these steps
 abbrev pub queue : Setting → List Step → List ℕ
 queue setting [] = setting.initial
 queue setting (Effect u ∷ before) =
     option_map_or (λ asked. queue_after asked (queue setting before)) (request u before) (queue setting before)
 queue setting (_ ∷ before) = queue setting before
 
--- the answer of an effect of t: that of the sequential queue after the effects before
+-- the answer of an effect of t: that of the queue after the effects before
 abbrev pub effect_answer : Setting → ℕ → List Step → Answer
 effect_answer setting t before = option_map_or (λ asked. queue_answer asked (queue setting before)) (request t before) Empty
 
@@ -201,7 +201,7 @@ is_wrong answer None = false
 is_wrong answer (Some (Enqueue value)) = not (is_enqueue_answer answer)
 is_wrong answer (Some Dequeue) = is_enqueue_answer answer
 
--- whether a step tells an operation an answer of the other kind
+-- whether a step gives an operation an answer of another kind
 abbrev pub is_told_wrong : Step → Option Request → Bool
 is_told_wrong (Say t answer) asked = is_wrong answer asked
 is_told_wrong _ asked = false

@@ -1,4 +1,4 @@
-//! Values that the sequential queue may hold first.
+//! Values that a queue may hold before a run.
 ghost use Rattle.std.specs.Prelude.{◌≢◌, ◌≤◌, ◌↔◌, All, AllPairs, IfOk, IsTrue};
 ghost use Rattle.event_records.specs.declared.limits.TheConstants.{LEAST_INITIAL_NAME};
 ghost use Rattle.recorder_core.specs.Initial.{AreInitialNames};
@@ -7,8 +7,8 @@ use event_records::{LEAST_INITIAL_NAME, MAX_INITIAL};
 use std::alloc::{AllocError, Global};
 use std::collections::BTreeSet;
 
-/// Whether a queue may hold these values before a run: they are distinct, not more than 100,000, and each is 2^38 or greater,
-/// above the names of the threads' own values.
+/// Whether a queue may hold these values before a run: they are distinct, at most 100,000, and each is 2^38 or
+/// greater, above the names of the threads' own values.
 ///
 /// Time O(n log n) for n values, and memory for them.
 pub fn are_initial_names(alloc: Global, values: &[u64]) -> Result<bool, AllocError>
@@ -20,7 +20,7 @@ pub fn are_initial_names(alloc: Global, values: &[u64]) -> Result<bool, AllocErr
     are_distinct(alloc, values)
 }
 
-/// Whether no value is the name of a thread's own.
+/// Whether no value is a name of a thread's own values.
 fn are_above_names(values: &[u64]) -> bool
     ensures { IsTrue result ↔ All (λ v. LEAST_INITIAL_NAME ≤ v) values.now }
 {

@@ -1,5 +1,5 @@
-//! What holds of every schedule, whatever steps are tried in whatever order. These functions do nothing; the law is what
-//! each of them ensures, and its words stand in `specs/Laws.antt` and `specs/Replay.antt`.
+//! What holds of every schedule, whatever steps are tried in whatever order. These functions do nothing; each ensures
+//! a law, which `specs/Laws.antt` and `specs/Replay.antt` define.
 ghost use Rattle.std.specs.Prelude.{◌≡◌, ℕ, ◌<◌, ◌≤◌, ◌++◌, ◌∷◌, List, length, Contains, Err, None, Some, [], ◌↔◌};
 ghost use Rattle.event_records.specs.declared.limits.TheConstants.{MAX_EVENTS};
 ghost use Rattle.event_records.specs.declared.event.Event.{Event};
@@ -20,27 +20,28 @@ ghost use Rattle.recorder_core.specs.Replay.{AreRecorded, Replays, IsHonest, eff
 
 use event_records::{MAX_RING, MAX_THREADS, MIN_RING};
 
-/// Each thread's collected list is a prefix of its events.
+/// Proves that each thread's collected list is a prefix of its events.
 pub fn collected_is_a_prefix()
     ensures { (setting : Setting) (schedule : List Attempt) (t : ℕ)
         → IsPrefix (collected_in setting schedule t) (events_in setting schedule t) }
 {}
 
-/// It is all of them where the schedule is done.
+/// Proves that it is all of them if the schedule is done.
 pub fn done_collects_all()
     ensures { (setting : Setting) (schedule : List Attempt) → IsDone setting schedule
         → (t : ℕ) → t < setting.threads → collected_in setting schedule t ≡ events_in setting schedule t }
 {}
 
-/// After an accepted close, each step of that thread but a drain is refused as closed.
+/// Proves that after an accepted close, each step of that thread but a drain is refused as closed.
 pub fn nothing_after_close()
     ensures { (setting : Setting) (before later : List Attempt) (close attempt : Attempt)
         → close.step ≡ Close (thread_of attempt.step) → refusal setting (accepted setting before) close ≡ None
         → NeedsOpenThread attempt.step → answer_to setting (later ++ close ∷ before) attempt ≡ Err Closed }
 {}
 
-/// One operation precedes another in the collected history exactly where its return step stands before the other's ask. More
-/// than that, of any two collected events the one with the lower ticket is the one whose step stands first.
+/// Proves that one operation precedes another in the collected history if and only if its return step stands before
+/// the other's ask; and more: of any two collected events the one with the lower ticket is the one whose step stands
+/// first.
 pub fn precedence_as_ticketed()
     ensures operations { (setting : Setting) (schedule : List Attempt) (merged : List Event) (x y : Operation)
         → IsMerged (collected_lists setting schedule) merged → Contains (operations_of merged) x → Contains (operations_of merged) y
@@ -50,20 +51,22 @@ pub fn precedence_as_ticketed()
         → (first.ticket < second.ticket) ↔ StandsBefore setting schedule first second }
 {}
 
-/// The sequential queue accepts the effects in their order, from the initial values on, and is then the schedule's.
+/// Proves that the sequential specification accepts the effects in order, from the initial values on, and leaves the
+/// schedule's queue.
 pub fn effects_are_accepted()
     ensures { (setting : Setting) (schedule : List Attempt)
         → accept_all setting.initial (effect_kinds setting (accepted setting schedule)) ≡ Some (queue setting (accepted setting schedule)) }
 {}
 
-/// Recorded lists replay: for every capacity of the rings, and whatever the queue holds first, some schedule without effects,
-/// each of whose steps is accepted, is done and collects them.
+/// Proves that recorded lists replay: for every capacity of the rings, and whatever the queue holds at first, some
+/// schedule without effects, each of whose steps is accepted, is done and collects them.
 pub fn recorded_lists_replay()
     ensures { (lists : List (List Event)) (ring : ℕ) (initial : List ℕ)
         → AreRecorded lists → MIN_RING ≤ ring → ring ≤ MAX_RING → Replays ring initial lists }
 {}
 
-/// Recorded lists merge to a complete history, of no more events than a history may have. No call enqueues an initial value.
+/// Proves that recorded lists merge to a complete history, of no more events than a history may have. No call
+/// enqueues an initial value.
 pub fn recorded_lists_are_complete()
     ensures complete { (lists : List (List Event)) (merged : List Event)
         → AreRecorded lists → IsMerged lists merged → IsCompleteHistory merged }
@@ -73,7 +76,7 @@ pub fn recorded_lists_are_complete()
         → AreRecorded lists → IsMerged lists merged → length merged ≤ MAX_EVENTS }
 {}
 
-/// And so do the lists that a done schedule collects. It has no more events than a history may have.
+/// Proves that the lists which a done schedule collects do so too. It has no more events than a history may have.
 pub fn done_schedules_are_complete()
     ensures complete { (setting : Setting) (schedule : List Attempt) (merged : List Event)
         → setting.threads ≤ MAX_THREADS → IsDone setting schedule → IsMerged (collected_lists setting schedule) merged
@@ -86,8 +89,8 @@ pub fn done_schedules_are_complete()
         → length merged ≤ MAX_EVENTS }
 {}
 
-/// The order of the effects of an honest schedule that is done is a legal order of the collected history from the initial
-/// values, from which it is therefore linearizable.
+/// Proves that the order of the effects of an honest schedule that is done is a linearization of the collected
+/// history from the initial values, which is therefore linearizable.
 pub fn honest_schedules_are_legal()
     ensures { (setting : Setting) (schedule : List Attempt) (merged : List Event)
         → setting.threads ≤ MAX_THREADS → IsHonest setting schedule → IsDone setting schedule

@@ -21,9 +21,9 @@ use std::marker::Model;
 
 /// What the recorder holds after a list of steps.
 ///
-/// For each thread: whether it is closed, how many operations it asked, the pending one, the held event, the events in its
-/// ring and those collected. For all together: the next ticket, and the sequential queue, a list of values, its front first.
-/// The memory is in proportion to what is held.
+/// For each thread: whether it is closed, how many operations it asked, the pending one, the held event, the events
+/// in its ring and those collected. For all together: the next ticket, and the machine's queue, a list of values, its
+/// front first. The memory is in proportion to what is held.
 #[derive(Debug, Drop)]
 pub struct Machine {
     capacity: usize,
@@ -62,8 +62,8 @@ impl Machine {
     ghost use Rattle.recorder_core.specs.Inner.After.{TakesStep};
     ghost use Rattle.recorder_core.specs.Laws.{collected_in, IsDone};
 
-    /// A machine that nothing has happened to, with threads 0, 1, 2 and so on, each with a ring of this capacity. Its
-    /// sequential queue is empty.
+    /// Makes a machine that nothing has happened to, with threads 0, 1, 2 and so on, each with a ring of this
+    /// capacity. Its queue is empty.
     ///
     /// Rings take memory as they are filled, and not here.
     pub fn new(alloc: Global, threads: usize, ring: usize) -> Result<Machine, AllocError>
@@ -74,9 +74,8 @@ impl Machine {
         Machine::with_initial(alloc, threads, ring, Vec::new(alloc))
     }
 
-    /// The same with a sequential queue that holds these values, front first. They lie above the names of the threads' own
-    /// values, so no operation enqueues one of them; [`are_initial_names`](crate::are_initial_names) tells whether values may
-    /// stand here.
+    /// Makes a machine whose queue holds these values, front first. They lie above the names of the threads' own
+    /// values, so no operation enqueues one of them; [`are_initial_names`](crate::are_initial_names) checks this.
     pub fn with_initial(
         alloc: Global,
         threads: usize,
@@ -105,12 +104,12 @@ impl Machine {
     ///
     /// A drain takes time in proportion to what it collects, and every other step amortised constant time.
     pub fn step(&mut self, step: Step) -> Result<Done, StepRefused>
-        // Whichever schedule left the machine, the answer is what that schedule says. `Memory` is read off the answer: the
-        // attempt is one whose growth is refused exactly where the answer says so.
+        // Whichever schedule left the machine, the answer is what that schedule says. `Memory` comes from the answer:
+        // an attempt's growth is refused if and only if the answer says so.
         ensures answered { (setting : Setting) (schedule : List Attempt) → IsAfter setting self.old schedule
             → result ≡ answer_to setting schedule (attempt_at step result) }
 
-        // And the machine is then what that schedule leaves with this attempt added.
+        // The machine is then what that schedule leaves with this attempt added.
         ensures goes_on { (setting : Setting) (schedule : List Attempt) → IsAfter setting self.old schedule
             → IsAfter setting self.new (attempt_at step result ∷ schedule) }
         ensures refused { OnErr result (self.new ≡ self.old) }
@@ -234,7 +233,7 @@ impl Machine {
         Ok(Done::Closed)
     }
 
-    /// What was collected of a thread, oldest first.
+    /// Returns what was collected of a thread, oldest first.
     pub fn collected(&self, number: u8) -> &[Event]
         requires { number < length self.now.threads }
         ensures { (setting : Setting) (schedule : List Attempt) → IsAfter setting self.now schedule
@@ -259,14 +258,14 @@ fn all_done(threads: &[Thread]) -> bool
     threads.iter().all(|thread| thread.is_done())
 }
 
-/// Whether a thread that asked so many operations, of so many in all, may ask no more.
+/// Whether a thread that asked this many operations, of this many in all, may ask no more.
 fn is_limited(asked: u64, all: u64) -> bool
     ensures { result ≡ is_limited asked all }
 {
     asked >= MAX_THREAD_OPERATIONS || all >= MAX_OPERATIONS
 }
 
-/// The next ticket, which is then taken.
+/// Takes the next ticket.
 fn take_ticket(next: &mut u64) -> u64
     requires { next.old < u64.MAX }
     ensures ticket { result ≡ next.old }
@@ -277,7 +276,7 @@ fn take_ticket(next: &mut u64) -> u64
     ticket
 }
 
-/// What a thread asks with this kind of operation, after so many others.
+/// Returns what a thread asks with this kind of operation, after this many others.
 fn request_of(kind: Kind, thread: u8, number: u64) -> Request
     requires { number < MAX_THREAD_OPERATIONS }
     ensures { result ≡ asked_for kind thread number }
@@ -288,7 +287,7 @@ fn request_of(kind: Kind, thread: u8, number: u64) -> Request
     }
 }
 
-/// The call of an operation with this request.
+/// Returns the call of an operation with this request.
 fn call_with(request: Request) -> What
     ensures { result ≡ call_of request }
 {
@@ -298,7 +297,7 @@ fn call_with(request: Request) -> What
     }
 }
 
-/// The return of an operation with this answer.
+/// Returns the return of an operation with this answer.
 fn return_with(answer: Answer) -> What
     ensures { result ≡ return_what answer }
 {
@@ -310,7 +309,7 @@ fn return_with(answer: Answer) -> What
     }
 }
 
-/// The sequential queue's answer, after which it contains what the operation leaves.
+/// Returns the queue's answer, and leaves in the queue what the operation leaves.
 fn take_effect(queue: &mut VecDeque<u64>, request: Request) -> Result<Answer, AllocError>
     ensures ok { IfOk result (λ answer. answer ≡ queue_answer request queue.old.items) }
     ensures after { OnOk result (queue.new.items ≡ queue_after request queue.old.items) }
@@ -328,7 +327,7 @@ fn take_effect(queue: &mut VecDeque<u64>, request: Request) -> Result<Answer, Al
     }
 }
 
-/// Whether an answer is of the other kind than its request.
+/// Whether an answer is of another kind than its request.
 fn is_of_other_kind(answer: Answer, request: Request) -> bool
     ensures { result ≡ is_wrong answer (Some request) }
 {

@@ -12,11 +12,11 @@ pub enum Step {
     AskEnq(u8),
     /// Draws a ticket and begins a dequeue; its call event is held.
     AskDeq(u8),
-    /// Puts the held event last into the ring.
+    /// Appends the held event to the ring.
     Push(u8),
-    /// The pending operation takes effect on the sequential queue, and has its answer.
+    /// The pending operation takes effect on the machine's queue, and has its answer.
     Effect(u8),
-    /// The pending operation is told this answer; the sequential queue stays as it is.
+    /// The pending operation gets this answer; the machine's queue stays as it is.
     Say(u8, Answer),
     /// Draws a ticket and ends the pending operation; its return event is held.
     Ret(u8),
@@ -41,7 +41,7 @@ pub enum Done {
     Closed,
 }
 
-/// Why a step is refused: the first reason of this list that the step can give and that is there.
+/// Why a step is refused: of the reasons that apply to it, the one that stands first here.
 #[derive(Clone, Copy, Debug, PartialEq, Eq, Error)]
 #[error("{name}", name = self.name())]
 pub enum StepRefused {
@@ -63,7 +63,7 @@ pub enum StepRefused {
     NoAnswer,
     /// The pending operation has its answer.
     AnswerTaken,
-    /// An enqueue is told an answer of a dequeue, or a dequeue one of an enqueue.
+    /// An enqueue gets an answer of a dequeue, or a dequeue one of an enqueue.
     WrongAnswer,
     /// The thread has asked 100,000 operations, or all threads together 1,000,000.
     Limit,
@@ -72,7 +72,7 @@ pub enum StepRefused {
 }
 
 impl StepRefused {
-    /// Its name, as it is printed.
+    /// Returns its name, as it is printed.
     pub fn name(self) -> &'static str
         ensures short { length result.now ≤ 20 }
         ensures name { result.now ≡ name_of self }

@@ -40,7 +40,7 @@ impl Model for Thread {
 }
 
 impl Thread {
-    /// A thread to which nothing has happened.
+    /// Makes a thread to which nothing has happened.
     pub(crate) fn new(alloc: Global) -> Thread
         ensures { result ≡ record { closed = false; asked = 0; pending = None; held = None; ring = []; collected = [] } }
     {
@@ -54,7 +54,7 @@ impl Thread {
         }
     }
 
-    /// How many operations were asked.
+    /// Returns how many operations were asked.
     pub(crate) fn asked(&self) -> u64
         ensures { result ≡ self.now.asked }
     {
@@ -67,7 +67,7 @@ impl Thread {
         self.collected.as_slice()
     }
 
-    /// Refuses where the thread is closed.
+    /// Refuses if the thread is closed.
     fn open(&self) -> Result<(), StepRefused>
         ensures { result_err result ≡ find (seen self.now none_other) (Closed ∷ []) }
     {
@@ -77,7 +77,7 @@ impl Thread {
         Ok(())
     }
 
-    /// Refuses where the thread holds an event.
+    /// Refuses if the thread holds an event.
     fn empty_handed(&self) -> Result<(), StepRefused>
         ensures { result_err result ≡ find (seen self.now none_other) (Held ∷ []) }
     {
@@ -87,14 +87,14 @@ impl Thread {
         Ok(())
     }
 
-    /// Refuses where the thread may neither draw a ticket nor be closed.
+    /// Refuses if the thread may neither draw a ticket nor be closed.
     fn free(&self) -> Result<(), StepRefused>
         ensures { result_err result ≡ find (seen self.now none_other) (Closed ∷ Held ∷ []) }
     {
         self.open().and(self.empty_handed())
     }
 
-    /// Refuses where the thread may neither begin an operation nor be closed.
+    /// Refuses if the thread may neither begin an operation nor be closed.
     pub(crate) fn idle(&self) -> Result<(), StepRefused>
         ensures { result_err result ≡ find (seen self.now none_other) (Closed ∷ Held ∷ PendingRefused ∷ []) }
     {
@@ -122,7 +122,7 @@ impl Thread {
         self.held = Some(call);
     }
 
-    /// Puts the held event last into the ring.
+    /// Appends the held event to the ring.
     pub(crate) fn push(&mut self, capacity: usize) -> Result<(), StepRefused>
         ensures refused { let full = nat_le capacity (length self.old.ring) in result_err result
             ≡ find (seen self.old (when_pushing full (is_out_of_memory result))) (Closed ∷ NothingHeld ∷ RingFull ∷ Memory ∷ []) }
@@ -143,7 +143,7 @@ impl Thread {
         Ok(())
     }
 
-    /// The request that waits for its answer.
+    /// Returns the request that waits for its answer.
     pub(crate) fn unanswered(&self) -> Result<Request, StepRefused>
         ensures refused { result_err result ≡ find (seen self.now none_other) (Closed ∷ NotPending ∷ AnswerTaken ∷ []) }
         ensures ok { IfOk result (λ request. self.now.pending ≡ Some (record { request = request; answer = None })) }
@@ -168,7 +168,7 @@ impl Thread {
         });
     }
 
-    /// The answer with which the pending operation may return.
+    /// Returns the answer with which the pending operation may return.
     pub(crate) fn answered(&self) -> Result<Answer, StepRefused>
         ensures refused { result_err result ≡ find (seen self.now none_other) (Closed ∷ Held ∷ NotPending ∷ NoAnswer ∷ []) }
         ensures ok { IfOk result (λ answer. given_answer self.now.pending ≡ Some answer) }

@@ -17,11 +17,11 @@ use verdicts::{
     shrink, verify,
 };
 
-/// A history with the answer that it gets, the lines of its verdict, and its operations where it is shrunk.
+/// A history with the answer that it gets, the lines of its verdict, and its operations if it is shrunk.
 #[derive(Drop)]
 struct Case<'a> {
     operations: &'a [Operation],
-    /// None for a yes.
+    /// None for a `YES`.
     kind: Option<ViolationKind>,
     lines: &'a [Operation],
     kept: &'a [Operation],
@@ -169,7 +169,7 @@ fn is_evidence(
     verify(alloc, history, &claimed)
 }
 
-/// The same, asked once more for want of memory.
+/// Whether it is evidence; asked once more if memory ran out.
 fn is_evidence_again(
     alloc: Global,
     history: &History,

@@ -32,7 +32,7 @@ fn events_of(operation: &Operation) -> [Event; 2] {
     [at(operation.call, called), at(operation.ret, answered)]
 }
 
-/// The history of these operations, or none where a growth is refused.
+/// The history of these operations, or none if memory runs out.
 fn history_or_none(
     alloc: Global,
     operations: &[Operation],

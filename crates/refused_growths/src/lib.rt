@@ -1,7 +1,8 @@
 //! Calls and runs that meet a refused growth. The crate has tests alone.
 //!
-//! Each test makes its calls until none of them answers want of memory, so it compares the answer of ample memory too, and a growth
-//! is refused once at most. `extras/faults/tests` runs each test with its first growth refused, with its second, and so on until none is.
+//! Each test makes its calls until none of them is out of memory, so it compares the answer of ample memory too, and
+//! a growth is refused once at most. `extras/faults/tests` runs each test with its first growth refused, with its
+//! second, and so on until none is.
 #![tactic(auto)]
 
 #[cfg(test)]

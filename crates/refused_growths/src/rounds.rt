@@ -31,7 +31,7 @@ fn call(n: u64) -> Event {
     }
 }
 
-/// A round of two events, or the one after it where that is refused.
+/// A round of two events, or the one after it if that is refused.
 fn drain_two(collector: &mut Collector) -> Result<u64, AllocError>
     ensures { rings_of collector.new.rings ≡ rings_of collector.old.rings }
 {
@@ -70,7 +70,7 @@ fn gives_both(alloc: Global, thread: ThreadNo) -> Result<bool, AllocError>
 #[test]
 fn a_refused_round_leaves_both_events_to_the_next(rt: HostRuntime) -> Result<(), Fail> {
     let thread = ThreadNo::new(0).ok_or("thread")?;
-    // Where it isn't the round that is refused, all is done once more.
+    // If something else than the round is refused, all is done once more.
     let gives_both = match gives_both(rt.alloc(), thread) {
         Ok(gives_both) => gives_both,
         Err(_) => gives_both(rt.alloc(), thread)?,

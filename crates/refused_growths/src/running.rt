@@ -13,7 +13,8 @@ use workloads::Plan;
 /// How often a push is tried: a refused round leaves the rings full, and the workers use all their tries up.
 const TRIES: u32 = 20_000;
 
-/// What a run may answer, where it gives no history: want of memory; that a ring gave no token; or, where a thread couldn't be started,
+/// Whether a run that gives no history may have this fault: it is out of memory; a ring gave no token; or, if a
+/// thread couldn't be started, a worker stalled.
 /// that a worker stalled.
 fn is_allowed(fault: RunFault) -> bool {
     match fault {

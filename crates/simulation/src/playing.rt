@@ -19,7 +19,7 @@ pub struct Rejection {
     pub reason: StepRefused,
 }
 
-/// The refused steps of a schedule in their order, seen as a list.
+/// The refused steps of a schedule in order, seen as a list.
 pub type Rejections = Listed<Rejection>;
 
 /// What the machine is after the last step of a schedule.
@@ -38,11 +38,11 @@ pub struct Simulation {
     pub ending: Ending,
 }
 
-/// Plays a schedule: its steps one after another, on a new machine with this many threads, rings of this capacity and an empty
-/// queue.
+/// Plays a schedule: its steps one after another, on a new machine with this many threads, rings of this capacity and
+/// an empty queue.
 ///
-/// A refused step changes nothing, and the next one is tried. Want of memory, also that of a step, is the one error; without
-/// it no growth was refused. Time and memory grow in proportion to the steps and to what they collect.
+/// A refused step changes nothing, and the next one is tried. The only error is out of memory, also in a step;
+/// without it no growth was refused. Time and memory grow in proportion to the steps and to what they collect.
 pub fn simulate(
     alloc: Global,
     threads: usize,
@@ -61,7 +61,7 @@ pub fn simulate(
     Ok(Simulation { rejections, ending })
 }
 
-/// Takes the steps in their order, and tells which of them are refused.
+/// Takes the steps in order, and returns those that are refused.
 fn take_all(alloc: Global, machine: &mut Machine, steps: &[Step]) -> Result<Rejections, AllocError>
     ensures after { OnOk result ((setting : Setting) → IsAfter setting machine.old [] → IsAfter setting machine.new (schedule_of steps.now)) }
     ensures rejected { IfOk result (λ rejected. (setting : Setting) → IsAfter setting machine.old [] → rejected ≡ rejections setting (schedule_of steps.now)) }
@@ -77,7 +77,7 @@ fn take_all(alloc: Global, machine: &mut Machine, steps: &[Step]) -> Result<Reje
     Ok(Rejections::from_vec(rejections))
 }
 
-/// Takes one step, and tells why it is refused, if it is.
+/// Takes one step, and returns why it is refused, if it is.
 fn refusal_of(machine: &mut Machine, step: Step) -> Result<Option<StepRefused>, AllocError>
     ensures refused { IfOk result (λ refused. (setting : Setting) (schedule : List Attempt) → IsAfter setting machine.old schedule
         → refused ≡ result_err (answer_to setting schedule (tried step))) }
@@ -92,7 +92,7 @@ fn refusal_of(machine: &mut Machine, step: Step) -> Result<Option<StepRefused>, 
     }
 }
 
-/// What the machine is now.
+/// Returns what the machine is now.
 fn ending_of(alloc: Global, machine: &Machine, threads: usize) -> Result<Ending, AllocError>
     requires threads { length machine.now.threads ≡ threads }
     requires few { threads ≤ MAX_THREADS }
@@ -106,7 +106,7 @@ fn ending_of(alloc: Global, machine: &Machine, threads: usize) -> Result<Ending,
     }
 }
 
-/// What was collected of each thread.
+/// Returns what was collected of each thread.
 fn collected(alloc: Global, machine: &Machine, threads: usize) -> Result<Lists, AllocError>
     requires threads { length machine.now.threads ≡ threads }
     requires few { threads ≤ MAX_THREADS }
@@ -120,7 +120,7 @@ fn collected(alloc: Global, machine: &Machine, threads: usize) -> Result<Lists, 
     Ok(Lists::from_vec(lists))
 }
 
-/// A list of these events.
+/// Copies events to a list.
 fn copied(alloc: Global, events: &[Event]) -> Result<Vec<Event>, AllocError>
     ensures { IfOk result (λ copy. copy.items ≡ events.now) }
 {

@@ -52,17 +52,17 @@ closed_more rest workers tokens pass w tokens' pass' p runs token key left drawn
     all = ap (λ l. rest.drawn ++ l) (flat_map-append drawn_of workers (w ∷ []) ∙ ap (λ l. flat_map drawn_of workers ++ l) (append-nil w.pass.drawn))
         ∙ sym (append_assoc rest.drawn (flat_map drawn_of workers) w.pass.drawn)
 
--- a result that is known where there is none
+-- a result that is known if there is none
 pub at_none : {F : Type 0} (o : Option F) (Q : Type 0) → (o ≡ None → Q) → IfNone o Q
 at_none None Q f = f refl
 at_none (Some x) Q f = tt
 
--- what is known where there is none
+-- what is known if there is none
 pub none_of : {F : Type 0} (o : Option F) (P : Type 0) → o ≡ None → IfNone o P → P
 none_of None P e p = p
 none_of (Some x) P e p = cc
 
--- of the workers that are done: where no fault stands they are closed, and else it stands, and is not after that which stood first nor
+-- of the workers that are done: if no fault stands they are closed, and else it stands, and is not after that which stood first nor
 -- after their stalls
 pub record IsClosing (rest : PassView) (done : List WorkerView) (standing : Option RunFault) (tokens : List TokenView) (pass : PassView)
     (fault : Option RunFault) : Type 0 where
@@ -117,7 +117,7 @@ module _ (rest : PassView) (done : List WorkerView) (w : WorkerView) where
   still_stands standing fault (Some f) p (inr (inr own)) =
       inr (inr (w, Contains-push done w, own))
 
-  -- one worker more is closed: its token is kept, and the fault that counts is told
+  -- one worker more is closed: its token is kept, and the fault that counts is chosen
   pub closing_more : (standing : Option RunFault) (tokens : List TokenView) (pass : PassView) (fault : Option RunFault) (tokens' : List TokenView)
       (pass' : PassView) (fault' : Option RunFault)
       → IsClosing rest done standing tokens pass fault

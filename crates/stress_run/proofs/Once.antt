@@ -61,7 +61,7 @@ module _ (may : Question → Answer → Type 0) where
             (λ k x h. absurd (omega (arith, h))));
       }
 
--- an answer is of a kind where its return answers a call of that kind
+-- an answer is of a kind if its return answers a call of that kind
 of_kind_called : (k : Kind) (v : ℕ) (a : Answer) → IsTrue (answers (call_what k v) (return_what a)) → IsOfKind k a
 of_kind_called Enq v Taken h = tt
 of_kind_called Enq v Not h = tt
@@ -72,7 +72,7 @@ of_kind_called Deq v Not h = absurd (false≢true h)
 of_kind_called Deq v (Got x) h = tt
 of_kind_called Deq v Empty h = tt
 
--- an answer is of the question's kind where its return answers the question's call
+-- an answer is of the question's kind if its return answers the question's call
 of_kind : (q : Question) (a : Answer) → IsTrue (answers (call_event q).what (return_what a)) → IsOfKind q.kind a
 of_kind q a h = of_kind_called q.kind (value_name q.thread q.number) a h
 
@@ -128,7 +128,7 @@ stalls_at_call k w b u p ticket asked opened ran draws counted ended filled =
       idle = λ h. absurd (false≢true (sym ran ∙ h));
     })
 
--- what holds anyhow holds where there is an error
+-- what holds anyhow holds if there is an error
 pub on_err : {A E : Type 0} (r : Result A E) (P : Type 0) → P → OnErr r P
 on_err (Ok x) P p = tt
 on_err (Err e) P p = p
@@ -172,7 +172,7 @@ module _ (k : Kind) (w b v b' u : WorkerView) (n : NamerView) (asked : ℕ) (d :
     ap (λ x. x.kind) asks.0,
   )
 
-  -- it works, where the queue answered this question and the return of the answer is sent
+  -- it works, if the queue answered this question and the return of the answer is sent
   pub works_once : (may : Question → Answer → Type 0) (a : Answered) → d.key ≡ w.pass.key → a.question ≡ q → may q a.answer
       → returned ≡ return_event a returned.ticket → IsTrue (answers (call_event a.question).what returned.what)
       → u ≡ sent_by r returned b'
@@ -198,7 +198,7 @@ module _ (k : Kind) (w b v b' u : WorkerView) (n : NamerView) (asked : ℕ) (d :
       )
       first_draw (subst (DrawsOne p returned.ticket) (sym (ap (λ x. x.pass) is)) second_draw)
 
-  -- it stalls, where the return finds no room
+  -- it stalls, if the return finds no room
   pub stalls_once : w.stopped ≡ false → b'.capacity ≤ length b'.sent → u ≡ stopped_by r b' → Stalls k w u
   stalls_once ran filled ended =
       let is : u ≡ stopped_by r (called_by p (w.asked + 1) (call_event q) w) =

@@ -33,11 +33,11 @@ pub record IsCrew (key : TableId) (sizes : SizesView) (rows : List (List Kind)) 
 abbrev pub token_of : WorkerView → TokenView
 token_of w = record { ring = w.ring; thread = w.thread; sent = w.sent }
 
--- where the worker is stopped, the fault that is answered is its stall or one before that
+-- if the worker is stopped, the fault that is answered is its stall or one before that
 abbrev pub IsNotAfterStall : RunFault → WorkerView → Type 0
 IsNotAfterStall f w = w.stopped ≡ true → IsNotAfter f (Stalled w.thread)
 
--- this is a fault of the worker: its stall where it is stopped, or that its ring gave no token
+-- this is a fault of the worker: its stall if it is stopped, or that its ring gave no token
 abbrev pub IsFaultOfWorker : RunFault → WorkerView → Type 0
 IsFaultOfWorker (Stalled t) w = (w.stopped ≡ true) × (t ≡ w.thread)
 IsFaultOfWorker (CloseLost t) w = t ≡ w.thread

@@ -28,9 +28,8 @@ pub record IsFaultAfter (may : Question → Answer → Type 0) (rows : List (Lis
 abbrev pub Overflows : List (List Kind) → SizesView → ℕ → Type 0
 Overflows rows sizes thread = sizes.ring < 2 * length (slice_index_or rows thread [])
 
--- the fault that a run may answer on a queue that is to hold these values first: `Limit` where its sizes are out of range or the values may
--- not be initial ones, `Memory`, a fault of a worker of the plan after its row, or the place of one of the values; a stall is of a row that
--- has more events than its ring has room for
+-- the fault that a run may answer on a queue that holds these values at first: `Limit` if its sizes are out of range or the values may not be initial ones, `Memory`, a fault
+-- of a worker of the plan after its row, or the place of one of the values; a row stalls only if it has more events than its ring has room for
 abbrev pub IsFaultOfRun : (Question → Answer → Type 0) → List ℕ → List (List Kind) → SizesView → RunFault → Type 0
 IsFaultOfRun may initial rows sizes Limit = ¬ (IsWithinLimits sizes.ring sizes.tries × AreInitialNames initial)
 IsFaultOfRun may initial rows sizes Memory = IsWithinLimits sizes.ring sizes.tries

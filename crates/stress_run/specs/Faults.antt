@@ -47,7 +47,7 @@ IsNotAfter f g = (number_of f < number_of g) ⊎ ((number_of f ≡ number_of g) 
 abbrev pub AreTries : ℕ → Type 0
 AreTries tries = (1 ≤ tries) × (tries ≤ MAX_TRIES)
 
--- a ring may have room for so many events, and a push be tried so often
+-- a ring may have this capacity, and a push be tried this often
 abbrev pub IsWithinLimits : ℕ → ℕ → Type 0
 IsWithinLimits ring tries = (MIN_RING ≤ ring) × (ring ≤ MAX_RING) × AreTries tries
 

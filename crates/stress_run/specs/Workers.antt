@@ -21,7 +21,7 @@ pub record WorkerView : Type 0 where
   pub sent : List Event
   pub stopped : Bool
 
--- the same thread, ring and tries, and a pass of the same ticket word with the same share
+-- the workers have one thread, ring and number of tries, and passes of one ticket word with one share
 pub record SameWorker (w w' : WorkerView) : Type 0 where
   pub thread : w'.thread ≡ w.thread
   pub ring : w'.ring ≡ w.ring

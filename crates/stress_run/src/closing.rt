@@ -1,4 +1,4 @@
-// The end of a run: rings are closed and passes joined.
+// The end of a run: it closes the rings and joins the passes.
 ghost use Rattle.std.specs.Prelude.{◌≡◌, ◌⊎◌, ◌++◌, ◌∷◌, [], ◌+◌, IfOk, IfErr, IsOk, IsErr, OnErr, IfSome, IfNone, IsSome, Some, None, All};
 ghost use Rattle.std.specs.Prelude.{IsPermutation, false};
 ghost use Rattle.stress_run.specs.Crew.{IsFaultOfWorker, IsNotAfterStall, token_of};
@@ -12,7 +12,7 @@ use event_rings::CloseToken;
 use std::alloc::Global;
 use tickets::{Pass, Tickets};
 
-// What was closed so far, and the fault that is answered for now.
+// What was closed so far, and the fault that the run has so far.
 #[derive(Drop)]
 struct Closing {
     tokens: Vec<CloseToken>,
@@ -20,7 +20,7 @@ struct Closing {
     fault: Option<RunFault>,
 }
 
-// The fault that is answered where `fault` stands beside the one that was answered for now.
+// Returns the fault that counts if `fault` stands beside the one that the run has so far.
 fn least_with(standing: Option<RunFault>, fault: RunFault) -> RunFault
     ensures either { (result ≡ fault) ⊎ (standing ≡ Some result) }
     ensures not_after { IsNotAfter result fault }
@@ -71,7 +71,7 @@ fn keep_closed(
     }
 }
 
-// Closes one worker's ring and joins its pass. A stopped worker's too.
+// Closes one worker's ring and joins its pass, also if the worker is stopped.
 fn close_one(tickets: &Tickets, closing: Closing, worker: Worker) -> Closing
     requires pass { closing.pass.key ≡ tickets.now.key }
     requires worker { worker.pass.key ≡ tickets.now.key }

@@ -31,7 +31,7 @@ fn make_all(
     Ok(())
 }
 
-// A worker after its row.
+// Runs a worker on its row.
 fn work(queue: &dyn TestQueue, tickets: &Tickets, worker: Worker, kinds: &[Kind]) -> Worker
     requires { IsReady tickets.now.key kinds.now worker }
     ensures { WorksOrStalls (may queue.now) kinds.now worker result }
@@ -41,7 +41,7 @@ fn work(queue: &dyn TestQueue, tickets: &Tickets, worker: Worker, kinds: &[Kind]
     worker
 }
 
-// A worker on its row of a plan.
+// Runs a worker on its row of a plan.
 fn work_row(queue: &dyn TestQueue, tickets: &Tickets, rows: &[Row], worker: Worker) -> Worker
     requires { IsReadyIn tickets.now.key rows.now worker }
     ensures { WorksIn (may queue.now) rows.now worker result }
@@ -50,8 +50,8 @@ fn work_row(queue: &dyn TestQueue, tickets: &Tickets, rows: &[Row], worker: Work
     work(queue, tickets, worker, row.as_slice())
 }
 
-// Each worker on its row of a plan, in a thread of its own, or one after another where no thread can be started. They start
-// together, as far as they meet. Where memory ran out, the workers are gone.
+// Runs each worker on its row of a plan, in a thread of its own, or one after another if no thread can be started.
+// They start together, as far as they meet. If memory runs out, the workers are gone.
 pub(crate) fn work_all<R: Threads + Sync>(
     rt: &R,
     queue: &dyn TestQueue,

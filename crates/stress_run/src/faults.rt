@@ -1,4 +1,4 @@
-// Why a run gave no history, and which of several faults is answered.
+// Why a run gave no history, and which of several faults counts.
 ghost use Rattle.std.specs.Prelude.{◌≡◌, ◌≤◌, ◌⊎◌, ◌↔◌, [], length, All, Contains, IfSome, IsNone, true, false};
 ghost use Rattle.stress_run.specs.declared.faults.RunFault.TheVariants as made;
 ghost use Rattle.stress_run.specs.Faults.{number_of, place_of, name_of, place_in, IsNotAfter};
@@ -9,14 +9,14 @@ use thiserror::Error;
 
 /// Why a run gave no history.
 ///
-/// Of several faults the one that stands first here is answered, and of several threads with that fault the least.
+/// Of several faults the one that stands first here counts, and of several threads with that fault the least.
 #[derive(Clone, Copy, Debug, PartialEq, Eq, Error)]
 pub enum RunFault {
-    /// The capacity of the rings or the number of tries is out of range, or the queue may not hold such values first. No thread
-    /// was started.
+    /// The capacity of the rings or the number of tries is out of range, or a queue may not hold such values before a
+    /// run. No thread was started.
     #[error("{name}", name = self.name())]
     Limit,
-    /// A growth was refused, also one of the collector while the workers ran.
+    /// Memory ran out, also of the collector while the workers ran.
     #[error("{name}", name = self.name())]
     Memory,
     /// A push of this thread found no room in as many tries as it had.
@@ -25,16 +25,17 @@ pub enum RunFault {
     /// The ring of this thread gave no close token.
     #[error("{name} {0}", name = self.name())]
     CloseLost(u8),
-    /// The ring of this thread was not certified by the token in its place.
+    /// The token at its place didn't certify the ring of this thread.
     #[error("{name} {0}", name = self.name())]
     Uncertified(u8),
-    /// The queue did not take the initial value at this place, from 0: it was full or had no memory. No thread was started.
+    /// The queue didn't take the initial value at this place, from 0: it was full or out of memory. No thread was
+    /// started.
     #[error("{name} {0}", name = self.name())]
     Preload(usize),
 }
 
 impl RunFault {
-    /// Its name, as it is printed before its thread or place.
+    /// Returns its name, which is printed before its thread or place.
     pub fn name(self) -> &'static str
         ensures short { length result.now ≤ 20 }
         ensures name { result.now ≡ name_of self }
@@ -49,7 +50,7 @@ impl RunFault {
         }
     }
 
-    /// The thread that it names, or the place of an initial value.
+    /// Returns the thread that it names, or the place of an initial value.
     pub fn place(self) -> Option<u64>
         ensures { result ≡ place_in self }
     {
@@ -62,7 +63,7 @@ impl RunFault {
         }
     }
 
-    // Its place in the order of faults.
+    // Returns its place in the order of faults.
     fn number(self) -> u8
         ensures { result ≡ number_of self }
     {
@@ -76,14 +77,14 @@ impl RunFault {
         }
     }
 
-    // The thread or place that it names, or 0.
+    // Returns the thread or place that it names, or 0.
     fn place_or_zero(self) -> u64
         ensures { result ≡ place_of self }
     {
         self.place().unwrap_or(0)
     }
 
-    // Whether this fault is answered where `other` stands too.
+    // Whether this fault counts if `other` stands too.
     fn is_not_after(self, other: RunFault) -> bool
         ensures yes { result ≡ true → IsNotAfter self other }
         ensures no { result ≡ false → IsNotAfter other self }
@@ -114,7 +115,7 @@ impl From<CollectError> for RunFault {
     }
 }
 
-// The one of two faults that is answered.
+// Returns the one of two faults that counts.
 fn earlier(one: RunFault, other: RunFault) -> RunFault
     ensures either { (result ≡ one) ⊎ (result ≡ other) }
     ensures first { IsNotAfter result one }
@@ -123,8 +124,8 @@ fn earlier(one: RunFault, other: RunFault) -> RunFault
     if one.is_not_after(other) { one } else { other }
 }
 
-/// The fault that a run answers where these stand: that of the least number, and of these that of the least thread or place.
-/// None exactly of no faults.
+/// Returns the fault that a run answers if these stand: that of the least number, and of these that of the least
+/// thread or place. It returns none if and only if there is no fault.
 ///
 /// Takes no memory, and time in proportion to the faults.
 pub fn least_fault(faults: &[RunFault]) -> Option<RunFault>

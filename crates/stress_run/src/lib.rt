@@ -1,9 +1,8 @@
-//! Workers that make the operations of a plan on a shared queue, each in a thread of its own, and the events that they
-//! record.
+//! Workers that make the operations of a plan on a shared queue, each in a thread of its own, and the events that
+//! they record.
 //!
 //! A worker draws a ticket, asks the queue, draws another ticket, and pushes the call and the return into its ring. A
-//! collector drains the rings meanwhile. What comes of a run is one list of events for each worker: all that it did, in
-//! order.
+//! collector drains the rings meanwhile. A run gives one list of events for each worker: all that it did, in order.
 #![tactic(auto)]
 
 mod closing;

@@ -15,7 +15,7 @@ use std::marker::Model;
 use tickets::{Pass, Tickets};
 use workloads::Row;
 
-/// For how many events each ring of a run has room, and how often each push is tried.
+/// The capacity of each ring of a run, in events, and how often each push is tried.
 #[derive(Clone, Copy)]
 pub(crate) struct Sizes {
     ring: usize,
@@ -36,7 +36,7 @@ impl Model for Sizes {
 }
 
 impl Sizes {
-    // These sizes, or none where they are out of range.
+    // Makes these sizes, or none if they are out of range.
     pub(crate) fn new(ring: usize, tries: u32) -> Option<Sizes>
         ensures limits { IsSome result ↔ IsWithinLimits ring tries }
         ensures sizes { IfSome result (λ sizes. sizes ≡ record { ring = ring; tries = tries }) }
@@ -48,7 +48,7 @@ impl Sizes {
         }
     }
 
-    // For how many events each ring has room.
+    // Returns the capacity of each ring, in events.
     pub(crate) fn ring(self) -> usize
         ensures value { result ≡ self.ring }
         ensures most { result ≤ MAX_RING }
@@ -57,7 +57,7 @@ impl Sizes {
     }
 }
 
-// The workers of a run, the ends that are drained, and the pass that no worker has.
+// The workers of a run, the ends of their rings to drain, and the pass that no worker has.
 #[derive(Drop)]
 pub(crate) struct Crew {
     pub(crate) rest: Pass,
@@ -65,7 +65,7 @@ pub(crate) struct Crew {
     pub(crate) ends: Vec<DrainEnd>,
 }
 
-// The thread of this place.
+// Returns the thread of this place.
 fn thread_at(place: usize) -> ThreadNo
     requires { place < MAX_THREADS }
     ensures { result ≡ place }
@@ -76,7 +76,7 @@ fn thread_at(place: usize) -> ThreadNo
     }
 }
 
-// A new worker for a row, its ring's other end, and the rest of the pass.
+// Makes a worker for a row, its ring's other end, and the rest of the pass.
 fn make_one(
     alloc: Global,
     tickets: &Tickets,
@@ -98,7 +98,7 @@ fn make_one(
     Ok((rest, worker, drain))
 }
 
-// A new worker for each row.
+// Makes a worker for each row.
 pub(crate) fn make_crew(
     alloc: Global,
     tickets: &Tickets,

@@ -36,10 +36,10 @@ use std::thread::Threads;
 use tickets::Tickets;
 use workloads::{Plan, Row};
 
-// How often the collector yields at most between two rounds.
+// The most times that the collector yields between two rounds.
 const LONGEST_PAUSE: u32 = 64;
 
-/// The events of a run, one list for each worker, with what the queue held first and how many tickets were drawn.
+/// The events of a run, one list for each worker, with what the queue held at first and how many tickets were drawn.
 #[derive(Drop)]
 pub struct Recorded {
     initial: Vec<u64>,
@@ -66,7 +66,7 @@ impl Recorded {
     ghost use Rattle.recorder_core.specs.Initial.{AreInitialNames};
     ghost use Rattle.recorder_core.specs.Replay.{AreRecorded};
 
-    /// What the queue held before the first operation, the front one first.
+    /// Returns what the queue held before the first operation, the front one first.
     pub fn initial(&self) -> &[u64]
         ensures values { result.now ≡ self.now.initial }
         ensures names { AreInitialNames self.now.initial }
@@ -74,7 +74,7 @@ impl Recorded {
         self.initial.as_slice()
     }
 
-    /// The lists of events, that of worker 0 first.
+    /// Returns the lists of events, that of worker 0 first.
     pub fn lists(&self) -> &Lists
         ensures lists { result.now ≡ self.now.lists }
         ensures recorded { AreRecorded self.now.lists }
@@ -82,7 +82,8 @@ impl Recorded {
         &self.lists
     }
 
-    /// The history of the run: what its queue held first, and its lists put together by ticket. It is refused for want of memory alone.
+    /// Makes the history of the run: what its queue held at first, and its lists merged by ticket. The only error is
+    /// out of memory.
     ///
     /// Time O(n log n) for n events, memory for them and for the history.
     pub fn history(&self, alloc: Global) -> Result<History, AllocError>
@@ -93,7 +94,7 @@ impl Recorded {
         merged_from(alloc, self.initial.as_slice(), &self.lists)
     }
 
-    /// Gives the lists away, and takes no memory.
+    /// Returns the lists themselves, and takes no memory.
     pub fn into_lists(self) -> Lists
         ensures { result ≡ self.lists }
     {
@@ -105,7 +106,7 @@ impl Recorded {
         lists
     }
 
-    /// How many tickets were drawn: two for each operation.
+    /// Returns how many tickets were drawn: two for each operation.
     pub fn total(&self) -> u64
         ensures { result ≡ self.now.total }
     {
@@ -114,6 +115,15 @@ impl Recorded {
 }
 
 /// Runs a plan on a shared queue, which is taken as empty: [`run_from`] without initial values.
+///
+/// Two workers, each with 100 operations on a right `queue`:
+///
+/// ```rust
+/// let plan = Plan::from_seed(alloc, 1, 2, 100, 50)?;
+/// let recorded = run(&rt, alloc, &queue, &plan, 1024, 1_000_000)?;
+/// let verdict = decide(alloc, &recorded.history(alloc)?)?;
+/// assert!(rt; matches!(&verdict, Verdict::Yes(_)));
+/// ```
 pub fn run<R: Threads + Sync>(
     rt: &R,
     alloc: Global,
@@ -132,24 +142,33 @@ pub fn run<R: Threads + Sync>(
     run_from(rt, alloc, queue, &[], plan, ring, tries)
 }
 
-/// Puts the initial values into a shared queue, which is taken as empty, the front one first, and runs a plan on it: each row
-/// by a worker in a thread of its own, whose ring has room for `ring` events and whose pushes are tried `tries` times, with a
-/// collector beside them that drains the rings. Each worker looks for the others before its first operation, for a bounded
-/// number of turns.
+/// Puts the initial values into a shared queue, which is taken as empty, the front one first, and runs a plan on it.
+/// A worker in a thread of its own makes each row; its ring has room for `ring` events, and it tries each push
+/// `tries` times. A collector beside the workers drains the rings. Each worker waits for the others before its first
+/// operation, for a bounded number of turns.
 ///
-/// Where threads can't be started, the workers run one after another, under the same promise. Then nothing is drained
-/// while they run, and one with more events than its ring has room for stalls.
+/// If threads can't be started, the workers run one after another, under the same promise. Then nothing is drained
+/// while they run, and a worker with more events than its ring has room for stalls.
 ///
-/// A fault gives no history, and names a thread of the plan or an initial value. `Limit` and `Preload` are answered before any
-/// thread is started: `Limit` where a size is out of range, or where the values aren't distinct, each 2^38 or greater and not
-/// more than 100,000, unless memory for this test is refused; `Preload` of the first value that the queue refuses. `Memory` is
-/// answered where a growth was refused; where that was one of the collector's, the workers go on without it until they end
-/// or stall. `Stalled` is answered where a push found no room in all its tries, between which the thread yields for longer and longer: never of a
-/// row whose events all have room in its ring. `CloseLost` is answered where a worker's ring gave no token after its row,
-/// and `Uncertified` never. The rings are closed whatever fault stands, except where want of memory took the workers
-/// themselves.
+/// A fault gives no history, and names a thread of the plan or an initial value. `Limit` and `Preload` come before
+/// any thread is started: `Limit` if a size is out of range, or if the values aren't distinct, each 2^38 or greater
+/// and at most 100,000, unless memory for this test is refused; `Preload` for the first value that the queue refuses.
+/// `Memory` comes if memory runs out; if the collector's does, the workers go on without it until they end or stall.
+/// `Stalled` comes if a push finds no room in all its tries, between which the thread yields for longer and longer;
+/// it never comes for a row whose events all have room in its ring. `CloseLost` comes if a worker's ring gave no
+/// token after its row, and `Uncertified` never comes. The rings are closed whatever fault stands, unless the workers
+/// themselves were lost for lack of memory.
 ///
 /// It waits for its workers, and so for the queue. It takes memory for the values, for the rings and for all events.
+///
+/// The `queue` holds one value at first:
+///
+/// ```rust
+/// let plan = Plan::from_seed(alloc, 1, 2, 100, 50)?;
+/// let initial = [LEAST_INITIAL_NAME];
+/// let recorded = run_from(&rt, alloc, &queue, &initial, &plan, 1024, 1_000_000)?;
+/// assert_eq!(rt; recorded.initial(), initial.as_slice());
+/// ```
 pub fn run_from<R: Threads + Sync>(
     rt: &R,
     alloc: Global,
@@ -194,7 +213,7 @@ fn preload_all(queue: &dyn TestQueue, initial: &[u64]) -> Result<(), RunFault>
     Ok(())
 }
 
-// The run on a queue that holds these values, where the sizes are in range.
+// Runs a plan on a queue that holds these values, if the sizes are in range.
 fn run_within<R: Threads + Sync>(
     rt: &R,
     alloc: Global,
@@ -235,13 +254,13 @@ fn run_within<R: Threads + Sync>(
     })
 }
 
-// How many events a row gives at most: two for each operation.
+// Returns how many events a row gives at most: two for each operation.
 fn most_events(rows: &[Row]) -> usize {
     let longest = rows.iter().map(|row| row.len()).max();
     longest.unwrap_or(0).saturating_mul(2)
 }
 
-// The workers after their rows, and the collector of their rings, which it drained beside them.
+// Returns the workers after their rows, and the collector, which drained their rings meanwhile.
 fn work_and_collect<R: Threads + Sync>(
     rt: &R,
     queue: &dyn TestQueue,
@@ -268,13 +287,13 @@ fn work_and_collect<R: Threads + Sync>(
     let collecting = move || -> Collector
         ensures { rings_of result.rings ≡ rings_of collector.rings }
     { collect_until(flag, collector, sizes) };
-    // The second closure runs in this thread, and first where no other can be made: the flag is then set before the
-    // collector looks at it.
+    // The second closure runs in this thread, and first if no other thread can be made: the flag is then set before
+    // the collector looks at it.
     let (collector, after) = thread::join(rt, collecting, working);
     Ok((after?, collector))
 }
 
-// Drains round after round until the flag is set, or up to a round that is refused.
+// Drains round after round until the flag is set, or until a round is refused memory.
 fn collect_until(over: &AtomicBool, collector: Collector, sizes: Sizes) -> Collector
     ensures { rings_of result.rings ≡ rings_of collector.rings }
 {
@@ -293,7 +312,7 @@ fn collect_until(over: &AtomicBool, collector: Collector, sizes: Sizes) -> Colle
     collector
 }
 
-// The fault that stands where a round was refused its room.
+// Returns the fault that stands if a round was refused memory.
 fn standing_fault(collector: &Collector) -> Option<RunFault>
     ensures granted { result ≡ None → collector.now.refused ≡ false }
     ensures memory { IfSome result (λ fault. fault ≡ Memory) }
@@ -305,8 +324,8 @@ fn standing_fault(collector: &Collector) -> Option<RunFault>
     }
 }
 
-// How often the collector yields after a round: not at all where it found much, so that a ring may soon be full, and else
-// twice as often as before.
+// Returns how often the collector yields after a round: not at all if it found much, so that a ring may soon be full,
+// otherwise twice as often as before.
 fn next_pause(pause: u32, drained: u64, sizes: Sizes) -> u32 {
     let much = (sizes.ring() as u64 / 4).max(1);
     if drained >= much {
@@ -316,7 +335,7 @@ fn next_pause(pause: u32, drained: u64, sizes: Sizes) -> u32 {
     }
 }
 
-// Lets other threads run so many times, or until the flag is set.
+// Lets other threads run this many times, or until the flag is set.
 fn rest(over: &AtomicBool, pause: u32) {
     for _ in 0..pause {
         if over.load(Ordering::SeqCst) {
@@ -326,7 +345,7 @@ fn rest(over: &AtomicBool, pause: u32) {
     }
 }
 
-// The whole list of each thread, of a collector that was refused no round.
+// Returns the whole list of each thread, from a collector that was never refused memory.
 fn seal(collector: Collector, tokens: Vec<CloseToken>) -> Result<Lists, RunFault>
     requires rings { rings_of_tokens tokens.items ≡ rings_of collector.rings }
     requires order { threads_of_tokens tokens.items ≡ numbers_below (length tokens.items) }

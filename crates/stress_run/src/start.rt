@@ -1,24 +1,24 @@
-// The start of the workers: each waits for the others, but for no longer than its turns.
+// The start of the workers: each waits for the others, but no longer than its turns last.
 use std::sync::atomic::{AtomicBool, AtomicU64, Ordering};
 use std::{hint, thread};
 
 // How often a worker looks for the others in one turn, before it lets another thread run.
 const LOOKS: u32 = 1_000;
 
-// How many turns a worker waits for the others to arrive: some hundredths of a second where nothing else runs.
+// How many turns a worker waits for the others to arrive: some hundredths of a second if nothing else runs.
 const ARRIVAL_TURNS: u32 = 2_500;
 
 // How many turns it then waits for two of them to run at the same time.
 const RUNNING_TURNS: u32 = 6_000;
 
-// How often a worker finds in one turn that another one came by, before it takes it that both run. On one core another one
-// comes by only where the first is taken off it.
+// How often in one turn a worker must find that another one came by, before it concludes that both run. On one core
+// another one comes by only if the first is taken off it.
 const PASSES: u32 = 64;
 
 /// The start of a run: it counts the workers that have arrived, and sees whether two of them run at the same time.
 ///
-/// `run` lets its workers meet so; whoever makes threads of its own for [`Worker`](crate::Worker)s can too. It waits for nobody
-/// for ever, and takes no memory.
+/// `run` lets its workers meet so; a caller that starts [`Worker`](crate::Worker)s in threads of its own can too. It
+/// never waits for ever, and takes no memory.
 #[derive(Drop)]
 pub struct Start {
     workers: u64,
@@ -29,7 +29,7 @@ pub struct Start {
 }
 
 impl Start {
-    /// A start for so many workers.
+    /// Makes a start for this many workers.
     pub fn new(workers: usize) -> Start {
         Start {
             workers: workers as u64,
@@ -39,12 +39,13 @@ impl Start {
         }
     }
 
-    /// Arrives, and stays until all workers have arrived and two of them are seen to run at the same time.
+    /// Arrives, and waits until all workers have arrived and two of them are seen to run at the same time.
     ///
-    /// A system may let all threads of a young process take turns on one core, where one worker is done before the next begins.
-    /// So a worker waits up to 2,500 turns of 1,000 looks for the others, and then up to 6,000 for two that run at once, and
-    /// yields after each turn. Where one has used up its turns nobody waits any more: so where no thread can be started, the
-    /// first worker alone waits for the others, and on one core a run begins after some tenths of a second.
+    /// A system may let all threads of a young process take turns on one core, so that one worker is done before the
+    /// next begins. So a worker waits up to 2,500 turns of 1,000 looks for the others, and then up to 6,000 for two
+    /// that run at once, and yields after each turn. Once a worker has used up its turns, nobody waits any more: if
+    /// no thread can be started, only the first worker waits for the others, and on one core a run begins after some
+    /// tenths of a second.
     pub fn meet(&self) {
         let place = self.arrivals.fetch_add(1, Ordering::SeqCst);
         self.wait_for_all();
@@ -64,7 +65,7 @@ impl Start {
         false
     }
 
-    // Stays until all have arrived; where the turns are used up, nobody waits any more.
+    // Waits until all have arrived; once the turns are used up, nobody waits any more.
     fn wait_for_all(&self) {
         for _ in 0..ARRIVAL_TURNS {
             if self.sees_all() {
@@ -76,7 +77,7 @@ impl Start {
         self.is_open.store(true, Ordering::SeqCst);
     }
 
-    // Stays until two workers run at once; where the turns are used up, nobody waits any more.
+    // Waits until two workers run at once; once the turns are used up, nobody waits any more.
     fn wait_for_two(&self, place: u64) {
         for _ in 0..RUNNING_TURNS {
             if self.sees_another(place) {

@@ -14,7 +14,7 @@ use std::thread;
 use thiserror::Error;
 use tickets::{Pass, Tickets};
 
-/// What one thread records by: its pass, its namer, and the end of its ring that pushes.
+/// What one thread records with: its pass, its namer, and the push end of its ring.
 ///
 /// Contracts see the pass, the thread, how many operations were asked, the ring with its capacity, the tries of a push, all
 /// events that were pushed, and whether the worker is stopped.
@@ -56,13 +56,13 @@ pub enum WorkerFault {
     Stalled,
 }
 
-// So many tries in vain make a pause longer by one turn, up to the longest. A million of them take ten seconds at least where
-// a turn takes a tenth of a microsecond or more, so that a collector that waits for a processor gets one.
+// This many tries in vain make a pause longer by one turn, up to the longest. A million of them take ten seconds at
+// least if a turn takes a tenth of a microsecond or more, so that a collector that waits for a processor gets one.
 const TRIES_TO_A_TURN: u32 = 512;
 
 const LONGEST_PAUSE: u32 = 128;
 
-// Pauses after so many tries in vain: yields to other threads, for longer and longer.
+// Pauses after this many tries in vain: yields to other threads, for longer and longer.
 fn pause(tried: u32) {
     let turns = 1 + tried / TRIES_TO_A_TURN;
     for _ in 0..turns.min(LONGEST_PAUSE) {
@@ -70,7 +70,7 @@ fn pause(tried: u32) {
     }
 }
 
-// Pushes an event, with as many tries as the number says. Between tries the thread pauses.
+// Pushes an event, and tries so up to `tries` times. Between tries the thread pauses.
 fn push_with_tries(ring: &mut PushEnd, noted: Noted, tries: u32) -> Result<(), WorkerFault>
     requires thread { noted.thread ≡ ring.old.thread }
     requires tries { AreTries tries }
@@ -90,7 +90,8 @@ fn push_with_tries(ring: &mut PushEnd, noted: Noted, tries: u32) -> Result<(), W
 }
 
 impl Worker {
-    /// A worker that is not stopped. The namer and the ring are of one thread, and there are 1 to 10,000,000 tries.
+    /// Makes a worker that is not stopped. The namer and the ring are of one thread, and there are 1 to 10,000,000
+    /// tries.
     pub fn new(pass: Pass, namer: Namer, ring: PushEnd, tries: u32) -> Worker
         requires thread { namer.thread ≡ ring.thread }
         requires tries { AreTries tries }
@@ -114,30 +115,30 @@ impl Worker {
         }
     }
 
-    /// Whether a push found no room in all its tries. A stopped worker makes no operation any more.
+    /// Whether a push found no room in all its tries. A stopped worker makes no further operation.
     pub fn is_stopped(&self) -> bool
         ensures { result ≡ self.now.stopped }
     {
         self.stopped
     }
 
-    // The thread that the worker's events are of.
+    // Returns the thread that the worker's events are of.
     pub(crate) fn thread(&self) -> u8
         ensures { result ≡ self.now.thread }
     {
         self.ring.thread().get()
     }
 
-    // The place of the worker's row in a plan.
+    // Returns the place of the worker's row in a plan.
     pub(crate) fn place(&self) -> usize
         ensures { result ≡ self.now.thread }
     {
         self.ring.thread().get() as usize
     }
 
-    /// Closes the worker's ring, and gives its pass back. A stopped worker's too.
+    /// Closes the worker's ring, and returns its pass, also if the worker is stopped.
     ///
-    /// `CloseLost` comes where the ring gave no token; the pass is then gone. It takes no memory.
+    /// `CloseLost` comes if the ring gave no token; the pass is then gone. It takes no memory.
     pub fn close(self) -> Result<(CloseToken, Pass), CloseLost>
         ensures token { IfOk result (λ r. r.0 ≡ token_of self) }
         ensures pass { IfOk result (λ r. r.1 ≡ self.pass) }
@@ -166,7 +167,7 @@ impl Worker {
         pushed
     }
 
-    // One enqueue, from the call's ticket to the event of its return.
+    // Makes one enqueue, from the call's ticket to the event of its return.
     fn enqueue_once(&mut self, queue: &dyn TestQueue, tickets: &Tickets) -> Result<(), WorkerFault>
         requires key { self.old.pass.key ≡ tickets.now.key }
         requires left { 2 ≤ self.old.pass.left }
@@ -182,7 +183,7 @@ impl Worker {
         self.record(returned)
     }
 
-    // One dequeue, from the call's ticket to the event of its return.
+    // Makes one dequeue, from the call's ticket to the event of its return.
     fn dequeue_once(&mut self, queue: &dyn TestQueue, tickets: &Tickets) -> Result<(), WorkerFault>
         requires key { self.old.pass.key ≡ tickets.now.key }
         requires left { 2 ≤ self.old.pass.left }
@@ -199,14 +200,14 @@ impl Worker {
     }
 }
 
-/// One operation on the queue, and its two events in the worker's ring.
+/// Makes one operation on the queue, and its two events in the worker's ring.
 ///
-/// The call ticket is drawn before the question is made, and the return ticket when the answer is there. The call is pushed
-/// before the queue is asked, so a queue isn't asked whose call found no room; no contract says so. The pass is of these
-/// `Tickets` and has two tickets left, and the namer has asked fewer operations than a thread has names for.
+/// It draws the call ticket before it makes the question, and the return ticket when the answer is there. It pushes
+/// the call before it asks the queue, so a call that finds no room asks no queue; no contract says so. The pass is of
+/// these `Tickets` and has two tickets left, and the namer has asked fewer operations than a thread has names for.
 ///
-/// `Stalled` comes if a push found no room in all tries of the worker, between which the thread yields for longer and longer, and is then the
-/// answer of each later call, which draws nothing. It waits for nobody but where the queue does, and takes no memory.
+/// `Stalled` comes if a push found no room in all tries of the worker, between which the thread yields for longer and
+/// longer; each later call returns it too, and draws nothing. It waits only if the queue does, and takes no memory.
 pub fn one_call(
     queue: &dyn TestQueue,
     tickets: &Tickets,

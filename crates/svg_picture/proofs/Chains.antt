@@ -4,22 +4,23 @@ use Rattle.std.specs.List.{concat}
 use Rattle.std.specs.Prelude.{OnOk}
 use Rattle.std.specs.declared.result.Result.{Result}
 
--- a tag, what stands behind it, and another tag
+-- a tag, what stands after it, and another tag
 pub around : {A T E : Type 0} (r : Result T E) (old one two last a b c : List A) → one ≡ old ++ a → two ≡ one ++ b → OnOk r (last ≡ two ++ c)
     → OnOk r (last ≡ old ++ (a ++ (b ++ c)))
 around (Ok x) old one two last a b c h k l =
     l ∙ ap (λ (t : List _). t ++ c) k ∙ append_assoc one b c ∙ ap (λ (t : List _). t ++ (b ++ c)) h ∙ append_assoc old a (b ++ c)
 around (Err e) old one two last a b c h k l = tt
 
--- a first piece, and two more
-pub three_pieces : (a b c one two three : List ℕ) → one ≡ a → two ≡ one ++ b → three ≡ two ++ c → three ≡ concat (a ∷ b ∷ c ∷ [])
-three_pieces a b c one two three h k l =
-    l ∙ ap (λ (t : List ℕ). t ++ c) (k ∙ ap (λ (t : List ℕ). t ++ b) h) ∙ append_assoc a b c ∙ ap (λ (t : List ℕ). a ++ (b ++ t)) (sym (append-nil c))
-
 -- a piece behind another
 pub behind : {A : Type 0} (old one two a b : List A) → one ≡ old ++ a → two ≡ one ++ b → two ≡ old ++ (a ++ b)
 behind old one two a b h k = k ∙ ap (λ (t : List _). t ++ b) h ∙ append_assoc old a b
 
--- a last piece, and nothing behind it
+-- a last piece, and nothing after it
 pub at_end : {A : Type 0} (old new a : List A) → new ≡ old ++ a → new ≡ old ++ (a ++ [])
 at_end old new a h = h ∙ ap (λ (t : List _). old ++ t) (sym (append-nil a))
+
+-- a first piece, and three more
+pub four_pieces : (a b c d one two three four : List ℕ) → one ≡ a → two ≡ one ++ b → three ≡ two ++ c → four ≡ three ++ d
+    → four ≡ concat (a ∷ b ∷ c ∷ d ∷ [])
+four_pieces a b c d one two three four h k l m =
+    m ∙ ap (λ (t : List ℕ). t ++ d) (l ∙ ap (λ (t : List ℕ). t ++ c) (k ∙ ap (λ (t : List ℕ). t ++ b) h)) ∙ simp (append_assoc, append-nil)

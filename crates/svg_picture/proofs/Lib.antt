@@ -4,5 +4,4 @@ pub mod Heads
 pub mod Cuts
 pub mod Rising
 pub mod Timing
-pub mod Plain
 pub mod Documents

@@ -1,4 +1,4 @@
--- Of a yes the rows of effects rise, and lie between those of calls and returns.
+-- Of a `YES` the rows of effects rise, and lie between those of calls and returns.
 use Rattle.std.proofs.Common.{◌≡◌, ℕ, zero, suc, ◌+◌, ◌<◌, ◌≤◌, inl, inr, List, [], ◌∷◌, map, length, Some, arith, cond, ap, ◌∙◌, subst, sym, refl}
 use Rattle.std.specs.Prelude.{Contains, nat_lt, nat_le, count_by, slice_get}
 use Rattle.std.specs.List.{range_with_len}
@@ -14,11 +14,11 @@ use Rattle.verdicts.specs.declared.verifying.Claimed.TheVariants.{Yes}
 use Rattle.std.proofs.lemmas.Option.{slice_get_within}
 use Rattle.std.proofs.lemmas.List.Sorted.{Contains-permutation, IsPermutation-sym}
 use Rattle.drawing.specs.Layout.{point}
+use Rattle.drawing.proofs.Below.{fewer, one_fewer}
 use Rattle.drawing.proofs.Effects.{effects_are_in_bars, effects_rise}
 use Rattle.svg_picture.specs.Layout.{row, effect_row}
 use Rattle.svg_picture.specs.Picture.{points_of, or_zero, row_of_effect, page_of}
 use Rattle.svg_picture.specs.Laws.{EffectsAreInBars, EffectsRise}
-use Rattle.svg_picture.proofs.Rising.{fewer, one_fewer}
 
 -- ---- points
 
@@ -38,7 +38,7 @@ is_none x t h = grind (arith, nat_tests)
 is_one : (x t : ℕ) → x < t → cond {A = ℕ} (nat_lt x t) 1 0 ≡ 1
 is_one x t h = grind (arith, nat_tests)
 
--- where the points from i on don't lie below, none of those behind it does
+-- where the points from i on don't lie below, none of those after it does
 none_behind : (f : ℕ → ℕ) (t i : ℕ) → ((j : ℕ) → i ≤ j → t ≤ f j) → (n a : ℕ) → i ≤ a → below f t a n ≡ 0
 none_behind f t i high zero a from = refl
 none_behind f t i high (suc n) a from =
@@ -57,7 +57,7 @@ few f t i high (suc n) a to = elim (cases_lt a i) [
   | inr not_less ↦ let none = none_behind f t i high (suc n) a (omega arith) in omega arith
 ]
 
--- where the points up to i lie below, so many do
+-- where the points up to i lie below, this many do
 many : (f : ℕ → ℕ) (t i : ℕ) → ((j : ℕ) → j ≤ i → f j < t) → (n a : ℕ) → a ≤ i + 1 → i < a + n → i + 1 ≤ below f t a n + a
 many f t i low zero a to within = omega arith
 many f t i low (suc n) a to within = elim (cases_lt i a) [

@@ -4,7 +4,7 @@ use Rattle.svg_picture.specs.Markup.{Content, Nothing, Words, Element, Then, gro
 use Rattle.svg_picture.specs.Layout.{parts}
 use Rattle.svg_picture.specs.Words.{light, dark}
 
--- words of a class from this point on, so many pixels for each character
+-- words of a class from this point on, this many pixels for each character
 unfoldable pub text_at : ℕ → List ℕ → ℕ → ℕ → List ℕ → Content
 text_at char class x y bytes =
     Element (codes "text") (number (codes "x") x ∷ number (codes "y") y ∷ number (codes "textLength") (char * length bytes)

@@ -1,5 +1,5 @@
 -- What holds of SVG pictures.
-use Rattle.std.specs.Prelude.{◌≡◌, ℕ, ◌+◌, ◌<◌, ◌≤◌, ◌↔◌, ◌&&◌, ◌||◌, ◌==◌, not, nat_le, ⊤, Bool, true, List, [], ◌∷◌, ◌++◌, map, length, codes}
+use Rattle.std.specs.Prelude.{◌≡◌, ℕ, ◌+◌, ◌<◌, ◌≤◌, ◌↔◌, ◌&&◌, ◌||◌, not, nat_le, ⊤, Bool, true, List, [], ◌∷◌, ◌++◌, map, length, codes}
 use Rattle.std.specs.Prelude.{Some, slice_get, Contains}
 use Rattle.std.specs.List.{list_all, list_any}
 use Rattle.std.specs.Str.{bytes_eq}
@@ -11,15 +11,11 @@ use Rattle.history_merge.specs.Legal.{IsLegalOrderFrom}
 use Rattle.history_merge.specs.Initial.{HistoryView}
 use Rattle.verdicts.specs.declared.verifying.Claimed.{Claimed}
 use Rattle.verdicts.specs.declared.verifying.Claimed.TheVariants.{Yes}
-use Rattle.svg_picture.specs.Markup.{Named, declaration, start_tag, end_tag}
+use Rattle.svg_picture.specs.Markup.{Named, is_plain, declaration, start_tag, end_tag}
 use Rattle.svg_picture.specs.Layout.{Page, lane_width, thread_x, initial_row, row, row_y, call_y, ret_y}
 use Rattle.svg_picture.specs.Picture.{page_of, row_of_effect, svg_picture}
 
 -- ---- well-formed text
-
--- the byte stands for itself: it is none of `<`, `>`, `&` and the quote
-abbrev pub is_plain : ℕ → Bool
-is_plain b = not (b == 60 || b == 62 || b == 38 || b == 34)
 
 -- each byte stands for itself
 abbrev pub are_plain : List ℕ → Bool
@@ -89,13 +85,13 @@ abbrev pub InitialRowsAreFirst : Type 0
 InitialRowsAreFirst =
     (page : Page) (j ticket : ℕ) → j < page.measures.initial → row_y page (initial_row j) + 20 ≤ row_y page (row page ticket)
 
--- a bar ends above another begins exactly where its operation precedes the other: so bars share a height exactly where operations overlap
+-- a bar ends above another begins if and only if its operation precedes the other: so bars share a height if and only if operations overlap
 abbrev pub BarsOverlapInTime : Type 0
 BarsOverlapInTime =
     (history : HistoryView) (claimed : Claimed) (x y : Operation) → IsCompleteHistory history.events → Contains (operations_of history.events) x
     → Contains (operations_of history.events) y → Precedes x y ↔ (ret_y (page_of history claimed) x.ret < call_y (page_of history claimed) y.call)
 
--- of a yes an operation takes effect in a row between those of its call and of its return
+-- of a `YES` an operation takes effect in a row between those of its call and of its return
 abbrev pub EffectsAreInBars : Type 0
 EffectsAreInBars =
     (history : HistoryView) (order : List Operation) (i : ℕ) (o : Operation) → IsCompleteHistory history.events
@@ -103,7 +99,7 @@ EffectsAreInBars =
     → (row (page_of history (Yes order)) o.call < row_of_effect (page_of history (Yes order)) i)
     × (row_of_effect (page_of history (Yes order)) i < row (page_of history (Yes order)) o.ret)
 
--- the rows of effects rise in the order of a yes
+-- the rows of effects rise in the order of a `YES`
 abbrev pub EffectsRise : Type 0
 EffectsRise =
     (history : HistoryView) (order : List Operation) (i j : ℕ) → i < j → j < length order

@@ -10,7 +10,7 @@ use Rattle.svg_picture.specs.declared.sheet.Measures.{Measures}
 use Rattle.svg_picture.specs.declared.sheet.Sheet.{Sheet}
 
 -- what a picture is made of: its measures, what the queue holds first, the history, the claim with its bands, and the tickets just
--- after which the operations of a yes take effect
+-- after which the operations of a `YES` take effect
 pub record Page : Type 0 where
   pub measures : Measures
   pub initial : List ℕ
@@ -40,13 +40,17 @@ page_on sheet = record {
 abbrev pub shown : Measures → ℕ
 shown m = 18 + 7 * m.ticket
 
--- how much room the order of a yes takes
-abbrev pub order_width : Measures → ℕ
-order_width m = if m.is_yes then 12 + 7 * (m.number + 1 + m.label) else 0
+-- where band i stands
+abbrev pub band_x : Measures → ℕ → ℕ
+band_x m i = shown m + 36 * i
+
+-- how much room the order of a `YES` takes, or the bands of a `NO`
+abbrev pub beside_width : Measures → ℕ
+beside_width m = 12 + (if m.is_yes then 7 * (m.number + 1 + m.label) else 36 * m.heads)
 
 -- where the lanes begin
 abbrev pub left : Measures → ℕ
-left m = shown m + order_width m
+left m = shown m + beside_width m
 
 -- a bar has room for the longest label and for a number
 abbrev pub bar_width : Measures → ℕ
@@ -56,7 +60,7 @@ bar_width m = 28 + 7 * (m.label + m.number)
 abbrev pub lane_width : Measures → ℕ
 lane_width m = bar_width m + 6
 
--- where a lane begins, with so many lanes before it
+-- where a lane begins, with this many lanes before it
 abbrev pub lane_x : Measures → ℕ → ℕ
 lane_x m before = left m + lane_width m * before
 
@@ -68,13 +72,9 @@ thread_x page thread = lane_x page.measures (count_by (λ lower. nat_lt lower th
 abbrev pub right : Measures → ℕ
 right m = lane_x m m.lanes + 12
 
--- where band i stands
-abbrev pub band_x : Measures → ℕ → ℕ
-band_x m i = right m + 36 * i
-
--- wide enough for the fixed words, for the caption, and for the bands with their heads
+-- wide enough for the fixed words, for the caption, for the lanes, and for the heads of the bands
 unfoldable pub width : Measures → ℕ
-width m = 6 + max (max 582 (6 + 8 * m.caption)) (right m + 36 * m.heads + 7 * m.head)
+width m = 6 + max (max 582 (6 + 8 * m.caption)) (max (right m) (band_x m m.heads + 7 * m.head))
 
 -- ---- from top to bottom
 
@@ -82,9 +82,9 @@ width m = 6 + max (max 582 (6 + 8 * m.caption)) (right m + 36 * m.heads + 7 * m.
 abbrev pub legend_y : Measures → ℕ
 legend_y m = 40 + 20 * m.captions
 
--- where the first row begins
+-- where the first row begins, below the legend, the heads of the bands and the names of the lanes
 unfoldable pub top : Measures → ℕ
-top m = legend_y m + 32 + 20 * (m.legend + max 1 m.heads)
+top m = legend_y m + 32 + 20 * (m.legend + m.heads + 1)
 
 -- how many rows the initial values take: one for their head, and one each; none where there are no values. Rows are counted from 0
 abbrev pub initial_rows : Measures → ℕ

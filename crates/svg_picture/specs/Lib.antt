@@ -3,4 +3,5 @@ pub mod Layout
 pub mod Words
 pub mod Elements
 pub mod Picture
+pub mod Html
 pub mod Laws

@@ -1,5 +1,5 @@
 -- Markup as text: elements with attributes, each closed by its end tag.
-use Rattle.std.specs.Prelude.{ℕ, List, [], ◌∷◌, ◌++◌, map, codes, decimal}
+use Rattle.std.specs.Prelude.{ℕ, Bool, ◌||◌, ◌==◌, not, if◌then◌else◌, List, [], ◌∷◌, ◌++◌, map, codes, decimal}
 use Rattle.std.specs.List.{flat_map}
 use Rattle.svg_picture.specs.declared.markup.Attribute.{Attribute}
 use Rattle.svg_picture.specs.declared.markup.Attribute.TheVariants as given
@@ -15,6 +15,20 @@ pub data Content : Type 0 where
   Words : List ℕ → Content
   Element : List ℕ → List Named → Content → Content
   Then : Content → Content → Content
+
+-- ---- bytes
+
+-- the byte stands for itself: it is none of `<`, `>`, `&` and the quote
+abbrev pub is_plain : ℕ → Bool
+is_plain b = not (b == 60 || b == 62 || b == 38 || b == 34)
+
+-- a byte that stands for itself, and a question mark in place of any other
+abbrev pub plain_byte : ℕ → ℕ
+plain_byte b = if is_plain b then b else 63
+
+-- words of bytes that stand for themselves
+abbrev pub plain_words : List ℕ → List ℕ
+plain_words bytes = map plain_byte bytes
 
 -- ---- as text
 
@@ -33,7 +47,7 @@ end_tag name = codes "</" ++ (name ++ codes ">\n")
 -- the text of a content: an element's stands between its tags
 abbrev pub text_of : Content → List ℕ
 text_of Nothing = []
-text_of (Words words) = words
+text_of (Words words) = plain_words words
 text_of (Element name attributes content) = start_tag name attributes ++ (text_of content ++ end_tag name)
 text_of (Then first second) = text_of first ++ text_of second
 
@@ -58,11 +72,11 @@ each f xs = group (map f xs)
 
 -- an attribute whose value is a number
 abbrev pub number : List ℕ → ℕ → Named
-number name n = record { name = name; value = decimal n }
+number name n = record { name = name; value = plain_words (decimal n) }
 
 -- an attribute whose value is words
 abbrev pub words : List ℕ → List ℕ → Named
-words name bytes = record { name = name; value = bytes }
+words name bytes = record { name = name; value = plain_words bytes }
 
 -- the attribute that a value of the program stands for
 abbrev pub named : Attribute → Named

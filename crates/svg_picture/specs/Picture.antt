@@ -1,10 +1,11 @@
 -- The picture of a history and what is claimed of it: the whole as a tree of elements, and its text.
 use Rattle.std.specs.Prelude.{ℕ, ◌+◌, ◌-◌, ◌*◌, max, Bool, true, false, if◌then◌else◌, Option, Some, None, List, [], ◌∷◌, ◌++◌, length, map, codes}
 use Rattle.std.specs.Prelude.{decimal, nat_eq, slice_get}
-use Rattle.std.specs.Prelude.{find}
 use Rattle.std.specs.List.{concat, enumerate_from, position, range_with_len}
 use Rattle.event_records.specs.declared.event.Event.{Event}
 use Rattle.history_merge.specs.declared.operation.Operation.{Operation}
+use Rattle.history_merge.specs.declared.operation.OpKind.{OpKind}
+use Rattle.history_merge.specs.declared.operation.OpKind.TheVariants as kind
 use Rattle.history_merge.specs.Initial.{HistoryView}
 use Rattle.history_merge.specs.Operations.{operations_of}
 use Rattle.verdicts.specs.declared.verifying.ClaimLine.{ClaimLine}
@@ -19,17 +20,20 @@ use Rattle.drawing.specs.declared.bands.Head.TheVariants.{Dequeued, InAndOut, Sa
 use Rattle.drawing.specs.Layout.{digits, label, initial_label, label_width, last_ticket, threads_of, place_of, initial_place_of, point}
 use Rattle.drawing.specs.Bands.{bands_of, head_text}
 use Rattle.drawing.specs.Captions.{headline, caption}
+use Rattle.drawing.specs.Signs.{signs_of, meaning}
+use Rattle.drawing.specs.declared.signs.Sign.{Sign}
+use Rattle.drawing.specs.declared.signs.Sign.TheVariants.{First, InOrder, OfOperations, OfValues, Present, Absent}
 use Rattle.drawing.specs.Terminal.{way}
 use Rattle.svg_picture.specs.declared.sheet.Measures.{Measures}
 use Rattle.svg_picture.specs.Markup.{Named, Content, Nothing, Words, Element, each, group, number, words, document}
-use Rattle.svg_picture.specs.Layout.{Page, shown, bar_width, thread_x, right, band_x, width, legend_y, top, initial_row, row, effect_row, row_y, call_y, ret_y}
+use Rattle.svg_picture.specs.Layout.{Page, shown, left, bar_width, thread_x, band_x, width, legend_y, top, initial_row, row, effect_row, row_y, call_y, ret_y}
 use Rattle.svg_picture.specs.Layout.{bottom, height, line_count, parts, longest}
-use Rattle.svg_picture.specs.Words.{kind_word, corner, form_class, legend}
+use Rattle.svg_picture.specs.Words.{kind_word, corner, form_class, reading}
 use Rattle.svg_picture.specs.Elements.{text_at, rect, stroke, lines_at, samples, hatch, style_element}
 
 -- ---- what is claimed of an operation
 
--- how an operation or an initial value is marked: of a no those of the claim are on, the others off
+-- how an operation or an initial value is marked: of a `NO` those of the claim are on, the others off
 abbrev pub mark : Claimed → Option ℕ → List ℕ
 mark (Yes order) place = codes "yes"
 mark (No kind lines) None = codes "off"
@@ -51,13 +55,20 @@ abbrev pub number_words : Option ℕ → List ℕ
 number_words None = []
 number_words (Some place) = codes ", number " ++ decimal (place + 1)
 
--- what is told of a bar: its thread, what it did, its tickets, and its number
+-- what an operation did, and its value in full
+abbrev pub told : OpKind → List ℕ
+told (kind.Enq v) = codes "enq " ++ decimal v
+told (kind.Deq v) = codes "deq " ++ decimal v
+told (kind.Not v) = codes "not " ++ decimal v
+told kind.Empty = codes "empty"
+
+-- the title of a bar: its thread, what it did, its tickets, and its number
 unfoldable pub bar_words : Operation → Option ℕ → List ℕ
 bar_words o place =
-    concat (codes "thread " ∷ decimal o.thread ∷ codes ": " ∷ label o.kind ∷ codes ", tickets " ∷ decimal o.call ∷ codes " to " ∷ decimal o.ret
+    concat (codes "thread " ∷ decimal o.thread ∷ codes ": " ∷ told o.kind ∷ codes ", tickets " ∷ decimal o.call ∷ codes " to " ∷ decimal o.ret
     ∷ number_words place ∷ [])
 
--- the upper edge of a number: of a yes in the row of the effect, of a no beside the label
+-- the upper edge of a number: of a `YES` in the row of the effect, of a `NO` beside the label
 abbrev pub number_y : Page → Claimed → Operation → ℕ → ℕ
 number_y page (Yes order) o place = row_y page (row_of_effect page place) + 2
 number_y page (No kind lines) o place = row_y page (row page o.call) + 12
@@ -99,7 +110,7 @@ bar page o = placed_bar page o (place_of page.claimed o)
 unfoldable pub bars : Page → Content
 bars page = each (bar page) page.operations
 
--- ---- bands of a no
+-- ---- bands of a `NO`
 
 -- the band is the time that contradicts the others
 abbrev pub is_time : Head → Bool
@@ -108,29 +119,20 @@ is_time (InAndOut v) = true
 is_time SaidEmpty = true
 is_time _ = false
 
--- the upper edge of a band: the time begins at a call, a value surely is in from a return on
+-- the upper edge of a band: the time begins at a call, a value definitely is in from a return on
 abbrev pub first_y : Page → Head → Option ℕ → ℕ
 first_y page head None = top page.measures
 first_y page head (Some ticket) = if is_time head then call_y page ticket else ret_y page ticket
 
--- the lower edge of a band: the time ends at a return, a value surely is in up to a call
+-- the lower edge of a band: the time ends at a return, a value definitely is in up to a call
 abbrev pub last_y : Page → Head → Option ℕ → ℕ
 last_y page head None = bottom page.measures
 last_y page head (Some ticket) = if is_time head then ret_y page ticket else call_y page ticket
 
--- the event at this ticket
-abbrev pub event_at : List Event → ℕ → Option Event
-event_at events ticket = find (λ e. nat_eq e.ticket ticket) events
-
--- a dotted line from the lane of an event to a band
-unfoldable pub from_event : Page → List ℕ → ℕ → ℕ → Option Event → Content
-from_event page class x y None = Nothing
-from_event page class x y (Some e) = stroke class (thread_x page e.thread) y x y
-
--- a dotted line from the lane of the event at an edge, where it has one
-abbrev pub from_edge : Page → List ℕ → ℕ → ℕ → Option ℕ → Content
-from_edge page class x y None = Nothing
-from_edge page class x y (Some ticket) = from_event page class x y (event_at page.events ticket)
+-- a dotted line from a band to the lanes, where an event makes an edge of it
+unfoldable pub guide : Measures → List ℕ → ℕ → ℕ → Option ℕ → Content
+guide m class x y None = Nothing
+guide m class x y (Some ticket) = stroke class x y (left m) y
 
 -- a thin line from the head of a band to it, and the band between its edges
 unfoldable pub band_between : List ℕ → ℕ → ℕ → ℕ → ℕ → Content
@@ -140,17 +142,17 @@ band_between class x y first last =
 -- the band with its dotted lines, below its head
 unfoldable pub drawn_band : Page → List ℕ → ℕ → ℕ → Band → Content
 drawn_band page class x y band =
-    group (from_edge page class x (first_y page band.head band.first) band.first ∷ from_edge page class x (last_y page band.head band.last) band.last
-    ∷ band_between class x y (first_y page band.head band.first) (last_y page band.head band.last) ∷ [])
+    group (guide page.measures class (x + 28) (first_y page band.head band.first) band.first
+    ∷ guide page.measures class (x + 28) (last_y page band.head band.last) band.last ∷ band_between class x y (first_y page band.head band.first) (last_y page band.head band.last) ∷ [])
 
 -- the band, where its head has a form
 abbrev pub formed_band : Page → List ℕ → ℕ → ℕ → Band → Content
 formed_band page [] x y band = Nothing
 formed_band page (b ∷ class) x y band = drawn_band page (b ∷ class) x y band
 
--- the heads stand one above another, so that each has the room to its right
+-- the heads stand one above another, so that each has the room to its right, and above the names of the lanes
 abbrev pub head_y : Measures → ℕ → ℕ
-head_y m i = top m - (8 + 20 * (m.heads - (i + 1)))
+head_y m i = top m - (28 + 20 * (m.heads - (i + 1)))
 
 -- band i with its head
 unfoldable pub band_at : Page → ℕ → Band → Content
@@ -162,14 +164,14 @@ band_at page i band =
 abbrev pub numbered_band : Page → ℕ × Band → Content
 numbered_band page (i, band) = band_at page i band
 
--- the bands of a no
+-- the bands of a `NO`
 unfoldable pub bands : Page → Content
 bands page = each (numbered_band page) (enumerate_from 0 page.bands)
 
--- a word at the right of the lanes, with a dotted line to it from this point
-unfoldable pub way_from : Page → ℕ → ℕ → List ℕ → Content
-way_from page x y bytes =
-    group (stroke (codes "time") x y (right page.measures - 3) y ∷ text_at 7 (codes "name") (right page.measures) (y + 4) bytes ∷ [])
+-- a word in the place of the first band, with a dotted line from it to the lanes
+unfoldable pub way_at : Measures → ℕ → List ℕ → Content
+way_at m y bytes =
+    group (text_at 7 (codes "name") (shown m) (y + 4) bytes ∷ stroke (codes "time") (shown m + 28) y (left m) y ∷ [])
 
 -- the row behind the head and as many values as stand before a place; that of the head, where there is no place
 abbrev pub row_behind : Option ℕ → ℕ
@@ -180,10 +182,10 @@ row_behind (Some j) = initial_row j
 abbrev pub row_of_value : List ℕ → ℕ → ℕ
 row_of_value initial v = row_behind (position (λ w. nat_eq w v) initial)
 
--- whether the value of a line goes in or out, with a dotted line from the lane of its operation, or from its own row
+-- whether the value of a line goes in or out, in the row of its operation, or in its own
 abbrev pub way_mark : Page → ClaimLine → Content
-way_mark page (Op o) = way_from page (thread_x page o.thread) (row_y page (row page o.call) + 20) (way o.kind)
-way_mark page (Initial v) = way_from page 6 (row_y page (row_of_value page.initial v) + 10) (codes "in")
+way_mark page (Op o) = way_at page.measures (row_y page (row page o.call) + 20) (way o.kind)
+way_mark page (Initial v) = way_at page.measures (row_y page (row_of_value page.initial v) + 10) (codes "in")
 
 -- where a value was dequeued twice, the words `in` and `out`
 unfoldable pub ways : Page → Claimed → Content
@@ -192,19 +194,20 @@ ways page _ = Nothing
 
 -- ---- initial values
 
--- what is told of an initial value, with its number
+-- the title of an initial value, with its number
 unfoldable pub initial_words : ℕ → Option ℕ → List ℕ
-initial_words v place = concat (initial_label v ∷ codes ", in the queue first" ∷ number_words place ∷ [])
+initial_words v place = concat (codes "init " ∷ decimal v ∷ codes ", in the queue first" ∷ number_words place ∷ [])
 
 -- the number of the initial value in row r, at this place of the claim
 unfoldable pub initial_number : Page → ℕ → Option ℕ → Content
 initial_number page r None = Nothing
-initial_number page r (Some place) = pill (18 + 7 * page.measures.label) (row_y page r + 2) (place + 1)
+initial_number page r (Some place) = pill (left page.measures + (15 + 7 * page.measures.label)) (row_y page r + 2) (place + 1)
 
--- the bar of the initial value in row r, at the left, with its label
+-- the bar of the initial value in row r, in line with the first lane, with its label
 unfoldable pub initial_rect : Page → ℕ → ℕ → Content
 initial_rect page r v =
-    group (rect (codes "enq") 0 6 (row_y page r + 2) (bar_width page.measures) 16 ∷ text_at 7 (codes "label") 12 (row_y page r + 14) (initial_label v) ∷ [])
+    group (rect (codes "enq") 0 (left page.measures + 3) (row_y page r + 2) (bar_width page.measures) 16
+    ∷ text_at 7 (codes "label") (left page.measures + 9) (row_y page r + 14) (initial_label v) ∷ [])
 
 -- what stands within the group of an initial value
 unfoldable pub initial_parts : Page → ℕ → ℕ → Option ℕ → Content
@@ -223,10 +226,10 @@ numbered_initial page (j, v) = placed_initial page (initial_row j) v (initial_pl
 unfoldable pub initial_values : Page → List ℕ → Content
 initial_values page [] = Nothing
 initial_values page (front ∷ others) =
-    group (text_at 7 (codes "dim") 6 (top page.measures + 14) (codes "in the queue first")
+    group (text_at 7 (codes "dim") (left page.measures + 3) (top page.measures + 14) (codes "in the queue first")
     ∷ each (numbered_initial page) (enumerate_from 0 (front ∷ others)) ∷ [])
 
--- ---- the order of a yes
+-- ---- the order of a `YES`
 
 -- the number and the label of operation i of the order, in the row where it takes effect
 unfoldable pub order_line : Page → ℕ → Operation → Content
@@ -238,7 +241,7 @@ order_line page i o =
 abbrev pub numbered_line : Page → ℕ × Operation → Content
 numbered_line page (i, o) = order_line page i o
 
--- the order of a yes under its name
+-- the order of a `YES` under its name
 unfoldable pub order : Page → Claimed → Content
 order page (Yes operations) =
     group (text_at 7 (codes "dim") (shown page.measures) (top page.measures - 8) (codes "order")
@@ -290,13 +293,36 @@ background m =
 
 -- ---- the whole
 
+-- a sign from this height on
+abbrev pub sign : Sign → ℕ → Content
+sign First y = text_at 7 (codes "label") 6 (y + 12) (codes "init")
+sign InOrder y = pill 6 y 1
+sign OfOperations y = pill 6 y 1
+sign OfValues y = pill 6 y 1
+sign Present y = rect (codes "sure") 0 6 (y + 1) 28 14
+sign Absent y = rect (codes "none") 0 6 (y + 1) 28 14
+sign others y = rect (codes "time") 0 6 (y + 1) 28 14
+
+-- a sign, and what it means
+unfoldable pub sign_at : ℕ → Sign → Content
+sign_at y s = group (sign s y ∷ text_at 7 (codes "dim") 41 (y + 12) (meaning s) ∷ [])
+
+-- the same, as it is numbered
+abbrev pub numbered_sign : Measures → ℕ × Sign → Content
+numbered_sign m (i, s) = sign_at (legend_y m + 63 + 20 * i) s
+
+-- the signs, each in a line
+unfoldable pub signs : Measures → List Sign → Content
+signs m list = each (numbered_sign m) (enumerate_from 0 list)
+
 -- the words above: the headline, the caption, and how to read the picture
 unfoldable pub heading : Page → Content
 heading page =
     group (text_at 9 (codes "head") 6 26 (headline page.claimed) ∷ lines_at 8 (codes "say") 46 (caption page.claimed)
-    ∷ samples (legend_y page.measures) ∷ lines_at 7 (codes "dim") (legend_y page.measures + 35) (legend page.initial page.claimed) ∷ [])
+    ∷ samples (legend_y page.measures) ∷ lines_at 7 (codes "dim") (legend_y page.measures + 35) reading
+    ∷ signs page.measures (signs_of page.initial page.claimed) ∷ [])
 
--- what the picture tells those who don't see it, and its style
+-- the words for those who don't see the picture, and its style
 unfoldable pub about : Claimed → Content
 about claimed =
     group (Element (codes "title") [] (Words (headline claimed)) ∷ Element (codes "desc") [] (Words (caption claimed))
@@ -350,7 +376,7 @@ measures_of history claimed = record {
   head = longest (map (λ band. head_text band.head) (bands_of claimed));
   captions = line_count (caption claimed);
   caption = longest (parts (caption claimed));
-  legend = line_count (legend history.initial claimed);
+  legend = 2 + length (signs_of history.initial claimed);
   is_yes = is_yes claimed;
 }
 

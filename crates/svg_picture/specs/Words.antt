@@ -1,16 +1,11 @@
--- The words of an SVG picture that the terminal's don't have, and its style.
-use Rattle.std.specs.Prelude.{ℕ, List, [], ◌∷◌, ◌++◌, codes}
+-- The words of an SVG picture that characters don't have, and its style.
+use Rattle.std.specs.Prelude.{ℕ, List, [], ◌∷◌, codes}
 use Rattle.std.specs.List.{concat}
 use Rattle.history_merge.specs.declared.operation.OpKind.{OpKind}
 use Rattle.history_merge.specs.declared.operation.OpKind.TheVariants as kind
-use Rattle.verdicts.specs.declared.verifying.Claimed.{Claimed}
-use Rattle.verdicts.specs.declared.verifying.Claimed.TheVariants.{Yes, No}
-use Rattle.verdicts.specs.declared.verifying.ViolationKind.{ViolationKind}
-use Rattle.verdicts.specs.declared.verifying.ViolationKind.TheVariants.{VFresh, VRepeat, VOrd, VWit}
 use Rattle.text_lines.specs.Lines.{line}
 use Rattle.drawing.specs.declared.bands.Head.{Head}
 use Rattle.drawing.specs.Bands.{form_words}
-use Rattle.drawing.specs.Captions.{claim_words}
 
 -- the word of a kind of operation, which is its class too
 abbrev pub kind_word : OpKind → List ℕ
@@ -36,37 +31,6 @@ reading =
     concat (line (codes "A bar reaches from the call (its top) to the return (its bottom).")
     ∷ line (codes "Time runs down, one row for each call and each return.") ∷ [])
 
--- what the rows of initial values mean, where there are some
-abbrev pub initial_reading : List ℕ → List ℕ
-initial_reading [] = []
-initial_reading (v ∷ initial) = line (codes "init: a value that was in the queue first, the front one on top.")
-
--- what the numbers mean
-abbrev pub numbers : Claimed → List ℕ → List ℕ
-numbers claimed initial =
-    claim_words claimed initial (line (codes "A row without a ticket: there the numbered operation takes effect."))
-    (line (codes "Numbered: the operations that show it. Grey: the others."))
-    (line (codes "Numbered: the values and operations that show it. Grey: the others."))
-
--- what the bands of a kind of violation mean
-abbrev pub forms : ViolationKind → List ℕ
-forms VFresh =
-    concat (line (codes "Hatched: the value surely was not in the queue.") ∷ line (codes "Dashed: within this time it was dequeued nevertheless.") ∷ [])
-forms VRepeat = []
-forms VOrd =
-    concat (line (codes "Full: the value surely was in the queue.") ∷ line (codes "Dashed: within this time the later value went in and out.") ∷ [])
-forms VWit =
-    concat (line (codes "Full: the value surely was in the queue.") ∷ line (codes "Dashed: within this time the queue was said to be empty.") ∷ [])
-
--- what the bands of a claim mean
-abbrev pub claim_forms : Claimed → List ℕ
-claim_forms (Yes order) = []
-claim_forms (No kind lines) = forms kind
-
--- how to read the picture
-unfoldable pub legend : List ℕ → Claimed → List ℕ
-legend initial claimed = reading ++ (initial_reading initial ++ (numbers claimed initial ++ claim_forms claimed))
-
 -- fonts and colours on a light background
 unfoldable pub light : List ℕ
 light = concat (codes "svg{background:#ffffff}\n"
@@ -76,7 +40,7 @@ light = concat (codes "svg{background:#ffffff}\n"
     ∷ codes ".enq{fill:#cfe3ff;stroke:#1f5fbf}.deq{fill:#ffe2bf;stroke:#b35c00}\n"
     ∷ codes ".not{fill:#ffffff;stroke:#1f5fbf;stroke-dasharray:5 3}.empty{fill:#ffffff;stroke:#b35c00;stroke-dasharray:5 3}\n"
     ∷ codes ".on rect{stroke-width:3}.off rect{fill:#f7f8fa;stroke:#b4bac4}.off text{fill:#6b7280}\n"
-    ∷ codes ".on .pill,.yes .pill{fill:#1a1a1a;stroke:none}.on .pick,.yes .pick{fill:#ffffff;font-weight:bold}\n"
+    ∷ codes ".pill{fill:#1a1a1a;stroke:none}.pick{fill:#ffffff;font-weight:bold}\n"
     ∷ codes ".sure{fill:#6b4bb8}.none{fill:url(#hatch);stroke:#6b4bb8}.hatch{stroke:#6b4bb8;stroke-width:2}\n"
     ∷ codes ".time{fill:none;stroke:#b3261e;stroke-width:2;stroke-dasharray:5 3}\n"
     ∷ codes "line.sure,line.none{stroke:#6b4bb8;stroke-dasharray:2 4}line.time{stroke-width:1;stroke-dasharray:2 4}\n" ∷ [])
@@ -89,6 +53,6 @@ dark = concat (codes "@media (prefers-color-scheme:dark){\n"
     ∷ codes ".enq{fill:#1b3560;stroke:#7fb0ff}.deq{fill:#553710;stroke:#ffb45c}\n"
     ∷ codes ".not{fill:#14171c;stroke:#7fb0ff}.empty{fill:#14171c;stroke:#ffb45c}\n"
     ∷ codes ".off rect{fill:#191d23;stroke:#4a5260}.off text{fill:#8b95a3}\n"
-    ∷ codes ".on .pill,.yes .pill{fill:#e6e8eb}.on .pick,.yes .pick{fill:#14171c}\n"
+    ∷ codes ".pill{fill:#e6e8eb}.pick{fill:#14171c}\n"
     ∷ codes ".sure{fill:#a78bf0}.none,.hatch,line.sure,line.none{stroke:#a78bf0}.time{stroke:#ff7a70}\n"
     ∷ codes "}\n" ∷ [])

@@ -1,8 +1,8 @@
 //! The bars of the operations.
-ghost use Rattle.std.specs.Prelude.{◌≡◌, ◌++◌, ◌≤◌, ◌^◌, OnOk, IfOk, IfSome};
+ghost use Rattle.std.specs.Prelude.{◌≡◌, ◌++◌, ◌≤◌, ◌^◌, OnOk, IfOk, IfSome, decimal};
 ghost use Rattle.svg_picture.specs.Markup.{text_of};
 ghost use Rattle.svg_picture.specs.Layout.{page_on};
-ghost use Rattle.svg_picture.specs.Picture.{mark, row_of_effect, number_words, bar_words, number_y, pill, bar_number, bar_rect, bar_label, bar, bars};
+ghost use Rattle.svg_picture.specs.Picture.{mark, row_of_effect, number_words, told, bar_words, number_y, pill, bar_number, bar_rect, bar_label, bar, bars};
 
 use crate::elements::{Rect, push_rect, push_text_at};
 use crate::layout::{bar_width, call_y, effect_row, ret_y, row, row_y, thread_x};
@@ -11,7 +11,7 @@ use crate::markup::{push_element, push_end, push_number, push_start};
 use crate::sheet::Sheet;
 use crate::words::{corner, kind_word};
 use drawing::{Added, MOST_DRAWN, digits, place_of, push_label};
-use history_merge::Operation;
+use history_merge::{OpKind, Operation};
 use itoa::Buffer;
 use std::alloc::{AllocError, Global};
 use verdicts::Claimed;
@@ -54,7 +54,26 @@ pub(crate) fn push_number_words(text: &mut Vec<u8>, place: Option<usize>) -> Add
     }
 }
 
-/// What is told of a bar.
+fn push_done(text: &mut Vec<u8>, word: &[u8], value: u64) -> Added
+    ensures { OnOk result (text.new.items ≡ text.old.items ++ (word.now ++ decimal value)) }
+{
+    text.extend_from_slice(word)?;
+    push_number(text, u128::from(value))
+}
+
+/// Adds what an operation did, and its value in full.
+fn push_told(text: &mut Vec<u8>, kind: OpKind) -> Added
+    ensures { OnOk result (text.new.items ≡ text.old.items ++ told kind) }
+{
+    match kind {
+        OpKind::Empty => text.extend_from_slice(b"empty"),
+        OpKind::Enq(value) => push_done(text, b"enq ", value),
+        OpKind::Deq(value) => push_done(text, b"deq ", value),
+        OpKind::Not(value) => push_done(text, b"not ", value),
+    }
+}
+
+/// The title of a bar.
 #[tactic(auto, unfolding(crate::specs::Picture::bar_words))]
 fn bar_words(
     alloc: Global,
@@ -66,7 +85,7 @@ fn bar_words(
     let mut words = Vec::from_slice(alloc, b"thread ")?;
     push_number(&mut words, u128::from(operation.thread))?;
     words.extend_from_slice(b": ")?;
-    push_label(&mut words, operation.kind)?;
+    push_told(&mut words, operation.kind)?;
     words.extend_from_slice(b", tickets ")?;
     push_number(&mut words, u128::from(operation.call))?;
     words.extend_from_slice(b" to ")?;

@@ -1,24 +1,21 @@
-//! What stands beside the lanes: the bands of a no, or the order of a yes.
+//! What stands beside the lanes: the bands of a `NO`, or the order of a `YES`.
 ghost use Rattle.std.specs.Prelude.{◌≡◌, ◌++◌, ◌∷◌, ◌≤◌, ◌^◌, [], OnOk, IfOk, IsTrue, false, length, codes, decimal, nat_eq};
 ghost use Rattle.std.specs.List.{concat, enumerate_from, position};
 ghost use Rattle.drawing.specs.Layout.{label};
 ghost use Rattle.svg_picture.specs.Markup.{each, text_of};
 ghost use Rattle.svg_picture.specs.Layout.{page_on, call_y, ret_y};
 ghost use Rattle.svg_picture.specs.Words.{form_class};
-ghost use Rattle.svg_picture.specs.Picture.{is_time, first_y, last_y, event_at, from_edge, band_between, formed_band, head_y, band_at};
-ghost use Rattle.svg_picture.specs.Picture.{numbered_band, bands, way_from, row_behind, row_of_value, way_mark, ways, order_line, numbered_line};
+ghost use Rattle.svg_picture.specs.Picture.{is_time, first_y, last_y, guide, band_between, formed_band, head_y, band_at};
+ghost use Rattle.svg_picture.specs.Picture.{numbered_band, bands, way_at, row_behind, row_of_value, way_mark, ways, order_line, numbered_line};
 ghost use Rattle.svg_picture.specs.Picture.{order};
 
 use crate::bars::row_of_effect;
 use crate::elements::{Rect, push_rect, push_stroke, push_text_at};
-use crate::layout::{
-    band_x, bottom, call_y, initial_row, ret_y, right, row, row_y, shown, thread_x, top,
-};
+use crate::layout::{band_x, bottom, call_y, initial_row, left, ret_y, row, row_y, shown, top};
 use crate::markup::push_number;
 use crate::sheet::{Measures, Sheet};
 use crate::words::form_class;
 use drawing::{Added, Band, Head, MOST_DRAWN, digits, head_words, push_label, way};
-use event_records::Event;
 use history_merge::Operation;
 use std::alloc::{AllocError, Global};
 use verdicts::{ClaimLine, Claimed, ViolationKind};
@@ -64,35 +61,21 @@ fn last_y(sheet: &Sheet<'_>, head: Head, last: Option<u64>) -> u128
     }
 }
 
-fn event_at(events: &[Event], ticket: u64) -> Option<Event>
-    ensures { result ≡ event_at events.now ticket }
-{
-    for event in events {
-        if event.ticket == ticket {
-            return Some(*event);
-        }
-    }
-    None
-}
-
-/// A dotted line from the lane of the event at an edge.
-#[tactic(auto, unfolding(crate::specs::Picture::from_event))]
-fn push_from_edge(
+/// A dotted line from a band to the lanes, where an event makes an edge of it.
+#[tactic(auto, unfolding(crate::specs::Picture::guide))]
+fn push_guide(
     text: &mut Vec<u8>,
-    sheet: &Sheet<'_>,
+    m: Measures,
     class: &[u8],
     x: u128,
     y: u128,
     edge: Option<u64>,
 ) -> Added
-    ensures { OnOk result (text.new.items ≡ text.old.items ++ text_of (from_edge (page_on sheet.now) class.now x y edge)) }
+    ensures { OnOk result (text.new.items ≡ text.old.items ++ text_of (guide m class.now x y edge)) }
 {
     match edge {
         None => Ok(()),
-        Some(ticket) => match event_at(sheet.events, ticket) {
-            None => Ok(()),
-            Some(event) => push_stroke(text, class, (thread_x(sheet, event.thread), y), (x, y)),
-        },
+        Some(_) => push_stroke(text, class, (x, y), (left(m), y)),
     }
 }
 
@@ -120,6 +103,7 @@ fn push_band_between(
 /// Adds a band with its dotted lines, where its head has a form.
 #[tactic(auto, unfolding(crate::specs::Picture::drawn_band))]
 fn push_formed_band(text: &mut Vec<u8>, sheet: &Sheet<'_>, x: u128, y: u128, band: Band) -> Added
+    requires { x ≤ 2 ^ 92 }
     ensures { OnOk result (text.new.items ≡ text.old.items
         ++ text_of (formed_band (page_on sheet.now) (form_class band.head) x y band)) }
 {
@@ -129,8 +113,8 @@ fn push_formed_band(text: &mut Vec<u8>, sheet: &Sheet<'_>, x: u128, y: u128, ban
         [_, ..] => {
             let first = first_y(sheet, band.head, band.first);
             let last = last_y(sheet, band.head, band.last);
-            push_from_edge(text, sheet, class, x, first, band.first)?;
-            push_from_edge(text, sheet, class, x, last, band.last)?;
+            push_guide(text, sheet.measures, class, x + 28, first, band.first)?;
+            push_guide(text, sheet.measures, class, x + 28, last, band.last)?;
             push_band_between(text, class, x, y, first, last)
         }
     }
@@ -141,7 +125,7 @@ fn head_y(m: Measures, i: usize) -> u128
     ensures small { result ≤ 2 ^ 92 }
 {
     let later = (m.heads as u128).saturating_sub(i as u128 + 1);
-    top(m).saturating_sub(8 + 20 * later)
+    top(m).saturating_sub(28 + 20 * later)
 }
 
 #[tactic(auto, unfolding(crate::specs::Picture::band_at))]
@@ -155,7 +139,7 @@ fn push_band_at(text: &mut Vec<u8>, sheet: &Sheet<'_>, i: usize, band: Band) -> 
     push_formed_band(text, sheet, x + 3, y + 4, band)
 }
 
-/// Adds the bands of a no, with their heads.
+/// Adds the bands of a `NO`, with their heads.
 #[tactic(auto, unfolding(crate::specs::Picture::bands))]
 pub(crate) fn push_bands(text: &mut Vec<u8>, sheet: &Sheet<'_>) -> Added
     ensures { OnOk result (text.new.items ≡ text.old.items ++ text_of (bands (page_on sheet.now))) }
@@ -166,15 +150,15 @@ pub(crate) fn push_bands(text: &mut Vec<u8>, sheet: &Sheet<'_>) -> Added
     Ok(())
 }
 
-/// Adds a word at the right of the lanes, with a dotted line to it.
-#[tactic(auto, unfolding(crate::specs::Picture::way_from))]
-fn push_way_from(text: &mut Vec<u8>, sheet: &Sheet<'_>, x: u128, y: u128, words: &[u8]) -> Added
+/// Adds a word in the place of the first band, with a dotted line from it to the lanes.
+#[tactic(auto, unfolding(crate::specs::Picture::way_at))]
+fn push_way_at(text: &mut Vec<u8>, m: Measures, y: u128, words: &[u8]) -> Added
     requires { y ≤ 2 ^ 92 }
-    ensures { OnOk result (text.new.items ≡ text.old.items ++ text_of (way_from (page_on sheet.now) x y words.now)) }
+    ensures { OnOk result (text.new.items ≡ text.old.items ++ text_of (way_at m y words.now)) }
 {
-    let right = right(sheet.measures);
-    push_stroke(text, b"time", (x, y), (right.saturating_sub(3), y))?;
-    push_text_at(text, 7, b"name", right, y + 4, words)
+    let x = shown(m);
+    push_text_at(text, 7, b"name", x, y + 4, words)?;
+    push_stroke(text, b"time", (x + 28, y), (left(m), y))
 }
 
 fn value_place(initial: &[u64], value: u64) -> Option<usize>
@@ -206,13 +190,12 @@ fn push_way_mark(text: &mut Vec<u8>, sheet: &Sheet<'_>, line: ClaimLine) -> Adde
 {
     match line {
         ClaimLine::Op(operation) => {
-            let x = thread_x(sheet, operation.thread);
             let y = row_y(sheet, row(sheet, operation.call)) + 20;
-            push_way_from(text, sheet, x, y, way(operation.kind))
+            push_way_at(text, sheet.measures, y, way(operation.kind))
         }
         ClaimLine::Initial(value) => {
             let y = row_y(sheet, row_of_value(sheet.initial, value)) + 10;
-            push_way_from(text, sheet, 6, y, b"in")
+            push_way_at(text, sheet.measures, y, b"in")
         }
     }
 }
@@ -273,7 +256,7 @@ fn push_order_lines(text: &mut Vec<u8>, sheet: &Sheet<'_>, operations: &[Operati
     Ok(())
 }
 
-/// Adds the order of a yes under its name.
+/// Adds the order of a `YES` under its name.
 #[tactic(auto, unfolding(crate::specs::Picture::order))]
 pub(crate) fn push_order(text: &mut Vec<u8>, sheet: &Sheet<'_>) -> Added
     ensures { OnOk result (text.new.items ≡ text.old.items ++ text_of (order (page_on sheet.now) sheet.now.claimed.now)) }

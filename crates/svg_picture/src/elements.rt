@@ -8,7 +8,7 @@ use crate::markup::Attribute::{Number, Words};
 use crate::markup::{push_element, push_end, push_start};
 use drawing::Added;
 
-/// Adds words of a class from a point on, so many pixels for each character.
+/// Adds words of a class from a point on, this many pixels for each character.
 #[tactic(auto, unfolding(crate::specs::Elements::text_at))]
 pub(crate) fn push_text_at(
     text: &mut Vec<u8>,

@@ -7,19 +7,20 @@ ghost use Rattle.svg_picture.specs.Picture.{initial_words, initial_number, initi
 
 use crate::bars::{mark, push_number_words, push_pill};
 use crate::elements::{Rect, push_rect, push_text_at};
-use crate::layout::{bar_width, initial_row, row_y, top};
+use crate::layout::{bar_width, initial_row, left, row_y, top};
 use crate::markup::Attribute::Words;
-use crate::markup::{push_element, push_end, push_start};
+use crate::markup::{push_element, push_end, push_number, push_start};
 use crate::sheet::Sheet;
-use drawing::{Added, MOST_DRAWN, initial_label, initial_place_of};
+use drawing::{Added, MOST_DRAWN, initial_place_of, push_initial_label};
 use std::alloc::{AllocError, Global};
 
-/// What is told of an initial value.
+/// The title of an initial value.
 #[tactic(auto, unfolding(crate::specs::Picture::initial_words))]
 fn initial_words(alloc: Global, value: u64, place: Option<usize>) -> Result<Vec<u8>, AllocError>
     ensures { IfOk result (λ words. words.items ≡ initial_words value place) }
 {
-    let mut words = initial_label(alloc, value)?;
+    let mut words = Vec::from_slice(alloc, b"init ")?;
+    push_number(&mut words, u128::from(value))?;
     words.extend_from_slice(b", in the queue first")?;
     push_number_words(&mut words, place)?;
     Ok(words)
@@ -34,7 +35,7 @@ fn push_row_number(text: &mut Vec<u8>, sheet: &Sheet<'_>, row: u128, place: Opti
     match place {
         None => Ok(()),
         Some(place) => {
-            let x = 18 + 7 * u128::from(sheet.measures.label);
+            let x = left(sheet.measures) + (15 + 7 * u128::from(sheet.measures.label));
             let y = row_y(sheet, row) + 2;
             push_pill(text, x, y, place as u64 + 1)
         }
@@ -48,15 +49,17 @@ fn push_initial_rect(text: &mut Vec<u8>, sheet: &Sheet<'_>, row: u128, value: u6
     ensures { OnOk result (text.new.items ≡ text.old.items ++ text_of (initial_rect (page_on sheet.now) row value)) }
 {
     let y = row_y(sheet, row);
+    let x = left(sheet.measures);
     let area = Rect {
-        x: 6,
+        x: x + 3,
         y: y + 2,
         width: bar_width(sheet.measures),
         height: 16,
     };
     push_rect(text, b"enq", 0, area)?;
-    let label = initial_label(sheet.alloc, value)?;
-    push_text_at(text, 7, b"label", 12, y + 14, label.as_slice())
+    let mut label = Vec::new(sheet.alloc);
+    push_initial_label(&mut label, value)?;
+    push_text_at(text, 7, b"label", x + 9, y + 14, label.as_slice())
 }
 
 /// Adds the initial value at place j, with its title, its bar and its number.
@@ -83,8 +86,9 @@ pub(crate) fn push_initial_values(text: &mut Vec<u8>, sheet: &Sheet<'_>) -> Adde
     match sheet.initial {
         [] => Ok(()),
         [_, ..] => {
+            let x = left(sheet.measures) + 3;
             let y = top(sheet.measures) + 14;
-            push_text_at(text, 7, b"dim", 6, y, b"in the queue first")?;
+            push_text_at(text, 7, b"dim", x, y, b"in the queue first")?;
             push_each_initial_value(text, sheet)
         }
     }

@@ -7,14 +7,14 @@ pub fn pictures_are_well_formed()
     ensures { PicturesAreWellFormed }
 {}
 
-/// Rows rise with tickets, and bars share a height exactly where operations overlap. The laws are the contract; the body is
+/// Rows rise with tickets, and bars share a height if and only if operations overlap. The laws are the contract; the body is
 /// empty.
 pub fn bars_overlap_as_operations_do()
     ensures rise { RowsRise }
     ensures overlap { BarsOverlapInTime }
 {}
 
-/// The operations of a yes take effect in rows of their bars, from top to bottom in its order. The laws are the contract; the body
+/// The operations of a `YES` take effect in rows of their bars, from top to bottom in its order. The laws are the contract; the body
 /// is empty.
 pub fn effect_rows_rise_within_bars()
     ensures within { EffectsAreInBars }

@@ -1,6 +1,6 @@
 //! Where things stand in a picture, in pixels.
 ghost use Rattle.std.specs.Prelude.{◌≡◌, ◌≤◌, ◌^◌};
-ghost use Rattle.svg_picture.specs.Layout.{page_on, shown, order_width, left, bar_width, lane_width, lane_x, thread_x, right, band_x, width};
+ghost use Rattle.svg_picture.specs.Layout.{page_on, shown, band_x, beside_width, left, bar_width, lane_width, lane_x, thread_x, right, width};
 ghost use Rattle.svg_picture.specs.Layout.{legend_y, top, initial_rows, initial_row, row, effect_row, row_y, call_y, ret_y, bottom, height};
 
 use crate::sheet::{Measures, Sheet};
@@ -13,22 +13,33 @@ pub(crate) fn shown(m: Measures) -> u128
     18 + 7 * u128::from(m.ticket)
 }
 
-fn order_width(m: Measures) -> u128
-    ensures value { result ≡ order_width m }
-    ensures small { result ≤ 10000 }
+/// Where a band stands, with this many to its left.
+pub(crate) fn band_x(m: Measures, i: usize) -> u128
+    ensures value { result ≡ band_x m i }
+    ensures small { result ≤ 2 ^ 85 }
 {
-    if m.is_yes {
-        12 + 7 * (u128::from(m.number) + 1 + u128::from(m.label))
-    } else {
-        0
-    }
+    shown(m) + 36 * i as u128
 }
 
-fn left(m: Measures) -> u128
-    ensures value { result ≡ left m }
-    ensures small { result ≤ 20000 }
+fn beside_width(m: Measures) -> u128
+    ensures value { result ≡ beside_width m }
+    ensures small { result ≤ 2 ^ 85 }
 {
-    shown(m) + order_width(m)
+    let room = if m.is_yes {
+        7 * (u128::from(m.number) + 1 + u128::from(m.label))
+    } else {
+        36 * m.heads as u128
+    };
+    12 + room
+}
+
+/// Where the lanes begin.
+pub(crate) fn left(m: Measures) -> u128
+    ensures value { result ≡ left m }
+    ensures small { result ≤ 2 ^ 86 }
+    ensures room { 12 ≤ result }
+{
+    shown(m) + beside_width(m)
 }
 
 /// How wide a bar is.
@@ -62,19 +73,11 @@ pub(crate) fn thread_x(sheet: &Sheet<'_>, thread: u8) -> u128
 }
 
 /// Where the lanes end, with a gap.
-pub(crate) fn right(m: Measures) -> u128
+fn right(m: Measures) -> u128
     ensures value { result ≡ right m }
     ensures small { result ≤ 2 ^ 91 }
 {
     lane_x(m, m.lanes) + 12
-}
-
-/// Where a band stands, with so many to its left.
-pub(crate) fn band_x(m: Measures, i: usize) -> u128
-    ensures value { result ≡ band_x m i }
-    ensures small { result ≤ 2 ^ 92 }
-{
-    right(m) + 36 * i as u128
 }
 
 /// How wide the picture is.
@@ -84,8 +87,8 @@ pub(crate) fn width(m: Measures) -> u128
     ensures small { result ≤ 2 ^ 93 }
 {
     let words = (6 + 8 * m.caption as u128).max(582);
-    let lanes = right(m) + 36 * m.heads as u128 + 7 * m.head as u128;
-    6 + words.max(lanes)
+    let heads = band_x(m, m.heads) + 7 * m.head as u128;
+    6 + words.max(right(m).max(heads))
 }
 
 /// Where the samples of bars stand.
@@ -103,7 +106,7 @@ pub(crate) fn top(m: Measures) -> u128
     ensures small { result ≤ 2 ^ 90 }
     ensures room { 92 ≤ result }
 {
-    legend_y(m) + 32 + 20 * (m.legend as u128 + m.heads.max(1) as u128)
+    legend_y(m) + 32 + 20 * (m.legend as u128 + m.heads as u128 + 1)
 }
 
 /// How many rows the initial values take, with their head.
@@ -137,7 +140,7 @@ pub(crate) fn row(sheet: &Sheet<'_>, ticket: u64) -> u128
     initial_rows(sheet.measures) + (events.count() as u128 + effects.count() as u128)
 }
 
-/// The row of an effect just after this ticket, from 0, with so many effects before it.
+/// The row of an effect just after this ticket, from 0, with this many effects before it.
 #[tactic(auto, unfolding(crate::specs::Layout::effect_row))]
 pub(crate) fn effect_row(sheet: &Sheet<'_>, point: u64, i: usize) -> u128
     ensures value { result ≡ effect_row (page_on sheet.now) point i }

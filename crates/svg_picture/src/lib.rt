@@ -4,6 +4,7 @@
 mod bars;
 mod beside;
 mod elements;
+mod html;
 mod initial;
 mod laws;
 mod layout;
@@ -12,12 +13,12 @@ mod markup;
 mod picture;
 mod rows;
 mod sheet;
+mod signs;
 mod words;
-mod writing;
 
+pub use html::html_picture;
 pub use laws::{
     bars_overlap_as_operations_do, effect_rows_rise_within_bars, initial_rows_come_first,
     pictures_are_well_formed, svg_lanes_stand_apart,
 };
 pub use picture::svg_picture;
-pub use writing::write_svg_picture;

@@ -1,7 +1,7 @@
 //! Markup: elements with attributes, each closed by its end tag.
 ghost use Rattle.std.specs.Prelude.{◌≡◌, ◌++◌, OnOk, map, decimal};
 ghost use Rattle.std.specs.List.{flat_map};
-ghost use Rattle.svg_picture.specs.Markup.{Element, attribute_text, named, start_tag, end_tag, text_of};
+ghost use Rattle.svg_picture.specs.Markup.{Element, is_plain, plain_byte, plain_words, attribute_text, named, start_tag, end_tag, text_of};
 ghost use Rattle.svg_picture.specs.Markup.{Words as InWords};
 
 use drawing::Added;
@@ -16,6 +16,28 @@ pub enum Attribute<'a> {
     Words(&'a [u8], &'a [u8]),
 }
 
+fn is_plain(b: u8) -> bool
+    ensures { result ≡ is_plain b }
+{
+    !(b == b'<' || b == b'>' || b == b'&' || b == b'"')
+}
+
+fn plain_byte(b: u8) -> u8
+    ensures { result ≡ plain_byte b }
+{
+    if is_plain(b) { b } else { b'?' }
+}
+
+/// Adds words, with a question mark in place of each byte that means markup.
+pub(crate) fn push_plain(text: &mut Vec<u8>, words: &[u8]) -> Added
+    ensures { OnOk result (text.new.items ≡ text.old.items ++ plain_words words.now) }
+{
+    for b in words {
+        text.push(plain_byte(*b))?;
+    }
+    Ok(())
+}
+
 /// Adds a number in its digits.
 pub(crate) fn push_number(text: &mut Vec<u8>, number: u128) -> Added
     ensures { OnOk result (text.new.items ≡ text.old.items ++ decimal number) }
@@ -28,8 +50,11 @@ fn push_value(text: &mut Vec<u8>, attribute: Attribute<'_>) -> Added
     ensures { OnOk result (text.new.items ≡ text.old.items ++ (named attribute.entry).value) }
 {
     match attribute {
-        Attribute::Number(_, number) => push_number(text, number),
-        Attribute::Words(_, words) => text.extend_from_slice(words),
+        Attribute::Number(_, number) => {
+            let mut buffer = Buffer::new();
+            push_plain(text, buffer.format(number).as_bytes())
+        }
+        Attribute::Words(_, words) => push_plain(text, words),
     }
 }
 
@@ -89,6 +114,6 @@ pub(crate) fn push_element(
     ensures { OnOk result (text.new.items ≡ text.old.items ++ text_of (Element name.now (map named attributes.now) (InWords words.now))) }
 {
     push_start(text, name, attributes)?;
-    text.extend_from_slice(words)?;
+    push_plain(text, words)?;
     push_end(text, name)
 }

@@ -6,7 +6,7 @@ ghost use Rattle.drawing.specs.Bands.{bands_of};
 ghost use Rattle.drawing.specs.Captions.{caption};
 ghost use Rattle.svg_picture.specs.Markup.{text_of};
 ghost use Rattle.svg_picture.specs.Layout.{page_on};
-ghost use Rattle.svg_picture.specs.Picture.{about, frame, heading, inside, is_yes, measures_of, page_content, points_of, svg_picture, view_box};
+ghost use Rattle.svg_picture.specs.Picture.{about, frame, heading, inside, is_yes, measures_of, page_content, picture_content, points_of, svg_picture, view_box};
 
 use crate::bars::push_bars;
 use crate::beside::{push_bands, push_order, push_ways};
@@ -18,10 +18,11 @@ use crate::markup::Attribute::{Number, Words};
 use crate::markup::{push_element, push_end, push_number, push_start};
 use crate::rows::{push_background, push_threads, push_tickets};
 use crate::sheet::{Measures, Sheet};
-use crate::words::{legend, push_style};
+use crate::signs::push_signs;
+use crate::words::{push_style, reading};
 use drawing::{
     Added, Band, MOST_DRAWN, bands_of, count_of_lines, digits, events_of, headline, label_width,
-    last_ticket, order_of, push_caption, threads_of,
+    last_ticket, order_of, push_caption, signs_of, threads_of,
 };
 use event_records::Event;
 use history_merge::{History, Operation};
@@ -47,11 +48,12 @@ fn push_heading(text: &mut Vec<u8>, sheet: &Sheet<'_>) -> Added
     let caption = caption_of(sheet.alloc, sheet.claimed)?;
     push_lines_at(text, 8, b"say", 46, caption.as_slice())?;
     push_samples(text, y)?;
-    let legend = legend(sheet.alloc, sheet.initial, sheet.claimed)?;
-    push_lines_at(text, 7, b"dim", y + 35, legend.as_slice())
+    push_lines_at(text, 7, b"dim", y + 35, reading())?;
+    let signs = signs_of(sheet.alloc, sheet.initial, sheet.claimed)?;
+    push_signs(text, sheet.measures, signs.as_slice())
 }
 
-/// Adds what the picture tells those who don't see it, and its style.
+/// Adds the words for those who don't see the picture, and its style.
 #[tactic(auto, unfolding(crate::specs::Picture::about))]
 fn push_about(alloc: Global, text: &mut Vec<u8>, claimed: &Claimed) -> Added
     requires { count_of_lines claimed.now ≤ MOST_DRAWN }
@@ -155,7 +157,7 @@ fn measures_of(
     ensures { IfOk result (λ m. m ≡ measures_of history.now claimed.now) }
 {
     let caption = caption_of(alloc, claimed)?;
-    let legend = legend(alloc, history.initial(), claimed)?;
+    let signs = signs_of(alloc, history.initial(), claimed)?;
     Ok(Measures {
         ticket: digits(last_ticket(events)).max(6) as u8,
         number: digits(count_of_lines(claimed) as u64) as u8,
@@ -168,24 +170,21 @@ fn measures_of(
         head: longest_head(alloc, bands)?,
         captions: line_count(caption.as_slice()),
         caption: longest_line(caption.as_slice()),
-        legend: line_count(legend.as_slice()),
+        legend: 2 + signs.len(),
         is_yes: is_yes(claimed),
     })
 }
 
-/// The picture of a history and what is claimed of it, as an SVG 1.1 document.
-///
-/// The claim need not be evidence: what stands in the picture follows its lines. Time O(n n) for n events, and O(k m)
-/// for k initial values and m lines; memory for the text, of O(n + k) bytes. `AllocError` comes only where a growth was refused.
-#[tactic(auto, unfolding(crate::specs::Picture::svg_picture, crate::specs::Picture::picture_content))]
-pub fn svg_picture(
+/// Adds the picture of a history and what is claimed of it, from its first tag to its last.
+#[tactic(auto, unfolding(crate::specs::Picture::picture_content))]
+pub(crate) fn push_picture(
     alloc: Global,
+    text: &mut Vec<u8>,
     history: &History,
     claimed: &Claimed,
-) -> Result<Vec<u8>, AllocError>
-    // The claim has few enough lines to be drawn.
+) -> Added
     requires { count_of_lines claimed.now ≤ MOST_DRAWN }
-    ensures { IfOk result (λ text. text.items ≡ svg_picture history.now claimed.now) }
+    ensures { OnOk result (text.new.items ≡ text.old.items ++ text_of (picture_content history.now claimed.now)) }
 {
     let events = events_of(alloc, history)?;
     let threads = threads_of(alloc, events.as_slice())?;
@@ -210,7 +209,24 @@ pub fn svg_picture(
         bands: bands.as_slice(),
         points: points.as_slice(),
     };
+    push_page(text, &sheet)
+}
+
+/// The picture of a history and what is claimed of it, as an SVG 1.1 document.
+///
+/// The claim need not be evidence: what stands in the picture follows its lines. Time O(n n) for n events, and O(k m)
+/// for k initial values and m lines; memory for the text, of O(n + k) bytes. `AllocError` comes only where a growth was refused.
+#[tactic(auto, unfolding(crate::specs::Picture::svg_picture))]
+pub fn svg_picture(
+    alloc: Global,
+    history: &History,
+    claimed: &Claimed,
+) -> Result<Vec<u8>, AllocError>
+    // The claim has few enough lines to be drawn.
+    requires { count_of_lines claimed.now ≤ MOST_DRAWN }
+    ensures { IfOk result (λ text. text.items ≡ svg_picture history.now claimed.now) }
+{
     let mut text = Vec::from_slice(alloc, b"<?xml version=\"1.0\" encoding=\"UTF-8\"?>\n")?;
-    push_page(&mut text, &sheet)?;
+    push_picture(alloc, &mut text, history, claimed)?;
     Ok(text)
 }

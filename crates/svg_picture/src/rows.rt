@@ -14,7 +14,7 @@ use event_records::Event;
 use itoa::Buffer;
 use std::alloc::{AllocError, Global};
 
-/// How far a word of so many characters stands from the left, at the right of the column of tickets.
+/// How far a word of this many characters stands from the left, at the right of the column of tickets.
 fn ticket_x(m: Measures, characters: usize) -> u128
     ensures { result ≡ 6 + 7 * (m.ticket - characters) }
 {

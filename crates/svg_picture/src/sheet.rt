@@ -24,9 +24,9 @@ pub struct Measures {
     pub initial: usize,
     /// How many events there are.
     pub events: usize,
-    /// How many operations the order of a yes has.
+    /// How many operations the order of a `YES` has.
     pub effects: usize,
-    /// How many bands of a no have a head.
+    /// How many bands of a `NO` have a head.
     pub heads: usize,
     /// The longest head.
     pub head: usize,
@@ -36,7 +36,7 @@ pub struct Measures {
     pub caption: usize,
     /// How many lines say how to read the picture.
     pub legend: usize,
-    /// Whether it is of a yes.
+    /// Whether it is of a `YES`.
     pub is_yes: bool,
 }
 
@@ -53,7 +53,7 @@ pub struct Sheet<'a> {
     pub threads: &'a [u8],
     pub claimed: &'a Claimed,
     pub bands: &'a [Band],
-    /// The tickets just after which the operations of a yes take effect, in its order.
+    /// The tickets just after which the operations of a `YES` take effect, in its order.
     pub points: &'a [u64],
     ghost few: { count_of_lines claimed.now ≤ MOST_DRAWN },
 }

@@ -13,12 +13,12 @@ use Rattle.std.proofs.lemmas.List.{take-append-drop, take_all, take_more}
 use Rattle.std.proofs.lemmas.Bool.Decides.{eqb_tells}
 use Rattle.text_lines.specs.Writing.{AppendsFront, Puts}
 
--- what holds anyway holds where a call failed
+-- what holds anyway holds if a call failed
 pub on_err : {T E : Type 0} (r : Result T E) (P : Type 0) → P → OnErr r P
 on_err (Ok x) P p = tt
 on_err (Err e) P p = p
 
--- what holds anyway holds where a call succeeded
+-- what holds anyway holds if a call succeeded
 pub on_ok : {T E : Type 0} (r : Result T E) (P : Type 0) → P → OnOk r P
 on_ok (Ok x) P p = p
 on_ok (Err e) P p = tt
@@ -28,14 +28,14 @@ on_ok (Err e) P p = tt
 stops : (piece : List ℕ) (done : ℕ) (a c : Option (List ℕ)) → Appends a c (take done piece) → AppendsFront a c piece
 stops piece done a c h = record { front = take done piece; rest = drop done piece; whole = sym (take-append-drop done piece); written = h }
 
--- a write that took nothing leaves a front of the piece
+-- a write that took nothing leaves a prefix of the piece
 pub stops_at_zero : (piece rest : List ℕ) (done n : ℕ) (a b c : Option (List ℕ)) → n ≡ 0 → Appends a b (take done piece) → Appends b c (take n rest)
     → AppendsFront a c piece
 stops_at_zero piece rest done n a b c none before now =
     let nothing : Appends b c [] = subst (λ (m : ℕ). Appends b c (take m rest)) none now in
     stops piece done a c (subst (Appends a c) (append-nil (take done piece)) (Appends-trans a b c _ _ before nothing))
 
--- a write that failed leaves a front of the piece
+-- a write that failed leaves a prefix of the piece
 pub stops_at_failure : (piece : List ℕ) (done : ℕ) (a b c : Option (List ℕ)) → Appends a b (take done piece) → Keeps b c → AppendsFront a c piece
 stops_at_failure piece done a b c before same = stops piece done a c (Appends-kept a b c _ before same)
 
@@ -57,7 +57,7 @@ no_refusal before after first n piece e some same =
 
 -- ---- a text in several pieces
 
--- a front of the first text is a front of both
+-- a prefix of the first text is a prefix of both
 pub front_first : (a b : Option (List ℕ)) (xs ys : List ℕ) → AppendsFront a b xs → AppendsFront a b (xs ++ ys)
 front_first a b xs ys h = record {
   front = h.front;
@@ -79,7 +79,7 @@ Puts-append a b c kept mid rest xs ys h k = record {
   written = Appends-trans a b c h.out k.out h.written k.written;
 }
 
--- the first text is put, and then a front of what is kept and the second goes out
+-- the first text is put, and then a prefix of what is held back and the second goes out
 pub front_next : (a b c : Option (List ℕ)) (kept mid xs ys : List ℕ) → Puts a b kept mid xs → AppendsFront b c (mid ++ ys)
     → AppendsFront a c (kept ++ (xs ++ ys))
 front_next a b c kept mid xs ys h k = record {
@@ -90,7 +90,7 @@ front_next a b c kept mid xs ys h k = record {
   written = Appends-trans a b c h.out k.front h.written k.written;
 }
 
--- a front of what is kept back goes out, after which more was to come
+-- a prefix of what is held back goes out, after which more was to come
 pub front_of_kept : (a b c : Option (List ℕ)) (kept mid xs ys : List ℕ) → Puts a b kept mid xs → AppendsFront b c mid → AppendsFront a c (kept ++ (xs ++ ys))
 front_of_kept a b c kept mid xs ys h k = front_next a b c kept mid xs ys h (front_first b c mid ys k)
 
@@ -112,7 +112,7 @@ module _ {X : Type 0} (f : X → List ℕ) where
   puts_more xs i d a b c kept mid rest within before now = subst (Puts a c kept rest) (sym (flat_map-more xs i d within))
       (Puts-append a b c kept mid rest _ _ before now)
 
-  -- a front of what is kept back of the first ones goes out
+  -- a prefix of what is held back of the first ones goes out
   pub stops_at_one : (xs : List X) (i : ℕ) (a b c : Option (List ℕ)) (kept mid : List ℕ) → Puts a b kept mid (flat_map f (take i xs))
       → AppendsFront b c mid → AppendsFront a c (kept ++ flat_map f xs)
   stops_at_one xs i a b c kept mid before now = subst (λ (t : List ℕ). AppendsFront a c (kept ++ t)) (flat_map-parts xs i)
@@ -136,7 +136,7 @@ Puts-last a b kept mid rest xs ys is h = record {
 pub puts_all : (a b c : Option (List ℕ)) (kept text : List ℕ) → Puts a b [] kept text → Appends b c kept → Appends a c text
 puts_all a b c kept text h k = subst (Appends a c) (sym h.whole) (Appends-trans a b c h.out kept h.written k)
 
--- a front of what is kept back goes out
+-- a prefix of what is held back goes out
 pub puts_front : (a b c : Option (List ℕ)) (kept text : List ℕ) → Puts a b [] kept text → AppendsFront b c kept → AppendsFront a c text
 puts_front a b c kept text h k = record {
   front = h.out ++ k.front;

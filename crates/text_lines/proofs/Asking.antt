@@ -47,12 +47,12 @@ module _ {S : Type 0} (goes : S → Asked → S → Type 0) where
   pub refused_then : (a b c : S) → IsWritten goes a b → IsRefused goes b c → IsRefused goes a c
   refused_then a b c before after = record { before = after.before; written = written_then a b after.before before after.written; refused = after.refused }
 
-  -- where the first of two bodies only writes, and the second did so where it is well, both did
+  -- if the first of two bodies only writes, and the second did so if it is well, both did
   pub both_written : {T E : Type 0} {a b : S} (result : Result T E) (c : S) → IsWritten goes a b → OnOk result (IsWritten goes b c)
       → OnOk result (IsWritten goes a c)
   both_written result c before after = on_ok_weaker result (written_then _ _ _ before) after
 
-  -- and where the second was refused, both were
+  -- and if the second was refused, both were
   pub second_refused : {T E : Type 0} {a b : S} (result : Result T E) (c : S) → IsWritten goes a b → OnErr result (IsRefused goes b c)
       → OnErr result (IsRefused goes a c)
   second_refused result c before after = on_err_weaker result (refused_then _ _ _ before) after

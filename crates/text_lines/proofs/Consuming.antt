@@ -9,14 +9,14 @@ Takes-append (Some u) None c xs ys h k = absurd h
 Takes-append (Some u) (Some v) None xs ys h k = absurd k
 Takes-append (Some u) (Some v) (Some w) xs ys h k = (h.0 ∙ ap (λ (r : List ℕ). xs ++ r) k.0 ∙ sym (append_assoc xs ys w.bytes), k.1 ∙ h.1)
 
--- what a fact on the bytes ahead says where some were taken
+-- what a fact on the bytes ahead says if some were taken
 pub before : (a b : Option Ahead) (xs : List ℕ) (P : Ending → List ℕ → Type 0) → Takes a b xs
     → ((ending : Ending) (more : List ℕ) → P ending (xs ++ more)) → IfSome a (λ u. P u.ending u.bytes)
 before None b xs P h all = tt
 before (Some u) None xs P h all = absurd h
 before (Some u) (Some v) xs P h all = subst (λ (r : List ℕ). P u.ending r) (sym h.0) (all u.ending v.bytes)
 
--- the same where the input is over then
+-- what is consumed, if the input ends then
 pub before_end : (a b : Option Ahead) (end : Ending) (xs : List ℕ) (P : Ending → List ℕ → Type 0) → Takes a b xs → IsOver end b → P end xs
     → IfSome a (λ u. P u.ending u.bytes)
 before_end None b end xs P h over p = tt

@@ -24,7 +24,7 @@ module _ (separator : ℕ) where
   same_byte : (separator == separator) ≡ true
   same_byte = grind (arith, nat_tests)
 
-  -- where no separator stands there is one part
+  -- if no separator stands there is one part
   pub is_one_part : (bytes : List ℕ) → ((k : ℕ) → k < length bytes → get_or bytes k 0 ≡ separator → ⊥) → parts bytes ≡ bytes ∷ []
   is_one_part bytes none = slice_split_none (λ b. b == separator) bytes
       (All-from_get_or (λ b. (b == separator) ≡ false) bytes 0 (λ k h. other_byte (get_or bytes k 0) (none k h)))

@@ -19,7 +19,7 @@ place_after (x ∷ xs) ys clean =
       | false ↦ λ rest. omega (arith, place_after xs ys rest)
     ] clean
 
--- where the tests are known, the front is
+-- if the tests are known, the front is
 front_by : (bytes : List ℕ) (p : ℕ) → position_or_len is_line_feed bytes ≡ p
     → front_of bytes ≡ (cond (nat_lt p (length bytes) && nat_le p longest_line) (Whole (take p bytes) (drop (p + 1) bytes))
     (cond (nat_lt longest_line (length bytes)) TooLong (cond (nat_lt 0 (length bytes)) Unfinished Nothing)))

@@ -5,7 +5,7 @@ use Rattle.std.proofs.KnownBytes.{Keeps-trans, append_known-kept, append_known-m
 use Rattle.std.proofs.lemmas.List.{take-append-drop, take_all}
 
 module _ (first a b : Option (List ℕ)) (all kept : List ℕ) (at : ℕ) (known : Keeps (append_known first all) (append_known a (drop at kept))) where
-  -- the sink behind took some of them
+  -- the inner sink took some of them
   pub some_passed_on : (n : ℕ) → (drop n (drop at kept) ≡ drop (at + n) kept) → Appends a b (take n (take (length kept - at) (drop at kept)))
       → Keeps (append_known first all) (append_known b (drop (at + n) kept))
   some_passed_on n later now =
@@ -15,6 +15,6 @@ module _ (first a b : Option (List ℕ)) (all kept : List ℕ) (at : ℕ) (known
       sym (take-append-drop n (drop at kept)) ∙ ap (λ (t : List ℕ). take n (drop at kept) ++ t) later in
       Keeps-trans _ _ _ known (append_known-moved a b (take n (drop at kept)) (drop (at + n) kept) (drop at kept) front whole)
 
-  -- the sink behind refused
+  -- the inner sink refused
   pub none_passed_on : Keeps a b → Keeps (append_known first all) (append_known b (drop at kept))
   none_passed_on same = Keeps-trans _ _ _ known (append_known-kept a b (drop at kept) same)

@@ -3,7 +3,7 @@
 -- Digits, Numbers, Fields: numbers and words, read as they are spelled; the fields of a line.
 -- Tables: lines that are judged by a table of their forms.
 -- Scanning: what stands at the front, found in one pass.
--- MemoryOrNot: want of memory, and the other faults.
+-- MemoryOrNot: out of memory, and the other faults.
 -- Appending, Asking, Holding: bytes that are written in turn, what a sink was asked, and what it keeps back.
 -- WrittenLines: what is written of fields, numbers and lines is read back.
 pub mod Digits

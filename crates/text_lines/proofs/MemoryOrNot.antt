@@ -1,20 +1,20 @@
--- Want of memory, and the other faults of texts.
+-- Out of memory, and the other faults of texts.
 use Rattle.std.proofs.Common.{◌≡◌, ◌≢◌, ◌⊎◌, refl, inl, inr}
 use Rattle.text_lines.specs.declared.fault.TextFault.{TextFault}
 use Rattle.text_lines.specs.declared.fault.TextFault.TheVariants.{Memory}
 use Rattle.text_lines.specs.Faults.{MemoryOr}
 
--- a fault is want of memory, or another one
+-- a fault is out of memory, or another one
 pub is_memory : (fault : TextFault) → (fault ≡ Memory) ⊎ (fault ≢ Memory)
 is_memory Memory = inl refl
 is_memory fault = inr (λ same. cc)
 
--- what is said of another fault
+-- what holds of another fault
 pub known_fault : (Lacking : Type 0) (IsFault : TextFault → Type 0) (fault : TextFault) → fault ≢ Memory → MemoryOr Lacking IsFault fault → IsFault fault
 known_fault L F Memory known is = absurd (known refl)
 known_fault L F fault known is = is
 
--- from what is said of a fault to what follows
+-- from what holds of a fault to what follows
 pub follows : (L M : Type 0) (P Q : TextFault → Type 0) (fault : TextFault) → (L → M) → ((f : TextFault) → P f → Q f) → MemoryOr L P fault → MemoryOr M Q fault
 follows L M P Q Memory room step is = room is
 follows L M P Q fault room step is = step fault is

@@ -19,7 +19,7 @@ pub chosen : {X : Type 0} (b : Bool) (x y z : X) → cond b x y ≡ z → ((b �
 chosen true x y z e = inl (refl, e)
 chosen false x y z e = inr (refl, e)
 
--- where two hold together, each holds
+-- if two hold together, each holds
 pub both : (a b : Bool) → (a && b) ≡ true → (a ≡ true) × (b ≡ true)
 both true b e = (refl, e)
 both false b e = absurd (cc)
@@ -43,16 +43,16 @@ by_test P b x y held failed =
 
 -- ---- numbers
 
--- the test of digits tells them
-pub tells : IsDigitsTest (λ ds. list_all is_ascii_digit ds ≡ true)
-tells = search rules
+-- the test of digits decides them
+pub digits_test : IsDigitsTest (λ ds. list_all is_ascii_digit ds ≡ true)
+digits_test = search rules
 
 -- a number field is spelled as its number is written
 pub number_spelled : (field : List ℕ) → is_number field ≡ true → digits_value 10 field < 2 ^ 64 → field ≡ decimal (digits_value 10 field)
 number_spelled field e small =
     let p = both (nat_lt 0 (length field)) _ e in
     let q = both (list_all is_ascii_digit field) _ p.1 in
-    sym (decimal-digits_value (numerals_by_value _ tells) field q.0 (grind (arith, nat_tests, p.0)) (λ lead. grind (arith, nat_tests, p.0, q.1)) small)
+    sym (decimal-digits_value (numerals_by_value _ digits_test) field q.0 (grind (arith, nat_tests, p.0)) (λ lead. grind (arith, nat_tests, p.0, q.1)) small)
 
 -- what is read from a number field is the number that is written so, and not too great
 pub number_ok : (n greatest : ℕ) (field : List ℕ) (v : ℕ) → greatest < 2 ^ 64 → number_in n greatest field ≡ Ok v → (field ≡ decimal v) × (v ≤ greatest)
@@ -68,7 +68,7 @@ number_ok n greatest field v small e =
       | inr h ↦ absurd (cc (h.1))
     ]
 
--- the same of a number in a range
+-- a number in a range, read in the same way
 pub between_ok : (n least greatest : ℕ) (field : List ℕ) (v : ℕ) → greatest < 2 ^ 64 → number_between n least greatest field ≡ Ok v
     → (field ≡ decimal v) × (least ≤ v) × (v ≤ greatest)
 between_ok n least greatest field v small e =

@@ -15,7 +15,7 @@ use Rattle.std.proofs.lemmas.Str.Parse.{digits_value-take-le, numerals_by_value}
 use Rattle.text_lines.specs.Lines.{is_number, begins_with_digit}
 use Rattle.text_lines.specs.Inner.Digits.{IsDigitsSoFar, StopsAt, AreDigitsBeyond}
 use Rattle.text_lines.proofs.Digits.{digits_go_on}
-use Rattle.text_lines.proofs.Numbers.{number_spelled, both, tells}
+use Rattle.text_lines.proofs.Numbers.{number_spelled, both, digits_test}
 use Rattle.text_lines.proofs.WrittenLines.{all_digits}
 
 is_digit : (b : ℕ) → IsInRange 48 57 b → is_ascii_digit b ≡ true
@@ -33,7 +33,7 @@ one_more_digit bytes count value last more so_far range last_is = record {
 digit_range : (b : ℕ) → is_ascii_digit b ≡ true → IsInRange 48 57 b
 digit_range b e = let p = both (nat_le 48 b) (nat_le b 57) e in (grind (arith, nat_tests, p.0), grind (arith, nat_tests, p.1))
 
--- the same where it is tested to be a digit
+-- what stands there, if it is tested to be a digit
 pub one_tested_more : (bytes : List ℕ) (count value last : ℕ) → count < length bytes → IsDigitsSoFar bytes count value
     → is_ascii_digit (get_or bytes count 0) ≡ true → last ≡ get_or bytes count 0 - 48 → IsDigitsSoFar bytes (count + 1) (value * 10 + last)
 one_tested_more bytes count value last more so_far digit last_is =
@@ -76,9 +76,9 @@ number_stands bytes count value so_far some lead small =
     let text : field ≡ decimal value = spelled ∙ ap decimal (sym so_far.value_is) in
     sym (take-append-drop count bytes) ∙ ap (λ (f : List ℕ). f ++ drop count bytes) text ∙ ap (λ (r : List ℕ). decimal value ++ r) (sym (take_rest bytes count))
 
--- ---- where no number stands there
+-- ---- if no number stands there
 
--- digits at the front, where no more follow, are no fewer than any digits there
+-- digits at the front, if no more follow, are no fewer than any digits there
 no_fewer : (ds rest : List ℕ) (count : ℕ) → count ≤ length (ds ++ rest) → list_all is_ascii_digit (take count (ds ++ rest)) ≡ true
     → begins_with_digit rest ≡ false → count ≤ length ds
 no_fewer ds rest zero within digits ends = omega arith
@@ -119,7 +119,7 @@ module _ (bytes : List ℕ) (v : ℕ) (rest : List ℕ) (small : v < 2 ^ 64) (is
       let some = decimal_nonempty v small in
       absurd (omega (arith, none, some))
 
-  -- these digits are among those of a number behind which there is no digit
+  -- these digits are among those of a number after which there is no digit
   within_number : (count value : ℕ) → IsDigitsSoFar bytes count value → begins_with_digit rest ≡ false → count ≤ length (decimal v)
   within_number count value so_far ends =
       no_fewer (decimal v) rest count (subst (λ (bs : List ℕ). count ≤ length bs) is so_far.within)
@@ -143,7 +143,7 @@ module _ (bytes : List ℕ) (v : ℕ) (rest : List ℕ) (small : v < 2 ^ 64) (is
       ap (λ (bs : List ℕ). take (count + 1) bs) is ∙ take-append-le (count + 1) (decimal v) rest long in
       let value_is : value * 10 + last ≡ digits_value 10 (take (count + 1) (decimal v)) = next.value_is ∙ ap (λ (ds : List ℕ). digits_value 10 ds) front in
       let all = digits_value-take-le 10 (decimal v) (count + 1) (omega arith) in
-      let whole : digits_value 10 (decimal v) ≡ v = digits_value-decimal (numerals_by_value _ tells) v small in
+      let whole : digits_value 10 (decimal v) ≡ v = digits_value-decimal (numerals_by_value _ digits_test) v small in
       omega (arith, value_is, all, whole, beyond, small))
 
 -- one digit more is beyond 64 bits
@@ -152,7 +152,7 @@ pub digits_are_beyond : (bytes : List ℕ) (count value last : ℕ) → count < 
 digits_are_beyond bytes count value last more so_far digit last_is beyond = λ v rest small is.
     none_beyond bytes v rest small is count value last more so_far (digit_range (get_or bytes count 0) digit) last_is beyond
 
--- what holds anyway holds where there is none
+-- what holds anyway holds if there is none
 pub on_none : {X : Type 0} (found : Option X) (P : Type 0) → P → IfNone found P
 on_none (Some x) P p = tt
 on_none None P p = p

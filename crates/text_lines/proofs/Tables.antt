@@ -10,7 +10,7 @@ use Rattle.std.proofs.lemmas.Bool.Decides.{nat_tests}
 use Rattle.std.proofs.lemmas.Grind.{common_steps}
 use Rattle.text_lines.specs.declared.fault.TextFault.{TextFault}
 use Rattle.text_lines.specs.declared.forms.Field.{Field}
-use Rattle.text_lines.specs.Forms.{FieldForm, Table, Word, Number, form_of, row_of, fields_left, fits, numbers_in, judged, spelled, AreOfForm}
+use Rattle.text_lines.specs.Forms.{FieldForm, Table, Word, Number, form_of, row_of, fields_left, fits, numbers_in, parse_line, spelled, AreOfForm}
 use Rattle.text_lines.specs.Forms.{has_short_forms}
 use Rattle.text_lines.specs.Lines.{number_between, ◌>>=◌}
 use Rattle.text_lines.proofs.Fields.{has_field}
@@ -63,12 +63,12 @@ no_numbers n [] = refl
 no_numbers n (Word word ∷ forms) = refl
 no_numbers n (Number least greatest ∷ forms) = refl
 
--- where no form or no field is left, no number is
+-- if no form or no field is left, no number is
 pub numbers_are_over : (n : ℕ) (numbers : List ℕ) (forms : List Field) (i : ℕ) (left : Option (Bor (List ℕ)))
     → after_numbers numbers (numbers_in n (map form_of (drop i forms)) []) ≡ Ok numbers
 numbers_are_over n numbers forms i left = rw (no_numbers n (map form_of (drop i forms)), append-nil) refl
 
--- behind the last form the numbers read are all
+-- after the last form the numbers read are all
 pub numbers_are_all : (n : ℕ) (numbers : List ℕ) (forms : List Field) (i : ℕ) (fields : List (List ℕ)) → length forms ≤ i
     → after_numbers numbers (numbers_in n (map form_of (drop i forms)) fields) ≡ Ok numbers
 numbers_are_all n numbers forms i fields over = rw (past forms i over, append-nil) refl
@@ -132,11 +132,11 @@ numbers_ok n (Number least greatest ∷ forms) (field ∷ fields) numbers fit sm
 
 module _ {T : Type 0} (Q : T → List ℕ → List (List ℕ) → Type 0) where
   -- what holds of the lines that the rows of a table write holds of what is read by it
-  pub judged_says : (n : ℕ) (table : Table T) (fields : List (List ℕ)) (said : T × List ℕ)
+  pub parse_line_says : (n : ℕ) (table : Table T) (fields : List (List ℕ)) (said : T × List ℕ)
       → AllByRecursion (λ row. (numbers : List ℕ) → AreOfForm row.1 numbers → Q row.0 numbers (spelled row.1 numbers)) table
-      → list_all (λ row. list_all has_bits row.1) table ≡ true → judged n table fields ≡ Ok said → Q said.0 said.1 fields
-  judged_says n [] fields said each small e = absurd (cc (e))
-  judged_says n (row ∷ rows) fields said each small e =
+      → list_all (λ row. list_all has_bits row.1) table ≡ true → parse_line n table fields ≡ Ok said → Q said.0 said.1 fields
+  parse_line_says n [] fields said each small e = absurd (cc (e))
+  parse_line_says n (row ∷ rows) fields said each small e =
       let p = both (list_all has_bits row.1) _ small in
       elim (chosen (fits row.1 fields) _ _ _ e) [
         | inl h ↦
@@ -145,7 +145,7 @@ module _ {T : Type 0} (Q : T → List ℕ → List (List ℕ) → Type 0) where
             let same : (let found : T × List ℕ = (row.0, numbers.0) in found ≡ said) = cc (numbers.2) in
             subst (λ (s : T × List ℕ). Q s.0 s.1 fields) same
             (subst (Q row.0 numbers.0) (sym is.text) (each.0 numbers.0 is.within))
-        | inr h ↦ judged_says n rows fields said each.1 p.1 h.1
+        | inr h ↦ parse_line_says n rows fields said each.1 p.1 h.1
       ]
 
 -- ---- lines

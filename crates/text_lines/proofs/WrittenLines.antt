@@ -14,7 +14,7 @@ use Rattle.std.proofs.lemmas.Str.Parse.{numerals_by_value}
 use Rattle.std.proofs.lemmas.Fmt.{decimal_digit, digits_decimal, digits_value-decimal, decimal_nonempty, first_decimal}
 use Rattle.text_lines.specs.Lines.{spaced, is_number, number_in, number_between, fields_of, begins_as_end, end_in, is_line_feed}
 use Rattle.text_lines.specs.Inner.Lines.{has_no_line_feed, IsPartOfLine}
-use Rattle.text_lines.proofs.Numbers.{tells, both}
+use Rattle.text_lines.proofs.Numbers.{digits_test, both}
 
 -- ---- fields
 
@@ -57,7 +57,7 @@ fields_are_clean f (g ∷ gs) one all =
 
 -- the digits of a number are digits
 pub all_digits : (v : ℕ) → v < 2 ^ 64 → list_all is_ascii_digit (decimal v) ≡ true
-all_digits v small = digits_decimal (numerals_by_value _ tells) v small
+all_digits v small = digits_decimal (numerals_by_value _ digits_test) v small
 
 digits_are_field : (ds : List ℕ) → list_all is_ascii_digit ds ≡ true → IsField ds
 digits_are_field [] all = refl
@@ -83,7 +83,7 @@ is_number_decimal (suc v) small =
     rw (some, all_digits (suc v) small, lead, or_true) refl
 
 value_decimal : (v : ℕ) → v < 2 ^ 64 → digits_value 10 (decimal v) ≡ v
-value_decimal v small = digits_value-decimal (numerals_by_value _ tells) v small
+value_decimal v small = digits_value-decimal (numerals_by_value _ digits_test) v small
 
 -- the digits of a number are read as it
 pub number_read : (n greatest v : ℕ) → v ≤ greatest → greatest < 2 ^ 64 → number_in n greatest (decimal v) ≡ Ok v
@@ -92,7 +92,7 @@ number_read n greatest v within small =
     let ok : nat_le v greatest ≡ true = grind (arith, nat_tests, within) in
     rw (is_number_decimal v few, value_decimal v few, ok) refl
 
--- the same of a number that has a least one
+-- a number that has a least one, written in the same way
 pub between_read : (n least greatest v : ℕ) → least ≤ v → v ≤ greatest → greatest < 2 ^ 64 → number_between n least greatest (decimal v) ≡ Ok v
 between_read n least greatest v more within small =
     let enough : nat_le least v ≡ true = grind (arith, nat_tests, more) in

@@ -1,4 +1,4 @@
--- The faults of texts: how they are printed, and want of memory apart from the rest.
+-- The faults of texts: how they are printed, and out of memory apart from the rest.
 use Rattle.std.specs.Prelude.{ℕ, List, codes, Option, Some, None}
 use Rattle.text_lines.specs.declared.fault.TextFault.{TextFault}
 use Rattle.text_lines.specs.declared.fault.TextFault.TheVariants.{Read, Header, Line, Number, Limit, Count, Cut, Trailing, Memory}
@@ -15,14 +15,14 @@ name_of Cut = codes "Cut"
 name_of Trailing = codes "Trailing"
 name_of Memory = codes "Memory"
 
--- the line that a fault tells
+-- the line that a fault names
 abbrev pub line_in : TextFault → Option ℕ
 line_in (Line n) = Some n
 line_in (Number n) = Some n
 line_in (Limit n) = Some n
 line_in _ = None
 
--- one thing is said of want of memory, and another of each fault beside it
+-- one thing holds of out of memory, and another of each other fault
 abbrev pub MemoryOr : Type 0 → (TextFault → Type 0) → TextFault → Type 0
 MemoryOr Lacking IsFault Memory = Lacking
 MemoryOr Lacking IsFault fault = IsFault fault

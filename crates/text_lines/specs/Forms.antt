@@ -41,10 +41,10 @@ numbers_in n (Number least greatest ∷ forms) (field ∷ fields) =
 numbers_in n _ _ = Ok []
 
 -- what line n says, by the first form of a table that its fields fit, and its numbers
-abbrev pub judged : {T : Type 0} → ℕ → Table T → List (List ℕ) → Result (T × List ℕ) TextFault
-judged n [] fields = Err (Line n)
-judged n (row ∷ rows) fields =
-    if fits row.1 fields then (numbers_in n row.1 fields >>= λ numbers. Ok (row.0, numbers)) else judged n rows fields
+abbrev pub parse_line : {T : Type 0} → ℕ → Table T → List (List ℕ) → Result (T × List ℕ) TextFault
+parse_line n [] fields = Err (Line n)
+parse_line n (row ∷ rows) fields =
+    if fits row.1 fields then (numbers_in n row.1 fields >>= λ numbers. Ok (row.0, numbers)) else parse_line n rows fields
 
 -- ---- what is written
 

@@ -84,7 +84,7 @@ number_in n greatest field =
     else Err (Number n)
 
 infixl 10 ◌>>=◌
--- the first fault stops; where there is none the next step goes on with the value
+-- the first fault stops; otherwise the next step goes on with the value
 abbrev pub ◌>>=◌ : {A B : Type 0} → Result A TextFault → (A → Result B TextFault) → Result B TextFault
 (Ok x) >>= f = f x
 (Err e) >>= f = Err e

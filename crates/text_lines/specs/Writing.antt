@@ -24,7 +24,7 @@ asked_to_write result piece = if is_refusal result piece then Refused else Took
 abbrev pub asked_to_flush : {T E : Type 0} → Result T E → Asked
 asked_to_flush result = if is_err result then Refused else PassedOn
 
--- so many calls in turn took bytes, and there was no other call
+-- this many calls in turn took bytes, and there was no other call
 abbrev pub TakesTimes : {S : Type 0} → (S → Asked → S → Type 0) → ℕ → S → S → Type 0
 TakesTimes goes zero old new = old ≡ new
 TakesTimes {S} goes (suc n) old new = (next : S) × goes old Took next × TakesTimes goes n next new
@@ -34,34 +34,34 @@ pub record IsWritten {S : Type 0} (goes : S → Asked → S → Type 0) (old new
   pub calls : ℕ
   pub taken : TakesTimes goes calls old new
 
--- the same, and then the sink refused; it was asked for nothing after that
+-- calls took bytes, and then the sink refused; it was asked for nothing after that
 pub record IsRefused {S : Type 0} (goes : S → Asked → S → Type 0) (old new : S) : Type 0 where
   pub before : S
   pub written : IsWritten goes old before
   pub refused : goes before Refused new
 
--- the same, and then the sink was flushed, once
+-- calls took bytes, and then the sink was flushed, once
 pub record IsFlushed {S : Type 0} (goes : S → Asked → S → Type 0) (old new : S) : Type 0 where
   pub before : S
   pub written : IsWritten goes old before
   pub flushed : goes before PassedOn new
 
--- what a call on a sink that keeps bytes back asked of the sink behind it
-abbrev pub AsksBehind : {S : Type 0} → (S → Asked → S → Type 0) → S → Asked → S → Type 0
-AsksBehind goes old Took new = IsWritten goes old new
-AsksBehind goes old PassedOn new = IsFlushed goes old new
-AsksBehind goes old Refused new = IsRefused goes old new
+-- what a call on a sink that holds bytes back asked of its inner sink
+abbrev pub AsksInner : {S : Type 0} → (S → Asked → S → Type 0) → S → Asked → S → Type 0
+AsksInner goes old Took new = IsWritten goes old new
+AsksInner goes old PassedOn new = IsFlushed goes old new
+AsksInner goes old Refused new = IsRefused goes old new
 
 -- ---- what came of it
 
--- the writer got a front of the text and no more
+-- the writer got a prefix of the text and no more
 pub record AppendsFront (old new : Option (List ℕ)) (text : List ℕ) : Type 0 where
   pub front : List ℕ
   pub rest : List ℕ
   pub whole : text ≡ front ++ rest
   pub written : Appends old new front
 
--- the text comes after what is kept back, and the writer got a front of both, so that the rest is kept back now
+-- the text comes after what is held back, and the writer got a prefix of both, so that the rest is held back now
 pub record Puts (old new : Option (List ℕ)) (kept rest text : List ℕ) : Type 0 where
   pub out : List ℕ
   pub whole : kept ++ text ≡ out ++ rest

@@ -1,16 +1,16 @@
-//! A sink that keeps bytes back.
+//! A sink that holds bytes back, so that another sink gets few large pieces.
 ghost use Rattle.std.specs.Prelude.{◌≡◌, ◌≤◌, ◌<◌, ◌||◌, ◌==◌, ◌++◌, not, [], length, take, is_err, OnOk, OnErr};
 ghost use Rattle.std.specs.Io.KnownBytes.{Keeps, append_known};
-ghost use Rattle.text_lines.specs.Writing.{IsWritten, IsRefused, AsksBehind};
+ghost use Rattle.text_lines.specs.Writing.{IsWritten, IsRefused, AsksInner};
 
 use crate::kept::{KEPT_LEN, Kept};
 use crate::sink::{TextSink, WriteFault};
 use std::marker::Model;
 
-/// A sink that keeps up to 4,096 bytes back, so that the sink behind it gets them in few pieces.
+/// A sink that holds back up to 4,096 bytes, so that its inner sink gets them in few pieces.
 ///
-/// They go on where there is no room for more, and where it is flushed, and at no other time: what it still holds when it is
-/// let go is lost. The bytes lie in place, so it takes no memory.
+/// It passes them on if there is no room for more and if it is flushed, and at no other time: what it holds when it
+/// is dropped is lost. The bytes lie in place, so it takes no memory.
 #[derive(Drop)]
 pub struct Buffered<S: TextSink> {
     inner: S,
@@ -30,7 +30,7 @@ impl<S: TextSink> Model for Buffered<S> {
 }
 
 impl<S: TextSink> Buffered<S> {
-    /// It keeps nothing back yet.
+    /// Wraps a sink, and holds nothing back yet.
     pub fn new(inner: S) -> Self
         ensures { result ≡ record { inner = inner; kept = []; room = 4096 } }
     {
@@ -41,7 +41,7 @@ impl<S: TextSink> Buffered<S> {
         }
     }
 
-    /// Writes all that is kept back.
+    /// Writes all that is held back.
     fn pass_on(&mut self) -> Result<(), WriteFault>
         ensures empty { OnOk result (self.new.kept ≡ []) }
         ensures room { OnOk result (self.new.room ≡ 4096) }
@@ -61,7 +61,7 @@ impl<S: TextSink> Buffered<S> {
         Ok(())
     }
 
-    /// Makes room for a byte: where there is none, it writes all that is kept back.
+    /// Makes room for a byte: if there is none, it writes all that is held back.
     fn make_room(&mut self) -> Result<(), WriteFault>
         ensures room { OnOk result (0 < self.new.room) }
         ensures bytes { Keeps (append_known (S.contents self.old.inner) self.old.kept) (append_known (S.contents self.new.inner) self.new.kept) }
@@ -75,7 +75,7 @@ impl<S: TextSink> Buffered<S> {
         self.pass_on()
     }
 
-    /// Keeps a front of the piece back, as long as there is room, and tells how many bytes.
+    /// Holds back a prefix of the piece, as much as there is room for, and returns how many bytes.
     fn keep(&mut self, piece: &[u8]) -> usize
         requires { 0 < self.old.room }
         ensures bound { result ≤ length piece.now }
@@ -96,7 +96,7 @@ impl<S: TextSink> TextSink for Buffered<S> {
 
     ghost holds_back = { λ b. not (length b.kept == 0) || S.holds_back b.inner };
 
-    ghost goes = { λ old asked new. AsksBehind S.goes old.inner asked new.inner };
+    ghost goes = { λ old asked new. AsksInner S.goes old.inner asked new.inner };
 
     fn write(&mut self, piece: &[u8]) -> Result<usize, WriteFault> {
         self.make_room()?;

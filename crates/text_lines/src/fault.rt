@@ -3,9 +3,9 @@ ghost use Rattle.text_lines.specs.Faults.{line_in, name_of};
 
 use thiserror::Error;
 
-/// What is wrong with a text, the first fault in the order of its bytes.
+/// What is wrong with a text: the first fault in the order of its bytes.
 ///
-/// Lines are counted from 1 over all that its reader reads.
+/// Lines are counted from 1 over all that the reader reads.
 #[derive(Clone, Copy, Debug, PartialEq, Eq, Error)]
 pub enum TextFault {
     /// The source failed in this call, before the text was whole.
@@ -14,8 +14,8 @@ pub enum TextFault {
     /// The first line isn't that of a history or of a schedule, or is longer than 80 bytes.
     #[error("{name}", name = self.name())]
     Header,
-    /// The line has more than 80 bytes, or its words or the number of its fields aren't as they should be. In a verdict the
-    /// first line too.
+    /// The line has more than 80 bytes, or its words or the number of its fields are wrong; of a verdict, also its
+    /// first line.
     #[error("{name} {0}", name = self.name())]
     Line(u64),
     /// A field of the line that should be a number isn't: the digit 0, or digits that don't begin with 0.
@@ -24,22 +24,22 @@ pub enum TextFault {
     /// A number of the line is out of its range, or the line is one more than a text may have.
     #[error("{name} {0}", name = self.name())]
     Limit(u64),
-    /// The last line counts another number of lines than there are.
+    /// The last line's count isn't the number of lines before it.
     #[error("{name}", name = self.name())]
     Count,
-    /// The input ends within a line, or before the last one, of a verdict before the first one.
+    /// The input ends within a line or before the last one; in a verdict, before the first one.
     #[error("{name}", name = self.name())]
     Cut,
     /// The input goes on after its text.
     #[error("{name}", name = self.name())]
     Trailing,
-    /// Growth was refused for what a line without fault says.
+    /// Memory ran out for what a line without fault says.
     #[error("{name}", name = self.name())]
     Memory,
 }
 
 impl TextFault {
-    /// Its name, as it is printed before the number of its line.
+    /// Returns its name, which is printed before the number of its line.
     pub fn name(self) -> &'static str
         ensures name { result.now ≡ name_of self }
         ensures short { length result.now ≤ 20 }
@@ -57,7 +57,7 @@ impl TextFault {
         }
     }
 
-    /// The number of its line, where it tells one.
+    /// Returns the number of its line, if it has one.
     pub fn line(self) -> Option<u64>
         ensures { result ≡ line_in self }
     {

@@ -4,14 +4,14 @@ ghost use Rattle.std.specs.List.{list_all};
 ghost use Rattle.std.specs.Option.{SomeIff};
 ghost use Rattle.std.specs.Char.{is_ascii_digit};
 ghost use Rattle.std.specs.Str.Parse.{digits_value};
-ghost use Rattle.text_lines.specs.Lines as judged;
+ghost use Rattle.text_lines.specs.Lines as wanted;
 ghost use Rattle.text_lines.specs.Lines.{IsLineFault, fields_of};
 
 use crate::fault::TextFault;
 
 /// Whether the field is the digit 0, or digits of which the first isn't 0.
 fn is_number(field: &[u8]) -> bool
-    ensures { result ≡ judged.is_number field.now }
+    ensures { result ≡ wanted.is_number field.now }
 {
     !field.is_empty() && all_digits(field) && (field.len() < 2 || field[0] != b'0')
 }
@@ -22,7 +22,7 @@ fn all_digits(field: &[u8]) -> bool
     field.iter().all(|b| b.is_ascii_digit())
 }
 
-/// The number that the digits write, where it has 64 bits.
+/// Returns the number that the digits write, if it has 64 bits.
 fn value_of(digits: &[u8]) -> Option<u64>
     requires { list_all is_ascii_digit digits.now ≡ true }
     ensures { SomeIff result (digits_value 10 digits.now < 2 ^ 64) (digits_value 10 digits.now) }
@@ -41,9 +41,9 @@ fn value_of(digits: &[u8]) -> Option<u64>
     Some(value)
 }
 
-/// What a number field of a line, by its number from 1, stands for, up to a greatest number.
+/// Returns what a number field stands for, if it is at most `greatest`; `line` is the line's number, for the fault.
 pub fn number_in(line: u64, greatest: u64, field: &[u8]) -> Result<u64, TextFault>
-    ensures value { result ≡ judged.number_in line greatest field.now }
+    ensures value { result ≡ wanted.number_in line greatest field.now }
     ensures of_line { IfErr result IsLineFault }
     ensures within { IfOk result (λ n. n ≤ greatest) }
 {
@@ -56,9 +56,9 @@ pub fn number_in(line: u64, greatest: u64, field: &[u8]) -> Result<u64, TextFaul
     }
 }
 
-/// What a number field of a line stands for, from a least number to a greatest.
+/// Returns what a number field stands for, if it lies from `least` to `greatest`.
 pub fn number_between(line: u64, least: u64, greatest: u64, field: &[u8]) -> Result<u64, TextFault>
-    ensures value { result ≡ judged.number_between line least greatest field.now }
+    ensures value { result ≡ wanted.number_between line least greatest field.now }
     ensures of_line { IfErr result IsLineFault }
     ensures within { IfOk result (λ n. n ≤ greatest) }
 {
@@ -69,7 +69,7 @@ pub fn number_between(line: u64, least: u64, greatest: u64, field: &[u8]) -> Res
     Ok(value)
 }
 
-/// The bytes before the first space and those after it.
+/// Splits bytes at their first space.
 pub fn split_field(bytes: &[u8]) -> Option<(&[u8], &[u8])>
     ensures { MatchOption result (fields_of bytes.now ≡ bytes.now ∷ []) (λ p. fields_of bytes.now ≡ p.0.now ∷ fields_of p.1.now) }
 {
@@ -83,7 +83,7 @@ pub fn split_field(bytes: &[u8]) -> Option<(&[u8], &[u8])>
 
 /// Checks the last line of a text, which counts the lines before it.
 pub fn end_in(line: u64, count: usize, field: &[u8]) -> Result<(), TextFault>
-    ensures value { result ≡ judged.end_in line count field.now }
+    ensures value { result ≡ wanted.end_in line count field.now }
     ensures of_line { IfErr result IsLineFault }
 {
     if !is_number(field) {

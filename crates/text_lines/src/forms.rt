@@ -1,6 +1,6 @@
 //! Lines that are judged by a table of their forms.
 ghost use Rattle.std.specs.Prelude.{◌≡◌, ◌<◌, ◌≤◌, ◌++◌, ◌∷◌, ℕ, List, [], length, map, slice_index, true, IfErr};
-ghost use Rattle.text_lines.specs.Forms as told;
+ghost use Rattle.text_lines.specs.Forms as wanted;
 ghost use Rattle.text_lines.specs.Forms.{form_of, row_of, fields_left, has_short_forms};
 ghost use Rattle.text_lines.specs.Lines.{fields_of, IsLineFault};
 
@@ -11,7 +11,7 @@ use std::marker::Model;
 /// The most fields of a form.
 const MOST_FIELDS: usize = 5;
 
-/// What a field of a line is to be.
+/// What a field of a line must be.
 #[derive(Clone, Copy, Drop)]
 pub enum Field {
     /// This word.
@@ -38,7 +38,7 @@ impl Model for NumberFields {
 }
 
 impl NumberFields {
-    /// No number yet.
+    /// Makes an empty list of numbers.
     fn new() -> Self
         ensures { result ≡ [] }
     {
@@ -48,7 +48,7 @@ impl NumberFields {
         }
     }
 
-    /// One more number, where there are fewer than five.
+    /// Adds a number. There are fewer than five.
     fn push(&mut self, number: u64)
         requires { length self.old < 5 }
         ensures { self.new ≡ self.old ++ number ∷ [] }
@@ -57,7 +57,7 @@ impl NumberFields {
         self.len += 1;
     }
 
-    /// The number at a place, or 0 where there is none.
+    /// Returns the number at a place, or 0 if there is none.
     pub fn at(&self, place: usize) -> u64
         ensures { result ≡ slice_index self.now place }
     {
@@ -69,7 +69,7 @@ impl NumberFields {
     }
 }
 
-/// The first field, and the bytes of those after it, where there are any.
+/// Returns the first field, and the bytes after it, if there are any.
 fn first_field(bytes: &[u8]) -> (&[u8], Option<&[u8]>)
     ensures { fields_of bytes.now ≡ result.0.now ∷ fields_left result.1 }
 {
@@ -79,9 +79,9 @@ fn first_field(bytes: &[u8]) -> (&[u8], Option<&[u8]>)
     }
 }
 
-/// Whether the field is the word that its form says.
+/// Whether the field is as its form says.
 fn is_field_of(form: Field, field: &[u8]) -> bool
-    ensures { result ≡ told.is_field_of (form_of form) field.now }
+    ensures { result ≡ wanted.is_field_of (form_of form) field.now }
 {
     match form {
         Field::Word(word) => field == word,
@@ -89,9 +89,9 @@ fn is_field_of(form: Field, field: &[u8]) -> bool
     }
 }
 
-/// Whether the line has as many fields, and each is as its form says.
+/// Whether the line has as many fields as the form, each as its form says.
 fn fits(forms: &[Field], bytes: &[u8]) -> bool
-    ensures { result ≡ told.fits (map form_of forms.now) (fields_of bytes.now) }
+    ensures { result ≡ wanted.fits (map form_of forms.now) (fields_of bytes.now) }
 {
     let mut left = Some(bytes);
     for form in forms {
@@ -107,10 +107,10 @@ fn fits(forms: &[Field], bytes: &[u8]) -> bool
     left.is_none()
 }
 
-/// The numbers of a line's number fields, or the first fault of these.
+/// Returns the numbers of a line's number fields, or the first fault of these.
 fn numbers_in(line: u64, forms: &[Field], bytes: &[u8]) -> Result<NumberFields, TextFault>
     requires { length forms.now ≤ 5 }
-    ensures value { result ≡ told.numbers_in line (map form_of forms.now) (fields_of bytes.now) }
+    ensures value { result ≡ wanted.numbers_in line (map form_of forms.now) (fields_of bytes.now) }
     ensures of_line { IfErr result IsLineFault }
 {
     let mut numbers = NumberFields::new();
@@ -128,16 +128,17 @@ fn numbers_in(line: u64, forms: &[Field], bytes: &[u8]) -> Result<NumberFields, 
     Ok(numbers)
 }
 
-/// What a line says, by the first form of a table that its fields fit, and its numbers; or the first fault of its fields.
+/// Reads a line by the first form of a table that its fields fit: what the form makes of it and its numbers, or the
+/// first fault of its fields.
 ///
-/// Where no form fits, the line is at fault. Else its numbers are judged from left to right.
-pub fn judged<T: Copy>(
+/// If no form fits, the line is at fault. Otherwise its numbers are judged from left to right.
+pub fn parse_line<T: Copy>(
     line: u64,
     table: &[(T, &[Field])],
     bytes: &[u8],
 ) -> Result<(T, NumberFields), TextFault>
     requires { has_short_forms (map row_of table.now) ≡ true }
-    ensures value { result ≡ told.judged line (map row_of table.now) (fields_of bytes.now) }
+    ensures value { result ≡ wanted.parse_line line (map row_of table.now) (fields_of bytes.now) }
     ensures of_line { IfErr result IsLineFault }
 {
     for row in table {

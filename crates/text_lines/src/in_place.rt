@@ -2,7 +2,7 @@ ghost use Rattle.std.specs.Prelude.{◌≡◌, ◌+◌, ◌<◌, ◌≤◌, ◌�
 
 use std::marker::Model;
 
-/// Bytes that lie in place, at most so many, seen as a list. So they take no memory.
+/// Up to `N` bytes that lie in place and take no memory, seen as a list.
 #[derive(Drop)]
 pub struct InPlace<const MOST: usize> {
     bytes: [u8; MOST],
@@ -18,7 +18,7 @@ impl<const MOST: usize> Model for InPlace<MOST> {
 }
 
 impl<const MOST: usize> InPlace<MOST> {
-    /// No byte yet.
+    /// Makes an empty list.
     pub fn new() -> Self
         ensures { result ≡ [] }
     {
@@ -28,7 +28,7 @@ impl<const MOST: usize> InPlace<MOST> {
         }
     }
 
-    /// How many bytes there are.
+    /// Returns how many bytes there are.
     pub fn len(&self) -> usize
         ensures value { result ≡ length self.now }
         ensures few { length self.now ≤ MOST }
@@ -36,21 +36,21 @@ impl<const MOST: usize> InPlace<MOST> {
         self.len
     }
 
-    /// The bytes, in their order.
+    /// Returns the bytes, in order.
     pub fn as_slice(&self) -> &[u8]
         ensures { result.now ≡ self.now }
     {
         &self.bytes[..self.len]
     }
 
-    /// No byte any more.
+    /// Removes all bytes.
     pub fn clear(&mut self)
         ensures { self.new ≡ [] }
     {
         self.len = 0;
     }
 
-    /// One more byte, where there is room for it.
+    /// Adds a byte. There is room for it.
     pub fn push_byte(&mut self, byte: u8)
         requires { length self.old < MOST }
         ensures { self.new ≡ self.old ++ byte ∷ [] }
@@ -59,7 +59,7 @@ impl<const MOST: usize> InPlace<MOST> {
         self.len += 1;
     }
 
-    /// More bytes, where there is room for them.
+    /// Adds bytes. There is room for them.
     #[inline(always)]
     pub fn push(&mut self, bytes: &[u8])
         requires { length self.old + length bytes.now ≤ MOST }

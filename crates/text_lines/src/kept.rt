@@ -5,17 +5,17 @@ use crate::in_place::InPlace;
 use crate::sink::{TextSink, WriteFault, write_piece};
 use itoa::Buffer;
 
-/// The most bytes that are kept back before they are written.
+/// The most bytes that are held back before they are written.
 pub(crate) const KEPT_LEN: usize = 4096;
 
 /// Enough bytes for a line of four numbers of 64 bits with its word.
 const LINE_ROOM: usize = 96;
 
-/// Bytes of a text that are kept back, so that many lines are written at once. Contracts see the list of them.
+/// Bytes of a text that are held back, so that many lines are written at once. Contracts see the list of them.
 pub type Kept = InPlace<KEPT_LEN>;
 
 impl InPlace<KEPT_LEN> {
-    /// A number in decimal digits, of which there are at most 20.
+    /// Adds a number in decimal digits, of which there are at most 20.
     #[inline(always)]
     pub fn push_number(&mut self, number: u64)
         requires { length self.old + 20 ≤ 4096 }
@@ -26,7 +26,7 @@ impl InPlace<KEPT_LEN> {
         self.push(digits.format(number).as_bytes());
     }
 
-    /// A field with a number, and the space after it.
+    /// Adds a field with a number, and the space after it.
     #[inline(always)]
     pub fn push_field(&mut self, number: u64)
         requires { length self.old + 21 ≤ 4096 }
@@ -38,7 +38,7 @@ impl InPlace<KEPT_LEN> {
     }
 }
 
-/// Makes room for one more line among what is kept back, and writes that where there is none.
+/// Makes room for one more line among the bytes held back: if there is none, it writes them.
 pub fn make_room<W: TextSink>(kept: &mut Kept, writer: &mut W) -> Result<(), WriteFault>
     ensures ok { OnOk result (Puts (W.contents writer.old) (W.contents writer.new) kept.old kept.new []) }
     ensures err { OnErr result (AppendsFront (W.contents writer.old) (W.contents writer.new) kept.old) }

@@ -1,8 +1,8 @@
 //! What texts are made of, read and written: lines of bytes, their fields, and the numbers in them.
 //!
-//! Below the texts stand a source, which tells contracts how its bytes end, and a sink, which tells them what each call made of
-//! it. A line has at most 80 bytes before its line feed; between its fields stands one space; a number is the digit 0, or digits
-//! of which the first isn't 0. What one line can have for a fault is said here too.
+//! A source says to contracts how its bytes end, and a sink says what each call made of it. A line has at most 80
+//! bytes before its line feed; one space stands between its fields; a number is the digit 0, or digits of which the
+//! first isn't 0. This crate also defines which faults one line can have.
 #![tactic(auto)]
 
 mod buffered;
@@ -20,7 +20,7 @@ mod source;
 pub use buffered::Buffered;
 pub use fault::TextFault;
 pub use field::{end_in, split_field};
-pub use forms::{Field, NumberFields, judged};
+pub use forms::{Field, NumberFields, parse_line};
 pub use in_place::InPlace;
 pub use kept::{Kept, make_room};
 pub use line::{LONGEST_LINE, Line};

@@ -28,7 +28,7 @@ impl<'a> Model for MemorySource<'a> {
 }
 
 impl<'a> MemorySource<'a> {
-    /// Gives the bytes in pieces as large as they are asked for, and then ends.
+    /// Makes a source that gives the bytes in pieces as large as a read asks for, and then ends.
     pub fn new(bytes: &'a [u8]) -> Self
         ensures { result ≡ record { ahead = record { bytes = bytes.now; ending = EndOfInput }; most = usize.MAX } }
     {
@@ -39,7 +39,7 @@ impl<'a> MemorySource<'a> {
         }
     }
 
-    /// Gives the bytes in pieces as large as they are asked for, and then fails at each read.
+    /// Makes a source that gives the bytes in pieces as large as a read asks for, and then fails at each read.
     pub fn failing(bytes: &'a [u8]) -> Self
         ensures { result ≡ record { ahead = record { bytes = bytes.now; ending = Failure }; most = usize.MAX } }
     {
@@ -48,7 +48,7 @@ impl<'a> MemorySource<'a> {
         source
     }
 
-    /// The same bytes with the same end, at most so many at each read.
+    /// Limits each read of the source to `most` bytes.
     pub fn in_pieces(mut self, most: usize) -> Self
         requires { 0 < most }
         ensures { result ≡ record { ahead = self.entry.ahead; most = most } }

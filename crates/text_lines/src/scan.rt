@@ -7,7 +7,8 @@ ghost use Rattle.text_lines.specs.Inner.Digits.{IsDigitsSoFar, AreDigitsFront, A
 /// The least number of 19 digits. With one digit more, a lesser one is in range.
 const LEAST_LONG: u64 = 1_000_000_000_000_000_000;
 
-/// The number at the front with all its digits, and the bytes after it; none where none of 64 bits stands there.
+/// Returns the number at the front, with all its digits, and the bytes after it; none if no number of 64 bits stands
+/// there.
 #[inline(always)]
 pub fn number_front(bytes: &[u8]) -> Option<(u64, &[u8])>
     ensures number { IfSome result (λ p. bytes.now ≡ decimal p.0 ++ p.1.now) }
@@ -24,7 +25,7 @@ pub fn number_front(bytes: &[u8]) -> Option<(u64, &[u8])>
     Some((value, &bytes[count..]))
 }
 
-/// What all digits at the front stand for, and how many there are; none where that is beyond 64 bits.
+/// Returns what all digits at the front stand for, and how many there are; none if that is beyond 64 bits.
 #[inline(always)]
 fn digits_front(bytes: &[u8]) -> Option<(u64, usize)>
     ensures digits { IfSome result (λ p. AreDigitsFront bytes.now p.1 p.0) }
@@ -46,7 +47,7 @@ fn digits_front(bytes: &[u8]) -> Option<(u64, usize)>
     Some((value, count))
 }
 
-/// The same where the digits before a last one stand for a number of 19 digits. A second digit more is beyond 64 bits.
+/// Does so after a number of 19 digits, if one digit more may follow. A second one is beyond 64 bits.
 #[inline(never)]
 fn long_digits_front(bytes: &[u8], count: usize, value: u64) -> Option<(u64, usize)>
     requires long { LEAST_LONG ≤ value }
@@ -64,7 +65,7 @@ fn long_digits_front(bytes: &[u8], count: usize, value: u64) -> Option<(u64, usi
     Some((value, count))
 }
 
-/// The number with one digit more, where it is in range.
+/// Appends a digit to the number, if the result is in range.
 #[inline(always)]
 fn one_digit_more(value: u64, digit: u64) -> Option<u64>
     ensures number { IfSome result (λ more. more ≡ value * 10 + digit) }
@@ -74,7 +75,7 @@ fn one_digit_more(value: u64, digit: u64) -> Option<u64>
     value.checked_mul(10)?.checked_add(digit)
 }
 
-/// The bytes after the word that they begin with.
+/// Returns the bytes after the word that they begin with.
 #[inline(always)]
 pub fn after_word<'a>(bytes: &'a [u8], word: &[u8]) -> Option<&'a [u8]>
     ensures rest { IfSome result (λ rest. bytes.now ≡ word.now ++ rest.now) }

@@ -17,31 +17,31 @@ pub enum WriteFault {
 
 /// What texts are written to.
 ///
-/// Beside std's `Write` it tells contracts whether it has refused bytes, and what each call on it makes of it. With the bytes
-/// alone, a body that always answers a failed write would meet every contract of a writer, and so would one that never
-/// flushes.
+/// Beside what std's `Write` has, contracts see whether it has refused bytes, and what each call makes of it. If they
+/// saw the bytes alone, a body that always returns a failed write would meet every contract of a writer, and so would
+/// one that never flushes.
 pub trait TextSink {
-    /// The bytes that it took, where they are known.
+    /// The bytes that it took, if they are known.
     ghost contents: { Self → Option (List ℕ) };
 
-    /// A call has failed, or took no byte of a piece that wasn't empty.
+    /// Whether a call has failed, or took no byte of a piece that wasn't empty.
     ghost has_refused: { Self → Bool };
 
-    /// Some of the bytes that it took may not be passed on yet.
+    /// Whether some of the bytes that it took may not be passed on yet.
     ghost holds_back: { Self → Bool };
 
-    /// A call that ended so makes the later sink of the earlier one. So contracts tell which calls were made, and in which
-    /// order.
+    /// Whether a call that ended so leads from the earlier sink to the later one. So contracts see which calls were
+    /// made, and in which order.
     ghost goes: { Self → Asked → Self → Type 0 };
 
-    /// Takes bytes from the front of the piece, and tells how many.
+    /// Takes bytes from the front of the piece, and returns how many.
     fn write(&mut self, piece: &[u8]) -> Result<usize, WriteFault>
         ensures bound { IfOk result (λ n. n ≤ length piece.now) }
         ensures bytes { WriteAppends (contents self.old) (contents self.new) result piece.now }
         ensures refused { has_refused self.new ≡ (has_refused self.old || is_refusal result piece.now) }
         ensures asked { goes self.old (asked_to_write result piece.now) self.new };
 
-    /// Passes on what the writer holds back.
+    /// Passes on what the sink holds back.
     fn flush(&mut self) -> Result<(), WriteFault>
         ensures bytes { Keeps (contents self.old) (contents self.new) }
         ensures refused { has_refused self.new ≡ (has_refused self.old || is_err result) }
@@ -88,7 +88,8 @@ impl<W: Write> TextSink for Watched<W> {
     }
 }
 
-/// Writes all of the bytes, in as many calls as the writer needs, or fails after a front of them. The writer isn't flushed.
+/// Writes all of the bytes, in as many calls as the writer needs, or fails after a prefix of them. It doesn't flush
+/// the writer.
 pub fn write_piece<W: TextSink>(piece: &[u8], writer: &mut W) -> Result<(), WriteFault>
     ensures ok { OnOk result (Appends (W.contents writer.old) (W.contents writer.new) piece.now) }
     ensures err { OnErr result (AppendsFront (W.contents writer.old) (W.contents writer.new) piece.now) }

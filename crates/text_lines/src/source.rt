@@ -13,24 +13,24 @@ pub struct ReadFailed;
 
 /// What texts are read from.
 ///
-/// Beside std's `Read` it tells contracts how its bytes end. With the bytes alone, a body that always answers a failed
-/// read would meet every contract of a reader.
+/// Beside what std's `Read` has, contracts see how its bytes end. If they saw the bytes alone, a body that always
+/// returns a failed read would meet every contract of a reader.
 pub trait TextSource {
-    /// The bytes that reads will give from here on and how they end, where this is known.
+    /// The bytes that reads will give from here on and how they end, if this is known.
     ghost ahead: { Self → Option Ahead };
 
-    /// Puts bytes at the front of the piece, and tells how many. It gives none only where the piece is empty or the bytes
-    /// have come to their end.
+    /// Puts bytes at the front of the piece, and returns how many. It gives none only if the piece is empty or the
+    /// bytes have ended.
     fn read(&mut self, piece: &mut [u8]) -> Result<usize, ReadFailed>
         ensures bound { IfOk result (λ n. n ≤ length piece.new) }
         ensures bytes { ReadTakes (ahead self.old) (ahead self.new) result piece.new };
 }
 
-/// A reader or a writer of std as a source or a sink of texts, with whether a write or a flush has failed.
+/// A reader or a writer of std as a source or a sink of texts, and whether a write or a flush has failed.
 ///
-/// Each call makes one call of the reader or writer, and fails where that fails: a call that is interrupted isn't tried
-/// again. std's traits don't tell contracts of failures, so that tests show this. Of a reader nothing is known to contracts,
-/// since none of std says how its bytes end; `MemorySource` tells it.
+/// Each call makes one call of the reader or writer, and fails if that fails: an interrupted call isn't tried again.
+/// std's traits say nothing of failures to contracts, so tests show this. Contracts know nothing of how a reader's
+/// bytes end, since nothing in std says it; `MemorySource` does.
 #[derive(Drop)]
 pub struct Watched<T> {
     pub(crate) inner: T,

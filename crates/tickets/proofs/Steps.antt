@@ -70,7 +70,7 @@ one_apart (x ∷ xs) (suc i) v e = let r = one_apart xs i v e in record {
   after = λ w. behind x.drawn (flat_map drawn_of (set xs i w)) w.drawn r.others (r.after w);
 }
 
--- the same for two passes
+-- the same two facts for two passes
 record TwoApart (views : List Holding) (i j : ℕ) (v w : Holding) : Type 0 where
   others : List ℕ
   before : IsPermutation (flat_map drawn_of views) (v.drawn ++ (w.drawn ++ others))
@@ -141,7 +141,7 @@ below_all n = subst (λ (m : ℕ). All (λ t. t < m) (numbers_below n)) (omega a
 -- ---- the account, and its table
 
 module _ (budget : ℕ) where
-  -- all passes together have drawn as many tickets as the next number tells
+  -- all passes together have drawn as many tickets as the next number says
   pub total : (next : ℕ) (views : List Holding) → IsAccount budget next views → sum_by count_of views ≡ next
   total next views a = sym (length-flat_map drawn_of views) ∙ sym (length_permutation (flat_map drawn_of views) (numbers_below next) a.complete)
       ∙ length-range_with_len 0 next

@@ -5,8 +5,8 @@ use std::snapshot::Snapshot;
 
 /// A ticket that a pass drew, from 0.
 ///
-/// It is not `Clone`, so whoever takes it by value uses it up. It may be let go unused; its number is then in no event.
-/// Contracts also see which word it was drawn from, as the key of its `Tickets`.
+/// It is not `Clone`, so whoever takes it by value uses it up. It may be dropped unused; then no event has its
+/// number. Contracts also see which word it was drawn from, as the key of its `Tickets`.
 #[derive(Drop)]
 pub struct Drawn {
     pub(crate) ticket: u64,
@@ -24,7 +24,7 @@ impl Model for Drawn {
 impl Drawn {
     ghost use Rattle.std.specs.Prelude.{◌≡◌};
 
-    /// The number.
+    /// Returns its number.
     pub fn ticket(&self) -> u64
         ensures { result ≡ self.now.ticket }
     {

@@ -1,13 +1,13 @@
 //! Numbers that threads draw from one word by single atomic steps, each number once.
 //!
 //! `Tickets` owns the word, which is the next number. A thread draws by a `Pass`, which has a share of the budget and
-//! keeps the list of what it drew. A pass may be split for another thread and joined again.
-//! The pass that has the whole budget again holds each number below the word once.
+//! keeps the list of what it drew. A pass can be split for another thread, and joined again. The pass with the whole
+//! budget holds each number below the word once.
 //!
-//! Nothing here takes a lock or waits, and nothing but `Tickets::new` takes memory or can be refused.
-//! There are six kinds of step. Making sets the word to 0, and gives the first pass the whole budget. Splitting, drawing
-//! and joining change the view of the pass that steps; a pass that was joined to another is left with the empty view.
-//! A join is followed by a look at the word, which changes no view. Closing reads the word.
+//! Nothing here takes a lock or waits. Only `Tickets::new` takes memory and can fail. There are six kinds of step.
+//! Making sets the word to 0, and gives the first pass the whole budget. Splitting, drawing and joining change the
+//! view of the pass that steps; a pass that was joined to another keeps the empty view. A look at the word, which
+//! changes no view, follows each join. Closing reads the word.
 #![tactic(auto)]
 
 mod account;

@@ -11,8 +11,8 @@ use std::snapshot::Snapshot;
 
 /// A share of the budget, and the tickets that were drawn on it.
 ///
-/// A thread draws by a pass of its own. Contracts see the list of the tickets that it drew, which takes no memory.
-/// A pass that is dropped takes its share with it, so that no other pass can have the whole budget any more.
+/// A thread draws by a pass of its own. Contracts see the list of the tickets that it drew, which takes no memory. A
+/// dropped pass takes its share with it: no other pass can have the whole budget afterwards.
 #[derive(Drop)]
 pub struct Pass {
     pub(crate) seat: Seat<(), Holding>,
@@ -67,14 +67,14 @@ impl Pass {
         (seat, share, left)
     }
 
-    /// How many tickets the pass may draw in all, those that it has drawn among them.
+    /// Returns how many tickets the pass may draw in all, including those that it has drawn.
     pub fn share(&self) -> u64
         ensures { result ≡ share_of self.now }
     {
         self.share
     }
 
-    /// How many tickets the pass may still draw.
+    /// Returns how many tickets the pass may still draw.
     pub fn left(&self) -> u64
         ensures { result ≡ self.now.left }
     {
@@ -97,7 +97,7 @@ impl Pass {
         }
     }
 
-    /// Cuts n tickets off the share, for a second pass, mostly that of another thread. It takes no memory.
+    /// Cuts n tickets off the share, for a second pass, usually that of another thread. It takes no memory.
     pub fn split(self, tickets: &Tickets, n: u64) -> (Pass, Pass)
         requires key { self.key ≡ tickets.now.key }
         requires room { n ≤ self.left }
@@ -119,7 +119,7 @@ impl Pass {
         (first, second)
     }
 
-    /// Puts two passes together: their shares, and the tickets that they drew. It takes no memory.
+    /// Joins two passes: their shares, and the tickets that they drew. It takes no memory.
     pub fn join(self, tickets: &Tickets, other: Pass) -> Pass
         requires key { self.key ≡ tickets.now.key }
         requires other_key { other.key ≡ tickets.now.key }

@@ -7,7 +7,7 @@ use std::marker::Model;
 
 /// The word that tickets are drawn from: the next number, from 0.
 ///
-/// Threads share it by reference. Contracts see which word it is, as its key, and the budget: how many tickets may be
+/// Threads share it by reference. Contracts see which word it is, as its key, and its budget: how many tickets may be
 /// drawn in all.
 #[derive(Drop)]
 pub struct Tickets {
@@ -31,9 +31,9 @@ impl Tickets {
     ghost use Rattle.tickets.specs.declared.TheConstants.{TICKET_LIMIT};
     ghost use Rattle.tickets.specs.Views.{share_of, numbers_below};
 
-    /// A new word, and a pass that has the whole budget as its share.
+    /// Makes a new word, and a pass that has the whole budget as its share.
     ///
-    /// It takes one block of memory, of the same size for every budget, and is refused only where that is.
+    /// It takes one block of memory, of the same size for every budget, and fails only if that is refused.
     pub fn new(alloc: Global, budget: u64) -> Result<(Tickets, Pass), AllocError>
         requires { budget ≤ TICKET_LIMIT }
         ensures budget { IfOk result (λ t. t.0.budget ≡ budget) }
@@ -52,9 +52,9 @@ impl Tickets {
         ))
     }
 
-    /// How many tickets were drawn.
+    /// Returns how many tickets were drawn.
     ///
-    /// The pass has the whole budget as its share, so no other pass can draw any more. It takes no memory.
+    /// The pass has the whole budget as its share, so no other pass can draw afterwards. It takes no memory.
     pub fn close(self, pass: Pass) -> u64
         requires key { pass.key ≡ self.key }
         requires whole { share_of pass ≡ self.budget }

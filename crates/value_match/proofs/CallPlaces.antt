@@ -62,7 +62,7 @@ pub named_if_found : (operations : List Operation) (names : Names) (v : ℕ) (fo
 named_if_found operations names v None some found = absurd (false≢true some)
 named_if_found operations names v (Some place) some found = found.1
 
--- an operation that called to enqueue nothing, a call of a value that is where its name tells, and any other call
+-- an operation that called to enqueue nothing, a call of a value that is where its name says, and any other call
 module _ (operations : List Operation) (names : Names) (i : ℕ) (o : Operation) (calls : List Call) (here : IsAt operations i o)
     (met : MetOthers operations names i calls) where
   -- an operation that calls to enqueue nothing adds no call
@@ -73,7 +73,7 @@ module _ (operations : List Operation) (names : Names) (i : ℕ) (o : Operation)
         λ v unnamed none_of. met_no_call operations i o v None here none (met.has_all v unnamed none_of);
   }
 
-  -- a call whose value is where its name tells adds none
+  -- a call whose value is where its name says adds none
   pub others_named : (w : ℕ) → enqueued_value o.kind ≡ Some w → IsNamed operations names w → MetOthers operations names (i + 1) calls
   others_named w called named = record {
     are_calls = met.are_calls;

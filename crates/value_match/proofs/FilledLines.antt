@@ -155,7 +155,7 @@ none_fills initial kind = (
   λ none j v at did. none (filling_at j v) (filling_stands initial j v at) did,
 )
 
--- a test of each initial value tells whether the filling did this
+-- a test of each initial value shows whether the filling did this
 pub none_fills_from_cases : (initial : List ℕ) (kind : OpKind) (r : Bool)
     → MatchBool r (AllWithin (λ v. Enq v ≡ kind → ⊥) initial 0 (length initial)) ((k : ℕ) × (k < length initial) × HoldsAt (λ v. Enq v ≡ kind) initial k)
     → IsTrue r ↔ NoneDid (filling_from 0 initial) kind
@@ -183,7 +183,7 @@ get_behind [] ys n p is within = ap (slice_get ys) (omega arith)
 get_behind (x ∷ xs) ys n zero is within = absurd (omega arith)
 get_behind (x ∷ xs) ys n (suc p) is within = get_behind xs ys (n - 1) p (omega arith) (omega arith) ∙ ap (slice_get ys) (omega arith)
 
--- the place of an initial value, or of an operation behind them
+-- the place of an initial value, or of an operation after these
 pub at_filled : (initial : List ℕ) (operations : List Operation) (p : ℕ)
     → ((p < length initial) × (slice_get (filled initial operations) p ≡ option_map (filling_at p) (slice_get initial p)))
     ⊎ ((length initial ≤ p) × (slice_get (filled initial operations) p
@@ -232,7 +232,7 @@ filled_at initial operations p x at = elim (at_filled initial operations p) [
       inr (record { operation = operation.0; behind = late.0; stands = operation.1; is = operation.2 })
 ]
 
--- ---- the operations of a yes
+-- ---- the operations of a `YES`
 
 -- an operation of the filled history as it was, where it isn't the enqueue of an initial value
 abbrev pub earlier : ℕ → Operation → Option Operation
@@ -264,7 +264,7 @@ later_earlier n (o ∷ operations) =
     ap (λ (x : Option Operation). cons_option x (filter_map (earlier n) (map (later_by n) operations))) (earlier_later n o)
     ∙ ap (λ (r : List Operation). o ∷ r) (later_earlier n operations)
 
--- without the enqueues of the initial values it is what stands behind them
+-- without the enqueues of the initial values it is what stands after these
 pub filled_earlier : (initial : List ℕ) (listed : List Operation) → filter_map (earlier (2 * length initial)) (filled initial listed) ≡ listed
 filled_earlier initial listed =
     filling_earlier 0 (2 * length initial) initial (map (later_by (2 * length initial)) listed) (omega arith) ∙ later_earlier (2 * length initial) listed

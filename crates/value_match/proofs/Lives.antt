@@ -17,7 +17,7 @@ use Rattle.value_match.specs.Lives.{dequeue_of, enqueue_of}
 use Rattle.value_match.specs.Violations.{IsClear}
 use Rattle.value_match.proofs.Lists.{kept, keeps, mapped_from, mapped_to}
 
--- what `find` tells where it gives nothing
+-- what follows if `find` gives nothing
 none_found : {X : Type 0} (p : X → Bool) (xs : List X) (x : X) → find p xs ≡ None → Contains xs x → p x ≡ false
 none_found p [] x none among = absurd (not_in_none x among)
 none_found {X} p (z ∷ xs) x none among = pick (λ h there. none_found p xs x h there) (p z) refl none (contains_cons z xs x among)

@@ -69,7 +69,7 @@ lives_same operations i o lives here is known = sym (append-nil lives) ∙ lives
 
 module _ (operations : List Operation) (i : ℕ) (o : Operation) (values : List MatchedValue) (empties refused : List ℕ) (here : IsAt operations i o)
     (known : IsSortedOut operations i values empties refused) where
-  -- one more, an accepted enqueue, is sorted out with its dequeue
+  -- one more, a successful enqueue, is sorted out with its dequeue
   pub sorted_enqueue : (v : ℕ) (m : MatchedValue) (place : Option ℕ) → o.kind ≡ Enq v → IsAt operations i (enqueue_of m.life)
       → IsMaybeAt operations place (dequeue_of m.life) → (m.enqueue ≡ i) × (m.dequeue ≡ place)
       → IsClear operations → IsDequeuePlace operations v place → IsSortedOut operations (i + 1) (values ++ m ∷ []) empties refused
@@ -103,7 +103,7 @@ module _ (operations : List Operation) (i : ℕ) (o : Operation) (values : List 
     refused_enqueues = places_same operations is_refused i o refused here (rw is refl) known.refused_enqueues;
   }
 
-  -- one more, a refused enqueue, is sorted out
+  -- one more, a failed enqueue, is sorted out
   pub sorted_refused : (v : ℕ) → o.kind ≡ Not v → IsSortedOut operations (i + 1) values empties (refused ++ i ∷ [])
   sorted_refused v is = record {
     lives = lives_same operations i o (map (λ m. m.life) values) here (rw is refl) known.lives;

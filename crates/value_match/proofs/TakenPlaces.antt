@@ -110,7 +110,7 @@ taken_all n sources takers all known = record {
   takes = λ i p from. known.takes i p (let below = slice_get_within sources i (Some p) from in omega arith) from;
 }
 
--- what reading a slot tells
+-- what reading a slot shows
 pub slot_held : (takers : List (Option ℕ)) (p : ℕ) (read : Option ℕ) → p < length takers → read ≡ get_or takers p read → is_some read ≡ true
     → (j : ℕ) × (get_or takers p None ≡ Some j)
 slot_held takers p None below is held = absurd (false≢true held)

@@ -47,7 +47,7 @@ module _ (k : ℕ) where
       by_count true is = rw is refl
       by_count false is = refl
 
-  -- the steps of a cover of the filled history are told as they were
+  -- the steps of a cover of the filled history come back as they were
   pub cover_told : (steps : List CoverStep) → map (unfilled_step k) (map (filled_step k) steps) ≡ steps
   cover_told [] = refl
   cover_told (step ∷ steps) =
@@ -141,7 +141,7 @@ module _ (initial : List ℕ) (operations : List Operation) where
         | inr accepted ↦ let after = accepted.1 in omega (arith, late)
       ]
 
-  -- a violation of the filled history comes back from what is told of it
+  -- a violation of the filled history comes back from that of the history
   pub violation_back : (v : Violation) (breach : Breach) → Names all v breach → IsBreachOf all breach
       → filled_violation k (unfilled_violation k v) ≡ v
   violation_back (violation.Fresh deq enq) (fresh d e) names is =
@@ -243,12 +243,12 @@ module _ (initial : List ℕ) (operations : List Operation) where
   empties_told places holds = places_told places (filter is_empty_answer operations)
       (subst (ArePlacesOf all places) (filter_filled is_empty_answer (λ o v is. rw is refl) (λ o. refl)) holds)
 
-  -- the places of refused enqueues are told as the history's
+  -- the places of failed enqueues are the history's
   pub refused_told : (places : List ℕ) → HoldsPlaces all is_refused places → HoldsPlaces operations is_refused (map (unfilled_place k) places)
   refused_told places holds = places_told places (filter is_refused operations)
       (subst (ArePlacesOf all places) (filter_filled is_refused (λ o v is. rw is refl) (λ o. refl)) holds)
 
-  -- ---- the places of a yes
+  -- ---- the places of a `YES`
 
   places_back : (places : List ℕ) (listed : List Operation) → ArePlacesOf all places listed
       → ArePlacesOf operations (filter_map (place_behind k) places) (filter_map (earlier (2 * length initial)) listed)
@@ -274,7 +274,7 @@ module _ (initial : List ℕ) (operations : List Operation) where
             rw (le-ltb p k late.behind, was) (ap₂ (λ (x : Option Operation) (xs : List (Option Operation)). x ∷ xs) late.stands rest)
       ]
 
-  -- the order of a yes, behind the enqueues of the initial values
+  -- the order of a `YES`, after the enqueues of the initial values
   pub order_back : (places : List ℕ) (listed : List Operation) → ArePlacesOf all places (filled initial listed)
       → ArePlacesOf operations (filter_map (place_behind k) places) listed
   order_back places listed at = subst (ArePlacesOf operations (filter_map (place_behind k) places)) (filled_earlier initial listed)

@@ -1,4 +1,4 @@
--- What is told of a history, as the same of its filled history, where the initial values are enqueued before all else.
+-- What holds of a history, by its filled history, in which the initial values are enqueued before all else.
 use Rattle.std.specs.Prelude.{ℕ, ◌+◌, ◌*◌, ◌/◌, nat_lt, ℤ, pos, ◌-ℤ◌, List, map, option_map, if◌then◌else◌}
 use Rattle.history_merge.specs.declared.operation.Operation.{Operation}
 use Rattle.history_merge.specs.declared.operation.OpKind.TheVariants as kind
@@ -31,7 +31,7 @@ abbrev pub ticket_of : ℕ → ℕ → ℤ
 ticket_of initial_count clock =
     if nat_lt clock (2 * initial_count) then pos (clock / 2) -ℤ pos initial_count else pos clock -ℤ pos (2 * initial_count)
 
--- behind so many initial values, the place of an operation
+-- the place of an operation after this many initial values
 abbrev pub behind : ℕ → ℕ → ℕ
 behind initial_count place = initial_count + place
 

@@ -6,11 +6,11 @@ use Rattle.value_match.specs.declared.violation.Source.TheVariants.{Enq, Initial
 use Rattle.value_match.specs.declared.violation.Violation.{Violation}
 use Rattle.value_match.specs.declared.violation.Violation.TheVariants.{Fresh, Repeat, Order, Witness}
 
--- the place of an operation, which stands behind so many initial values
+-- the place of an operation, which stands after this many initial values
 abbrev pub unfilled_place : ℕ → ℕ → ℕ
 unfilled_place initial_count place = place - initial_count
 
--- the same, where it does stand behind them
+-- that place, if it does stand after them
 abbrev pub place_behind : ℕ → ℕ → Option ℕ
 place_behind initial_count place = if nat_lt place initial_count then None else Some (place - initial_count)
 

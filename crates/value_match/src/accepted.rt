@@ -7,7 +7,7 @@ use crate::maybe_place::MaybePlace;
 use history_merge::{OpId, Operation};
 use std::marker::Model;
 
-/// The places of an accepted enqueue and of the dequeue of its value, if there is one.
+/// The places of a successful enqueue and of the dequeue of its value, if there is one.
 #[derive(Clone, Copy, Debug)]
 pub(crate) struct Pair {
     pub(crate) enqueue: u32,

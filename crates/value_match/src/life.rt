@@ -9,7 +9,7 @@ use history_merge::{OpId, Operation};
 /// One above the greatest clock: the call and the return of the dequeue that a value never gets.
 pub const NEVER: u64 = MAX_CLOCK + 1;
 
-/// The life of a value in the queue: its accepted enqueue, and its dequeue if there is one.
+/// The life of a value in the queue: its successful enqueue, and its dequeue if there is one.
 #[derive(Clone, Copy, Debug, PartialEq, Eq)]
 pub struct Life {
     pub enqueue: Operation,

@@ -127,7 +127,7 @@ impl<'a> FilledMatching<'a> {
 /// A complete history in which no dequeue is of a value that was not there, and no value is dequeued twice; seen as its initial
 /// values and its operations.
 ///
-/// What is found of it is told by its own places and tickets. It borrows both lists; its filled history it borrows or holds.
+/// Its answers name its own places and tickets. It borrows both lists; its filled history it borrows or holds.
 #[derive(Debug, Drop)]
 pub struct Matching<'a> {
     initial: &'a [u64],

@@ -9,7 +9,7 @@ use std::alloc::{AllocError, Global};
 /// The places of operations by their threads and their numbers in these. A recorder names its values so: the thread in
 /// the upper half of the bits, the number in the lower one.
 ///
-/// Nothing rests on the place that it tells for a value: who asks looks there.
+/// Nothing rests on the place that it gives for a value: who asks looks there.
 #[derive(Drop)]
 pub(crate) struct Names {
     starts: [u32; MAX_THREADS],
@@ -37,7 +37,7 @@ impl Names {
         Ok(Names { starts, places })
     }
 
-    /// The place that the value's name tells, in range or not.
+    /// Returns the place that the value's name gives, in range or not.
     #[inline(always)]
     pub(crate) fn place_of(&self, value: u64) -> usize
         ensures { result ≡ named.place_of self.now value }

@@ -26,7 +26,7 @@ pub(crate) fn is_called_at(operations: &[Operation], value: u64, place: usize) -
     }
 }
 
-/// The place that the value's name tells, where the value was called there.
+/// Returns the place that the value's name gives, if the value was called there.
 #[inline(always)]
 pub(crate) fn named_place(operations: &[Operation], names: &Names, value: u64) -> Option<usize>
     ensures { MatchOption result (¬ (IsNamed operations.now names.now value))

@@ -24,7 +24,7 @@ impl<'a> Model for Places<'a> {
 }
 
 impl<'a> Places<'a> {
-    /// The places behind so many initial values.
+    /// Makes the places after this many initial values.
     pub(crate) fn new(initial_count: usize, filled: &'a [OpId]) -> Places<'a>
         ensures { result ≡ map (unfilled_place initial_count) filled.now }
     {

@@ -66,7 +66,7 @@ fn near_sources(
     Ok(NearSources { sources, all_found })
 }
 
-/// The place of the call for this value, where its name tells it or it is near this place.
+/// Returns the place of the call for this value, if its name gives it or it is near this place.
 #[inline(always)]
 fn guessed_place(operations: &[Operation], names: &Names, value: u64, from: usize) -> Option<usize>
     ensures { IfSome result (λ place. IsCallPlace operations.now value (Some place)) }

@@ -46,7 +46,7 @@ impl<'a> LongestTable<'a> {
     /// The table of these values, in any order.
     ///
     /// Time O(n log n) for n values, and little more than a pass where their enqueues nearly return in the order of the
-    /// list. The error is want of memory alone.
+    /// list. The only error is out of memory.
     pub fn new(alloc: Global, values: Values<'a>) -> Result<LongestTable<'a>, AllocError>
         ensures { IfOk result (λ table. table ≡ values.entry) }
     {
@@ -122,7 +122,7 @@ impl<'a> LongestTable<'a> {
 
 /// The enqueue returns and places of the values, in the order of the values.
 ///
-/// Time O(n) for n values. The error is want of memory alone.
+/// Time O(n) for n values. The only error is out of memory.
 pub fn fronts_of(alloc: Global, values: &Values) -> Result<Vec<Front>, AllocError>
     ensures { IfOk result (λ fronts. AreEntriesOf values.now fronts.items) }
 {

@@ -6,7 +6,7 @@ use crate::violation::{Cover, CoverStep, Source, Violation};
 use history_merge::OpId;
 use std::alloc::{AllocError, Global};
 
-/// The violation by the places of a history with so many initial values.
+/// Returns the violation by the places of a history with this many initial values.
 pub(crate) fn unfilled_violation(
     alloc: Global,
     initial_count: usize,
@@ -42,9 +42,9 @@ pub(crate) fn unfilled_violation(
     }
 }
 
-/// The cover by the places of a history with so many initial values.
+/// Returns the cover by the places of a history with this many initial values.
 ///
-/// Time O(n) for n values, and none where there are no initial values. The error is want of memory alone.
+/// Time O(n) for n values, and none if there are no initial values. The only error is out of memory.
 pub fn unfilled_cover(
     alloc: Global,
     initial_count: usize,
@@ -83,7 +83,8 @@ fn unfilled_step(initial_count: usize, step: CoverStep) -> CoverStep
     }
 }
 
-/// The source by the places of a history with so many initial values, whose enqueues come first in the filled history.
+/// Returns the source by the places of a history with this many initial values, whose enqueues come first in the filled
+/// history.
 pub fn unfilled_source(initial_count: usize, source: Source) -> Source
     ensures { result ≡ unfilled_source initial_count source }
 {
@@ -97,7 +98,7 @@ pub fn unfilled_source(initial_count: usize, source: Source) -> Source
     }
 }
 
-/// The place of an operation, which stands behind so many initial values in the filled history.
+/// Returns the place of an operation, which stands after this many initial values in the filled history.
 pub fn unfilled_place(initial_count: usize, place: OpId) -> OpId
     ensures { result ≡ unfilled_place initial_count place }
 {

@@ -32,7 +32,7 @@ pub(crate) enum Found {
 ///
 /// `Fresh` where a dequeue gave a value that was not there: of such dequeues the one that returns first. Else `Repeat`
 /// where a value was dequeued twice: the value whose second dequeue returns first, with its first two dequeues by
-/// return. Else `Clear`. The error is want of memory alone.
+/// return. Otherwise `Clear`. The only error is out of memory.
 ///
 /// Initial values count as enqueued before all else: what is matched are the operations of the filled history, as `fill` of
 /// `history_merge` gives them. A violation names the history's own operations and initial values.
@@ -141,7 +141,7 @@ fn sorted_out(
     })
 }
 
-/// The places of an accepted enqueue and of the dequeue of its value, if there is one.
+/// The places of a successful enqueue and of the dequeue of its value, if there is one.
 fn pair_of(place: usize, dequeue: MaybePlace) -> Pair
     requires { place < 2 ^ 32 }
     ensures { (result.enqueue ≡ place) × (result.dequeue ≡ dequeue) }

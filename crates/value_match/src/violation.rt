@@ -3,10 +3,10 @@ use history_merge::OpId;
 
 /// Where an accepted value comes from.
 ///
-/// What is found of a filled history names enqueues alone; what is told of a history names its initial values too.
+/// What is found in a filled history names enqueues alone; what a history's answers name are its initial values too.
 #[derive(Clone, Copy, Debug, PartialEq, Eq)]
 pub enum Source {
-    /// The accepted enqueue at this place among the operations.
+    /// The successful enqueue at this place among the operations.
     Enq(OpId),
     /// The value that the queue held first, at this place among these, the front one at 0.
     Initial(usize),

@@ -42,7 +42,7 @@ module _ (f : Filled) where
   none_stands (l ∷ lines) (o ∷ shown) (suc i) d within none are =
       let later : map stands lines ≡ map (λ x. Some x) shown = cc in none_stands lines shown i d (omega arith) none later
 
-  -- the lines of a no stand for some operations: these show the violation
+  -- the lines of a `NO` stand for some operations: these show the violation
   pub shown_by_all : (kind : ViolationKind) (lines : List ClaimLine) (shown : List Operation) → StandFor f.initial.now lines shown
       → ShowsViolation (all_of f) kind shown ↔ ShowsKind f kind lines
   shown_by_all kind lines shown are = (
@@ -100,21 +100,21 @@ module _ (f : Filled) where
 
   -- ---- lines that show a violation, by what they stand for
 
-  -- one line shows a fresh value exactly where nobody enqueued it
+  -- one line shows a fresh value if and only if nobody enqueued it
   pub one_line_fresh_is : (lines : List ClaimLine) (d : ClaimLine) (x : Operation) → 1 ≤ length lines → length lines < 2
       → stands (get_or lines 0 d) ≡ Some x → IsNeverEnqueued (all_of f) x ↔ ShowsKind f VFresh lines
   one_line_fresh_is lines d x long short at =
       through (one_line_fresh (all_of f) (x ∷ []) x (omega arith) (omega arith))
       (shown_by_all VFresh lines (x ∷ []) (more_stand lines d x [] long at (none_left (drop 1 lines) (none_after 1 lines (omega arith)))))
 
-  -- two lines show a fresh value exactly where its enqueue came too late or was refused
+  -- two lines show a fresh value if and only if its enqueue came too late or was refused
   pub two_lines_fresh_are : (lines : List ClaimLine) (d : ClaimLine) (x y : Operation) → 2 ≤ length lines → length lines < 3
       → stands (get_or lines 0 d) ≡ Some x → stands (get_or lines 1 d) ≡ Some y → IsEnqueuedTooLate (all_of f) x y ↔ ShowsKind f VFresh lines
   two_lines_fresh_are lines d x y long short a b =
       through (two_lines_fresh (all_of f) (x ∷ y ∷ []) x (omega arith) (omega arith))
       (shown_by_all VFresh lines (x ∷ y ∷ []) (two_stand lines d x y [] long a b (none_left (drop 2 lines) (none_after 2 lines (omega arith)))))
 
-  -- three lines show a repeated value exactly where the two dequeues are of the enqueue's value
+  -- three lines show a repeated value if and only if the two dequeues are of the enqueue's value
   pub three_lines_repeat_are : (lines : List ClaimLine) (d : ClaimLine) (x y z : Operation) → 3 ≤ length lines → length lines < 4
       → stands (get_or lines 0 d) ≡ Some x → stands (get_or lines 1 d) ≡ Some y → stands (get_or lines 2 d) ≡ Some z
       → IsRepeatViolation (all_of f) x y z ↔ ShowsKind f VRepeat lines
@@ -123,7 +123,7 @@ module _ (f : Filled) where
       (shown_by_all VRepeat lines (x ∷ y ∷ z ∷ [])
       (three_stand lines d x y z [] long a b c (none_left (drop 3 lines) (none_after 3 lines (omega arith)))))
 
-  -- three lines show two values out of order exactly where the first is never dequeued
+  -- three lines show two values out of order if and only if the first is never dequeued
   pub three_lines_order_are : (lines : List ClaimLine) (d : ClaimLine) (x y z : Operation) → 3 ≤ length lines → length (drop 3 lines) < 1
       → stands (get_or lines 0 d) ≡ Some x → stands (get_or lines 1 d) ≡ Some y → stands (get_or lines 2 d) ≡ Some z
       → IsOrderViolation (all_of f) x y z None ↔ ShowsKind f VOrd lines
@@ -131,7 +131,7 @@ module _ (f : Filled) where
       through (three_lines_order (all_of f) (x ∷ y ∷ z ∷ []) x (omega arith) (omega arith))
       (shown_by_all VOrd lines (x ∷ y ∷ z ∷ []) (three_stand lines d x y z [] long a b c (none_left (drop 3 lines) short)))
 
-  -- four lines show two values out of order exactly where the first is dequeued later
+  -- four lines show two values out of order if and only if the first is dequeued later
   pub four_lines_order_are : (lines : List ClaimLine) (d e : ClaimLine) (x y z v : Operation) → 3 ≤ length lines → 1 ≤ length (drop 3 lines)
       → length (drop 3 lines) < 2
       → stands (get_or lines 0 d) ≡ Some x → stands (get_or lines 1 d) ≡ Some y → stands (get_or lines 2 d) ≡ Some z
@@ -195,7 +195,7 @@ module _ (f : Filled) where
   no_lines_cover empty before lines short covers =
       let same = as_many lines covers.0 covers.1 in none_shown (all_of f) empty before covers.0 (omega arith) covers.2
 
-  -- one line stands for a cover exactly where its value is never dequeued and was in before
+  -- one line stands for a cover if and only if its value is never dequeued and was in before
   pub one_line_covers : (empty before : Operation) (lines : List ClaimLine) (d : ClaimLine) (x : Operation) → 1 ≤ length lines → length lines < 2
       → stands (get_or lines 0 d) ≡ Some x
       → (IsLife (all_of f) (record { enqueue = x; dequeue = None }) × Precedes x before) ↔ StandForCover f empty before lines

@@ -77,7 +77,7 @@ refused_is_chosen initial operations answer violation is (inl same) =
 refused_is_chosen initial operations answer violation is (inr same) =
     let h = subst (IsMatchedFrom initial operations) same is in (repeat h.0 h.1 h.2, h.3, h.4)
 
--- so the no is decided
+-- so the `NO` is decided
 pub refused_is_decided : (initial : List ℕ) (operations : List Operation) (answer : Matched) (violation : Violation)
     → AreComplete (filled initial operations) → IsMatchedFrom initial operations answer
     → (answer ≡ matched.Fresh violation) ⊎ (answer ≡ matched.Repeat violation) → IsDecidedFrom initial operations (No violation)

@@ -1,10 +1,10 @@
--- A complete history has a legal order exactly where it has no violation.
+-- A complete history has a linearization if and only if it has no violation.
 use Rattle.verdicts.specs.Laws.{LinearizableExactly}
 use Rattle.value_match.specs.Violations.{fresh, repeat, order, witness}
 use Rattle.verdicts.proofs.Linearizable.{linearizable_without_violations}
 use Rattle.verdicts.proofs.Excludes.{breach_excludes_order}
 
--- a complete history is linearizable exactly where it has no violation
+-- a complete history is linearizable if and only if it has no violation
 pub linearizable_exactly : LinearizableExactly
 linearizable_exactly operations complete = (
   λ linear breach violation. breach_excludes_order operations breach complete violation linear,

@@ -288,6 +288,6 @@ module _ (operations listed : List Operation) (complete : AreComplete operations
       let place = place_of empty violation.answers_empty.0 in
       excludes_cover place.0 empty place.1 violation.answers_empty.1 cover place.0 empty place.1 (omega arith) violation.covers
 
--- a violation excludes each legal order
+-- a violation excludes each linearization
 pub breach_excludes_order : BreachExcludesOrder
 breach_excludes_order operations breach complete violation linear = excludes_breach operations linear.0 complete linear.1 breach violation

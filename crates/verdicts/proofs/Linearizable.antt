@@ -32,7 +32,7 @@ free_gaps_exist operations clear none =
     gaps_of operations (filter is_empty_answer operations) clear none
     (λ o among. is_empty_did operations o among)
 
--- without a violation there is a legal order
+-- without a violation there is a linearization
 pub linearizable_without_violations : (operations : List Operation) → IsClear operations → NoOrderViolation operations → NoWitnessViolation operations
     → IsLinearizable operations
 linearizable_without_violations operations clear no_order no_witness =

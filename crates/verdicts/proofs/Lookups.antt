@@ -65,7 +65,7 @@ stands_at_its_call operations o d i rise within same = (
       ap (λ k. get_or operations k d) place ∙ there,
 )
 
--- a test of each operation tells whether one did this
+-- a test of each operation shows whether one did this
 pub none_did_from_cases : (operations : List Operation) (kind : OpKind) (r : Bool)
     → MatchBool r (AllWithin (λ o. o.kind ≡ kind → ⊥) operations 0 (length operations))
     ((k : ℕ) × (k < length operations) × HoldsAt (λ o. o.kind ≡ kind) operations k) → IsTrue r ↔ NoneDid operations kind

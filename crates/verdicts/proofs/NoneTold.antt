@@ -1,4 +1,4 @@
--- With no initial values what is told is what is found.
+-- With no initial values the answer is what is found.
 use Rattle.std.proofs.Common.{◌≡◌, ℕ, List, [], ◌∷◌, map, Option, Some, None, refl, sym, ◌∙◌, ap, ap₂, arith}
 use Rattle.std.specs.Prelude.{option_map}
 use Rattle.std.proofs.lemmas.Bool.{le-ltb}
@@ -30,7 +30,7 @@ gaps : (cs : List ℕ) → map (filled_gap 0) cs ≡ cs
 gaps [] = refl
 gaps (c ∷ cs) = ap₂ (λ (n : ℕ) (ns : List ℕ). n ∷ ns) (omega arith) (gaps cs)
 
--- a violation is told as it is found
+-- a violation stays as it is found
 pub violation_of_none : ViolationOfNone
 violation_of_none (Fresh deq enq) = ap₂ Fresh (place deq) (maybe enq)
 violation_of_none (Repeat enq first second) = let e = source enq in let d = place first in let f = place second in λ i. Repeat (e i) (d i) (f i)
@@ -38,18 +38,18 @@ violation_of_none (Order enq_a enq_b deq_b deq_a) =
     let a = source enq_a in let b = source enq_b in let d = place deq_b in let c = maybe deq_a in λ i. Order (a i) (b i) (d i) (c i)
 violation_of_none (Witness empty steps) = ap₂ Witness (place empty) (cover steps)
 
--- a pair is told as it is found
+-- a pair stays as it is found
 pub pair_of_none : PairOfNone
 pair_of_none pair =
     let a = source pair.enq_a in let b = source pair.enq_b in let d = place pair.deq_b in let c = maybe pair.deq_a in
     λ i. record { enq_a = a i; enq_b = b i; deq_b = d i; deq_a = c i }
 
--- the answer for a window is told as it is found
+-- the answer for a window stays as it is found
 pub gap_of_none : GapOfNone
 gap_of_none (gap.Free c) = ap (λ d. gap.Free d) (omega arith)
 gap_of_none (gap.Covered steps) = ap (λ s. gap.Covered s) (cover steps)
 
--- the answer for all windows is told as it is found
+-- the answer for all windows stays as it is found
 pub witness_of_none : WitnessOfNone
 witness_of_none (found.Gaps cs) = ap (λ ds. found.Gaps ds) (gaps cs)
 witness_of_none (found.Covered p steps) = ap₂ found.Covered (place p) (cover steps)

@@ -33,7 +33,7 @@ use Rattle.verdicts.proofs.Selections.{breach_in_selected}
 use Rattle.verdicts.proofs.ShownLines.{accepted_value, early_line, late_line, line_of}
 use Rattle.verdicts.proofs.ShrunkHistories.{IsWhole, calls_behind, enqueued_in_filling, filled_is_whole, selection_filled}
 
--- claims of a no that are one have the same lines
+-- claims of a `NO` that are one have the same lines
 one_list_of_lines : (k l : ViolationKind) (xs ys : List ClaimLine) → claimed.No k xs ≡ claimed.No l ys → xs ≡ ys
 one_list_of_lines k l xs ys same = ap lines same
   where

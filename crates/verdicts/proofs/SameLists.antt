@@ -65,7 +65,7 @@ sorted_is_same {X} key xs ys rises moved sorted =
           | inr (inr above) ↦ absurd (omega arith)
         ]
 
--- a list, sorted by a key, is one of which the keys rise exactly where it has the same elements
+-- a list, sorted by a key, is one of which the keys rise if and only if it has the same elements
 pub sorted_tells : {X : Type 0} (key : X → ℕ) (xs ys sorted : List X) → KeysRise key xs → IsPermutation ys sorted → IsNonDecreasingBy key sorted
     → (sorted ≡ xs) ↔ IsPermutation xs ys
 sorted_tells {X} key xs ys sorted rises moved in_order = (

@@ -14,7 +14,7 @@ use Rattle.verdicts.specs.Inner.Selecting.{call_in, value_in}
 use Rattle.value_match.proofs.FilledLines.{same_operation}
 use Rattle.verdicts.proofs.Retiming.{Rises, retimed}
 
--- the value of an accepted enqueue
+-- the value of a successful enqueue
 abbrev pub accepted_value : OpKind → ℕ
 accepted_value (Enq v) = v
 accepted_value _ = 0

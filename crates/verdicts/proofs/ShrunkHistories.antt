@@ -153,7 +153,7 @@ pub record IsWhole (history : HistoryView) : Type 0 where
 pub filled_is_whole : (history : HistoryView) → IsWhole history → AreComplete (filled_of history)
 filled_is_whole history is = filled_are_complete history.initial history.events is.complete is.few
 
--- what is called before the first ticket's clock is an accepted enqueue
+-- what is called before the first ticket's clock is a successful enqueue
 pub enqueued_in_filling : (whole : HistoryView) (o : Operation) → Contains (filled_of whole) o → o.call < 2 * length whole.initial
     → (v : ℕ) × (o.kind ≡ Enq v)
 enqueued_in_filling whole o among early =

@@ -58,7 +58,7 @@ same_kind_from initial operations violation breach names =
     kind_filled (Order enq_a enq_b deq_b deq_a) = refl
     kind_filled (Witness empty cover) = refl
 
--- ---- the lines of a no
+-- ---- the lines of a `NO`
 
 -- the place of a value among different ones is its first
 place_of_value : (values : List ℕ) (j v : ℕ) → AllPairs (λ v w. v ≢ w) values → slice_get values j ≡ Some v → position (λ w. nat_eq w v) values ≡ Some j

@@ -45,7 +45,7 @@ StandFor initial lines shown = map (stands_for initial) lines ≡ map Some shown
 abbrev pub ShowsInFilled : List ℕ → List Operation → ViolationKind → List ClaimLine → Type 0
 ShowsInFilled initial operations kind lines = (shown : List Operation) × StandFor initial lines shown × ShowsViolation (filled initial operations) kind shown
 
--- the lines are a legal order of the operations, or those of a violation of this kind
+-- the lines are a linearization of the operations, or those of a violation of this kind
 abbrev pub IsTrueClaim : List ℕ → List Operation → Claimed → Type 0
 IsTrueClaim initial operations (Yes lines) = IsLegalOrderFrom initial operations lines
 IsTrueClaim initial operations (No kind lines) = ShowsInFilled initial operations kind lines

@@ -46,7 +46,7 @@ select values empties whole = record { initial = filter values whole.initial; op
 abbrev pub IsValueClosed : Contents → Contents → Type 0
 IsValueClosed whole selected = (values : ℕ → Bool) × (empties : ℕ → Bool) × (selected ≡ select values empties whole)
 
--- a legal order exists for a queue that holds the initial values first
+-- a linearization exists for a queue that holds the initial values first
 abbrev pub AreLinearizable : Contents → Type 0
 AreLinearizable contents = IsLinearizableFrom contents.initial contents.operations
 

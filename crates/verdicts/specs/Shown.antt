@@ -8,7 +8,7 @@ use Rattle.value_match.specs.declared.violation.Violation.TheVariants.{Fresh, Re
 use Rattle.verdicts.specs.declared.shown.LinePlace.{LinePlace}
 use Rattle.verdicts.specs.declared.shown.LinePlace.TheVariants.{Op, Initial}
 
--- the place of a source: that of an accepted enqueue, or of an initial value
+-- the place of a source: that of a successful enqueue, or of an initial value
 abbrev pub place_of_source : Source → LinePlace
 place_of_source (source.Enq place) = Op place
 place_of_source (source.Initial place) = Initial place

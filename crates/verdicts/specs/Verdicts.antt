@@ -23,13 +23,13 @@ IsVerdictFrom initial operations (Yes places) =
     (order : List Operation) × ArePlacesOf operations places order × IsChosenOrder (filled initial operations) (filled initial order)
 IsVerdictFrom initial operations (No violation) = IsChosenFrom initial operations violation
 
--- a yes lists a legal order for a queue that holds these values first; a no names what violates in the filled history
+-- a `YES` lists a linearization for a queue that holds these values first; a `NO` names what violates in the filled history
 abbrev pub IsEvidenceFrom : List ℕ → List Operation → Verdict → Type 0
 IsEvidenceFrom initial operations (Yes places) = (order : List Operation) × ArePlacesOf operations places order × IsLegalOrderFrom initial operations order
 IsEvidenceFrom initial operations (No violation) =
     (breach : Breach) × Names (filled initial operations) (filled_violation (length initial) violation) breach × IsBreachOf (filled initial operations) breach
 
--- yes where a legal order exists for a queue that holds these values first, no where none does
+-- `YES` if a linearization exists for a queue that holds these values first, `NO` if none does
 abbrev pub IsExactFrom : List ℕ → List Operation → Verdict → Type 0
 IsExactFrom initial operations (Yes places) = IsLinearizableFrom initial operations
 IsExactFrom initial operations (No violation) = ¬ (IsLinearizableFrom initial operations)

@@ -9,7 +9,7 @@ use history_merge::{OpKind, Operation};
 use std::alloc::{AllocError, Global};
 use std::collections::VecDeque;
 
-/// Whether the lines are a legal order of the operations, for a queue that holds the initial values first.
+/// Returns whether the lines are a linearization of the operations, for a queue that holds the initial values first.
 pub fn is_legal_order(
     alloc: Global,
     filled: &Filled,
@@ -58,7 +58,7 @@ fn extends_precedence(lines: &[Operation]) -> bool
     true
 }
 
-/// Whether the sequential queue, which holds these values first, accepts the lines in turn.
+/// Returns whether the sequential specification, which holds these values first, accepts the lines in turn.
 fn is_accepted(alloc: Global, first_held: &[u64], lines: &[Operation]) -> Result<bool, AllocError>
     ensures { IfOk result (λ accepted. IsTrue accepted ↔ IsAccepted first_held.now (map (λ o. o.kind) lines.now)) }
 {

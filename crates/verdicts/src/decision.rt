@@ -2,25 +2,34 @@ ghost use Rattle.std.specs.Prelude.{◌≡◌, ◌≤◌, IfOk};
 ghost use Rattle.value_match.specs.Filling.{filled_operations};
 ghost use Rattle.value_match.specs.Violations.{IsClear, NoOrderViolation};
 ghost use Rattle.empty_witness.specs.Answers.{IsWitnessAnswerFrom};
+ghost use Rattle.order_violation.specs.Pairs.{IsOrderAnswerFrom};
 ghost use Rattle.parallel_finders.specs.declared.TheConstants.{MAX_PIECES};
 ghost use Rattle.verdicts.specs.Decided.{IsDecided, IsDecidedFrom};
 
 use crate::verdict::{Order, Verdict};
 use empty_witness::{WitnessAnswer, find_witness};
 use history_merge::History;
-use linearizer::linearize;
+use linearizer::{OrderedValues, linearize, order_values};
 use order_violation::{OrderPair, find_order};
 use parallel_finders::{find_order_par, find_witness_par};
 use std::alloc::{AllocError, Global};
 use std::thread::Threads;
 use value_match::{Matched, Matching, Violation, match_values};
 
-/// Whether a history has a legal order (Herlihy and Wing 1990) for a queue that holds the initial values first: yes with the
-/// chosen order, no with the chosen violation, which is of the first kind that is present: a value that was not there, a
-/// value dequeued twice, values dequeued against the order of their enqueues, an empty answer while the queue was never empty.
+/// Decides whether a history has a linearization (Herlihy and Wing 1990) for a queue that holds the initial values first:
+/// `Yes` with the chosen one, or `No` with the chosen violation, of the first kind that is present: a value that was not
+/// there, a value dequeued twice, values dequeued against the order of their enqueues, an empty dequeue while the queue was
+/// never empty.
 ///
-/// An order and a violation name operations and initial values by their own places, from 0. The four kinds are this project's
-/// own. `AllocError` comes only where a growth was refused.
+/// A linearization and a violation name operations and initial values by their own places, from 0. The four kinds are this
+/// project's own. `AllocError` comes only if memory ran out.
+///
+/// The `history` dequeues 7, which was never enqueued:
+///
+/// ```rust
+/// let verdict = decide(alloc, &history)?;
+/// assert!(rt; matches!(&verdict, Verdict::No(_)));
+/// ```
 pub fn decide(alloc: Global, history: &History) -> Result<Verdict, AllocError>
     ensures { IfOk result (IsDecided history.now) }
 {
@@ -55,11 +64,12 @@ fn decide_matching(alloc: Global, matching: &Matching) -> Result<Verdict, AllocE
     requires { IsClear (filled_operations matching.now) }
     ensures { IfOk result (IsDecidedFrom matching.now.initial matching.now.operations) }
 {
-    if let Some(pair) = find_order(alloc, matching)? {
+    let values = order_values(alloc, matching)?;
+    if let Some(pair) = overtaking_pair(alloc, matching, &values)? {
         return Ok(Verdict::No(violation_of(pair)));
     }
     let answer = find_witness(alloc, matching)?;
-    decide_in_order(alloc, matching, answer)
+    decide_in_order(alloc, matching, &values, answer)
 }
 
 /// The same by searches in pieces.
@@ -73,19 +83,56 @@ fn decide_matching_par<R: Threads + Sync>(
     requires pieces { (1 ≤ pieces) × (pieces ≤ MAX_PIECES) }
     ensures { IfOk result (IsDecidedFrom matching.now.initial matching.now.operations) }
 {
-    if let Some(pair) = find_order_par(rt, alloc, matching, pieces)? {
+    let values = order_values(alloc, matching)?;
+    if let Some(pair) = overtaking_pair_par(rt, alloc, matching, &values, pieces)? {
         return Ok(Verdict::No(violation_of(pair)));
     }
     let answer = find_witness_par(rt, alloc, matching, pieces)?;
-    decide_in_order(alloc, matching, answer)
+    decide_in_order(alloc, matching, &values, answer)
+}
+
+/// The chosen pair of values dequeued against the order of their enqueues, if there is one. None is looked for where each value
+/// stands in its windows.
+fn overtaking_pair(
+    alloc: Global,
+    matching: &Matching,
+    values: &OrderedValues,
+) -> Result<Option<OrderPair>, AllocError>
+    requires { values.now ≡ filled_operations matching.now }
+    ensures { IfOk result (IsOrderAnswerFrom matching.now.initial matching.now.operations) }
+{
+    if values.keeps_windows(matching) {
+        return Ok(None);
+    }
+    find_order(alloc, matching)
+}
+
+/// What `overtaking_pair` returns, by a search in pieces.
+fn overtaking_pair_par<R: Threads + Sync>(
+    rt: &R,
+    alloc: Global,
+    matching: &Matching,
+    values: &OrderedValues,
+    pieces: usize,
+) -> Result<Option<OrderPair>, AllocError>
+    requires values { values.now ≡ filled_operations matching.now }
+    requires pieces { (1 ≤ pieces) × (pieces ≤ MAX_PIECES) }
+    ensures { IfOk result (IsOrderAnswerFrom matching.now.initial matching.now.operations) }
+{
+    if values.keeps_windows(matching) {
+        return Ok(None);
+    }
+    find_order_par(rt, alloc, matching, pieces)
 }
 
 /// The verdict where moreover no value is dequeued against the order of the enqueues, by what is found of the empty answers.
 fn decide_in_order(
     alloc: Global,
     matching: &Matching,
+    values: &OrderedValues,
     answer: WitnessAnswer,
 ) -> Result<Verdict, AllocError>
+    requires values { values.now ≡ filled_operations matching.now }
     requires clear { IsClear (filled_operations matching.now) }
     requires in_order { NoOrderViolation (filled_operations matching.now) }
     requires answer { IsWitnessAnswerFrom matching.now.initial matching.now.operations answer }
@@ -96,7 +143,7 @@ fn decide_in_order(
             Ok(Verdict::No(Violation::Witness { empty, cover }))
         }
         WitnessAnswer::Gaps(gaps) => {
-            let places = linearize(alloc, matching, gaps.as_slice())?;
+            let places = linearize(alloc, matching, values, gaps.as_slice())?;
             Ok(Verdict::Yes(Order::from_vec(places)))
         }
     }

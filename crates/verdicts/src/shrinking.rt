@@ -22,6 +22,16 @@ use value_match::Violation;
 ///
 /// Time O(n log n) for n initial values and operations. Memory beside the answer: a copy of the lines of the violation, and
 /// sets of the values and of the tickets that are kept. `AllocError` comes only where a growth was refused.
+///
+/// The `history` enqueues 5, and dequeues 7, which was never enqueued:
+///
+/// ```rust
+/// let Verdict::No(violation) = decide(alloc, &history)? else {
+///     return Err(Fail::from("linearizable"));
+/// };
+/// let small = shrink(alloc, &history, &violation)?;
+/// assert_eq!(rt; small.operations().len(), 1);
+/// ```
 pub fn shrink(
     alloc: Global,
     history: &History,
@@ -50,6 +60,6 @@ fn history_of(alloc: Global, initial: Vec<u64>, events: &[Event]) -> Result<Hist
     requires complete { IsCompleteFrom initial.items events.now }
     ensures { IfOk result (λ whole. (whole.initial ≡ initial.items) × (whole.events ≡ events.now)) }
 {
-    // A complete history is refused for want of memory alone.
+    // A complete history is refused only if memory runs out.
     history_from(alloc, initial, events).map_err(|_| AllocError)
 }

@@ -10,19 +10,19 @@ use event_records::Listed;
 use history_merge::{History, Operation};
 use std::alloc::{AllocError, Global};
 
-/// The operations of a yes as it lists them, seen as a list. Any operations may stand in it.
+/// The operations of a `YES` as it lists them, seen as a list. Any operations may stand in it.
 pub type Lines = Listed<Operation>;
 
-/// What a line of a no shows.
+/// What a line of a `NO` shows.
 #[derive(Clone, Copy, Debug, PartialEq, Eq)]
 pub enum ClaimLine {
     /// An operation.
     Op(Operation),
-    /// A value that the queue holds first. It stands where an accepted enqueue of it would stand.
+    /// A value that the queue holds first. It stands where a successful enqueue of it would stand.
     Initial(u64),
 }
 
-/// The lines of a no, seen as a list. Any lines may stand in it.
+/// The lines of a `NO`, seen as a list. Any lines may stand in it.
 pub type ClaimLines = Listed<ClaimLine>;
 
 /// The kinds of violation, by the names that verdicts print.
@@ -41,26 +41,34 @@ pub enum ViolationKind {
 /// A verdict as somebody claims it. It need not be true, nor speak of operations that exist.
 #[derive(Debug, Drop)]
 pub enum Claimed {
-    /// The operations in a legal order.
+    /// The operations in a linearization.
     Yes(Lines),
     /// The lines that show a violation of this kind, in this order, where the enqueue of an initial value is the line of
     /// that value:
     ///
-    /// - `VFresh`: the dequeue, then the enqueue of its value, accepted or refused, if the history has one;
-    /// - `VRepeat`: the accepted enqueue, then two dequeues of its value in the order of their returns;
+    /// - `VFresh`: the dequeue, then the enqueue of its value, successful or failed, if the history has one;
+    /// - `VRepeat`: the successful enqueue, then two dequeues of its value in the order of their returns;
     /// - `VOrd`: the enqueues of a and of b, the dequeue of b, then a dequeue of a if the history has one;
-    /// - `VWit`: the empty answer, then for each value of a cover its accepted enqueue and its dequeue; the last value has
-    ///   no dequeue where the history has none.
+    /// - `VWit`: the empty dequeue, then for each value of a cover its successful enqueue and its dequeue; the last value
+    ///   has no dequeue if the history has none.
     No(ViolationKind, ClaimLines),
 }
 
-/// Whether a claim is evidence in this history: a yes that lists a legal order (Herlihy and Wing 1990) for a queue that holds
-/// the initial values first, or a no whose lines have the shape of their kind and show a violation. It need not be the order
-/// or the violation that `decide` chooses.
+/// Returns whether a claim is evidence in this history: a `YES` that lists a linearization (Herlihy and Wing 1990) for a
+/// queue that holds the initial values first, or a `NO` whose lines have the shape of their kind and show a violation. It
+/// need not be the linearization or the violation that `decide` chooses.
 ///
-/// The claim is checked by itself: nothing is searched for, and no order is made. Time O(n + m log n) for a history of n
-/// operations and a claim of m lines, and for a line of an initial value a walk over these. Memory for a yes: a copy of its
-/// lines, and the values in the queue; for a no none, so a no is always answered.
+/// It checks the claim by itself: it searches for nothing, and makes no order. Time O(n + m log n) for a history of n
+/// operations and a claim of m lines, and for a line of an initial value a walk over these. Memory for a `YES`: a copy of
+/// its lines, and the values in the queue; for a `NO` none, so memory doesn't run out.
+///
+/// The `history` dequeues 7, which was never enqueued:
+///
+/// ```rust
+/// let text = b"NO VFresh\n0 1 0 deq 7\n";
+/// let claimed = read_verdict(alloc, &mut TextReader::new(MemorySource::new(text)))?;
+/// assert!(rt; verify(alloc, &history, &claimed)?);
+/// ```
 pub fn verify(alloc: Global, history: &History, claimed: &Claimed) -> Result<bool, AllocError>
     ensures exact { IfOk result (λ valid. IsTrue valid ↔ IsTrueClaim history.now.initial (operations_of history.now.events) claimed.now) }
     ensures no { (kind : ViolationKind) (lines : List ClaimLine) → claimed.now ≡ Claimed.No kind lines → IsOk result }

@@ -81,7 +81,7 @@ one_fault text Memory Limit a b = absurd (b.beyond (subst (λ (rows : List (List
     (read_once a.rows b.rows (sym a.text_is ∙ b.text_is)) a.within))
 one_fault text Memory Memory a b = refl
 
--- an answer that is want of memory, where that is the fault of the text
+-- an answer that is out of memory, if that is the fault of the text
 pub memory_is : {A : Type 0} (answer : Result A PlanFault) (fault : PlanFault) → IsErrAnd answer (λ e. e ≡ Memory) → Memory ≡ fault
     → MatchResult answer (λ _. fault ≡ Memory) (λ found. found ≡ fault)
 memory_is (Ok value) fault is same = absurd is

@@ -49,7 +49,7 @@ gives_more percent before middle after kinds longer word kind first step is last
     let both = gives_both percent before middle after kinds (kind_of_word percent word ∷ []) first (gives_word percent middle word after step) in
     subst (λ (l : List Kind). GivesKinds percent before l after) (sym (last ∙ ap (λ (k : Kind). kinds ++ k ∷ []) is)) both
 
--- rows of so many operations each, whose kinds the words give
+-- rows of this many operations each, whose kinds the words give
 pub record GivesRows (percent operations : ℕ) (before : Lcg) (rows : List (List Kind)) (after : Lcg) : Type 0 where
   pub lengths : All (λ row. length row ≡ operations) rows
   pub total : length (flat_map (λ row. row) rows) ≡ length rows * operations
@@ -93,7 +93,7 @@ seeded seed percent workers operations rows after given count =
       kinds = sym (append-nil (flat_map (λ (r : List Kind). r) rows)) ∙ sym (given.kinds.begins 0) ∙ ap (λ (n : ℕ). kinds_of_words percent n start) all;
     }
 
--- such rows are within the limits where their numbers are
+-- such rows are within the limits if their numbers are
 pub seeded_plan : (percent operations : ℕ) (before : Lcg) (rows : List (List Kind)) (after : Lcg) → GivesRows percent operations before rows after
     → 1 ≤ length rows → length rows ≤ MAX_WORKERS → operations ≤ MAX_THREAD_OPERATIONS → length rows * operations ≤ MAX_OPERATIONS → IsPlan rows
 seeded_plan percent operations before rows after given some few short small = record {

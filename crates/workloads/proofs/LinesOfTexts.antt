@@ -133,7 +133,7 @@ count-text_of rows = omega (
   length-append rows ([] ∷ []),
 )
 
--- the lines are short where the rows are
+-- the lines are short if the rows are
 short_from_lines : (rows : List (List Kind)) → list_all is_short_line (map (map letter) (rows ++ [] ∷ [])) ≡ true → AreShort rows
 short_from_lines [] test = All-nil (λ (row : List Kind). length row ≤ MAX_THREAD_OPERATIONS)
 short_from_lines (row ∷ rows) test =
@@ -152,15 +152,15 @@ lines_from_short (row ∷ rows) short =
     (le-leb (length (map letter row)) MAX_THREAD_OPERATIONS line) rest
 
 -- what the bytes of a text tell of its rows
-pub record TellsRows (text : List ℕ) (rows : List (List Kind)) : Type 0 where
+pub record AreRowsOf (text : List ℕ) (rows : List (List Kind)) : Type 0 where
   pub workers : count_by ends_line text ≡ length rows
   pub operations : sum_by length rows + length rows ≡ length text
   pub short : list_all is_short_line (slice_split ends_line text) ≡ true → AreShort rows
   pub lines : AreShort rows → list_all is_short_line (slice_split ends_line text) ≡ true
 
--- the text of rows tells them
-pub tells_rows : (text : List ℕ) (rows : List (List Kind)) → text ≡ text_of rows → TellsRows text rows
-tells_rows text rows is = subst (λ (t : List ℕ). TellsRows t rows) (sym is) (record {
+-- the text of rows determines them
+pub rows_of_text : (text : List ℕ) (rows : List (List Kind)) → text ≡ text_of rows → AreRowsOf text rows
+rows_of_text text rows is = subst (λ (t : List ℕ). AreRowsOf t rows) (sym is) (record {
   workers = count-text_of rows;
   operations = sym (length-text_of rows);
   short = λ test. short_from_lines rows (sym (ap (list_all is_short_line) (parts-text_of rows)) ∙ test);

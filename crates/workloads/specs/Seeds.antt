@@ -11,7 +11,7 @@ use Rattle.event_records.specs.declared.kind.Kind.TheVariants.{Enq, Deq}
 abbrev pub generator_of : ℕ → Lcg
 generator_of seed = pcg64_of_seed (pcg32_seed 32 seed)
 
--- an enqueue where the word's last two decimal digits are below the percentage
+-- an enqueue if the word's last two decimal digits are below the percentage
 abbrev pub kind_of_word : ℕ → ℕ → Kind
 kind_of_word percent word = if nat_lt (word % 100) percent then Enq else Deq
 
@@ -19,7 +19,7 @@ kind_of_word percent word = if nat_lt (word % 100) percent then Enq else Deq
 abbrev pub kinds_of_words : ℕ → ℕ → Lcg → List Kind
 kinds_of_words percent n generator = map (kind_of_word percent) (first_words pcg64 n generator)
 
--- so many workers with so many operations each, whose kinds, one worker after another, are those of the seed's first words
+-- this many workers with this many operations each, whose kinds, one worker after another, are those of the seed's first words
 pub record IsSeeded (seed workers operations percent : ℕ) (rows : List (List Kind)) : Type 0 where
   pub all_workers : length rows ≡ workers
   pub all_operations : All (λ row. length row ≡ operations) rows

@@ -27,7 +27,7 @@ pub record IsCut (text : List ℕ) : Type 0 where
   pub text_is : text ≡ front ++ last ∷ []
   pub no_end : last ≢ LINE_FEED
 
--- the bytes are the lines of so many workers, and then letters of one more
+-- the bytes are the lines of this many workers, and then letters of one more
 pub record HasLines (bytes : List ℕ) (workers : ℕ) : Type 0 where
   pub rows : List (List Kind)
   pub kinds : List Kind

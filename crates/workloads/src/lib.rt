@@ -1,4 +1,4 @@
-//! Plans: which kinds of operation each worker of a run makes, in order.
+//! Plans: which operations each worker of a run makes, in order.
 #![tactic(auto)]
 
 mod plans;

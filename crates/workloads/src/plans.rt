@@ -29,7 +29,7 @@ impl Model for Plan {
 }
 
 impl Plan {
-    /// The plan of these rows, or none where they are beyond the limits. Takes no memory.
+    /// Makes the plan of these rows, or none if they are beyond the limits. It takes no memory.
     pub fn of_rows(rows: Vec<Row>) -> Option<Plan>
         ensures limits { IsSome result ↔ IsPlan rows.items }
         ensures plan { IfSome result (λ plan. plan ≡ rows.items) }
@@ -41,7 +41,7 @@ impl Plan {
         }
     }
 
-    /// The plan of rows that are within the limits.
+    /// Makes the plan of rows that are within the limits.
     pub(crate) fn within_limits(rows: Vec<Row>) -> Plan
         requires { IsPlan rows.items }
         ensures { result ≡ rows.items }
@@ -49,7 +49,7 @@ impl Plan {
         Plan { rows }
     }
 
-    /// The rows, one for each worker.
+    /// Returns the rows, one for each worker.
     pub fn rows(&self) -> &[Row]
         ensures rows { result.now ≡ self.now }
         ensures limits { IsPlan self.now }
@@ -57,7 +57,7 @@ impl Plan {
         self.rows.as_slice()
     }
 
-    /// How many operations all workers make together.
+    /// Returns how many operations all workers make together.
     pub fn operations(&self) -> u64
         ensures count { result ≡ sum_by length self.now }
         ensures small { result ≤ MAX_OPERATIONS }

@@ -13,10 +13,19 @@ use rand_pcg::Pcg64;
 use std::alloc::{AllocError, Global};
 
 impl Plan {
-    /// A plan of `workers` workers with `operations` operations each, about `percent` of a hundred of them enqueues.
+    /// Makes a plan of `workers` workers with `operations` operations each, about `percent` of a hundred of them
+    /// enqueues.
     ///
-    /// One `Pcg64` from `seed_from_u64(seed)` gives one word for each operation, worker by worker, so one seed always gives
-    /// one plan. Takes time and memory in proportion to the operations; want of memory is the one error.
+    /// One `Pcg64` from `seed_from_u64(seed)` gives one word for each operation, worker by worker, so one seed always
+    /// gives one plan. Takes time and memory in proportion to the operations. The only error is out of memory.
+    ///
+    /// Four workers, each with 1,000 operations, about half of them enqueues:
+    ///
+    /// ```rust
+    /// let plan = Plan::from_seed(alloc, 1, 4, 1000, 50)?;
+    /// assert_eq!(rt; plan.rows().len(), 4);
+    /// assert_eq!(rt; plan.operations(), 4000);
+    /// ```
     pub fn from_seed(
         alloc: Global,
         seed: u64,
@@ -39,7 +48,7 @@ impl Plan {
     }
 }
 
-// The row of the next words.
+// Makes the row of the next words.
 fn next_row(
     alloc: Global,
     words: &mut Pcg64,

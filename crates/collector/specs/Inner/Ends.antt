@@ -1,4 +1,4 @@
--- The rings of a run that stand behind tokens.
+-- The rings of a run that its tokens close.
 use Rattle.std.specs.Prelude.{ℕ, List, map}
 use Rattle.event_rings.specs.Ring.{RingName, TokenView}
 

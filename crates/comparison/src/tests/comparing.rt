@@ -84,7 +84,7 @@ fn compare_clear(
     Ok(())
 }
 
-/// The operation at a place of the filled history, which has so many enqueues of initial values first.
+/// Returns the operation at a place of the filled history, which begins with this many enqueues of initial values.
 fn told_id(first: usize, id: OpId) -> OpId {
     OpId::new(id.place().saturating_sub(first))
 }
@@ -98,7 +98,7 @@ fn told_enqueue(first: usize, id: OpId) -> Source {
     }
 }
 
-/// The source of a value of the filled history, where all are enqueues.
+/// The source of a value of the filled history, in which all are enqueues.
 fn told_source(first: usize, source: Source) -> Source {
     match source {
         Source::Enq(id) => told_enqueue(first, id),

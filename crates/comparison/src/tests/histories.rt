@@ -44,8 +44,8 @@ impl Words {
     }
 }
 
-/// What a small history is like: how often, of ten times, an answer is told that the queue didn't give, and how many values
-/// the queue holds first.
+/// What a small history is like: how often, of ten times, an operation gets an answer that the queue didn't give, and
+/// how many values the queue holds at first.
 #[derive(Clone, Copy)]
 pub struct Sort {
     pub lies: u64,
@@ -62,7 +62,7 @@ fn named(words: &mut Words, first: u8) -> u64 {
     }
 }
 
-/// What an operation is told.
+/// An answer that an operation gets.
 fn told(words: &mut Words, first: u8) -> Answer {
     match words.below(12) {
         0 => Answer::Not,
@@ -93,7 +93,7 @@ fn take(machine: &mut Machine, step: Step, thread: u8) -> Result<Done, StepRefus
     done
 }
 
-/// Whether the step begins an operation, where it is taken.
+/// Whether the step begins an operation, if it is taken.
 fn is_ask(step: Step) -> bool {
     match step {
         Step::AskEnq(_) | Step::AskDeq(_) => true,
@@ -101,7 +101,8 @@ fn is_ask(step: Step) -> bool {
     }
 }
 
-/// Seeded steps, which begin no more operations than these. It tells whether one of them told an answer.
+/// Takes seeded steps, which begin no more operations than these. Returns whether one of them gave an answer of its
+/// own.
 fn move_on(machine: &mut Machine, words: &mut Words, sort: Sort, most: u64) -> bool
     ensures { length machine.new.threads ≡ length machine.old.threads }
 {
@@ -131,7 +132,7 @@ fn end_all(machine: &mut Machine, threads: u8)
     }
 }
 
-/// So many values that a queue may hold first.
+/// This many values that a queue may hold at first.
 fn first_values(alloc: Global, count: u8) -> Result<Vec<u64>, AllocError> {
     (0..u64::from(count))
         .map(|place| LEAST_INITIAL_NAME + 3 + place)
@@ -199,7 +200,7 @@ fn take_round(machine: &mut Machine, round: u64, threads: u8)
     end_all(machine, threads);
 }
 
-/// An honest history of so many rounds, the first of which has this number.
+/// An honest history of this many rounds, the first of which has this number.
 pub(crate) fn honest_history(alloc: Global, first: u64, rounds: u64) -> Result<History, Fail> {
     let mut machine = Machine::new(alloc, usize::from(MANY_THREADS), 4)?;
     for round in 0..rounds {
@@ -217,7 +218,7 @@ fn operate(machine: &mut Machine, ask: Step, thread: u8)
     let _ = take(machine, Step::Ret(thread), thread);
 }
 
-/// A history with one empty answer, around so many values, each of which is dequeued only after the next is there.
+/// A history with one empty dequeue, around this many values, each of which is dequeued only after the next is there.
 pub(crate) fn covered_history(alloc: Global, values: u64) -> Result<History, Fail> {
     let mut machine = Machine::new(alloc, 2, 4)?;
     operate(&mut machine, Step::AskEnq(0), 0);

@@ -5,12 +5,12 @@ use std::alloc::{AllocError, Global};
 use std::test::Fail;
 use value_match::{CoverStep, FilledMatching, Life, MatchedValue, Source};
 
-/// Whether the value surely is in the queue at this gap.
+/// Whether the value is definitely in the queue at this gap.
 fn covers(life: &Life, gap: u64) -> bool {
     life.enqueue_return() <= gap && gap < life.dequeue_call()
 }
 
-/// Whether no value surely is in the queue at this gap.
+/// Whether no value is definitely in the queue at this gap.
 fn is_free(values: &[MatchedValue], gap: u64) -> bool {
     !values.iter().any(|value| covers(&value.life, gap))
 }
@@ -41,7 +41,7 @@ fn is_longer(life: &Life, other: &Life) -> bool {
         || (other_leaves == leaves && life.enqueue_return() < other.enqueue_return())
 }
 
-/// The longer of two values, where there is one so far.
+/// The longer of two values, if there is one so far.
 fn longer_of(so_far: Option<MatchedValue>, value: MatchedValue) -> MatchedValue {
     match so_far {
         None => value,
@@ -66,7 +66,7 @@ fn longest_before(values: &[MatchedValue], frontier: u64) -> Option<MatchedValue
     longest
 }
 
-/// The cover of a window, value by value; none where it isn't covered.
+/// The cover of a window, value by value; none if it isn't covered.
 pub(crate) fn plain_cover(
     alloc: Global,
     values: &[MatchedValue],

@@ -7,7 +7,7 @@ use value_match::{FilledMatching, Life, MatchedValue};
 /// Where an operation stands: its gap, the class within the gap, and the rank within the class.
 type Position = (u64, u8, u64);
 
-/// When the value has surely entered.
+/// Returns when the value is definitely enqueued.
 fn entered_by(life: &Life) -> u64 {
     life.enqueue_return().min(life.dequeue_return())
 }
@@ -20,7 +20,7 @@ fn leaves_from(life: &Life) -> u64 {
 /// A value with its place among those that remain.
 type Placed = (usize, MatchedValue);
 
-/// The one of two values that has surely entered first.
+/// Returns the one of two values that is definitely enqueued first.
 fn first_entered(so_far: Option<Placed>, next: Placed) -> Placed {
     match so_far {
         None => next,
@@ -80,7 +80,7 @@ fn ordered(alloc: Global, values: &[MatchedValue]) -> Result<Vec<MatchedValue>, 
     Ok(order)
 }
 
-/// The gap just before the first of the values from this rank on has surely entered.
+/// Returns the gap just before the first of the values from this rank on is definitely enqueued.
 fn entry_gap(order: &[MatchedValue], rank: usize) -> u64 {
     let mut least = u64::MAX;
     for value in order.iter().skip(rank) {
@@ -109,7 +109,7 @@ fn value_positions(
     Ok(placed)
 }
 
-/// The chosen order of all operations, where each empty answer has its gap.
+/// The chosen order of all operations, if each empty dequeue has its gap.
 pub(crate) fn plain_linearization(
     alloc: Global,
     matching: &FilledMatching,

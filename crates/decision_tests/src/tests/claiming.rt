@@ -29,7 +29,7 @@ fn claimed_of(alloc: Global, history: &History) -> Result<Claimed, AllocError> {
     claim(alloc, history, &verdict)
 }
 
-/// The same where it is searched for in this many pieces.
+/// Does so by a search in this many pieces.
 fn claimed_in<R: AllocGlobal + Threads + Sync>(
     rt: &R,
     history: &History,
@@ -54,7 +54,7 @@ where
     Ok(())
 }
 
-/// What a verdict claims: the kind of a no, and the operations that it lists.
+/// What a verdict claims: the kind of a `NO`, and the operations that it lists.
 type Shown<'a> = (Option<ViolationKind>, &'a [Operation]);
 
 /// Asserts what the verdict on the history of these operations claims.

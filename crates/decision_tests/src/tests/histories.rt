@@ -6,8 +6,11 @@ use history_merge::{History, HistoryFault, OpKind, Operation, history, merge};
 use std::alloc::{AllocError, Global};
 use std::test::Fail;
 
-/// What `history` answers to these events; want of memory ends the test.
-fn judged(alloc: Global, events: &[Event]) -> Result<Result<History, HistoryFault>, AllocError>
+/// What `history` returns for these events; out of memory ends the test.
+fn history_or_fault(
+    alloc: Global,
+    events: &[Event],
+) -> Result<Result<History, HistoryFault>, AllocError>
     requires { length events.now ≤ MAX_EVENTS }
 {
     match history(alloc, events) {
@@ -33,7 +36,7 @@ fn names_the_first_fault(rt: HostRuntime) -> Result<(), Fail> {
     ];
     for (events, fault) in cases {
         assert!(rt; events.len() <= MAX_EVENTS);
-        assert_eq!(rt; judged(rt.alloc(), events)?.err(), Some(fault));
+        assert_eq!(rt; history_or_fault(rt.alloc(), events)?.err(), Some(fault));
     }
     Ok(())
 }
@@ -71,7 +74,10 @@ fn long_run(alloc: Global, values: u32) -> Result<Vec<Event>, AllocError> {
 fn takes_two_hundred_thousand_events(rt: HostRuntime) -> Result<(), Fail> {
     let events = long_run(rt.alloc(), 50_000)?;
     assert_eq!(rt; events.len(), 200_000);
-    let history = judged(rt.alloc(), events.as_slice())?.expect(&rt, "a complete history");
+    let history = history_or_fault(rt.alloc(), events.as_slice())?.expect(
+        &rt,
+        "a complete history",
+    );
     let operations = history.operations();
     assert_eq!(rt; operations.len(), 100_000);
     let last = by(63, 199_998, 199_999, OpKind::Deq(49_999));

@@ -7,8 +7,8 @@ use history_merge::{History, HistoryBuilder, HistoryFault, OpKind, Operation, fi
 use std::alloc::{AllocError, Global};
 use std::test::Fail;
 
-/// What `history_from` answers to these initial values and events; want of memory ends the test.
-fn judged(
+/// What `history_from` returns for these initial values and events; out of memory ends the test.
+fn history_or_fault(
     alloc: Global,
     initial: &[u64],
     events: &[Event],
@@ -22,7 +22,7 @@ fn judged(
     }
 }
 
-/// What a history in the making that starts with these values answers to these events; want of memory ends the test.
+/// What a history builder that starts with these values returns for these events; out of memory ends the test.
 fn gathered(
     alloc: Global,
     initial: &[u64],
@@ -52,7 +52,10 @@ fn names_the_first_fault_of_initial_values_and_events(rt: HostRuntime) -> Result
     ];
     for (initial, events, fault) in cases {
         assert!(rt; initial.len() <= MAX_INITIAL);
-        assert_eq!(rt; judged(rt.alloc(), initial, &events)?.err(), Some(fault));
+        assert_eq!(rt;
+            history_or_fault(rt.alloc(), initial, &events)?.err(),
+            Some(fault)
+        );
         assert_eq!(rt; gathered(rt.alloc(), initial, &events)?.err(), Some(fault));
     }
     Ok(())
@@ -96,7 +99,7 @@ fn operations_of_two() -> [Operation; 2] {
 #[test]
 fn shows_its_parts(rt: HostRuntime) -> Result<(), Fail> {
     let (values, given) = overlapping_two();
-    let history = judged(rt.alloc(), &values, &given)?.expect(&rt, "a complete history");
+    let history = history_or_fault(rt.alloc(), &values, &given)?.expect(&rt, "a complete history");
     assert!(rt; shows(rt.alloc(), &history, &values, &given, &operations_of_two())?);
     Ok(())
 }
@@ -112,7 +115,7 @@ fn gives_its_parts_back(rt: HostRuntime) -> Result<(), Fail> {
 #[test]
 fn enqueues_initial_values_before_all_else(rt: HostRuntime) -> Result<(), Fail> {
     let events = [at(0, 1, What::CallDeq), at(7, 1, What::RetDeq(5))];
-    let history = judged(rt.alloc(), &[5, 6], &events)?.expect(&rt, "a complete history");
+    let history = history_or_fault(rt.alloc(), &[5, 6], &events)?.expect(&rt, "a complete history");
     let filled = fill(rt.alloc(), history.initial(), history.operations())?;
     assert_eq!(rt;
         filled.as_slice(),

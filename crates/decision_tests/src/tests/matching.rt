@@ -140,7 +140,7 @@ fn longest_call(table: &LongestTable, limit: u64) -> Option<u64> {
     }
 }
 
-/// The same for each limit.
+/// Returns that call for each limit.
 fn longest_calls(
     alloc: Global,
     table: &LongestTable,
@@ -153,7 +153,7 @@ fn longest_calls(
     Ok(calls)
 }
 
-/// The same of these accepted values, behind how many there are.
+/// Returns how many of these accepted values there are, and that call for each limit.
 fn longest_of(
     alloc: Global,
     values: Values<'_>,
@@ -164,7 +164,7 @@ fn longest_of(
     Ok((table.values().len(), calls))
 }
 
-/// The same of the accepted values of these operations.
+/// Returns both for the accepted values of these operations.
 fn longest_among(
     alloc: Global,
     operations: &[Operation],

@@ -139,7 +139,7 @@ fn found_par<R: Threads + Sync>(
     places_of(alloc, pair, &answer)
 }
 
-/// The same of these operations.
+/// Searches these operations in pieces.
 fn found_par_of<R: AllocGlobal + Threads + Sync>(
     rt: &R,
     operations: &[Operation],
@@ -152,7 +152,7 @@ fn found_par_of<R: AllocGlobal + Threads + Sync>(
     Ok(found_par(rt, rt.alloc(), &matching, pieces)?)
 }
 
-/// What the searches find of the rounds in one piece, which is the same in 64, and where they choose whether to cut.
+/// What the searches find of the rounds in one piece. It is the same in 64 pieces, and if they choose whether to cut.
 fn found_of_rounds<R>(rt: &R, staying: u64) -> Result<Found, Fail>
 where
     R: Abort + AllocGlobal + Threads + Sync,

@@ -69,7 +69,7 @@ pub(crate) fn push_cover(cover: &Cover, places: &mut Vec<usize>) -> Result<(), A
     Ok(())
 }
 
-/// The place of an operation, where there is one.
+/// The place of an operation, if there is one.
 pub(crate) fn push_maybe(id: Option<OpId>, places: &mut Vec<usize>) -> Result<(), AllocError> {
     if let Some(id) = id {
         places.push(id.place())?;

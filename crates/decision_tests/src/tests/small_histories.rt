@@ -108,7 +108,7 @@ pub(crate) fn history_behind(
     Ok(history_from(alloc, initial.to_vec(alloc)?, events.as_slice())?)
 }
 
-/// What is told at the call and at the return of an operation.
+/// The call and the return of an operation.
 fn told(kind: OpKind) -> (What, What) {
     match kind {
         Enq(value) => (What::CallEnq(value), What::RetEnq),
@@ -137,7 +137,7 @@ pub(crate) fn lines_of(
         .collect(alloc)
 }
 
-/// A claim of these operations: of a no of this kind, or of a yes.
+/// Claims a `NO` of this kind, or a `YES`, that lists these operations.
 pub(crate) fn claim_of(
     alloc: Global,
     kind: Option<ViolationKind>,

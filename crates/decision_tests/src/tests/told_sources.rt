@@ -164,7 +164,7 @@ fn an_order_lists_operations_alone(rt: HostRuntime) -> Result<(), Fail> {
     Ok(())
 }
 
-/// The pair that is found where this value comes first out of a queue of 5 and 6.
+/// The pair that is found if this value comes first out of a queue of 5 and 6.
 fn pair_found(alloc: Global, dequeued: u64) -> Result<Option<OrderPair>, Fail> {
     let history = history_behind(alloc, &[5, 6], &[op(0, 1, Deq(dequeued))])?;
     Ok(find_order(alloc, &matching_of(alloc, &history)?)?)
@@ -183,7 +183,7 @@ fn a_pair_names_initial_values(rt: HostRuntime) -> Result<(), Fail> {
     Ok(())
 }
 
-/// The value 5 is dequeued; and then come an empty answer and a refused enqueue.
+/// The value 5 is dequeued; and then come an empty dequeue and a failed enqueue.
 fn left_empty() -> [Operation; 3] {
     [op(0, 1, Deq(5)), op(2, 3, Empty), op(4, 5, OpKind::Not(8))]
 }
@@ -194,7 +194,7 @@ fn parts_of(alloc: Global, matching: &Matching) -> Result<(Vec<u64>, Vec<Operati
     Ok((initial, matching.operations().to_vec(alloc)?))
 }
 
-/// Those of the matching of the history behind 5.
+/// Those of the matching of the history after 5.
 fn shown(alloc: Global) -> Result<(Vec<u64>, Vec<Operation>), Fail> {
     let history = history_behind(alloc, &[5], &left_empty())?;
     let matching = matching_of(alloc, &history)?;
@@ -209,7 +209,7 @@ fn a_matching_shows_the_history(rt: HostRuntime) -> Result<(), Fail> {
     Ok(())
 }
 
-/// The first operation of the filled history behind 5, how many values it has, and its empty answers.
+/// The first operation of the filled history after 5, how many values it has, and its empty dequeues.
 fn filled(alloc: Global) -> Result<(Option<Operation>, usize, Vec<OpId>), Fail> {
     let history = history_behind(alloc, &[5], &left_empty())?;
     let matching = matching_of(alloc, &history)?;
@@ -231,12 +231,12 @@ fn a_matching_shows_the_filled_history(rt: HostRuntime) -> Result<(), Fail> {
     Ok(())
 }
 
-/// The one place in the list, where there is one.
+/// The one place in the list, if there is one.
 fn only_of(places: &Places) -> Option<OpId> {
     (places.len() == 1).then(|| places.get(0))
 }
 
-/// The one empty answer and the one refused enqueue that the matching of the history behind 5 names.
+/// The one empty dequeue and the one failed enqueue that the matching of the history after 5 names.
 fn only_named(alloc: Global) -> Result<(Option<OpId>, Option<OpId>), Fail> {
     let history = history_behind(alloc, &[5], &left_empty())?;
     let matching = matching_of(alloc, &history)?;
@@ -250,7 +250,7 @@ fn a_matching_names_empty_answers_and_refused_enqueues(rt: HostRuntime) -> Resul
     Ok(())
 }
 
-/// The tickets at which the first six clocks stand behind two initial values.
+/// The tickets at which the first six clocks stand after two initial values.
 fn first_tickets(alloc: Global) -> Result<Vec<i64>, Fail> {
     let history = history_behind(alloc, &[5, 6], &[op(0, 1, Deq(5))])?;
     let matching = matching_of(alloc, &history)?;
@@ -279,7 +279,7 @@ fn gap_or_sources(alloc: Global, matching: &Matching) -> Result<(Option<u64>, Ve
     }
 }
 
-/// The same of the operations behind initial values 5 and 6.
+/// The least free gap, or the cover's sources, of the operations after initial values 5 and 6.
 fn gap_behind(alloc: Global, operations: &[Operation]) -> Result<(Option<u64>, Vec<Source>), Fail> {
     let history = history_behind(alloc, &[5, 6], operations)?;
     let matching = matching_of(alloc, &history)?;
@@ -315,7 +315,7 @@ fn windows_of(alloc: Global, matching: &Matching) -> Result<ToldWindows, AllocEr
     }
 }
 
-/// The same of the operations behind an initial value 5.
+/// What the windows of the operations after an initial value 5 hold.
 fn windows_behind(alloc: Global, operations: &[Operation]) -> Result<ToldWindows, Fail> {
     let history = history_behind(alloc, &[5], operations)?;
     let matching = matching_of(alloc, &history)?;

@@ -6,7 +6,7 @@ use Rattle.empty_witness.specs.declared.answer.GapAnswer.TheVariants as gap
 use Rattle.empty_witness.specs.declared.answer.WitnessAnswer.{WitnessAnswer}
 use Rattle.empty_witness.specs.declared.answer.WitnessAnswer.TheVariants as found
 
--- a gap, which comes after the enqueues of so many initial values
+-- a gap, which comes after the enqueues of this many initial values
 abbrev pub unfilled_gap : ℕ → ℕ → ℕ
 unfilled_gap initial_count c = c - 2 * initial_count
 

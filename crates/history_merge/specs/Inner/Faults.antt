@@ -20,7 +20,7 @@ abbrev pub IsFirstRepeat : List Event → Option ℕ → Type 0
 IsFirstRepeat events None = NoRepeatBefore events (length events)
 IsFirstRepeat events (Some i) = NoRepeatBefore events i × ((e : Event) × (slice_get events i ≡ Some e) × (repeats_value (take i events) e ≡ true))
 
--- whether an event at this place or before it has this fault, or it isn't an event's: want of memory, or an initial value twice
+-- whether an event at this place or before it has this fault, or it isn't an event's: out of memory, or an initial value twice
 abbrev pub comes_by : ℕ → HistoryFault → Bool
 comes_by place (TicketOrder i) = nat_le i place
 comes_by place (BadThread i) = nat_le i place

@@ -1,4 +1,4 @@
--- What the next event of a history in the making is judged by.
+-- What a history builder judges the next event by.
 use Rattle.std.specs.Prelude.{◌≡◌, ℕ, ◌<◌, Bool, true, false, not, filter, MatchOption, All, List, length, Option, Some, None, nat_eq, slice_get, ⊤}
 use Rattle.std.specs.Option.{option_map_or}
 use Rattle.std.specs.List.{AllZip, last_or, list_any}
@@ -11,7 +11,7 @@ use Rattle.history_merge.specs.Faults.{pending_call}
 use Rattle.history_merge.specs.Forming.{operation_so_far}
 use Rattle.history_merge.specs.Operations.{enqueued_value, operations_of}
 
--- the event may come next in its thread: a call where none is pending, else the answer of the pending one
+-- the event may come next in its thread: a call if none is pending, otherwise the answer of the pending one
 abbrev pub FitsTurn : Option Event → Event → Type 0
 FitsTurn pending e = MatchOption pending (is_call e.what ≡ true) (λ call. answers call.what e.what ≡ true)
 

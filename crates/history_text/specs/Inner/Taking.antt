@@ -87,7 +87,7 @@ HasItemFault format n k old fault = IfSome old (λ a. item_at_front format n k a
 abbrev pub HasItemsFault : {A : Type 0} → Format A → ℕ → Option Ahead → TextFault → Type 0
 HasItemsFault format n old fault = HasFirstFault (λ ending bytes f. ItemFault format n ending f bytes) (NoRoom format) old fault
 
--- the first fault of the lines of so many items from line n on
+-- the first fault of the lines of this many items from line n on
 abbrev pub HasFaultAmong : {A : Type 0} → Format A → ℕ → ℕ → Option Ahead → TextFault → Type 0
 HasFaultAmong format k n old fault = HasFirstFault (λ ending bytes f. FaultAmong format k n ending f bytes) (NoRoomAmong format k) old fault
 

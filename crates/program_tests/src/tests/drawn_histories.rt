@@ -21,16 +21,16 @@ but 9 was dequeued (3) and 7 never was.
 ###  the value surely was in the queue.
 :::  within this time the later value went in and out.
 
-                       7 surely in
-                        |   9 in and out
-        thread          |    |
-ticket  0               |    |
-     0  [1      enq 7
-     1  ]              ###
-     2  [2      enq 9  ###  :::
-     3  ]              ###  :::
-     4  [3      deq 9  ###  :::
-     5  ]              ###
+        7 surely in
+         |   9 in and out
+         |    |   thread
+ticket   |    |   0
+     0            [1      enq 7
+     1  ###       ]
+     2  ###  :::  [2      enq 9
+     3  ###  :::  ]
+     4  ###  :::  [3      deq 9
+     5  ###       ]
 ";
 
 #[test]

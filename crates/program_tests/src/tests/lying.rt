@@ -1,4 +1,4 @@
-//! Runs of queues that lie: each is caught, its verdict's claim is verified, and its shrunk history gets a no of the same kind.
+//! Runs of queues that lie: each is caught, its verdict is verified, and its shrunk history gets `NO` of the same kind.
 
 use Entry::{Empty, Got, Taken};
 use history_merge::History;
@@ -31,7 +31,7 @@ fn verdict_text(alloc: Global, history: &History) -> Result<Vec<u8>, Fail> {
     Ok(text.into_inner())
 }
 
-/// Whether the verdict on a history is a no of this kind, whose claim is verified.
+/// Whether the verdict on a history is `NO` of this kind, whose claim is verified.
 fn is_no(alloc: Global, history: &History, kind: ViolationKind) -> Result<bool, Fail> {
     let verdict = decide(alloc, history)?;
     let claimed = claim(alloc, history, &verdict)?;
@@ -50,7 +50,7 @@ fn shrunk(alloc: Global, history: &History) -> Result<History, Fail> {
     }
 }
 
-/// Whether this history and what it shrinks to get a no of this kind, whose claims are verified.
+/// Whether this history and what it shrinks to get `NO` of this kind, whose claims are verified.
 fn is_caught(alloc: Global, history: &History, kind: ViolationKind) -> Result<bool, Fail> {
     if !is_no(alloc, history, kind)? {
         return Ok(false);
@@ -186,7 +186,7 @@ fn dequeued_before_any_call(history: &History) -> bool {
     }
 }
 
-// Both threads dequeue the one value: whichever comes first, the answer is a no.
+// Both threads dequeue the one value: whichever comes first, the answer is `NO`.
 #[test]
 fn a_value_given_to_two_threads_is_caught(rt: HostRuntime) -> Result<(), Fail> {
     let queue = script(rt.alloc(), &[Taken, Got(0)], &[Got(0)])?;

@@ -13,7 +13,7 @@ const VERDICT: &str = "NO VOrd\n0 1 0 enq 7\n2 3 0 enq 9\n4 5 0 deq 9\n";
 /// For how many bytes the writer has room.
 const ROOM: usize = 64;
 
-/// A writer that takes so many bytes, one at a time, and then takes nothing or fails.
+/// A writer that takes this many bytes, one at a time, and then takes nothing or fails.
 #[derive(Drop)]
 struct Slow {
     bytes: [u8; ROOM],
@@ -43,7 +43,7 @@ impl Write for Slow {
     }
 }
 
-/// Whether a writer that takes so many bytes gets this front of the verdict, and the status tells whether it is whole.
+/// Whether a writer that takes this many bytes gets this prefix of the verdict, and the status says whether it is whole.
 fn is_front<R: AllocGlobal + Threads + Sync>(
     rt: &R,
     words: &[String],

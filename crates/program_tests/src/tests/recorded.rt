@@ -111,8 +111,8 @@ fn a_sound_queue_over_small_rings_is_not_reported(rt: HostRuntime) -> Result<(),
     Ok(())
 }
 
-/// Whether a run of a sound queue ended as it may where some growth was refused: with want of memory or a lost close
-/// token, with a worker that stalled since no thread could be started, or with a record that gets a yes.
+/// Whether a run of a sound queue ended as it may where some growth was refused: out of memory or with a lost close
+/// token, with a worker that stalled since no thread could be started, or with a record that gets `YES`.
 fn ends_well<R: AllocGlobal + Threads + Sync>(
     rt: &R,
     ended: Result<Recorded, RunFault>,
@@ -126,7 +126,7 @@ fn ends_well<R: AllocGlobal + Threads + Sync>(
     }
 }
 
-// With ample memory it gets a yes; it is of use where each allocation fails in turn.
+// With ample memory it gets `YES`; it is of use where each allocation fails in turn.
 #[test]
 fn a_refused_growth_is_not_reported_as_the_queues(rt: HostRuntime) -> Result<(), Fail> {
     let alloc = rt.alloc();

@@ -41,7 +41,7 @@ impl Write for Refusing {
 }
 
 /// Asserts that each refused call, the flush among them, ends a run with status 3 and is the last call, and that a run
-/// without one flushes once, has this status, and makes so many calls.
+/// without one flushes once, has this status, and makes this many calls.
 fn assert_refusals<'a, R: AllocGlobal + Threads + Sync + Abort>(
     rt: &R,
     words: &'a [&'a str],

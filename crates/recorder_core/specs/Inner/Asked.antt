@@ -26,6 +26,6 @@ abbrev pub call_of : Request → What
 call_of (Enqueue value) = CallEnq value
 call_of Dequeue = CallDeq
 
--- whether a thread that asked so many operations, of so many in all, may ask no more
+-- whether a thread that asked this many operations, of this many in all, may ask no more
 abbrev pub is_limited : ℕ → ℕ → Bool
 is_limited asked all = nat_le MAX_THREAD_OPERATIONS asked || nat_le MAX_OPERATIONS all

@@ -1,4 +1,4 @@
-// What a queue is asked, also where nothing of it is recorded.
+// What a queue is asked, also if nothing of it is recorded.
 use super::workers::{lone_worker, operate};
 use event_records::{AnsweredDeq, AnsweredEnq, AskDeq, AskEnq, Kind};
 use queue_interface::TestQueue;
@@ -9,7 +9,7 @@ use std::thread::Threads;
 use stress_run::{RunFault, WorkerFault, run};
 use workloads::Plan;
 
-// A queue for one thread. It counts its questions, and sees where one isn't the next of the thread.
+// A queue for one thread. It counts its questions, and sees if one isn't the next of the thread.
 #[derive(Drop)]
 struct CountingQueue {
     asked: AtomicU64,
@@ -24,7 +24,7 @@ impl CountingQueue {
         }
     }
 
-    // How many questions were asked, or none where one was asked out of turn.
+    // How many questions were asked, or none if one was asked out of turn.
     fn asked(&self) -> Option<u64> {
         if self.out_of_turn.load(Ordering::SeqCst) {
             None
@@ -62,7 +62,7 @@ impl TestQueue for CountingQueue {
     }
 }
 
-// Whether the queue is asked once where the second operation of a worker, of this kind, finds no room for its call.
+// Whether the queue is asked once if the second operation of a worker, of this kind, finds no room for its call.
 fn is_asked_once(alloc: Global, kind: Kind) -> Result<bool, Fail> {
     let (tickets, mut worker, _drain) = lone_worker(alloc)?;
     let queue = CountingQueue::new();

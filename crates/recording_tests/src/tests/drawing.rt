@@ -4,7 +4,7 @@ use std::test::Fail;
 use std::thread;
 use tickets::{Pass, Tickets};
 
-// Draws so many tickets.
+// Draws this many tickets.
 fn draw_all(tickets: &Tickets, mut pass: Pass, count: u64) -> Pass
     requires key { pass.key ≡ tickets.now.key }
     requires room { count ≤ pass.left }
@@ -17,7 +17,7 @@ fn draw_all(tickets: &Tickets, mut pass: Pass, count: u64) -> Pass
     pass
 }
 
-// Cuts one ticket off, draws it and another one, and joins, so many times.
+// Cuts one ticket off, draws it and another one, and joins, this many times.
 fn split_and_join(tickets: &Tickets, mut pass: Pass, count: u64) -> Pass
     requires key { pass.key ≡ tickets.now.key }
     requires room { 2 * count ≤ pass.left }

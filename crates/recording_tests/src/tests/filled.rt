@@ -26,7 +26,7 @@ pub(crate) fn take(alloc: Global, queue: &dyn TestQueue) -> Result<What, Fail> {
     Ok(answered.stamp(&mut pass, &tickets).event().what)
 }
 
-// Whether a queue takes the first values of so many threads.
+// Whether a queue takes the first values of this many threads.
 fn takes(alloc: Global, queue: &dyn TestQueue, threads: u8) -> Result<bool, Fail> {
     for thread in 0..threads {
         if put(alloc, queue, thread)? != What::RetEnq {
@@ -46,7 +46,7 @@ fn gives(alloc: Global, queue: &dyn TestQueue, threads: u8) -> Result<bool, Fail
     Ok(take(alloc, queue)? == What::RetEmpty)
 }
 
-// Whether a queue takes so many values, and gives as many out again.
+// Whether a queue takes this many values, and gives as many out again.
 fn holds(alloc: Global, queue: &dyn TestQueue, values: u64) -> Result<bool, Fail> {
     for _ in 0..values {
         if put(alloc, queue, 0)? != What::RetEnq {

@@ -8,7 +8,7 @@ use std::test::Fail;
 /// A step, and what it must be answered.
 type Case = (Step, Result<Done, StepRefused>);
 
-/// Takes the step. Where its growth is refused, which happens once, it is taken again, as if nothing had happened.
+/// Takes the step. If its growth is refused, which happens once, it is taken again, as if nothing had happened.
 fn take(machine: &mut Machine, step: Step) -> Result<Done, StepRefused>
     ensures { length machine.new.threads ≡ length machine.old.threads }
 {
@@ -55,7 +55,7 @@ fn operate_up_to_limit(machine: &mut Machine, thread: u8) -> Result<(), StepRefu
     Ok(())
 }
 
-/// An operation whose answer is told.
+/// An operation that gets its answer from outside.
 const TOLD: [Case; 7] = [
     (Step::AskDeq(0), Ok(Done::Ticket(0))),
     (Step::Push(0), Ok(Done::Pushed)),
@@ -81,7 +81,7 @@ const UNKNOWN: [Case; 8] = [
     (Step::Close(2), Err(StepRefused::NoThread)),
 ];
 
-/// The close of thread 1 and steps behind it.
+/// The close of thread 1 and steps after it.
 const CLOSED: [Case; 9] = [
     (Step::Close(1), Ok(Done::Closed)),
     (Step::AskEnq(1), Err(StepRefused::Closed)),
@@ -94,7 +94,7 @@ const CLOSED: [Case; 9] = [
     (Step::Drain(1, 3), Ok(Done::Drained(0))),
 ];
 
-/// Steps of thread 0, each refused where it is too early or too late.
+/// Steps of thread 0, each refused because it is too early or too late.
 const OPEN: [Case; 28] = [
     (Step::Push(0), Err(StepRefused::NothingHeld)),
     (Step::Effect(0), Err(StepRefused::NotPending)),

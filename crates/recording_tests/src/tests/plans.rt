@@ -87,7 +87,7 @@ fn seeded(alloc: Global, seed: u64, percent: u8) -> Result<String, AllocError>
     written(alloc, &plan)
 }
 
-// Enqueues exactly where the word's last two digits are below the percentage.
+// Enqueues if and only if the word's last two digits are below the percentage.
 #[test]
 fn first_words_decide_first_kinds(rt: HostRuntime) -> Result<(), Fail> {
     let cases = [
@@ -121,7 +121,7 @@ fn rows_within_the_limits_are_a_plan(rt: HostRuntime) -> Result<(), Fail> {
     Ok(())
 }
 
-// The text of a plan of so many workers, each of which makes so many enqueues.
+// The text of a plan of this many workers, each of which makes this many enqueues.
 fn enqueues(alloc: Global, workers: usize, operations: usize) -> Result<String, AllocError> {
     let mut line = String::new(alloc);
     for _ in 0..operations {

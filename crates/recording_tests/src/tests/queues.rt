@@ -8,7 +8,7 @@ use std::alloc::{AllocError, Global};
 use std::test::Fail;
 use tickets::Tickets;
 
-// What a list gives out where these values are put in, `None` standing for a call that takes one out.
+// What a list gives out if these values are put in, `None` standing for a call that takes one out.
 fn taken_out<L: ValueList>(
     alloc: Global,
     calls: &[Option<u64>],

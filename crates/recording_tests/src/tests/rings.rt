@@ -4,7 +4,7 @@ use event_rings::{FinishFault, MAX_RING, ring};
 use std::alloc::Global;
 use std::test::Fail;
 
-// How a finish with the token of the ring of `other` ends, where nothing was pushed.
+// How a finish with the token of the ring of `other` ends, if nothing was pushed.
 fn finish_with(alloc: Global, thread: ThreadNo, other: ThreadNo) -> Result<bool, Fail> {
     let (push, drain) = ring(alloc, thread, 2)?;
     let (other_push, _other_drain) = ring(alloc, other, 2)?;
@@ -22,7 +22,7 @@ fn a_pushed_event_is_drained(rt: HostRuntime) -> Result<(), Fail> {
     let (mut push, mut drain) = ring(rt.alloc(), thread, 2)?;
     let (first, _, _) = three_calls(rt.alloc(), thread)?;
     assert!(rt; push.push(first).is_ok());
-    // Where the first drain is refused its room, the event is still in the ring.
+    // If the first drain is refused its memory, the event is still in the ring.
     let drained = match drain.drain(1) {
         Ok(drained) => drained,
         Err(_) => drain.drain(1)?,

@@ -52,7 +52,7 @@ fn tokens_in_their_places_seal(rt: HostRuntime) -> Result<(), Fail> {
     Ok(())
 }
 
-// A round of two events from each ring, and another one where that is refused its room.
+// A round of two events from each ring, and another one if that is refused its memory.
 fn drain_two(collector: &mut Collector) -> Result<u64, AllocError>
     ensures { rings_of collector.new.rings ≡ rings_of collector.old.rings }
 {

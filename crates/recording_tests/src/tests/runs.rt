@@ -88,7 +88,7 @@ fn are_two_empty_dequeues(alloc: Global, lists: &Lists) -> Result<bool, AllocErr
     Ok(true)
 }
 
-// Runs two dequeues of each worker through a gate, and tells how many calls saw those of all workers arrive.
+// Runs two dequeues of each worker through a gate, and returns how many calls saw those of all workers arrive.
 fn run_through_gate<R: Threads + Sync>(
     rt: &R,
     alloc: Global,

@@ -11,7 +11,7 @@ pub record IsReady (key : TableId) (kinds : List Kind) (w : WorkerView) : Type 0
   pub enough : 2 * length kinds ≤ w.pass.left
   pub room : w.asked + length kinds ≤ NAMES_OF_A_THREAD
 
--- the same for the kinds of its row
+-- the worker is ready for the kinds of its row
 pub record IsReadyIn (key : TableId) (rows : List (List Kind)) (w : WorkerView) : Type 0 where
   pub has_row : w.thread < length rows
   pub ready : IsReady key (row_of rows w) w

@@ -20,6 +20,6 @@ pub record AreDigitsFront (bytes : List ℕ) (count value : ℕ) : Type 0 where
   pub so_far : IsDigitsSoFar bytes count value
   pub stops : StopsAt bytes count
 
--- the digits at the front are beyond 64 bits: where a number of 64 bits stands there, one more digit follows
+-- the digits at the front are beyond 64 bits: if a number of 64 bits stands there, one more digit follows
 abbrev pub AreDigitsBeyond : List ℕ → Type 0
 AreDigitsBeyond bytes = (value : ℕ) (rest : List ℕ) → value < 2 ^ 64 → bytes ≡ decimal value ++ rest → begins_with_digit rest ≡ true

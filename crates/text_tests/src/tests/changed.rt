@@ -27,7 +27,7 @@ fn plain_number(field: &str, greatest: u64) -> Option<u64> {
     (number <= greatest).then_some(number)
 }
 
-/// What an event is, by the words behind its ticket and thread, read plainly.
+/// What an event is, by the words after its ticket and thread, read plainly.
 fn plain_what(words: &str) -> Option<What> {
     match words {
         "ret-enq" => Some(What::RetEnq),
@@ -112,7 +112,7 @@ fn plain_text(alloc: Global, events: &[Event]) -> Result<String, AllocError> {
     Ok(text)
 }
 
-/// The events of a complete history, or the first fault. Want of memory is an error of its own.
+/// The events of a complete history, or the first fault. Out of memory is an error of its own.
 type Judged = Result<Vec<Event>, HistoryFault>;
 
 fn judged(alloc: Global, answer: Result<History, HistoryFault>) -> Result<Judged, AllocError> {
@@ -158,7 +158,8 @@ fn what_was_read_before_a_failure_is_judged(rt: HostRuntime) -> Result<(), Fail>
     Ok(())
 }
 
-/// Whether this reader takes a text exactly where the plain one does, with the same events, or the same first fault of these, and
+/// Whether this reader takes a text if and only if the plain one does, with the same events, or the same first fault
+/// of these, and they print as it.
 /// they print as it.
 fn is_read_plainly(alloc: Global, text: &[u8]) -> Result<bool, Fail> {
     let found = read(alloc, text)?;

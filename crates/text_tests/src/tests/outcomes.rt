@@ -7,7 +7,7 @@ use std::fmt::Debug;
 use std::process::Abort;
 use std::test::Fail;
 
-/// What a reader answered. Want of memory is an error of its own.
+/// What a reader returned. Out of memory is an error of its own.
 pub(crate) fn known<T>(answer: Result<T, TextFault>) -> Result<Result<T, TextFault>, AllocError>
     ensures { IfOk result (λ known. known ≡ answer) }
 {
@@ -17,7 +17,8 @@ pub(crate) fn known<T>(answer: Result<T, TextFault>) -> Result<Result<T, TextFau
     }
 }
 
-/// Checks that each front of a text gives this fault, in pieces of so many bytes. The source fails behind the front if the fault
+/// Checks that each prefix of a text gives this fault, in pieces of this many bytes. The source fails after the
+/// prefix if the fault is `Read`, and ends there otherwise.
 /// is `Read`, and ends there otherwise.
 pub(crate) fn check_fronts<T, F>(
     rt: &impl Abort,

@@ -3,20 +3,20 @@ ghost use Rattle.std.specs.Prelude.{◌≤◌, IfOk};
 ghost use Rattle.drawing.specs.Claim.{count_of_lines};
 ghost use Rattle.drawing.specs.declared.columns.TheConstants.{MOST_DRAWN};
 
-use drawing::{MOST_DRAWN, count_of_lines, write_terminal_picture};
+use drawing::{MOST_DRAWN, count_of_lines, terminal_picture};
 use history_merge::History;
-use history_text::{MemorySource, TextReader, Watched, read_history, read_verdict};
+use history_text::{MemorySource, TextReader, read_history, read_verdict};
 use std::alloc::Global;
 use std::process::Abort;
 use std::test::Fail;
-use svg_picture::write_svg_picture;
+use svg_picture::{html_picture, svg_picture};
 use verdicts::Claimed;
 
 /// The greatest ticket, thread and value, with the only order.
 const TEXT: &[u8] = b"fifo-history 1\n999999999998 63 call-enq 18446744073709551615\n\
     999999999999 63 ret-enq\nend 2\nYES\n999999999998 999999999999 63 enq 18446744073709551615\n";
 
-/// Twelve digits, a lane at column 14, labels at 22, and the order at 48.
+/// Twelve digits, the order at column 14, a lane at 42, and labels at 50.
 const PICTURE: &str = "YES: a FIFO queue can have answered so\n\
 The numbers give one order in which the operations can have taken\n\
 effect. They rise from top to bottom, and each stands within its bar.\n\
@@ -25,11 +25,11 @@ effect. They rise from top to bottom, and each stands within its bar.\n\
 ]    its return\n\
 1    number 1 in the order, where it takes effect\n\
 \n\
-\x20             thread\n\
-\x20     ticket  63\n\
-999999999998  [       enq 18446744073709551615\n\
-\x20             1                                 1 enq 18446744073709551615\n\
-999999999999  ]\n";
+\x20                                         thread\n\
+\x20     ticket  order                       63\n\
+999999999998                              [       enq 18446744073709551615\n\
+\x20             1 enq 18446744073709551615  1\n\
+999999999999                              ]\n";
 
 /// A history and a claim of few lines, from their texts.
 fn read(alloc: Global, text: &[u8]) -> Result<(History, Claimed), Fail>
@@ -48,17 +48,13 @@ fn read(alloc: Global, text: &[u8]) -> Result<(History, Claimed), Fail>
 /// The picture of a history's text and a verdict's, in lines of characters.
 fn terminal_of<R: AllocGlobal>(rt: &R, text: &[u8]) -> Result<Vec<u8>, Fail> {
     let (history, claimed) = read(rt.alloc(), text)?;
-    let mut writer = Watched::new(Vec::new(rt.alloc()));
-    write_terminal_picture(rt.alloc(), &history, &claimed, &mut writer)??;
-    Ok(writer.into_inner())
+    Ok(terminal_picture(rt.alloc(), &history, &claimed)?)
 }
 
 /// The SVG document of a history's text and a verdict's.
 fn svg_of<R: AllocGlobal>(rt: &R, text: &[u8]) -> Result<Vec<u8>, Fail> {
     let (history, claimed) = read(rt.alloc(), text)?;
-    let mut writer = Watched::new(Vec::new(rt.alloc()));
-    write_svg_picture(rt.alloc(), &history, &claimed, &mut writer)??;
-    Ok(writer.into_inner())
+    Ok(svg_picture(rt.alloc(), &history, &claimed)?)
 }
 
 /// Asserts the picture of a history's text and a verdict's, in lines of characters, given in parts.
@@ -81,7 +77,8 @@ fn draws_the_greatest_numbers_whole(rt: HostRuntime) -> Result<(), Fail> {
     Ok(())
 }
 
-/// The same as an SVG document, from its order on: lanes begin at 296, rows at 192, and the effect is in the second of three.
+/// That picture as an SVG document, from its order on: lanes begin at 296, rows at 192, and the effect is in the
+/// second of three.
 const SVG: &str = "<text x=\"102\" y=\"184\" textLength=\"35\" class=\"dim\">order</text>\n\
 <text x=\"102\" y=\"226\" textLength=\"182\" class=\"label\">1 enq 18446744073709551615</text>\n\
 <g class=\"yes\"><title>thread 63: enq 18446744073709551615, tickets 999999999998 to 999999999999, number 1</title>\n\
@@ -102,9 +99,9 @@ fn draws_the_greatest_numbers_as_svg(rt: HostRuntime) -> Result<(), Fail> {
 const FRESH: &[u8] =
     b"fifo-history 1\n0 0 call-deq\n1 0 ret-deq 7\nend 2\nNO VFresh\n0 1 0 deq 7\n";
 
-/// 588 wide by the fixed words, and two rows, one for the end and one for names below 232.
+/// 588 wide by the fixed words, and three rows and the names below them, where rows begin at 252.
 const FRESH_BEGINS: &str = "<?xml version=\"1.0\" encoding=\"UTF-8\"?>\n\
-<svg xmlns=\"http://www.w3.org/2000/svg\" version=\"1.1\" width=\"588\" height=\"318\" viewBox=\"0 0 588 318\" role=\"img\">\
+<svg xmlns=\"http://www.w3.org/2000/svg\" version=\"1.1\" width=\"588\" height=\"338\" viewBox=\"0 0 588 338\" role=\"img\">\
 <title>NO: a value was dequeued that was not there</title>\n\
 <desc>7 was dequeued (1), but nobody ever enqueued it.\n</desc>\n<style>";
 
@@ -115,21 +112,31 @@ fn draws_a_value_that_was_not_there_as_svg(rt: HostRuntime) -> Result<(), Fail> 
     Ok(())
 }
 
-/// What stands between the words and the rest where the queue holds values first.
+/// That the picture stands between them is compared by `extras/pictures/run`.
+#[test]
+fn a_page_has_its_head_and_its_foot(rt: HostRuntime) -> Result<(), Fail> {
+    let (history, claimed) = read(rt.alloc(), FRESH)?;
+    let page = html_picture(rt.alloc(), &history, &claimed)?;
+    assert!(rt; page.as_slice().starts_with(b"<!DOCTYPE html>\n"));
+    assert!(rt; page.as_slice().ends_with(b"</script>\n</body>\n</html>\n"));
+    Ok(())
+}
+
+/// What stands between the words and the rest if the queue holds values at first.
 const LEGEND: &str = "\n\
 [    call of an operation\n\
 ]    its return\n\
 init a value that was in the queue first, the front one on top\n";
 
-/// What follows there in the picture of a no in which a value surely was in the queue.
+/// What follows there in the picture of a `NO` in which a value was definitely in the queue.
 const OF_A_NO: &str = "1    number 1 of the values and operations that show it\n\
 ###  the value surely was in the queue.\n";
 
-/// A queue that holds 5 and 6 first, of which the one behind is dequeued.
+/// A queue that holds 5 and 6 at first, of which 6 is dequeued.
 const BEHIND: &[u8] = b"fifo-history 2\ninitial 2\n5\n6\n0 0 call-deq\n1 0 ret-deq 6\nend 2\n\
     NO VOrd\ninit 5\ninit 6\n0 1 0 deq 6\n";
 
-/// Labels of six characters begin at column 16, bands at 24. Both bands go from the top on, and 6 was out at ticket 1.
+/// Bands begin at column 8, lanes at 18, and labels at 26. Both bands go from the top on, and 6 was out at ticket 1.
 const BEHIND_PICTURE: [&str; 4] = [
     "NO: values were dequeued against the order of their enqueues\n\
 5 was in the queue (1) before 6 (2),\n\
@@ -138,15 +145,15 @@ but 6 was dequeued (3) and 5 never was.\n",
     OF_A_NO,
     ":::  within this time the later value went in and out.\n\
 \n\
-\x20                       5 surely in\n\
-\x20                        |   6 in and out\n\
-\x20       thread           |    |\n\
-ticket  0                |    |\n\
-in the queue first      ###  :::\n\
-1 init 5                ###  :::\n\
-2 init 6                ###  :::\n\
-\x20    0  [3      deq 6   ###  :::\n\
-\x20    1  ]               ###\n",
+\x20       5 surely in\n\
+\x20        |   6 in and out\n\
+\x20        |    |   thread\n\
+ticket   |    |   0\n\
+\x20       ###  :::  in the queue first\n\
+\x20       ###  :::  1 init 5\n\
+\x20       ###  :::  2 init 6\n\
+\x20    0  ###  :::  [3      deq 6\n\
+\x20    1  ###       ]\n",
 ];
 
 #[test]
@@ -168,14 +175,14 @@ some value surely was in the queue:\n\
     OF_A_NO,
     ":::  within this time the queue was said to be empty.\n\
 \n\
-\x20                       5 surely in\n\
-\x20                        |   empty\n\
-\x20       thread           |    |\n\
-ticket  0                |    |\n\
-in the queue first      ###\n\
-2 init 5                ###\n\
-\x20    0  [1      empty   ###  :::\n\
-\x20    1  ]               ###\n",
+\x20       5 surely in\n\
+\x20        |   empty\n\
+\x20        |    |   thread\n\
+ticket   |    |   0\n\
+\x20       ###       in the queue first\n\
+\x20       ###       2 init 5\n\
+\x20    0  ###  :::  [1      empty\n\
+\x20    1  ###       ]\n",
 ];
 
 #[test]
@@ -187,7 +194,7 @@ fn draws_an_empty_answer_beside_an_initial_value(rt: HostRuntime) -> Result<(), 
 const FRONT: &[u8] = b"fifo-history 2\ninitial 2\n5\n18446744073709551615\n\
     0 0 call-deq\n1 0 ret-deq 5\nend 2\nYES\n0 1 0 deq 5\n";
 
-/// Labels of up to 25 characters begin at column 16, the order at 43.
+/// Labels have up to 25 characters: the order begins at column 8, and lanes at 37.
 const FRONT_PICTURE: [&str; 3] = [
     "YES: a FIFO queue can have answered so\n\
 The numbers give one order in which the operations can have taken\n\
@@ -195,17 +202,48 @@ effect. They rise from top to bottom, and each stands within its bar.\n",
     LEGEND,
     "1    number 1 in the order, where it takes effect\n\
 \n\
-\x20       thread\n\
-ticket  0\n\
-in the queue first\n\
-\x20 init 5\n\
-\x20 init 18446744073709551615\n\
-\x20    0  [       deq 5\n\
-\x20       1                                  1 deq 5\n\
-\x20    1  ]\n",
+\x20                                    thread\n\
+ticket  order                        0\n\
+\x20                                    in the queue first\n\
+\x20                                      init 5\n\
+\x20                                      init 18446744073709551615\n\
+\x20    0                               [       deq 5\n\
+\x20       1 deq 5                      1\n\
+\x20    1                               ]\n",
 ];
 
 #[test]
 fn draws_a_yes_from_initial_values(rt: HostRuntime) -> Result<(), Fail> {
     assert_drawn(&rt, FRONT, &FRONT_PICTURE)
+}
+
+/// Value 11 of thread 6 and initial value 3, as recorders name them.
+const NAMED: &[u8] =
+    b"fifo-history 2\ninitial 1\n274877906947\n0 6 call-enq 25769803787\n1 6 ret-enq\n\
+    2 6 call-deq\n3 6 ret-deq 25769803787\nend 4\nNO VOrd\ninit 274877906947\n0 1 6 enq 25769803787\n2 3 6 deq 25769803787\n";
+
+/// The value behind the initial one is dequeued, and that never.
+const NAMED_PICTURE: [&str; 4] = [
+    "NO: values were dequeued against the order of their enqueues\n\
+init:3 was in the queue (1) before 6:11 (2),\n\
+but 6:11 was dequeued (3) and init:3 never was.\n",
+    LEGEND,
+    OF_A_NO,
+    ":::  within this time the later value went in and out.\n\
+\n\
+\x20       init:3 surely in\n\
+\x20        |   6:11 in and out\n\
+\x20        |    |   thread\n\
+ticket   |    |   6\n\
+\x20       ###       in the queue first\n\
+\x20       ###       1 init:3\n\
+\x20    0  ###  :::  [2      enq 6:11\n\
+\x20    1  ###  :::  ]\n\
+\x20    2  ###  :::  [3      deq 6:11\n\
+\x20    3  ###       ]\n",
+];
+
+#[test]
+fn draws_values_by_their_names(rt: HostRuntime) -> Result<(), Fail> {
+    assert_drawn(&rt, NAMED, &NAMED_PICTURE)
 }

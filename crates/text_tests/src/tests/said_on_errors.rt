@@ -1,5 +1,6 @@
 //! What standard error says, with ample memory. The words of each message stand in extras/answers.
-use history_merge::HistoryFault;
+use event_records::{Event, What};
+use history_merge::{Clash, HistoryFault, Placed};
 use history_text::{MemorySource, TextFault, TextSource};
 use messages::{Complaint, FrontKept, Given, Reads, greeting, keeping, quoted, sentence};
 use std::test::Fail;
@@ -9,7 +10,8 @@ const SHORT_LINE: &str =
 fifobench: <what> is call-enq <value>, ret-enq, ret-not, call-deq, ret-deq <value> or ret-empty
 ";
 
-const PENDING: &str = "fifobench: line 2: the call of ticket 0 never returns: '0 0 ret'
+const PENDING: &str =
+    "fifobench: line 70002: the call of ticket 70001 never returns: '70001 5 call-deq'
 fifobench: a history has the return of each call: wait for all threads before it is written
 ";
 
@@ -22,7 +24,26 @@ fn a_line_is_shown_where_it_is_kept(rt: HostRuntime) -> Result<(), Fail> {
     };
     let line = Complaint::Text(TextFault::Line(2), given);
     assert_eq!(rt; sentence(rt.alloc(), &line)?.as_str(), SHORT_LINE);
-    let pending = Complaint::History(HistoryFault::Pending(0), given);
+    Ok(())
+}
+
+#[test]
+fn a_call_without_return_is_shown_as_its_line(rt: HostRuntime) -> Result<(), Fail> {
+    let given = Given {
+        reads: Reads::History,
+        front: b"fifo-history 1\n",
+        is_whole: false,
+    };
+    let call = Placed {
+        place: 70_000,
+        event: Event {
+            ticket: 70_001,
+            thread: 5,
+            what: What::CallDeq,
+        },
+    };
+    let fault = HistoryFault::Pending(70_001);
+    let pending = Complaint::History(fault, Some(Clash::Pending(call)), given);
     assert_eq!(rt; sentence(rt.alloc(), &pending)?.as_str(), PENDING);
     Ok(())
 }

@@ -9,7 +9,7 @@ const TEXT: &[u8] =
     b"fifo-schedule 1\nthreads 64 ring 65536\nask-enq 0\nask-deq 1\npush 2\neffect 3\n\
     say 4 taken\nsay 5 not\nsay 6 got 18446744073709551615\nsay 7 empty\nret 8\ndrain 9 65536\nclose 63\nend 11\n";
 
-/// The schedule of a text in pieces of so many bytes.
+/// The schedule of a text in pieces of this many bytes.
 fn schedule_of(alloc: Global, most: usize) -> Result<Schedule, TextFault>
     requires { 0 < most }
 {

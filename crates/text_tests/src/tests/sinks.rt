@@ -10,7 +10,8 @@ use std::io::{ErrorKind, Read, Write};
 use std::test::Fail;
 use verdicts::Claimed;
 
-/// A reader and writer of std that answers its calls as it is told, takes all where it is told nothing, and counts them.
+/// A reader and writer of std that answers its calls from a table, takes all where the table ends, and counts the
+/// calls.
 #[derive(Drop)]
 struct Told<'a> {
     answers: &'a [Result<usize, ErrorKind>],
@@ -27,7 +28,7 @@ impl<'a> Told<'a> {
         }
     }
 
-    /// The answer to the next call, of at most so many bytes.
+    /// The answer to the next call, of at most this many bytes.
     fn answer(&mut self, most: usize) -> io::Result<usize>
         ensures { IfOk result (λ n. n ≤ most) }
     {
@@ -111,7 +112,8 @@ fn a_refused_piece_is_not_written_on(rt: HostRuntime) {
     }
 }
 
-/// How often a writer is called and flushed to which these pieces go through a buffer, which is flushed behind them or not.
+/// How often a writer is called and flushed to which these pieces go through a buffer, which is flushed afterwards or
+/// not.
 fn calls_of(pieces: &[&[u8]], is_flushed: bool) -> Result<(usize, usize), WriteFault> {
     let mut told = Told::new(&[]);
     let mut sink = Buffered::new(Watched::new(&mut told));

@@ -15,7 +15,8 @@ use std::test::Fail;
 use value_match::{Cover, CoverStep, Source, Violation};
 use verdicts::{Order, Verdict};
 
-/// How many events a complete history alone in its input has, or the fault of that input. Want of memory is an error of its own.
+/// How many events a complete history has if it is all of its input, or the fault of that input. Out of memory is an
+/// error of its own.
 pub(crate) fn outcome(
     alloc: Global,
     source: MemorySource<'_>,
@@ -84,7 +85,7 @@ fn lines_count_on(rt: HostRuntime) -> Result<(), Fail> {
     Ok(())
 }
 
-/// The history that a text tells.
+/// The history of a text.
 fn history_of(alloc: Global, text: &[u8]) -> Result<History, Fail>
     ensures { IfOk result (λ whole. whole.initial ≡ []) }
 {
@@ -106,7 +107,7 @@ fn written(alloc: Global, history: &History, verdict: &Verdict) -> Result<Vec<u8
     Ok(writer.into_inner())
 }
 
-/// A yes: the second operation, the first, the third and the fourth.
+/// A `YES`: the second operation, the first, the third and the fourth.
 fn second_first(alloc: Global) -> Result<Verdict, AllocError>
     ensures { IfOk result (λ v. places_of v ≡ Op 1 ∷ Op 0 ∷ Op 2 ∷ Op 3 ∷ []) }
 {
@@ -117,7 +118,7 @@ fn second_first(alloc: Global) -> Result<Verdict, AllocError>
     Ok(Verdict::Yes(Order::from_vec(places)))
 }
 
-/// A no: the second operation found the queue empty, though two values covered it.
+/// A `NO`: the second operation found the queue empty, though two values covered it.
 fn covered_by_two(alloc: Global) -> Result<Verdict, AllocError>
     ensures { IfOk result (λ v. places_of v ≡ Op 1 ∷ Op 0 ∷ Op 3 ∷ Op 2 ∷ Op 4 ∷ []) }
 {

@@ -5,7 +5,7 @@ use std::alloc::{AllocError, Global};
 use std::test::Fail;
 use verdicts::{ClaimLine, Claimed, ViolationKind};
 
-/// How many operations the verdict of an input lists, or the fault. Want of memory is an error of its own.
+/// How many operations the verdict of an input lists, or the fault. Out of memory is an error of its own.
 fn outcome(
     alloc: Global,
     source: MemorySource<'_>,

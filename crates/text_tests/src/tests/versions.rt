@@ -16,8 +16,8 @@ const TEXT: &[u8] = b"fifo-history 2\ninitial 3\n274877906944\n0\n18446744073709
 
 const OLD_TEXT: &[u8] = b"fifo-history 1\n0 0 call-enq 7\n1 0 ret-enq\nend 2\n";
 
-/// How many initial values and events a complete history alone in its input has, or the fault of that input. Want of memory is an
-/// error of its own.
+/// How many initial values and events a complete history has if it is all of its input, or the fault of that input.
+/// Out of memory is an error of its own.
 fn outcome(
     alloc: Global,
     source: MemorySource<'_>,

@@ -4,7 +4,7 @@ use command_words::{Order, PictureForm, StressOptions, Task, order_in};
 use std::alloc::AllocError;
 use std::test::Fail;
 
-// Whether the words name the task. Want of memory is an error of its own, as below.
+// Whether the words name the task. Out of memory is an error of its own, as below.
 fn has_task<R: AllocGlobal>(rt: &R, words: &[&str], task: Task<'_>) -> Result<bool, Error> {
     Ok(
         order_in(rt.alloc(), words)?
@@ -52,11 +52,13 @@ fn a_flag_asks_for_a_quiet_answer(rt: HostRuntime) -> Result<(), Fail> {
 }
 
 #[test]
-fn a_picture_is_svg_or_characters(rt: HostRuntime) -> Result<(), Fail> {
+fn a_picture_is_svg_a_page_or_characters(rt: HostRuntime) -> Result<(), Fail> {
     let svg = Task::Draw(PictureForm::Svg);
     assert!(rt; has_task(&rt, &["fifobench", "draw"], svg)?);
     let terminal = Task::Draw(PictureForm::Terminal);
     assert!(rt; has_task(&rt, &["fifobench", "draw", "--text"], terminal)?);
+    let page = Task::Draw(PictureForm::Html);
+    assert!(rt; has_task(&rt, &["fifobench", "draw", "--html"], page)?);
     let kind = ErrorKind::UnknownArgument;
     assert!(rt; has_fault(&rt, &["fifobench", "draw", "--svg"], kind)?);
     Ok(())

@@ -7,7 +7,7 @@ use Rattle.tickets.specs.declared.TheConstants.{TICKET_LIMIT}
 use Rattle.tickets.specs.declared.account.Holding.{Holding}
 use Rattle.tickets.specs.Account.{whole_of, IsAccount}
 
--- a pass that may still draw so many tickets, and has drawn these
+-- a pass that may still draw this many tickets, and has drawn these
 abbrev pub holding : ℕ → List ℕ → Holding
 holding left drawn = record { left = left; drawn = drawn }
 

@@ -1,4 +1,4 @@
--- The place that a value's name tells.
+-- The place that a value's name gives.
 use Rattle.std.specs.Prelude.{ℕ, ◌+◌, ◌/◌, ◌%◌, List, Some, slice_index_or}
 use Rattle.event_records.specs.declared.limits.TheConstants.{MAX_THREADS, NAMES_OF_A_THREAD}
 use Rattle.history_merge.specs.declared.operation.Operation.{Operation}
@@ -9,6 +9,6 @@ use Rattle.value_match.specs.Inner.Sources.{IsCallPlace}
 abbrev pub place_of : Names → ℕ → ℕ
 place_of names v = slice_index_or names.places.items (slice_index_or names.starts (v / NAMES_OF_A_THREAD % MAX_THREADS) 0 + v % NAMES_OF_A_THREAD) 0
 
--- where the value's name tells, it was called
+-- the value was called at the place that its name gives
 abbrev pub IsNamed : List Operation → Names → ℕ → Type 0
 IsNamed operations names v = IsCallPlace operations v (Some (place_of names v))

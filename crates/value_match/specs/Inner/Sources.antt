@@ -53,7 +53,7 @@ abbrev pub IsDequeuePlace : List Operation → ℕ → Option ℕ → Type 0
 IsDequeuePlace operations v None = NoneDid operations (Deq v)
 IsDequeuePlace operations v (Some place) = (o : Operation) × IsAt operations place o × (o.kind ≡ Deq v)
 
--- at the place of each accepted enqueue stands that of the dequeue of its value, if there is one
+-- at the place of each successful enqueue stands that of the dequeue of its value, if there is one
 pub record HoldsDequeues (operations : List Operation) (dequeues : List (Option ℕ)) : Type 0 where
   pub one_each : length dequeues ≡ length operations
   pub each : (i : ℕ) (o : Operation) (v : ℕ) → IsAt operations i o → o.kind ≡ Enq v → IsDequeuePlace operations v (slice_index_or dequeues i None)

@@ -5,9 +5,11 @@ use Rattle.command_words.proofs.commands.draw_command.Goals as goal
 
 pub returns-clause-shape : goal.returns-clause-shape
 returns-clause-shape c =
-    IfOk-weaker c.arg.result _ _
-    (λ r h. ap (λ (a : App). a.top) (h.shape c.text_option.ensures.local ∙ ap₂ with_rule c.plain_command.ensures.app c.text_option.ensures.rule)) c.arg.ensures
+    let text = c.in_ok-arg.ensures.shape c.flag_option.ensures.local ∙ ap₂ with_rule c.plain_command.ensures.app c.flag_option.ensures.rule in
+    IfOk-weaker c.arg-2.result _ _
+    (λ r h. ap (λ (a : App). a.top) (h.shape c.flag_option-2.ensures.local ∙ ap₂ with_rule text c.flag_option-2.ensures.rule)) c.arg-2.ensures
 
 pub returns-clause-local : goal.returns-clause-local
 returns-clause-local c =
-    IfOk-weaker c.arg.result _ _ (λ r h. h.globals ∙ ap₂ ◌||◌ c.plain_command.ensures.local c.text_option.ensures.local) c.arg.ensures
+    let text = c.in_ok-arg.ensures.globals ∙ ap₂ ◌||◌ c.plain_command.ensures.local c.flag_option.ensures.local in
+    IfOk-weaker c.arg-2.result _ _ (λ r h. h.globals ∙ ap₂ ◌||◌ text c.flag_option-2.ensures.local) c.arg-2.ensures

@@ -1,8 +1,9 @@
-use Rattle.std.proofs.Common.{inl, inr, refl, sym, ◌∙◌}
+use Rattle.std.proofs.Common.{inl, inr, refl, sym, ◌∙◌, ap, subst, arith}
 use Rattle.std.proofs.lemmas.Option.{same_Some}
 use Rattle.commands.specs.Answers.{memory_fault}
 use Rattle.commands.specs.Outcomes.{answer_of}
-use Rattle.commands.proofs.Runs.{memory_is_said, memory_ran_out, reads_out_of_memory, reads_printed}
+use Rattle.commands.specs.Running.{SaysMessage}
+use Rattle.commands.proofs.Runs.{memory_has_3, memory_is_said, memory_ran_out, reads_out_of_memory, reads_printed}
 use Rattle.commands.proofs.command.run_command.Goals as goal
 
 pub returns-in-Err-clause-reads : goal.returns-in-Err-clause-reads
@@ -28,3 +29,15 @@ returns-in-Ok-clause-stresses g c = λ settings none asked. record {
   right = inl (c.outcome_of-outcome.ensures.stresses settings (same_Some _ _ (sym c.in-Ok.ensures.task ∙ asked)));
   printed = rw c.in-Ok.ensures.quiet at c.print_outcome-status.ensures.printed;
 }
+
+pub returns-in-Ok-clause-said : goal.returns-in-Ok-clause-said
+returns-in-Ok-clause-said g c = λ none input output fresh failed.
+    let still = c.greet.ensures input in
+    let said = c.say_why.ensures.said failed (ap g.E.TextSink.has_refused still ∙ fresh) in
+    rw (c.say_how_to_keep.ensures output) (subst (λ errors. SaysMessage (g.E.TextSink.contents errors) (g.E.TextSink.contents c.say_why.new.errors)
+    (g.E.TextSink.has_refused c.say_why.new.errors)) still said)
+
+pub returns-in-Err-clause-said : goal.returns-in-Err-clause-said
+returns-in-Err-clause-said g c = λ none input output fresh failed.
+    let three = memory_has_3 _ _ _ _ (memory_ran_out c.in-Err.error _ _ _ _ _ none c.in-Err.ensures.err c.explain-status.ensures.printed) in
+    c.say_mistake.ensures.said (omega (arith, three)) fresh

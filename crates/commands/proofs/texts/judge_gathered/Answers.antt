@@ -1,8 +1,22 @@
+use Rattle.std.proofs.Common.{◌≡◌, subst}
 use Rattle.std.proofs.lemmas.Result.{err_from_is_err_and}
-use Rattle.commands.proofs.Findings.{fault_or}
+use Rattle.history_merge.specs.Operations.{operations_of}
+use Rattle.verdicts.specs.Claiming.{claim_of}
+use Rattle.history_text.specs.declared.version.Version.TheVariants.{One}
+use Rattle.commands.specs.Answers.{judged}
+use Rattle.commands.specs.Judging.{AnswersOrNoMemory, JudgesHistory}
+use Rattle.commands.proofs.Findings.{fault_or, judged_text}
 use Rattle.commands.proofs.texts.judge_gathered.Goals as goal
 
 pub returns-in_err-history-clause-found : goal.returns-in_err-history-clause-found
 returns-in_err-history-clause-found c = λ history is.
     let p = err_from_is_err_and c.from_residual.result c.from_residual.ensures.1 in
     rw (p.1, p.2) (fault_or history _ (c.in_err-history.ensures.outcome history.initial history.events is))
+
+pub returns-clause-found : goal.returns-clause-found
+returns-clause-found c = λ history is.
+    let same = c.in_ok-history.ensures.outcome history.initial history.events is in
+    let found = c.in_ok-history.history in
+    let one : found ≡ history = λ i. record { initial = same.0 i; events = same.1 i } in
+    subst (λ h. AnswersOrNoMemory JudgesHistory h (judged (claim_of found.initial (operations_of found.events) c.in_ok-verdict.verdict))) one
+    (judged_text One found c.in_ok-verdict.verdict c.in_ok-history.ensures.complete c.in_ok-verdict.ensures)

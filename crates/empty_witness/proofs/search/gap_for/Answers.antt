@@ -28,7 +28,7 @@ is_place c =
     let many = ap (λ (l : List ℕ). length l) c.initial-initial_count.ensures.initial in
     omega (arith, c.new-place.ensures, c.place-2.ensures, many)
 
--- where the empty answer stands
+-- where the empty dequeue stands
 is_behind : (c : After-filled) → IsEmptyAnswerAt c.filled.result.now c.new-place.result
 is_behind c =
     let matching = c.args.matching.now in

@@ -16,4 +16,4 @@ loop-place-preserved c =
     let same_here : here ≡ get_or structs place here = get_or_default structs place (record { ticket = 0; value = 0; thread = 0; what = 0 }) here inside in
     let few : length read.0 < MAX_EVENTS =
     omega (arith, as_many (take place structs) read.0 read.1, length-take-le place structs (omega (arith, inside)), inside, c.requires) in
-    (read.0 ++ c.in-Some.event ∷ [], one_more structs place here c.in-Some.event read.0 inside same_here known read.1, c.add.ensures [] read.0 read.2 few)
+    (read.0 ++ c.in-Some.event ∷ [], one_more structs place here c.in-Some.event read.0 inside same_here known read.1, c.add.ensures.added [] read.0 read.2 few)

@@ -3,9 +3,6 @@ use Rattle.std.proofs.lemmas.List.{take_all}
 use Rattle.history_merge.specs.Gathering.{HasGathered}
 use Rattle.history_merge.proofs.build.history_from.Goals as goal
 
-pub finish-requires : goal.finish-requires
-finish-requires c = (c.args.initial.items, _, c.loop-event.invariant)
-
 pub returns-clause-outcome : goal.returns-clause-outcome
 returns-clause-outcome c =
     c.finish.ensures.outcome c.args.initial.items c.args.events.now

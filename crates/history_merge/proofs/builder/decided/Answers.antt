@@ -1,18 +1,18 @@
-use Rattle.std.proofs.Common.{◌≡◌, subst}
-use Rattle.history_merge.specs.Gathering.{TellsFirstCall}
+use Rattle.std.proofs.Common.{subst}
+use Rattle.history_merge.specs.Gathering.{HasFirstInitialCall}
 use Rattle.history_merge.specs.Inner.Forming.{IsFormedOf}
-use Rattle.history_merge.specs.Inner.Initial.{TellsCalls}
+use Rattle.history_merge.specs.Inner.Initial.{HasInitialCalls}
 use Rattle.history_merge.proofs.InitialFaults.{judged_with_call, judged_without_calls}
 use Rattle.history_merge.proofs.builder.decided.Goals as goal
 
-pub returns-in-Some : goal.returns-in-Some
-returns-in-Some c = λ initial events known judged.
-    let told = subst (TellsCalls initial events) c.in_ok-place.was known in
+pub returns-in-Some-clause-told : goal.returns-in-Some-clause-told
+returns-in-Some-clause-told c = λ initial events known judged.
+    let told = subst (HasInitialCalls initial events) c.in_ok-place.was known in
     judged_with_call (IsFormedOf events) initial events c.in-Some.place c.args.judged c.fault_by.result told.0
-    (subst (TellsFirstCall initial events) c.in-Some.is told.1) judged c.fault_by.ensures.kept c.fault_by.ensures.later c.fault_by.ensures.none
+    (subst (HasFirstInitialCall initial events) c.in-Some.is told.1) judged c.fault_by.ensures.kept c.fault_by.ensures.later c.fault_by.ensures.none
 
-pub returns-in-None : goal.returns-in-None
-returns-in-None c = λ initial events known judged.
-    let told = subst (TellsCalls initial events) c.in_ok-place.was known in
+pub returns-in-None-clause-told : goal.returns-in-None-clause-told
+returns-in-None-clause-told c = λ initial events known judged.
+    let told = subst (HasInitialCalls initial events) c.in_ok-place.was known in
     judged_without_calls (IsFormedOf events) initial events c.args.judged told.0
-    (subst (TellsFirstCall initial events) c.in-None.is told.1) judged
+    (subst (HasFirstInitialCall initial events) c.in-None.is told.1) judged

@@ -13,7 +13,7 @@ use Rattle.history_text.proofs.history_writer.put_events.Goals as goal
 parts : (seen left all : List Event) → seen ++ left ≡ all → flat_map event_line seen ++ flat_map event_line left ≡ flat_map event_line all
 parts seen left all is = sym (flat_map-append event_line seen left) ∙ ap (flat_map event_line) is
 
--- where nothing is left, all was seen
+-- if nothing is left, all was seen
 whole : (seen left all : List Event) → left ≡ [] → seen ++ left ≡ all → seen ≡ all
 whole seen left all none is = sym (append-nil seen) ∙ ap (λ (es : List Event). seen ++ es) (sym none) ∙ is
 

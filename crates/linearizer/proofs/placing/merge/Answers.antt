@@ -1,5 +1,4 @@
-use Rattle.std.proofs.Common.{◌∙◌, arith, inl, inr, length, None, subst, sym}
-use Rattle.linearizer.specs.Inner.Merging.{IsMergedUpTo}
+use Rattle.std.proofs.Common.{arith, inl, inr, length, None, subst}
 use Rattle.linearizer.specs.Inner.Placement.{IsOrderOfPlaces, lives_at}
 use Rattle.linearizer.proofs.Merging.{all_merged, no_enqueue}
 use Rattle.linearizer.proofs.OrderedPlaces.{lives_long}
@@ -8,11 +7,9 @@ use Rattle.linearizer.proofs.placing.merge.Goals as goal
 pub returns-clause-merged : goal.returns-clause-merged
 returns-clause-merged c =
     let operations = c.args.matching.now in
-    let order = c.deref-4.result.now in
-    let is = subst (IsOrderOfPlaces operations) (sym c.deref-4.ensures.value) c.in_ok-order.ensures.order in
-    let start = subst (λ os. IsMergedUpTo operations (lives_at operations os) c.args.idles.now
-    (length os) c.in_ok-so_far.so_far.dequeues c.in_ok-so_far.so_far.left c.in_ok-so_far.so_far.idles c.place_enqueues.new.places.items)
-    (c.deref-2.ensures.value ∙ sym c.deref-4.ensures.value) c.in_ok-so_far.ensures in
+    let order = c.parts.result.0.now in
+    let is = subst (λ all. IsOrderOfPlaces all order) c.requires.values c.parts.ensures.order in
+    let start = c.in_ok-so_far.ensures in
     let none = no_enqueue (lives_at operations order) (length order) None (omega (arith, lives_long operations order is)) in
     let past = c.in_ok-place_dequeues.ensures.up_to (length order) none start in
     let merged = c.in_ok-place_idles.ensures.adds operations (lives_at operations order) (length order) _ _

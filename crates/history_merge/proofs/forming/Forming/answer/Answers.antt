@@ -1,4 +1,4 @@
-use Rattle.std.proofs.Common.{◌≡◌, ℕ, get_or, sym, refl, arith}
+use Rattle.std.proofs.Common.{◌≡◌, ℕ, get_or, refl, arith}
 use Rattle.history_merge.proofs.Formed.{completed_by, formed_after_answer}
 use Rattle.history_merge.proofs.forming.Forming.answer.Goals as goal
 

@@ -1,4 +1,4 @@
-use Rattle.history_merge.proofs.TheirEvents.{tells_events}
+use Rattle.history_merge.proofs.TheirEvents.{events_of_formed}
 use Rattle.history_merge.proofs.ExactFaults.{complete_has_no_fault, complete_without_fault}
 use Rattle.history_merge.proofs.Formed.{all_formed}
 use Rattle.history_merge.proofs.MetFaults.{kept_is_met, left_pending, met_fault_is_first, still_forming}
@@ -12,7 +12,7 @@ pub returns-clause-outcome : goal.returns-clause-outcome
 returns-clause-outcome c = λ events gathered.
     let known = still_forming events c.args.self c.in_default.is gathered in
     let complete = complete_without_fault events known.no_fault (c.in-None.ensures events known.tracked) in
-    tells_events events c.into_formed.result complete.tickets_rise (all_formed events complete) (c.into_formed.ensures.operations events known.formed)
+    events_of_formed events c.into_formed.result complete.tickets_rise (all_formed events complete) (c.into_formed.ensures.operations events known.formed)
     (c.into_formed.ensures.returned events known.formed)
 
 pub returns-clause-complete : goal.returns-clause-complete

@@ -1,5 +1,7 @@
-use Rattle.std.proofs.Common.{◌≡◌, sym, refl, ◌∙◌, arith, subst, Some, None, length-append}
+use Rattle.std.proofs.Common.{[], ◌∷◌, ◌≡◌, sym, refl, ◌∙◌, arith, subst, Some, None, length-append}
 use Rattle.history_merge.specs.Faults.{fault_at}
+use Rattle.history_merge.proofs.Clashes.{kept-append}
+use Rattle.history_merge.proofs.ExactFaults.{rise_without_fault}
 use Rattle.history_merge.proofs.FirstFaults.{may_follow}
 use Rattle.history_merge.proofs.MetFaults.{met_fault-push, no_fault-push}
 use Rattle.history_merge.proofs.gathering.OperationsBuilder.follow.Goals as goal
@@ -24,3 +26,16 @@ returns-clause-judged c = λ events known few.
       count = simp length-append (omega (arith, known.count, few, c.saturating_add-self.ensures));
       no_fault = no_fault-push events e (subst (λ n. fault_at events n e ≡ None) known.count none) known.no_fault;
     }
+
+pub returns-in_err-repeats-clause-clash : goal.returns-in_err-repeats-clause-clash
+returns-in_err-repeats-clause-clash c = λ initial events known few kept. kept-append initial events (c.args.event ∷ []) c.args.self.now.clash kept
+
+pub returns-in_err-add-clause-clash : goal.returns-in_err-add-clause-clash
+returns-in_err-add-clause-clash c = λ initial events known few kept. kept-append initial events (c.args.event ∷ []) c.args.self.now.clash kept
+
+pub returns-clause-clash : goal.returns-clause-clash
+returns-clause-clash c = λ initial events known few kept. kept-append initial events (c.args.event ∷ []) c.args.self.now.clash kept
+
+pub returns-in-Some-clause-clash : goal.returns-in-Some-clause-clash
+returns-in-Some-clause-clash c = λ initial events known few kept.
+    c.clash_of-self.ensures initial events known.tracked known.formed (rise_without_fault events known.no_fault) (omega (arith, few)) known.count

@@ -6,10 +6,10 @@ use Rattle.history_text.proofs.reader.TextReader.initial_values.Goals as goal
 pub returns-clause-fault : goal.returns-clause-fault
 returns-clause-fault g c =
     let count = c.in_ok-count in
-    faults_by c.told_items.result _ _ (λ fault. value_is_first (c.args.self.now.lines + 1) (c.initial_count.new.self.lines + 1) count.count _ _ fault
-    (omega (arith, count.ensures.lines)) count.ensures.ok.1 count.ensures.ok.0) c.told_items.ensures.fault
+    faults_by c.required_items.result _ _ (λ fault. value_is_first (c.args.self.now.lines + 1) (c.initial_count.new.self.lines + 1) count.count _ _ fault
+    (omega (arith, count.ensures.lines)) count.ensures.ok.1 count.ensures.ok.0) c.required_items.ensures.fault
 
 pub returns-clause-values : goal.returns-clause-values
 returns-clause-values g c =
     let count = c.in_ok-count in
-    initial_taken (λ v. v.items) count.count _ _ _ c.told_items.result count.ensures.ok.0 c.told_items.ensures.items c.told_items.ensures.count
+    initial_taken (λ v. v.items) count.count _ _ _ c.required_items.result count.ensures.ok.0 c.required_items.ensures.items c.required_items.ensures.count

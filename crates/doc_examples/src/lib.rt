@@ -1,0 +1,5 @@
+//! The examples of doc comments, as tests. `extras/examples` compares the two line by line. The crate has tests alone.
+#![tactic(auto)]
+
+#[cfg(test)]
+mod tests;

@@ -1,0 +1,7 @@
+use Rattle.std.proofs.Common.{◌≡◌, ◌++◌, take}
+use Rattle.std.specs.List.{flat_map}
+use Rattle.drawing.specs.Terminal.{sign_line}
+use Rattle.drawing.proofs.terminal.push_signs.Given as goal
+
+abbrev pub invariant-loop-sign : goal.invariant-loop-sign
+invariant-loop-sign l = l.text.items ≡ l.fn.text.items ++ flat_map sign_line (take l.sign-index l.signs)

@@ -1,0 +1,30 @@
+-- Values by their names: a recorder names value n of thread t by t * 2^32 + n, and initial values as if thread 64 enqueued them.
+use Rattle.std.specs.Prelude.{ℕ, ◌/◌, ◌%◌, ◌==◌, nat_lt, if◌then◌else◌, List, ◌++◌, codes, decimal}
+use Rattle.event_records.specs.declared.limits.TheConstants.{MAX_THREADS, NAMES_OF_A_THREAD}
+use Rattle.drawing.specs.declared.names.Name.{Name}
+use Rattle.drawing.specs.declared.names.Name.TheVariants.{OfThread, OfInitial, Plain}
+
+-- the name by its owner: that of a thread from 1 on, that of an initial value, or none. Values of thread 0 are as short as they are
+abbrev pub name_by : ℕ → ℕ → ℕ → Name
+name_by owner number v =
+    if owner == 0 then Plain v else (if nat_lt owner MAX_THREADS then OfThread owner number else (if owner == MAX_THREADS then OfInitial number else Plain v))
+
+-- the name of a value
+abbrev pub name_of : ℕ → Name
+name_of v = name_by (v / NAMES_OF_A_THREAD) (v % NAMES_OF_A_THREAD) v
+
+-- a name as it is drawn: `6:11`, `init:3`, or all digits
+abbrev pub name_text : Name → List ℕ
+name_text (OfThread thread number) = decimal thread ++ (codes ":" ++ decimal number)
+name_text (OfInitial number) = codes "init:" ++ decimal number
+name_text (Plain v) = decimal v
+
+-- a value as it is drawn
+abbrev pub value_text : ℕ → List ℕ
+value_text v = name_text (name_of v)
+
+-- an initial value as it is drawn
+abbrev pub initial_text : Name → List ℕ
+initial_text (OfThread thread number) = codes "init " ++ name_text (OfThread thread number)
+initial_text (OfInitial number) = name_text (OfInitial number)
+initial_text (Plain v) = codes "init " ++ name_text (Plain v)

@@ -1,0 +1,42 @@
+-- How to read a picture: its signs, and what each means. Characters and pixels draw them in their own way.
+use Rattle.std.specs.Prelude.{ℕ, List, [], ◌∷◌, ◌++◌, codes}
+use Rattle.verdicts.specs.declared.verifying.Claimed.{Claimed}
+use Rattle.verdicts.specs.declared.verifying.Claimed.TheVariants.{Yes, No}
+use Rattle.verdicts.specs.declared.verifying.ViolationKind.TheVariants.{VFresh, VRepeat, VOrd, VWit}
+use Rattle.drawing.specs.declared.signs.Sign.{Sign}
+use Rattle.drawing.specs.declared.signs.Sign.TheVariants.{First, InOrder, OfOperations, OfValues, Present, Absent, Dequeued, InAndOut, SaidEmpty}
+
+-- the sign of initial values, where there are some
+abbrev pub initial_signs : List ℕ → List Sign
+initial_signs [] = []
+initial_signs (v ∷ initial) = First ∷ []
+
+-- the sign of numbers
+abbrev pub number_sign : Claimed → List ℕ → Sign
+number_sign (Yes order) initial = InOrder
+number_sign (No kind lines) [] = OfOperations
+number_sign (No kind lines) (v ∷ initial) = OfValues
+
+-- the signs of the bands
+abbrev pub band_signs : Claimed → List Sign
+band_signs (Yes order) = []
+band_signs (No VFresh lines) = Absent ∷ Dequeued ∷ []
+band_signs (No VRepeat lines) = []
+band_signs (No VOrd lines) = Present ∷ InAndOut ∷ []
+band_signs (No VWit lines) = Present ∷ SaidEmpty ∷ []
+
+-- the signs of a picture
+abbrev pub signs_of : List ℕ → Claimed → List Sign
+signs_of initial claimed = initial_signs initial ++ (number_sign claimed initial ∷ band_signs claimed)
+
+-- what a sign means
+abbrev pub meaning : Sign → List ℕ
+meaning First = codes "a value that was in the queue first, the front one on top"
+meaning InOrder = codes "number 1 in the order, where it takes effect"
+meaning OfOperations = codes "number 1 of the operations that show it"
+meaning OfValues = codes "number 1 of the values and operations that show it"
+meaning Present = codes "the value surely was in the queue."
+meaning Absent = codes "the value surely was not in the queue."
+meaning Dequeued = codes "within this time it was dequeued nevertheless."
+meaning InAndOut = codes "within this time the later value went in and out."
+meaning SaidEmpty = codes "within this time the queue was said to be empty."

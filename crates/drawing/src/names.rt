@@ -1,0 +1,110 @@
+//! Values by their names.
+ghost use Rattle.std.specs.Prelude.{◌≡◌, ◌++◌, ◌≤◌, OnOk, length};
+ghost use Rattle.drawing.specs.Layout.{initial_label};
+ghost use Rattle.drawing.specs.Names.{name_of, name_text, value_text, initial_text};
+
+use crate::columns::digits;
+use crate::line::{Added, push_number};
+use event_records::{MAX_THREADS, NAMES_OF_A_THREAD};
+
+/// The name of a value, as recorders give it.
+#[derive(Clone, Copy, Debug, PartialEq, Eq)]
+pub enum Name {
+    /// Of a thread from 1 on: the thread, and the number of its value.
+    OfThread(u64, u64),
+    /// Of an initial value: its number.
+    OfInitial(u64),
+    /// Of any other value: the value itself.
+    Plain(u64),
+}
+
+fn name_of(value: u64) -> Name
+    ensures { result ≡ name_of value }
+{
+    let owner = value / NAMES_OF_A_THREAD;
+    let number = value % NAMES_OF_A_THREAD;
+    if owner == 0 {
+        Name::Plain(value)
+    } else if owner < MAX_THREADS as u64 {
+        Name::OfThread(owner, number)
+    } else if owner == MAX_THREADS as u64 {
+        Name::OfInitial(number)
+    } else {
+        Name::Plain(value)
+    }
+}
+
+fn push_name(text: &mut Vec<u8>, name: Name) -> Added
+    ensures { OnOk result (text.new.items ≡ text.old.items ++ name_text name) }
+{
+    match name {
+        Name::OfThread(thread, number) => {
+            push_number(text, thread)?;
+            text.extend_from_slice(b":")?;
+            push_number(text, number)
+        }
+        Name::OfInitial(number) => {
+            text.extend_from_slice(b"init:")?;
+            push_number(text, number)
+        }
+        Name::Plain(value) => push_number(text, value),
+    }
+}
+
+/// Adds a value by its name.
+pub(crate) fn push_value(text: &mut Vec<u8>, value: u64) -> Added
+    ensures { OnOk result (text.new.items ≡ text.old.items ++ value_text value) }
+{
+    push_name(text, name_of(value))
+}
+
+/// Adds an initial value by its name.
+pub fn push_initial_label(text: &mut Vec<u8>, value: u64) -> Added
+    ensures { OnOk result (text.new.items ≡ text.old.items ++ initial_label value) }
+{
+    let name = name_of(value);
+    match name {
+        Name::OfInitial(_) => push_name(text, name),
+        _ => {
+            text.extend_from_slice(b"init ")?;
+            push_name(text, name)
+        }
+    }
+}
+
+fn name_len(name: Name) -> usize
+    ensures value { result ≡ length (name_text name) }
+    ensures few { result ≤ 41 }
+{
+    match name {
+        Name::OfThread(thread, number) => digits(thread) + 1 + digits(number),
+        Name::OfInitial(number) => 5 + digits(number),
+        Name::Plain(value) => digits(value),
+    }
+}
+
+/// How many characters the name of a value has.
+pub(crate) fn value_len(value: u64) -> usize
+    ensures value { result ≡ length (value_text value) }
+    ensures few { result ≤ 41 }
+{
+    name_len(name_of(value))
+}
+
+fn initial_name_len(name: Name) -> usize
+    ensures value { result ≡ length (initial_text name) }
+    ensures few { result ≤ 46 }
+{
+    match name {
+        Name::OfInitial(_) => name_len(name),
+        _ => 5 + name_len(name),
+    }
+}
+
+/// How many characters the label of an initial value has.
+pub(crate) fn initial_label_len(value: u64) -> usize
+    ensures value { result ≡ length (initial_label value) }
+    ensures few { result ≤ 46 }
+{
+    initial_name_len(name_of(value))
+}

@@ -1,0 +1,7 @@
+use Rattle.std.proofs.Common.{◌≤◌, length}
+use Rattle.event_records.specs.declared.limits.TheConstants.{MAX_EVENTS}
+use Rattle.history_merge.proofs.Searching.{Searched}
+use Rattle.history_merge.proofs.clash.first_of.Given as goal
+
+abbrev pub invariant-loop-event : goal.invariant-loop-event
+invariant-loop-event l = length l.fn.events ≤ MAX_EVENTS → Searched l.fn.events l.event-iterator l.sought l.place

@@ -1,0 +1,52 @@
+-- What in a history contradicts what.
+use Rattle.std.specs.Prelude.{◌≡◌, ◌≢◌, ℕ, suc, ◌<◌, List, Some, slice_get, take}
+use Rattle.event_records.specs.declared.event.Event.{Event}
+use Rattle.history_merge.specs.declared.clash.Clash.{Clash}
+use Rattle.history_merge.specs.declared.clash.Clash.TheVariants as clash
+use Rattle.history_merge.specs.declared.clash.Placed.{Placed}
+use Rattle.history_merge.specs.declared.fault.HistoryFault.{HistoryFault}
+use Rattle.history_merge.specs.declared.fault.HistoryFault.TheVariants.{TicketOrder, CallWhilePending, DuplicateValue, Pending, InitialTwice}
+use Rattle.history_merge.specs.Complete.{called_value}
+use Rattle.history_merge.specs.Faults.{pending_call}
+
+-- the event stands at its place
+abbrev pub Stands : List Event → Placed → Type 0
+Stands events x = slice_get events x.place ≡ Some x.event
+
+-- both events enqueue one value, and no event before the first does
+pub record AreFirstWith (events : List Event) (x y : Placed) : Type 0 where
+  pub value : ℕ
+  pub first : called_value x.event.what ≡ Some value
+  pub again : called_value y.event.what ≡ Some value
+  pub none_before : (i : ℕ) (e : Event) → i < x.place → slice_get events i ≡ Some e → called_value e.what ≢ Some value
+
+-- the event enqueues the initial value at this place
+pub record EnqueuesInitial (initial : List ℕ) (place : ℕ) (x : Placed) : Type 0 where
+  pub value : ℕ
+  pub enqueued : called_value x.event.what ≡ Some value
+  pub initial_value : slice_get initial place ≡ Some value
+
+-- the initial values at these places equal this one
+pub record AreEqualInitial (initial : List ℕ) (value i j : ℕ) : Type 0 where
+  pub earlier : i < j
+  pub first : slice_get initial i ≡ Some value
+  pub again : slice_get initial j ≡ Some value
+
+-- these events, or these initial values, contradict each other: an event and the one before it, a call and the pending call of its
+-- thread, two calls with one value, a call with an initial value, two equal initial values; or the call is there that never returns
+abbrev pub IsClash : List ℕ → List Event → Clash → Type 0
+IsClash initial events (clash.Tickets x y) = Stands events x × Stands events y × (suc x.place ≡ y.place)
+IsClash initial events (clash.Calls x y) = Stands events x × Stands events y × (pending_call y.event.thread (take y.place events) ≡ Some x.event)
+IsClash initial events (clash.Values x y) = Stands events x × Stands events y × AreFirstWith events x y
+IsClash initial events (clash.Initial place x) = Stands events x × EnqueuesInitial initial place x
+IsClash initial events (clash.Twice value i j) = AreEqualInitial initial value i j
+IsClash initial events (clash.Pending x) = Stands events x
+
+-- the fault that it explains
+abbrev pub fault_of : Clash → HistoryFault
+fault_of (clash.Tickets x y) = TicketOrder y.place
+fault_of (clash.Calls x y) = CallWhilePending y.place
+fault_of (clash.Values x y) = DuplicateValue y.place
+fault_of (clash.Initial place x) = DuplicateValue x.place
+fault_of (clash.Twice value i j) = InitialTwice j
+fault_of (clash.Pending x) = Pending x.event.ticket

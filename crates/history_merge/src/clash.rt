@@ -1,0 +1,162 @@
+//! What in a history contradicts what: the events and values that a message about a fault names.
+ghost use Rattle.std.specs.Prelude.{◌≡◌, ◌≤◌, ◌∷◌, ◌++◌, [], ℕ, List, IfSome, IsTrue, ◌↔◌, length, slice_get};
+ghost use Rattle.event_records.specs.declared.event.Event.{Event};
+ghost use Rattle.event_records.specs.Turns.{TicketsRise};
+ghost use Rattle.event_records.specs.declared.limits.TheConstants.{MAX_EVENTS};
+ghost use Rattle.history_merge.specs.Clashes.{IsClash, Stands, fault_of};
+ghost use Rattle.history_merge.specs.Gathering.{HasFormed};
+ghost use Rattle.history_merge.specs.Inner.Clashes.{IsFirstSought, IsSought};
+ghost use Rattle.history_merge.specs.Progress.{HasTracked};
+
+use crate::called::called_value;
+use crate::events::Events;
+use crate::fault::HistoryFault;
+use crate::forming::Forming;
+use crate::progress::Progress;
+use event_records::Event;
+
+/// An event, and its place from 0 among all.
+#[derive(Clone, Copy, Debug, PartialEq, Eq)]
+pub struct Placed {
+    pub place: usize,
+    pub event: Event,
+}
+
+/// What in a history contradicts what.
+#[derive(Clone, Copy, Debug, PartialEq, Eq)]
+pub enum Clash {
+    /// The ticket of the second event isn't above that of the first, the event before it.
+    Tickets(Placed, Placed),
+    /// The second event is a call of a thread whose pending call is the first.
+    Calls(Placed, Placed),
+    /// Both events enqueue one value, and no event before the first does.
+    Values(Placed, Placed),
+    /// The event enqueues the initial value at this place.
+    Initial(usize, Placed),
+    /// The initial values at these places equal this one.
+    Twice(u64, usize, usize),
+    /// The call of this event has no return.
+    Pending(Placed),
+}
+
+impl Clash {
+    /// The fault that it explains.
+    pub fn fault(&self) -> HistoryFault
+        ensures { result ≡ fault_of self.now }
+    {
+        match self {
+            Clash::Tickets(_, later) => HistoryFault::TicketOrder(later.place),
+            Clash::Calls(_, later) => HistoryFault::CallWhilePending(later.place),
+            Clash::Values(_, later) | Clash::Initial(_, later) => {
+                HistoryFault::DuplicateValue(later.place)
+            }
+            Clash::Twice(_, _, later) => HistoryFault::InitialTwice(*later),
+            Clash::Pending(call) => HistoryFault::Pending(call.event.ticket),
+        }
+    }
+}
+
+/// By what an event is looked for.
+#[derive(Clone, Copy)]
+pub enum Sought {
+    Place(usize),
+    Ticket(u64),
+    Value(u64),
+    Whole(Event),
+}
+
+impl Sought {
+    fn is_met_by(self, placed: &Placed) -> bool
+        ensures { IsTrue result ↔ IsSought self placed.now }
+    {
+        match self {
+            Sought::Place(place) => placed.place == place,
+            Sought::Ticket(ticket) => placed.event.ticket == ticket,
+            Sought::Value(value) => called_value(placed.event.what) == Some(value),
+            Sought::Whole(event) => placed.event == event,
+        }
+    }
+}
+
+/// The first of the events that is looked for.
+fn first_of(events: Events<'_>, sought: Sought) -> Option<Placed>
+    ensures { length events.entry ≤ MAX_EVENTS → IfSome result (IsFirstSought events.entry sought) }
+{
+    let mut place: usize = 0;
+    for event in events {
+        let placed = Placed { place, event };
+        if sought.is_met_by(&placed) {
+            return Some(placed);
+        }
+        place = place.saturating_add(1);
+    }
+    None
+}
+
+/// The first of the events of these operations that is looked for. Time O(n).
+pub fn first_event(forming: &Forming, sought: Sought) -> Option<Placed>
+    ensures { (events : List Event) → HasFormed events forming.now → TicketsRise events → length events ≤ MAX_EVENTS
+        → IfSome result (IsFirstSought events sought) }
+{
+    first_of(forming.events()?, sought)
+}
+
+/// What an event that has this fault contradicts, of the events before it. Time O(n).
+#[inline(never)]
+pub fn clash_of(
+    fault: HistoryFault,
+    later: Placed,
+    progress: &Progress,
+    forming: &Forming,
+) -> Option<Clash>
+    ensures { (initial : List ℕ) (events : List Event) → HasTracked events progress.now → HasFormed events forming.now → TicketsRise events
+        → length events ≤ MAX_EVENTS → later.place ≡ length events → IfSome result (IsClash initial (events ++ later.event ∷ [])) }
+{
+    match fault {
+        HistoryFault::TicketOrder(_) => {
+            let before = first_event(forming, Sought::Place(later.place.checked_sub(1)?))?;
+            Some(Clash::Tickets(before, later))
+        }
+        HistoryFault::CallWhilePending(_) => {
+            let call = progress.call_of(later.event.thread)?;
+            let earlier = first_event(forming, Sought::Whole(call))?;
+            Some(Clash::Calls(earlier, later))
+        }
+        HistoryFault::DuplicateValue(_) => {
+            let value = called_value(later.event.what)?;
+            let earlier = first_event(forming, Sought::Value(value))?;
+            Some(Clash::Values(earlier, later))
+        }
+        _ => None,
+    }
+}
+
+/// The place of the first of the values that equals this one.
+fn first_place(values: &[u64], value: u64) -> Option<usize>
+    ensures { IfSome result (λ place. slice_get values.now place ≡ Some value) }
+{
+    for (place, other) in values.iter().enumerate() {
+        if *other == value {
+            return Some(place);
+        }
+    }
+    None
+}
+
+/// The initial value that an event enqueues.
+pub fn clash_with_initial(initial: &[u64], call: Placed) -> Option<Clash>
+    ensures { (events : List Event) → Stands events call → IfSome result (IsClash initial.now events) }
+{
+    let value = called_value(call.event.what)?;
+    let place = first_place(initial, value)?;
+    Some(Clash::Initial(place, call))
+}
+
+/// The earlier of two equal initial values, of which the later one stands at this place.
+pub fn clash_among_initial(initial: &[u64], later: usize) -> Option<Clash>
+    ensures { (events : List Event) → IfSome result (IsClash initial.now events) }
+{
+    let value = *initial.get(later)?;
+    let earlier = first_place(initial, value)?;
+    (earlier < later).then_some(Clash::Twice(value, earlier, later))
+}

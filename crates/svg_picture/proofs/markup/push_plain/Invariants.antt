@@ -1,0 +1,6 @@
+use Rattle.std.proofs.Common.{◌≡◌, ◌++◌, take}
+use Rattle.svg_picture.specs.Markup.{plain_words}
+use Rattle.svg_picture.proofs.markup.push_plain.Given as goal
+
+abbrev pub invariant-loop-b : goal.invariant-loop-b
+invariant-loop-b l = l.text.items ≡ l.fn.text.items ++ plain_words (take l.b-index l.words)

@@ -1,0 +1,9 @@
+use Rattle.std.proofs.Common.{◌≡◌, ◌++◌, take}
+use Rattle.std.specs.List.{enumerate_from}
+use Rattle.svg_picture.specs.Markup.{each, text_of}
+use Rattle.svg_picture.specs.Picture.{numbered_sign}
+use Rattle.svg_picture.proofs.signs.push_signs.Given as goal
+
+abbrev pub invariant-loop-i : goal.invariant-loop-i
+invariant-loop-i l =
+    l.text.items ≡ l.fn.text.items ++ text_of (each (numbered_sign l.m) (enumerate_from 0 (take l.i l.list)))
