@@ -17,6 +17,7 @@ complete -c fifobench -n '__fish_seen_subcommand_from check shrink sim stress' -
 complete -c fifobench -n '__fish_seen_subcommand_from draw' -l text -d 'Draw in lines of characters, and not as SVG'
 complete -c fifobench -n '__fish_seen_subcommand_from draw' -l html -d 'Draw as an HTML page, to be looked at in a browser'
 complete -c fifobench -n '__fish_seen_subcommand_from stress' -l queue -x -d 'Name of the queue' -a "
+    proved\t'A list under one lock, proved to keep the order'
     locked\t'A list under one lock'
     two-lock\t'An inbox and an outbox, each under a lock of its own'
     array\t'ArrayQueue of crossbeam, with room for 1024 values'

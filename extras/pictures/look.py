@@ -112,23 +112,33 @@ def faults(picture, operations, held):
     bars = [g for g in root.iter(NAME + "g")]
     if len(bars) != held + operations:
         found.append(f"{len(bars)} bars of {held} values and {operations} operations")
-    rows = [box(next(g.iter(NAME + "rect"))) for g in bars]
+    values = [g for g in bars if g.find(NAME + "title").text.startswith("init ")]
+    tops = [box(next(g.iter(NAME + "rect"))) for g in values + [g for g in bars if g not in values]]
     for i in range(held):
-        if any(rows[i][3] > later[1] for later in rows[i + 1:]):
+        if any(tops[i][3] > later[1] for later in tops[i + 1:]):
             found.append(f"value {i} doesn't stand above what comes later")
-    for group in bars:
-        bar, *pill = [box(r) for r in group.iter(NAME + "rect")]
-        label, *number = [(box(t), t.text) for t in group.iter(NAME + "text")]
-        if not within(label[0], bar) or not all(within(p, bar) for p in pill):
-            found.append(f"not in its bar: {label[1]}")
-        if pill and not within(number[0][0], pill[0]):
-            found.append(f"not in its pill: {number[0][1]}")
+    pills = [box(r) for r in root.iter(NAME + "rect") if r.get("class") == "pill"][1:]
+    numbers = [(box(t), t.text) for t in texts if t.get("class") == "pick"][1:]
+    for pill in pills:
+        inside = [number for number in numbers if within(number[0], pill)]
+        if len(inside) != 1:
+            found.append(f"{len(inside)} numbers in a pill")
+        if not any(within(pill, top) for top in tops):
+            found.append(f"in no bar: {inside}")
         for place, words in boxes:
-            if pill and (place, words) != number[0] and meet(place, pill[0]):
+            if (place, words) not in inside and meet(place, pill):
                 found.append(f"under a pill: {words}")
-            if (place, words) not in (label, *number) and meet(place, bar):
+    if len(pills) != len(numbers):
+        found.append(f"{len(pills)} pills and {len(numbers)} numbers")
+    for group in bars:
+        bar = box(next(group.iter(NAME + "rect")))
+        label = next((box(t), t.text) for t in group.iter(NAME + "text"))
+        if not within(label[0], bar):
+            found.append(f"not in its bar: {label[1]}")
+        for place, words in boxes:
+            if (place, words) != label and (place, words) not in numbers and meet(place, bar):
                 found.append(f"under a bar: {words}")
-        if not all(within(r, whole) for r in [bar] + pill):
+        if not within(bar, whole):
             found.append("a bar outside")
     return found
 

@@ -11,10 +11,14 @@ use Rattle.command_words.specs.declared.options.PictureForm.{PictureForm}
 use Rattle.command_words.specs.declared.tasks.Task.{Task}
 use Rattle.command_words.specs.declared.tasks.Task.TheVariants as task
 
+-- the program before its subcommands: it has a version, and wants a subcommand
+abbrev pub the_program_alone : App
+the_program_alone = record { top = record (new_shape (codes "fifobench")) { subcommand_required = true; has_version = true }; subs = [] }
+
 -- the program: it has a version, and wants one of these subcommands
 abbrev pub the_program : App
 the_program = record {
-  top = record (new_shape (codes "fifobench")) { is_leaf = false; subcommand_required = true; has_version = true };
+  top = record the_program_alone.top { is_leaf = false };
   subs = the_judging (codes "check") ∷ the_judging (codes "shrink") ∷ new_shape (codes "verify")
       ∷ the_draw ∷ new_shape (codes "convert") ∷ new_shape (codes "stats") ∷ the_judging (codes "sim") ∷ the_stress ∷ [];
 }

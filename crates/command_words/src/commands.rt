@@ -1,9 +1,9 @@
 //! The commands, as clap takes them.
 ghost use Rattle.std.specs.Prelude.{◌≡◌, IfOk, false};
-ghost use Rattle.clap.specs.Simple.{app_of, new_app, shape_of};
+ghost use Rattle.clap.specs.Simple.{Shape, app_of, new_app, shape_of, with_subcommand};
 ghost use Rattle.clap.specs.Walk.{rule_of};
 ghost use Rattle.clap.specs.declared.builder.command.Command.TheViews.{out-Command};
-ghost use Rattle.command_words.specs.Commands.{the_program};
+ghost use Rattle.command_words.specs.Commands.{the_program, the_program_alone};
 ghost use Rattle.command_words.specs.Options.{flag_rule, number_rule, queue_rule, quiet_rule, the_draw, the_judging, the_stress};
 
 use crate::help;
@@ -18,25 +18,44 @@ use std::alloc::{AllocError, Global};
 pub(crate) fn the_command<'a>(alloc: Global) -> Result<Command<'a>, AllocError>
     ensures { IfOk result (λ c. app_of c ≡ the_program) }
 {
-    let check = judging_command(alloc, "check", help::CHECK_ABOUT, help::CHECK_LONG)?;
-    let shrink = judging_command(alloc, "shrink", help::SHRINK_ABOUT, help::SHRINK_LONG)?;
-    let draw = draw_command(alloc)?;
-    let sim = judging_command(alloc, "sim", help::SIM_ABOUT, help::SIM_LONG)?;
-    let stress = stress_command(alloc)?;
+    let check = judging_command(alloc, "check", help::CHECK_ABOUT, help::CHECK_LONG);
+    let with_check = with(program_alone(alloc), check)?;
+    let shrink = judging_command(alloc, "shrink", help::SHRINK_ABOUT, help::SHRINK_LONG);
+    let with_shrink = with(with_check, shrink)?;
+    let verify = plain_command(alloc, "verify", help::VERIFY_ABOUT, help::VERIFY_LONG);
+    let with_verify = with(with_shrink, Ok(verify))?;
+    let with_draw = with(with_verify, draw_command(alloc))?;
+    let convert = plain_command(alloc, "convert", help::CONVERT_ABOUT, help::CONVERT_LONG);
+    let with_convert = with(with_draw, Ok(convert))?;
+    let stats = plain_command(alloc, "stats", help::STATS_ABOUT, help::STATS_LONG);
+    let with_stats = with(with_convert, Ok(stats))?;
+    let sim = judging_command(alloc, "sim", help::SIM_ABOUT, help::SIM_LONG);
+    let with_sim = with(with_stats, sim)?;
+    with(with_sim, stress_command(alloc))
+}
+
+// The program before its subcommands.
+fn program_alone<'a>(alloc: Global) -> Command<'a>
+    ensures { app_of result ≡ the_program_alone }
+{
     Command::new(alloc, "fifobench")
         .about(help::ABOUT)
         .after_help(help::SHORT)
         .after_long_help(help::LONG)
         .version(help::VERSION)
         .subcommand_required(true)
-        .subcommand(check)?
-        .subcommand(shrink)?
-        .subcommand(plain_command(alloc, "verify", help::VERIFY_ABOUT, help::VERIFY_LONG))?
-        .subcommand(draw)?
-        .subcommand(plain_command(alloc, "convert", help::CONVERT_ABOUT, help::CONVERT_LONG))?
-        .subcommand(plain_command(alloc, "stats", help::STATS_ABOUT, help::STATS_LONG))?
-        .subcommand(sim)?
-        .subcommand(stress)
+}
+
+// The program with one more subcommand, if there was memory for that.
+fn with<'a>(
+    app: Command<'a>,
+    added: Result<Command<'a>, AllocError>,
+) -> Result<Command<'a>, AllocError>
+    requires { IfOk added (λ c. (out-Command c).has_globals ≡ false) }
+    ensures { (shape : Shape) → IfOk added.entry (λ c. shape_of c ≡ shape)
+        → IfOk result (λ c. app_of c ≡ with_subcommand (app_of app.entry) shape) }
+{
+    app.subcommand(added?)
 }
 
 // A subcommand without options.

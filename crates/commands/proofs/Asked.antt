@@ -3,11 +3,11 @@ use Rattle.std.proofs.Common.{◌≡◌, Bool, true, false, sym, subst}
 use Rattle.text_lines.specs.Writing.{Asked, IsRefused, IsFlushed}
 use Rattle.commands.specs.Running.{WritesAndFlushes}
 
-module _ {S : Type 0} (goes : S → Asked → S → Type 0) (refused : Bool) (old new : S) where
+module _ {S : Type 0} (transition : S → Asked → S → Type 0) (refused : Bool) (old new : S) where
   -- a writer that refused was asked for nothing more
-  pub asked_to_the_refusal : refused ≡ true → IsRefused goes old new → WritesAndFlushes goes refused old new
-  asked_to_the_refusal is h = subst (λ (b : Bool). WritesAndFlushes goes b old new) (sym is) h
+  pub asked_to_the_refusal : refused ≡ true → IsRefused transition old new → WritesAndFlushes transition refused old new
+  asked_to_the_refusal is h = subst (λ (b : Bool). WritesAndFlushes transition b old new) (sym is) h
 
   -- a writer that refused nothing was flushed last
-  pub asked_to_the_flush : refused ≡ false → IsFlushed goes old new → WritesAndFlushes goes refused old new
-  asked_to_the_flush is h = subst (λ (b : Bool). WritesAndFlushes goes b old new) (sym is) h
+  pub asked_to_the_flush : refused ≡ false → IsFlushed transition old new → WritesAndFlushes transition refused old new
+  asked_to_the_flush is h = subst (λ (b : Bool). WritesAndFlushes transition b old new) (sym is) h

@@ -12,12 +12,14 @@ use Rattle.history_text.specs.declared.version.Version.{Version}
 use Rattle.history_text.specs.declared.version.Version.TheVariants.{One, Two}
 use Rattle.history_text.specs.Versions.{HasText, HaveValueLines, said_in}
 use Rattle.verdicts.specs.declared.verdict.Verdict.{Verdict}
+use Rattle.verdicts.specs.declared.verdict.Verdict.TheVariants.{Yes, No}
+use Rattle.history_merge.specs.Legal.{IsLinearizableFrom}
 use Rattle.verdicts.specs.Claiming.{claim_of}
 use Rattle.verdicts.specs.Decided.{IsDecided}
 use Rattle.verdicts.specs.Verdicts.{IsEvidenceFrom, IsExactFrom, IsVerdictFrom}
 use Rattle.std.specs.Prelude.{filter}
 use Rattle.verdicts.specs.Selection.{ArePartOf}
-use Rattle.commands.specs.Answers.{Reply, judged, memory_fault, answer_of_history_fault}
+use Rattle.commands.specs.Answers.{Reply, ShowsNoViolation, shown, judged, memory_fault, answer_of_history_fault}
 use Rattle.text_lines.specs.declared.fault.TextFault.{TextFault}
 use Rattle.text_lines.specs.Input.{Ahead}
 use Rattle.commands.specs.Judging.{IsFaulty, IsShrunk, IsVerdictClaim, AnswersFor, AnswersOrNoMemory, IsSound, Judges, Shrinks, from_none}
@@ -110,3 +112,12 @@ module _ {A : Type 0} (IsInputOf : Ahead → A → Type 0) (IsFaultOf : Ahead �
       | inr memory ↦ inr memory
     ];
   })
+
+-- ---- what is shown of a linearizable history
+
+-- its verdict shows no violation
+pub shows_none : (version : Version) (history : HistoryView) (verdict : Verdict)
+    → IsExactFrom history.initial (operations_of history.events) verdict → IsLinearizableFrom history.initial (operations_of history.events)
+    → ShowsNoViolation (shown (said_in version history) (claim_of history.initial (operations_of history.events) verdict))
+shows_none version history (Yes places) exact linearizable = tt
+shows_none version history (No violation) exact linearizable = absurd (exact linearizable)

@@ -1,5 +1,5 @@
 -- What the program answers: its text and its status.
-use Rattle.std.specs.Prelude.{ℕ, List, ◌++◌, Bool, true, false, codes, decimal, Option, Some, None}
+use Rattle.std.specs.Prelude.{ℕ, List, ◌++◌, Bool, true, false, codes, decimal, Option, Some, None, ⊤}
 use Rattle.std.specs.List.{flat_map}
 use Rattle.event_records.specs.declared.event.Event.{Event}
 use Rattle.text_lines.specs.declared.fault.TextFault.{TextFault}
@@ -53,6 +53,11 @@ pub data Reply : Type 0 where
   read_fault : Reply
   memory_fault : Reply
   run_fault : RunFault → Reply
+
+-- no violation is shown
+abbrev pub ShowsNoViolation : Reply → Type 0
+ShowsNoViolation (shown text (claim.No kind lines)) = ⊥
+ShowsNoViolation _ = ⊤
 
 -- ---- names
 

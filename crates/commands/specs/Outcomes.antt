@@ -10,25 +10,25 @@ use Rattle.history_merge.specs.Operations.{operations_of}
 use Rattle.stress_run.specs.Faults as run_names
 use Rattle.verdicts.specs.Claiming.{claim_of, IsWithin}
 use Rattle.std.specs.declared.result.Result.{Result}
-use Rattle.commands.specs.declared.outcome.Found.{Found}
-use Rattle.commands.specs.declared.outcome.Found.TheVariants.{Judged, Shown, LeftOpen, Played, Verified, Converted, Counted, Drawn}
+use Rattle.commands.specs.declared.outcome.Report.{Report}
+use Rattle.commands.specs.declared.outcome.Report.TheVariants.{Judged, Shown, LeftOpen, Played, Verified, Converted, Counted, Drawn}
 use Rattle.commands.specs.declared.outcome.Fault.{Fault}
 use Rattle.commands.specs.declared.outcome.Fault.TheVariants.{Text, History, Size, Queue, Limit, Memory, Run}
 use Rattle.commands.specs.Answers.{Reply, judged, shown, left_open, played, verified, converted, counted, drawn, refused_size}
 use Rattle.commands.specs.Answers.{refused_queue, refused_limit, memory_fault, run_fault, answer_of_text_fault, answer_of_history_fault}
 
 -- the answer that is printed of what was found: of a verdict what it claims, of the rest the same
-abbrev pub answer_of_found : Found → Reply
-answer_of_found (Judged history verdict) = judged (claim_of history.initial (operations_of history.events) verdict)
-answer_of_found (Shown version history verdict) =
+abbrev pub answer_of_report : Report → Reply
+answer_of_report (Judged history verdict) = judged (claim_of history.initial (operations_of history.events) verdict)
+answer_of_report (Shown version history verdict) =
     shown (said_in version history) (claim_of history.initial (operations_of history.events) verdict)
-answer_of_found (LeftOpen rejections) = left_open rejections
-answer_of_found (Played rejections history verdict) =
+answer_of_report (LeftOpen rejections) = left_open rejections
+answer_of_report (Played rejections history verdict) =
     played rejections history.events (claim_of history.initial (operations_of history.events) verdict)
-answer_of_found (Verified valid) = verified valid
-answer_of_found (Converted history) = converted (said_in Two history)
-answer_of_found (Counted statistics) = counted statistics
-answer_of_found (Drawn picture) = drawn picture.items
+answer_of_report (Verified valid) = verified valid
+answer_of_report (Converted history) = converted (said_in Two history)
+answer_of_report (Counted statistics) = counted statistics
+answer_of_report (Drawn picture) = drawn picture.items
 
 -- the answer that is printed of a fault
 abbrev pub answer_of_fault : Fault → Reply
@@ -47,8 +47,8 @@ NamesClash initial events (History incomplete) =
 NamesClash initial events _ = ⊤
 
 -- the answer that an outcome prints
-abbrev pub answer_of : Result Found Fault → Reply
-answer_of (Ok found) = answer_of_found found
+abbrev pub answer_of : Result Report Fault → Reply
+answer_of (Ok found) = answer_of_report found
 answer_of (Err fault) = answer_of_fault fault
 
 -- the name of a fault, as it is printed
@@ -69,7 +69,7 @@ place_in (Run fault) = run_names.place_in fault
 place_in _ = None
 
 -- a verdict names places of its own history, and a history is shown in a version that has a text for it
-abbrev pub HasPlaces : Found → Type 0
+abbrev pub HasPlaces : Report → Type 0
 HasPlaces (Judged history verdict) = IsWithin history.initial (operations_of history.events) verdict
 HasPlaces (Shown version history verdict) =
     IsWithin history.initial (operations_of history.events) verdict × (version ≡ One → history.initial ≡ [])
@@ -77,6 +77,6 @@ HasPlaces (Played rejections history verdict) = IsWithin history.initial (operat
 HasPlaces _ = ⊤
 
 -- what was found, if anything was, has such places
-abbrev pub NamesPlaces : Result Found Fault → Type 0
+abbrev pub NamesPlaces : Result Report Fault → Type 0
 NamesPlaces (Ok found) = HasPlaces found
 NamesPlaces (Err fault) = ⊤

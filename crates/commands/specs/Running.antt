@@ -21,8 +21,8 @@ Prints old new true result text status = AppendsFront old new text × (result �
 
 -- where nothing was refused the writer took bytes and then was flushed, once; else the refusal was the last that it was asked
 abbrev pub WritesAndFlushes : {S : Type 0} → (S → Asked → S → Type 0) → Bool → S → S → Type 0
-WritesAndFlushes goes false old new = IsFlushed goes old new
-WritesAndFlushes goes true old new = IsRefused goes old new
+WritesAndFlushes transition false old new = IsFlushed transition old new
+WritesAndFlushes transition true old new = IsRefused transition old new
 
 -- standard error took these bytes; or it refused some of them, and took a prefix
 abbrev pub Says : Option (List ℕ) → Option (List ℕ) → Bool → List ℕ → Type 0

@@ -1,5 +1,5 @@
 -- What `stress` answers: it reads nothing, and runs the first queue of a name.
-use Rattle.std.specs.Prelude.{◌≡◌, ◌≢◌, ℕ, ◌*◌, ◌==◌, ◌<◌, ◌≤◌, if◌then◌else◌, Bool, List, ◌∷◌, ◌++◌, All, ◌⊎◌}
+use Rattle.std.specs.Prelude.{◌≡◌, ◌≢◌, ℕ, ◌*◌, ◌==◌, ◌<◌, ◌≤◌, if◌then◌else◌, Bool, List, ◌∷◌, ◌++◌, All, ◌⊎◌, codes}
 use Rattle.std.specs.List.{range_with_len}
 use Rattle.event_records.specs.declared.event.Event.{Event}
 use Rattle.event_records.specs.declared.kind.Kind.{Kind}
@@ -21,7 +21,8 @@ use Rattle.stress_run.specs.Preloaded.{AreTaken, IsFirstRefused}
 use Rattle.verdicts.specs.declared.verifying.Claimed.{Claimed}
 use Rattle.command_words.specs.Options.{Settings}
 use Rattle.commands.specs.declared.stress.TheConstants.{TRIES}
-use Rattle.commands.specs.Answers.{Reply, shown, refused_queue, refused_limit, memory_fault, run_fault}
+use Rattle.queue_interface.specs.Answers.{AnswersInKind, TakesOrRefuses}
+use Rattle.commands.specs.Answers.{Reply, ShowsNoViolation, shown, refused_queue, refused_limit, memory_fault, run_fault}
 use Rattle.commands.specs.Judging.{IsVerdictClaim}
 
 -- x is the first element of the list that this name fits
@@ -83,8 +84,18 @@ StressesQueue may may_preload settings answer =
     ((MAX_OPERATIONS < settings.threads * settings.operations) × (answer ≡ refused_limit))
     ⊎ ((settings.threads * settings.operations ≤ MAX_OPERATIONS) × RunsOrFails may may_preload settings answer)
 
--- `stress` on a shelf of queues with names: the first of the name is run, and a name that none has is refused
+-- the name of the proved queue
+abbrev pub proved_name : List ℕ
+proved_name = codes "proved"
+
+-- of a name that no queue of the shelf has: the proved queue's run shows no violation, and any other name is refused
+abbrev pub StressesUnshelved : Settings → Reply → Type 0
+StressesUnshelved settings answer =
+    ((settings.queue ≡ proved_name) × StressesQueue AnswersInKind TakesOrRefuses settings answer × ShowsNoViolation answer)
+    ⊎ ((settings.queue ≢ proved_name) × (answer ≡ refused_queue))
+
+-- `stress` on a shelf of queues with names: the first of the name is run
 abbrev pub Stresses : {X : Type 0} → (X → List ℕ) → (X → Question → Answer → Type 0) → (X → ℕ → Bool → Type 0) → List X → Settings → Reply → Type 0
 Stresses {X} name_of may_of may_preload_of shelf settings answer =
-    (All (λ x. name_of x ≢ settings.queue) shelf × (answer ≡ refused_queue))
+    (All (λ x. name_of x ≢ settings.queue) shelf × StressesUnshelved settings answer)
     ⊎ ((x : X) × IsFirstNamed name_of settings.queue shelf x × StressesQueue (may_of x) (may_preload_of x) settings answer)

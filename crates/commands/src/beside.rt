@@ -3,8 +3,8 @@ ghost use Rattle.std.specs.Prelude.{◌≡◌, ◌<◌, ◌≤◌, false, IfOk, 
 ghost use Rattle.commands.specs.Running.{Says, SaysMessage};
 ghost use Rattle.messages.specs.Messages.{IsMessage};
 
-use crate::outcome::{Fault, Found, Outcome};
-use crate::stress::Shelved;
+use crate::outcome::{Fault, Outcome, Report};
+use crate::stress::NamedQueue;
 use clap::Error;
 use clap::error::ErrorKind;
 use command_words::{Order, Task};
@@ -144,7 +144,7 @@ pub(crate) struct Ended<'b, 'a, S> {
     pub status: u8,
     /// Its input, as far as that is kept.
     pub kept: &'b FrontKept<S>,
-    pub shelf: &'b [Shelved<'a>],
+    pub shelf: &'b [NamedQueue<'a>],
 }
 
 /// The message about a command that ended with a status which is no verdict's.
@@ -155,6 +155,7 @@ fn message_of<'b, 'a, S>(alloc: Global, ended: &Ended<'b, 'a, S>) -> Result<Stri
         return sentence(alloc, &Complaint::Write);
     };
     let mut names = Vec::new(alloc);
+    names.push("proved")?;
     for shelved in ended.shelf {
         names.push(shelved.name)?;
     }
@@ -197,7 +198,7 @@ pub(crate) fn say_how_to_keep<E: TextSink>(
     if !terminals.output {
         return;
     }
-    if let (Task::Stress(_), false, Ok(Found::Shown(_, history, _))) = (
+    if let (Task::Stress(_), false, Ok(Report::Shown(_, history, _))) = (
         order.task,
         order.is_quiet,
         outcome,

@@ -5,7 +5,7 @@ ghost use Rattle.commands.specs.Judging.{Judges, AnswersFor};
 ghost use Rattle.commands.specs.Outcomes.{answer_of, NamesPlaces};
 
 use crate::input::given_history;
-use crate::outcome::{Found, Outcome};
+use crate::outcome::{Outcome, Report};
 use history_text::TextSource;
 use std::alloc::Global;
 use std::thread::Threads;
@@ -24,5 +24,5 @@ where
 {
     let (_version, history) = given_history(alloc, reader)?;
     let verdict = decide_par(rt, alloc, &history, PIECES)?;
-    Ok(Found::Judged(history, verdict))
+    Ok(Report::Judged(history, verdict))
 }

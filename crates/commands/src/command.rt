@@ -19,7 +19,7 @@ use crate::print::{print_outcome, print_text};
 use crate::shrink::shrink;
 use crate::sim::sim;
 use crate::stats::stats;
-use crate::stress::{Shelved, stress};
+use crate::stress::{NamedQueue, stress};
 use crate::verify::verify;
 use clap::Error;
 use clap::error::ErrorKind;
@@ -29,6 +29,7 @@ use messages::FrontKept;
 use std::alloc::Global;
 use std::convert::AsStr;
 use std::io::{Read, Write};
+use std::sync::Wait;
 use std::sync::atomic::AtomicBool;
 use std::thread::Threads;
 
@@ -45,10 +46,10 @@ pub fn run_command<'a, R, T, S, W, E>(
     writer: &mut W,
     errors: &mut E,
     terminals: Terminals,
-    shelf: &[Shelved<'a>],
+    shelf: &[NamedQueue<'a>],
 ) -> u8
 where
-    R: AllocGlobal + Threads + Sync,
+    R: AllocGlobal + Threads + Wait + Sync,
     T: AsStr,
     S: TextSource + Drop,
     W: TextSink,
@@ -71,7 +72,7 @@ where
         → ExplainsUse (faults_in (map T.text words.entry.now)) (W.contents writer.old) (W.contents writer.new) (W.has_refused writer.new) result }
 
     // Whatever the arguments: the writer is written to and then flushed, once; or it refuses, and is asked for nothing more.
-    ensures asked { WritesAndFlushes W.goes (W.has_refused writer.new) writer.old writer.new }
+    ensures asked { WritesAndFlushes W.transition (W.has_refused writer.new) writer.old writer.new }
 
     // So where it refused nothing, it holds nothing back.
     ensures passed_on { W.has_refused writer.new ≡ false → W.holds_back writer.new ≡ false }
@@ -119,10 +120,10 @@ pub fn run_over<'a, R, I, O, E>(
     output: O,
     errors: E,
     terminals: Terminals,
-    shelf: &[Shelved<'a>],
+    shelf: &[NamedQueue<'a>],
 ) -> u8
 where
-    R: AllocGlobal + Threads + Sync,
+    R: AllocGlobal + Threads + Wait + Sync,
     I: Read + Drop,
     O: Write + Drop,
     E: Write + Drop,
@@ -148,9 +149,9 @@ where
 }
 
 /// What a command finds, in the input or on the shelf.
-fn outcome_of<'a, R, S>(rt: &R, task: Task<'a>, reader: S, shelf: &[Shelved<'a>]) -> Outcome
+fn outcome_of<'a, R, S>(rt: &R, task: Task<'a>, reader: S, shelf: &[NamedQueue<'a>]) -> Outcome
 where
-    R: AllocGlobal + Threads + Sync,
+    R: AllocGlobal + Threads + Wait + Sync,
     S: TextSource + Drop,
     requires { IsInRange (request_of task) }
     ensures reads { IfSome (S.ahead reader) (λ input. AnswersOf (request_of task.entry) input (answer_of result)) }
@@ -184,7 +185,7 @@ fn usage_status(kind: ErrorKind) -> u8
 fn explain<W: TextSink>(alloc: Global, error: &Error, writer: &mut W) -> u8
     requires fresh { W.has_refused writer.old ≡ false }
     ensures printed { Explains (kind_of error.now) (W.contents writer.old) (W.contents writer.new) (W.has_refused writer.new) result }
-    ensures asked { WritesAndFlushes W.goes (W.has_refused writer.new) writer.old writer.new }
+    ensures asked { WritesAndFlushes W.transition (W.has_refused writer.new) writer.old writer.new }
     ensures passed_on { W.has_refused writer.new ≡ false → W.holds_back writer.new ≡ false }
 {
     if error.kind() == ErrorKind::OutOfMemory {

@@ -5,7 +5,7 @@ ghost use Rattle.commands.specs.Judging.{AnswersFor, Converts};
 ghost use Rattle.commands.specs.Outcomes.{answer_of, NamesPlaces};
 
 use crate::input::given_history;
-use crate::outcome::{Found, Outcome};
+use crate::outcome::{Outcome, Report};
 use history_text::TextSource;
 use std::alloc::Global;
 
@@ -15,5 +15,5 @@ pub fn convert<S: TextSource + Drop>(alloc: Global, reader: S) -> Outcome
     ensures places { NamesPlaces result }
 {
     let (_version, history) = given_history(alloc, reader)?;
-    Ok(Found::Converted(history))
+    Ok(Report::Converted(history))
 }

@@ -10,7 +10,7 @@ ghost use Rattle.commands.specs.Judging.{Draws, DrawsAlone, DrawsClaim, IsDrawn,
 ghost use Rattle.commands.specs.Outcomes.{answer_of, NamesPlaces};
 
 use crate::input::{drawable_of, history_of};
-use crate::outcome::{Fault, Found, Outcome};
+use crate::outcome::{Fault, Outcome, Report};
 use command_words::PictureForm;
 use drawing::{MOST_DRAWN, count_of_lines, terminal_picture};
 use history_merge::History;
@@ -60,7 +60,7 @@ fn draw_claim(alloc: Global, history: &History, claimed: &Claimed, form: Picture
         return Err(Fault::Size);
     }
     if !verdicts::verify(alloc, history, claimed)? {
-        return Ok(Found::Verified(false));
+        return Ok(Report::Verified(false));
     }
     draw_evidence(alloc, history, claimed, form)
 }
@@ -91,7 +91,7 @@ fn draw_evidence(alloc: Global, history: &History, claimed: &Claimed, form: Pict
     ensures places { NamesPlaces result }
 {
     let picture = picture_in(alloc, history, claimed, form)?;
-    Ok(Found::Drawn(picture))
+    Ok(Report::Drawn(picture))
 }
 
 /// The picture of a history and a claim in this form.

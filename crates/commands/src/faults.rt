@@ -1,15 +1,14 @@
 //! Faults, and the lines that tell them.
-ghost use Rattle.std.specs.Prelude.{◌≡◌, ◌≤◌, ◌++◌, ◌||◌, [], OnOk, OnErr, is_err, length};
-ghost use Rattle.std.specs.Io.KnownBytes.{Appends};
+ghost use Rattle.std.specs.Prelude.{◌≡◌, ◌≤◌, ◌++◌, [], length};
 ghost use Rattle.text_lines.specs.Lines.{line};
-ghost use Rattle.text_lines.specs.Writing.{AppendsFront, IsWritten, IsRefused};
+ghost use Rattle.text_lines.specs.Writing.{Writes};
 ghost use Rattle.commands.specs.Answers.{answer_text, answer_status, beginning, fault_status, named};
 ghost use Rattle.commands.specs.Outcomes.{answer_of_fault, name_of, place_in};
 
 use crate::outcome::{Fault, Incomplete};
 use history_merge::HistoryFault;
 use history_text::{TextFault, TextSink, WriteFault, write_piece};
-use text_lines::Kept;
+use text_lines::WriteBuffer;
 
 /// How the line of a refusal begins, or that of a failure.
 fn beginning_of(is_refused: bool) -> &'static [u8]
@@ -75,7 +74,7 @@ impl Fault {
 }
 
 /// The line of a fault.
-fn push_fault(fault: Fault, kept: &mut Kept)
+fn push_fault(fault: Fault, kept: &mut WriteBuffer)
     requires { kept.old ≡ [] }
     ensures { kept.new ≡ answer_text (answer_of_fault fault) }
 {
@@ -91,13 +90,9 @@ fn push_fault(fault: Fault, kept: &mut Kept)
 /// Writes the line of a fault: whether the input is refused or the command failed, the fault's name, and the place, the line,
 /// the ticket or the thread that it names.
 pub fn write_fault<W: TextSink>(fault: Fault, writer: &mut W) -> Result<(), WriteFault>
-    ensures ok { OnOk result (Appends (W.contents writer.old) (W.contents writer.new) (answer_text (answer_of_fault fault))) }
-    ensures err { OnErr result (AppendsFront (W.contents writer.old) (W.contents writer.new) (answer_text (answer_of_fault fault))) }
-    ensures refused { W.has_refused writer.new ≡ (W.has_refused writer.old || is_err result) }
-    ensures written { OnOk result (IsWritten W.goes writer.old writer.new) }
-    ensures stopped { OnErr result (IsRefused W.goes writer.old writer.new) }
+    ensures { Writes W.contents W.has_refused W.transition (answer_text (answer_of_fault fault)) writer.old writer.new result }
 {
-    let mut kept = Kept::new();
+    let mut kept = WriteBuffer::new();
     push_fault(fault, &mut kept);
     write_piece(kept.as_slice(), writer)
 }

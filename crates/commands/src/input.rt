@@ -36,7 +36,7 @@ fn gathered_of<S: TextSource + Drop>(alloc: Global, reader: S) -> Result<Gathere
 }
 
 /// The text of a history, and what the verdict text after it claims of it.
-pub fn claim_of<S: TextSource + Drop>(
+pub fn claimed_of<S: TextSource + Drop>(
     alloc: Global,
     reader: S,
 ) -> Result<(Gathered, Claimed), TextFault>
@@ -85,7 +85,6 @@ pub fn given_history<S: TextSource + Drop>(
 
 /// The history that was gathered from a text, and the version of this.
 pub fn history_of(gathered: Gathered) -> Result<(Version, History), Fault>
-    requires { (text : HistoryText) × HasText text × IsReadAs text gathered.0 gathered.1 }
     ensures history { (text : HistoryText) → HasText text → IsReadAs text gathered.0 gathered.1 → IfOk result (λ read. said_in read.0 read.1 ≡ text) }
     ensures complete { IfOk result (λ read. IsCompleteFrom read.1.initial read.1.events) }
     ensures fault { (text : HistoryText) → HasText text → IsReadAs text gathered.0 gathered.1

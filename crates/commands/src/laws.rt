@@ -11,9 +11,11 @@ ghost use Rattle.simulation.specs.Simulations.{rejections};
 ghost use Rattle.verdicts.specs.declared.verifying.Claimed.TheVariants.{Yes};
 ghost use Rattle.command_words.specs.declared.options.PictureForm.{PictureForm};
 ghost use Rattle.command_words.specs.Commands.{check, shrink, verify, draw, convert, stats, sim};
-ghost use Rattle.commands.specs.Answers.{Reply, played};
+ghost use Rattle.command_words.specs.Options.{Settings};
+ghost use Rattle.commands.specs.Answers.{Reply, ShowsNoViolation, played};
 ghost use Rattle.commands.specs.Judging.{SimulatesIn};
 ghost use Rattle.commands.specs.OneAnswer.{HasOneAnswer};
+ghost use Rattle.commands.specs.Stressing.{StressesUnshelved, proved_name};
 
 /// No false alarm: the answer to an honest schedule that is done is `YES`.
 pub fn honest_schedules_get_a_yes()
@@ -32,4 +34,10 @@ pub fn one_answer()
     ensures convert { HasOneAnswer convert }
     ensures stats { HasOneAnswer stats }
     ensures sim { HasOneAnswer sim }
+{}
+
+/// No false alarm of threads: where no queue of the shelf is called `proved`, what `stress` answers for that name shows no
+/// violation.
+pub fn runs_of_the_proved_queue_are_linearizable()
+    ensures { (settings : Settings) (answer : Reply) → settings.queue ≡ proved_name → StressesUnshelved settings answer → ShowsNoViolation answer }
 {}

@@ -14,6 +14,7 @@ mod laws;
 mod outcome;
 mod pipes;
 mod print;
+mod proved;
 mod shelf;
 mod show;
 mod shrink;
@@ -30,11 +31,11 @@ pub use conversion::conversion_keeps_answers;
 pub use evidence::{
     a_checked_verdict_is_valid, a_history_is_drawn_with_its_verdict, what_is_shrunk_is_valid,
 };
-pub use laws::{honest_schedules_get_a_yes, one_answer};
-pub use outcome::{Fault, Found, Outcome};
+pub use laws::{honest_schedules_get_a_yes, one_answer, runs_of_the_proved_queue_are_linearizable};
+pub use outcome::{Fault, Outcome, Report};
 pub use print::status_of;
 pub use shelf::{BuiltIn, built_ins};
-pub use stress::{Shelved, TRIES};
+pub use stress::{NamedQueue, TRIES};
 pub use texts::{
     check_text, draw_text, judge_gathered, shrink_text, stats_text, text_of_outcome, verify_text,
 };

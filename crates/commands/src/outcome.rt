@@ -12,11 +12,11 @@ use thiserror::Error;
 use verdicts::Verdict;
 
 /// What a command found, to be printed; or why it found nothing.
-pub type Outcome = Result<Found, Fault>;
+pub type Outcome = Result<Report, Fault>;
 
 /// What a command found.
 #[derive(Debug, Drop)]
-pub enum Found {
+pub enum Report {
     /// A history, of which the verdict alone is to be shown.
     Judged(History, Verdict),
     /// A history to be shown in a version, with its verdict.

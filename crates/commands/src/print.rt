@@ -1,15 +1,15 @@
 //! What is written, and the status that goes with it.
-ghost use Rattle.std.specs.Prelude.{◌≡◌, ◌||◌, ℕ, List, Option, OnOk, OnErr, is_err, false};
+ghost use Rattle.std.specs.Prelude.{◌≡◌, ℕ, List, Option, OnOk, OnErr, is_err, false};
 ghost use Rattle.std.specs.Io.KnownBytes.{Appends};
 ghost use Rattle.history_merge.specs.declared.operation.Operation.{Operation};
 ghost use Rattle.verdicts.specs.Claiming.{claim_of};
-ghost use Rattle.text_lines.specs.Writing.{AppendsFront, IsWritten, IsRefused};
+ghost use Rattle.text_lines.specs.Writing.{AppendsFront, IsWritten, IsRefused, Writes};
 ghost use Rattle.commands.specs.Answers.{answer_text, answer_status, claim_status, quiet_text, said_text, verdict_head};
 ghost use Rattle.commands.specs.Outcomes.{answer_of, NamesPlaces};
 ghost use Rattle.commands.specs.Running.{Prints, PrintsSaid, WritesAndFlushes};
 
 use crate::faults::write_fault;
-use crate::outcome::{Found, Outcome};
+use crate::outcome::{Outcome, Report};
 use crate::show::{write_left_open, write_played, write_shown};
 use history_stats::write_statistics;
 use history_text::{TextSink, Version, WriteFault, write_history, write_piece, write_verdict};
@@ -19,26 +19,22 @@ use verdicts::Verdict;
 /// Writes what a command found, or why it found nothing.
 pub fn write_outcome<W: TextSink>(outcome: &Outcome, writer: &mut W) -> Result<(), WriteFault>
     requires { NamesPlaces outcome.now }
-    ensures ok { OnOk result (Appends (W.contents writer.old) (W.contents writer.new) (answer_text (answer_of outcome.now))) }
-    ensures err { OnErr result (AppendsFront (W.contents writer.old) (W.contents writer.new) (answer_text (answer_of outcome.now))) }
-    ensures refused { W.has_refused writer.new ≡ (W.has_refused writer.old || is_err result) }
-    ensures written { OnOk result (IsWritten W.goes writer.old writer.new) }
-    ensures stopped { OnErr result (IsRefused W.goes writer.old writer.new) }
+    ensures { Writes W.contents W.has_refused W.transition (answer_text (answer_of outcome.now)) writer.old writer.new result }
 {
     match outcome {
-        Ok(Found::Judged(history, verdict)) => return write_verdict(history, verdict, writer),
-        Ok(Found::Shown(version, history, verdict)) => {
+        Ok(Report::Judged(history, verdict)) => return write_verdict(history, verdict, writer),
+        Ok(Report::Shown(version, history, verdict)) => {
             return write_shown(*version, history, verdict, writer);
         }
-        Ok(Found::LeftOpen(rejections)) => return write_left_open(rejections, writer),
-        Ok(Found::Played(rejections, history, verdict)) => {
+        Ok(Report::LeftOpen(rejections)) => return write_left_open(rejections, writer),
+        Ok(Report::Played(rejections, history, verdict)) => {
             return write_played(rejections, history, verdict, writer);
         }
-        Ok(Found::Converted(history)) => return write_history(Version::Two, history, writer),
-        Ok(Found::Verified(true)) => return write_piece(b"VALID\n", writer),
-        Ok(Found::Verified(false)) => return write_piece(b"INVALID\n", writer),
-        Ok(Found::Counted(statistics)) => return write_statistics(statistics, writer),
-        Ok(Found::Drawn(picture)) => return write_piece(picture.as_slice(), writer),
+        Ok(Report::Converted(history)) => return write_history(Version::Two, history, writer),
+        Ok(Report::Verified(true)) => return write_piece(b"VALID\n", writer),
+        Ok(Report::Verified(false)) => return write_piece(b"INVALID\n", writer),
+        Ok(Report::Counted(statistics)) => return write_statistics(statistics, writer),
+        Ok(Report::Drawn(picture)) => return write_piece(picture.as_slice(), writer),
         Err(fault) => return write_fault(*fault, writer),
     }
 }
@@ -57,13 +53,13 @@ pub fn status_of(outcome: &Outcome) -> u8
     ensures { result ≡ answer_status (answer_of outcome.now) }
 {
     match outcome {
-        Ok(Found::Judged(_, verdict)) => return status_of_verdict(verdict),
-        Ok(Found::Shown(_, _, verdict)) => return status_of_verdict(verdict),
-        Ok(Found::Played(_, _, verdict)) => return status_of_verdict(verdict),
-        Ok(Found::LeftOpen(_) | Found::Converted(_)) => return 0,
-        Ok(Found::Counted(_) | Found::Drawn(_)) => return 0,
-        Ok(Found::Verified(true)) => return 0,
-        Ok(Found::Verified(false)) => return 1,
+        Ok(Report::Judged(_, verdict)) => return status_of_verdict(verdict),
+        Ok(Report::Shown(_, _, verdict)) => return status_of_verdict(verdict),
+        Ok(Report::Played(_, _, verdict)) => return status_of_verdict(verdict),
+        Ok(Report::LeftOpen(_) | Report::Converted(_)) => return 0,
+        Ok(Report::Counted(_) | Report::Drawn(_)) => return 0,
+        Ok(Report::Verified(true)) => return 0,
+        Ok(Report::Verified(false)) => return 1,
         Err(fault) => return fault.status(),
     }
 }
@@ -74,8 +70,8 @@ fn flush_written<W: TextSink>(written: Result<(), WriteFault>, status: u8, write
     ensures printed { (before : Option (List ℕ)) (text : List ℕ) → OnOk written (Appends before (W.contents writer.old) text)
         → OnErr written (AppendsFront before (W.contents writer.old) text)
         → Prints before (W.contents writer.new) (W.has_refused writer.new) result text status }
-    ensures asked { (before : W) → OnOk written (IsWritten W.goes before writer.old) → OnErr written (IsRefused W.goes before writer.old)
-        → WritesAndFlushes W.goes (W.has_refused writer.new) before writer.new }
+    ensures asked { (before : W) → OnOk written (IsWritten W.transition before writer.old) → OnErr written (IsRefused W.transition before writer.old)
+        → WritesAndFlushes W.transition (W.has_refused writer.new) before writer.new }
     ensures passed_on { W.has_refused writer.new ≡ false → W.holds_back writer.new ≡ false }
 {
     if written.is_err() {
@@ -103,19 +99,15 @@ fn head_of(verdict: &Verdict) -> &'static [u8]
 /// Writes what a command found, where it is asked for quietly: of a verdict the first line alone.
 fn write_quietly<W: TextSink>(outcome: &Outcome, writer: &mut W) -> Result<(), WriteFault>
     requires { NamesPlaces outcome.now }
-    ensures ok { OnOk result (Appends (W.contents writer.old) (W.contents writer.new) (quiet_text (answer_of outcome.now))) }
-    ensures err { OnErr result (AppendsFront (W.contents writer.old) (W.contents writer.new) (quiet_text (answer_of outcome.now))) }
-    ensures refused { W.has_refused writer.new ≡ (W.has_refused writer.old || is_err result) }
-    ensures written { OnOk result (IsWritten W.goes writer.old writer.new) }
-    ensures stopped { OnErr result (IsRefused W.goes writer.old writer.new) }
+    ensures { Writes W.contents W.has_refused W.transition (quiet_text (answer_of outcome.now)) writer.old writer.new result }
 {
     match outcome {
-        Ok(Found::Judged(_, verdict)) => return write_piece(head_of(verdict), writer),
-        Ok(Found::Shown(_, _, verdict)) => return write_piece(head_of(verdict), writer),
-        Ok(Found::Played(_, _, verdict)) => return write_piece(head_of(verdict), writer),
-        Ok(Found::LeftOpen(_)) => return write_piece(b"OPEN\n", writer),
-        Ok(Found::Converted(_) | Found::Verified(_)) => return write_outcome(outcome, writer),
-        Ok(Found::Counted(_) | Found::Drawn(_)) => return write_outcome(outcome, writer),
+        Ok(Report::Judged(_, verdict)) => return write_piece(head_of(verdict), writer),
+        Ok(Report::Shown(_, _, verdict)) => return write_piece(head_of(verdict), writer),
+        Ok(Report::Played(_, _, verdict)) => return write_piece(head_of(verdict), writer),
+        Ok(Report::LeftOpen(_)) => return write_piece(b"OPEN\n", writer),
+        Ok(Report::Converted(_) | Report::Verified(_)) => return write_outcome(outcome, writer),
+        Ok(Report::Counted(_) | Report::Drawn(_)) => return write_outcome(outcome, writer),
         Err(fault) => return write_fault(*fault, writer),
     }
 }
@@ -127,11 +119,7 @@ fn write_said<W: TextSink>(
     writer: &mut W,
 ) -> Result<(), WriteFault>
     requires { NamesPlaces outcome.now }
-    ensures ok { OnOk result (Appends (W.contents writer.old) (W.contents writer.new) (said_text is_quiet (answer_of outcome.now))) }
-    ensures err { OnErr result (AppendsFront (W.contents writer.old) (W.contents writer.new) (said_text is_quiet (answer_of outcome.now))) }
-    ensures refused { W.has_refused writer.new ≡ (W.has_refused writer.old || is_err result) }
-    ensures written { OnOk result (IsWritten W.goes writer.old writer.new) }
-    ensures stopped { OnErr result (IsRefused W.goes writer.old writer.new) }
+    ensures { Writes W.contents W.has_refused W.transition (said_text is_quiet (answer_of outcome.now)) writer.old writer.new result }
 {
     if is_quiet {
         return write_quietly(outcome, writer);
@@ -144,7 +132,7 @@ pub fn print_outcome<W: TextSink>(outcome: &Outcome, is_quiet: bool, writer: &mu
     requires fresh { W.has_refused writer.old ≡ false }
     requires places { NamesPlaces outcome.now }
     ensures printed { PrintsSaid is_quiet (W.contents writer.old) (W.contents writer.new) (W.has_refused writer.new) result (answer_of outcome.now) }
-    ensures asked { WritesAndFlushes W.goes (W.has_refused writer.new) writer.old writer.new }
+    ensures asked { WritesAndFlushes W.transition (W.has_refused writer.new) writer.old writer.new }
     ensures passed_on { W.has_refused writer.new ≡ false → W.holds_back writer.new ≡ false }
 {
     let written = write_said(outcome, is_quiet, writer);
@@ -155,7 +143,7 @@ pub fn print_outcome<W: TextSink>(outcome: &Outcome, is_quiet: bool, writer: &mu
 pub fn print_text<W: TextSink>(text: &[u8], status: u8, writer: &mut W) -> u8
     requires fresh { W.has_refused writer.old ≡ false }
     ensures printed { Prints (W.contents writer.old) (W.contents writer.new) (W.has_refused writer.new) result text.now status }
-    ensures asked { WritesAndFlushes W.goes (W.has_refused writer.new) writer.old writer.new }
+    ensures asked { WritesAndFlushes W.transition (W.has_refused writer.new) writer.old writer.new }
     ensures passed_on { W.has_refused writer.new ≡ false → W.holds_back writer.new ≡ false }
 {
     let written = write_piece(text, writer);

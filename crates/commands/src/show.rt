@@ -1,20 +1,19 @@
 //! How histories with their verdicts, and refused steps, are printed.
-ghost use Rattle.std.specs.Prelude.{◌≡◌, ◌++◌, ◌||◌, [], OnOk, OnErr, codes, is_err};
-ghost use Rattle.std.specs.Io.KnownBytes.{Appends};
+ghost use Rattle.std.specs.Prelude.{◌≡◌, ◌++◌, [], codes};
 ghost use Rattle.history_merge.specs.Operations.{operations_of};
 ghost use Rattle.history_text.specs.Histories.{history_text};
 ghost use Rattle.text_lines.specs.Lines.{line};
 ghost use Rattle.history_text.specs.declared.version.Version.TheVariants.{One};
 ghost use Rattle.history_text.specs.Versions.{said_in, text_of};
 ghost use Rattle.history_text.specs.Verdicts.{verdict_text};
-ghost use Rattle.text_lines.specs.Writing.{AppendsFront, IsWritten, IsRefused};
+ghost use Rattle.text_lines.specs.Writing.{Writes};
 ghost use Rattle.commands.specs.Answers.{rejection_line, rejection_lines};
 ghost use Rattle.verdicts.specs.Claiming.{IsWithin, claim_of};
 
 use history_merge::History;
 use history_text::{TextSink, Version, WriteFault, write_history, write_piece, write_verdict};
 use simulation::{Rejection, Rejections};
-use text_lines::Kept;
+use text_lines::WriteBuffer;
 use verdicts::Verdict;
 
 /// Writes a history, and a verdict on it.
@@ -26,13 +25,8 @@ pub fn write_shown<W: TextSink>(
 ) -> Result<(), WriteFault>
     requires places { IsWithin history.now.initial (operations_of history.now.events) verdict.now }
     requires version { version ≡ One → history.now.initial ≡ [] }
-    ensures ok { OnOk result (Appends (W.contents writer.old) (W.contents writer.new)
-        (text_of (said_in version history.now) ++ verdict_text (claim_of history.now.initial (operations_of history.now.events) verdict.now))) }
-    ensures err { OnErr result (AppendsFront (W.contents writer.old) (W.contents writer.new)
-        (text_of (said_in version history.now) ++ verdict_text (claim_of history.now.initial (operations_of history.now.events) verdict.now))) }
-    ensures refused { W.has_refused writer.new ≡ (W.has_refused writer.old || is_err result) }
-    ensures written { OnOk result (IsWritten W.goes writer.old writer.new) }
-    ensures stopped { OnErr result (IsRefused W.goes writer.old writer.new) }
+    ensures { Writes W.contents W.has_refused W.transition
+        (text_of (said_in version history.now) ++ verdict_text (claim_of history.now.initial (operations_of history.now.events) verdict.now)) writer.old writer.new result }
 {
     write_history(version, history, writer)?;
     write_verdict(history, verdict, writer)
@@ -43,11 +37,7 @@ pub fn write_left_open<W: TextSink>(
     rejections: &Rejections,
     writer: &mut W,
 ) -> Result<(), WriteFault>
-    ensures ok { OnOk result (Appends (W.contents writer.old) (W.contents writer.new) (rejection_lines rejections.now ++ line (codes "OPEN"))) }
-    ensures err { OnErr result (AppendsFront (W.contents writer.old) (W.contents writer.new) (rejection_lines rejections.now ++ line (codes "OPEN"))) }
-    ensures refused { W.has_refused writer.new ≡ (W.has_refused writer.old || is_err result) }
-    ensures written { OnOk result (IsWritten W.goes writer.old writer.new) }
-    ensures stopped { OnErr result (IsRefused W.goes writer.old writer.new) }
+    ensures { Writes W.contents W.has_refused W.transition (rejection_lines rejections.now ++ line (codes "OPEN")) writer.old writer.new result }
 {
     write_rejections(rejections.as_slice(), writer)?;
     write_piece(b"OPEN\n", writer)
@@ -62,13 +52,8 @@ pub fn write_played<W: TextSink>(
 ) -> Result<(), WriteFault>
     requires places { IsWithin history.now.initial (operations_of history.now.events) verdict.now }
     requires none { history.now.initial ≡ [] }
-    ensures ok { OnOk result (Appends (W.contents writer.old) (W.contents writer.new) (rejection_lines rejections.now
-        ++ (history_text history.now.events ++ verdict_text (claim_of history.now.initial (operations_of history.now.events) verdict.now)))) }
-    ensures err { OnErr result (AppendsFront (W.contents writer.old) (W.contents writer.new) (rejection_lines rejections.now
-        ++ (history_text history.now.events ++ verdict_text (claim_of history.now.initial (operations_of history.now.events) verdict.now)))) }
-    ensures refused { W.has_refused writer.new ≡ (W.has_refused writer.old || is_err result) }
-    ensures written { OnOk result (IsWritten W.goes writer.old writer.new) }
-    ensures stopped { OnErr result (IsRefused W.goes writer.old writer.new) }
+    ensures { Writes W.contents W.has_refused W.transition
+        (rejection_lines rejections.now ++ (history_text history.now.events ++ verdict_text (claim_of history.now.initial (operations_of history.now.events) verdict.now))) writer.old writer.new result }
 {
     write_rejections(rejections.as_slice(), writer)?;
     write_shown(Version::One, history, verdict, writer)
@@ -76,13 +61,9 @@ pub fn write_played<W: TextSink>(
 
 /// Writes a line for each refused step.
 fn write_rejections<W: TextSink>(rejections: &[Rejection], writer: &mut W) -> Result<(), WriteFault>
-    ensures ok { OnOk result (Appends (W.contents writer.old) (W.contents writer.new) (rejection_lines rejections.now)) }
-    ensures err { OnErr result (AppendsFront (W.contents writer.old) (W.contents writer.new) (rejection_lines rejections.now)) }
-    ensures refused { W.has_refused writer.new ≡ (W.has_refused writer.old || is_err result) }
-    ensures written { OnOk result (IsWritten W.goes writer.old writer.new) }
-    ensures stopped { OnErr result (IsRefused W.goes writer.old writer.new) }
+    ensures { Writes W.contents W.has_refused W.transition (rejection_lines rejections.now) writer.old writer.new result }
 {
-    let mut kept = Kept::new();
+    let mut kept = WriteBuffer::new();
     for rejection in rejections {
         kept.clear();
         push_rejection(*rejection, &mut kept);
@@ -92,7 +73,7 @@ fn write_rejections<W: TextSink>(rejections: &[Rejection], writer: &mut W) -> Re
 }
 
 /// The line of a refused step.
-fn push_rejection(rejection: Rejection, kept: &mut Kept)
+fn push_rejection(rejection: Rejection, kept: &mut WriteBuffer)
     requires { kept.old ≡ [] }
     ensures { kept.new ≡ rejection_line rejection }
 {

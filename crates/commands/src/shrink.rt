@@ -11,7 +11,7 @@ ghost use Rattle.commands.specs.Judging.{Shrinks, IsShrunk, AnswersFor, AnswersO
 ghost use Rattle.commands.specs.Outcomes.{answer_of, NamesPlaces};
 
 use crate::input::given_history;
-use crate::outcome::{Found, Outcome};
+use crate::outcome::{Outcome, Report};
 use history_merge::History;
 use history_text::{TextSource, Version};
 use std::alloc::Global;
@@ -35,7 +35,7 @@ fn shrink_history(alloc: Global, version: Version, history: History) -> Outcome
     ensures places { NamesPlaces result }
 {
     match decide(alloc, &history)? {
-        Verdict::Yes(order) => Ok(Found::Judged(history, Verdict::Yes(order))),
+        Verdict::Yes(order) => Ok(Report::Judged(history, Verdict::Yes(order))),
         Verdict::No(violation) => shrink_violation(alloc, version, &history, &violation),
     }
 }
@@ -56,5 +56,5 @@ fn shrink_violation(
 {
     let small = verdicts::shrink(alloc, history, violation)?;
     let verdict = decide(alloc, &small)?;
-    Ok(Found::Shown(version, small, verdict))
+    Ok(Report::Shown(version, small, verdict))
 }

@@ -6,7 +6,7 @@ ghost use Rattle.commands.specs.Judging.{Simulates, AnswersFor, AnswersOrNoMemor
 ghost use Rattle.commands.specs.Outcomes.{answer_of, NamesPlaces};
 
 use crate::input::schedule_of;
-use crate::outcome::{Found, Outcome};
+use crate::outcome::{Outcome, Report};
 use history_merge::merged_history;
 use history_text::{Schedule, TextSource};
 use simulation::{Ending, Simulation, simulate};
@@ -35,10 +35,10 @@ fn play(alloc: Global, schedule: &Schedule) -> Outcome
         schedule.steps.as_slice(),
     )?;
     let lists = match ending {
-        Ending::Open => return Ok(Found::LeftOpen(rejections)),
+        Ending::Open => return Ok(Report::LeftOpen(rejections)),
         Ending::Done(lists) => lists,
     };
     let history = merged_history(alloc, &lists)?;
     let verdict = decide(alloc, &history)?;
-    Ok(Found::Played(rejections, history, verdict))
+    Ok(Report::Played(rejections, history, verdict))
 }

@@ -7,7 +7,7 @@ ghost use Rattle.commands.specs.Judging.{AnswersFor, AnswersOrNoMemory, Counts, 
 ghost use Rattle.commands.specs.Outcomes.{answer_of, NamesPlaces};
 
 use crate::input::given_history;
-use crate::outcome::{Found, Outcome};
+use crate::outcome::{Outcome, Report};
 use history_merge::History;
 use history_stats::statistics_of;
 use history_text::TextSource;
@@ -29,5 +29,5 @@ fn count(alloc: Global, history: &History) -> Outcome
     ensures places { NamesPlaces result }
 {
     let statistics = statistics_of(alloc, history)?;
-    Ok(Found::Counted(statistics))
+    Ok(Report::Counted(statistics))
 }

@@ -6,12 +6,14 @@ ghost use Rattle.commands.specs.Outcomes.{answer_of, NamesPlaces};
 ghost use Rattle.commands.specs.Stressing.{IsFirstNamed, RunsOrFails, Stresses, StressesQueue, first_values, run_version};
 
 use crate::check::PIECES;
-use crate::outcome::{Fault, Found, Outcome};
+use crate::outcome::{Fault, Outcome, Report};
+use crate::proved::stress_unshelved;
 use command_words::StressOptions;
 use event_records::{LEAST_INITIAL_NAME, MAX_OPERATIONS};
 use history_text::Version;
 use queue_interface::TestQueue;
 use std::alloc::{AllocError, Global};
+use std::sync::Wait;
 use std::thread::Threads;
 use stress_run::run_from;
 use verdicts::decide_par;
@@ -24,16 +26,17 @@ pub const TRIES: u32 = 1_000_000;
 ///
 /// A run takes the queue as empty: a value that an earlier run left in it is dequeued as one that nobody enqueued.
 #[derive(Drop)]
-pub struct Shelved<'a> {
+pub struct NamedQueue<'a> {
     pub name: &'a str,
     pub queue: Box<dyn TestQueue>,
 }
 
-/// What `stress` finds: a run of the first queue of the name, if one has it, and the verdict on what was recorded.
-pub fn stress<'a, R: Threads + Sync>(
+/// What `stress` finds: a run of the first queue of the name, if one has it, and the verdict on what was recorded. If
+/// none has it, `proved` is the name of the proved queue.
+pub fn stress<'a, R: Threads + Wait + Sync>(
     rt: &R,
     alloc: Global,
-    shelf: &[Shelved<'a>],
+    shelf: &[NamedQueue<'a>],
     options: &StressOptions<'a>,
 ) -> Outcome
     requires { IsWithinRanges (settings_of options.now) }
@@ -41,13 +44,13 @@ pub fn stress<'a, R: Threads + Sync>(
     ensures places { NamesPlaces result }
 {
     let Some(shelved) = find(shelf, options.queue) else {
-        return Err(Fault::Queue);
+        return stress_unshelved(rt, alloc, options);
     };
     stress_shelved(rt, alloc, shelved, options)
 }
 
 /// The first queue of this name.
-fn find<'b, 'a>(shelf: &'b [Shelved<'a>], name: &str) -> Option<&'b Shelved<'a>>
+fn find<'b, 'a>(shelf: &'b [NamedQueue<'a>], name: &str) -> Option<&'b NamedQueue<'a>>
     ensures found { IfSome result (λ shelved. IsFirstNamed (λ s. s.name.now) name.now shelf.now shelved.now) }
     ensures nowhere { IfNone result (All (λ s. s.name.now ≢ name.now) shelf.now) }
 {
@@ -63,7 +66,7 @@ fn find<'b, 'a>(shelf: &'b [Shelved<'a>], name: &str) -> Option<&'b Shelved<'a>>
 fn stress_shelved<'a, R: Threads + Sync>(
     rt: &R,
     alloc: Global,
-    shelved: &Shelved<'a>,
+    shelved: &NamedQueue<'a>,
     options: &StressOptions<'a>,
 ) -> Outcome
     requires { IsWithinRanges (settings_of options.now) }
@@ -99,11 +102,11 @@ fn run_plan<'a, R: Threads + Sync>(
     let recorded = run_from(rt, alloc, queue, &initial, &plan, options.ring, TRIES)?;
     let history = recorded.history(alloc)?;
     let verdict = decide_par(rt, alloc, &history, PIECES)?;
-    Ok(Found::Shown(run_version(options.initial), history, verdict))
+    Ok(Report::Shown(run_version(options.initial), history, verdict))
 }
 
 /// Values for a queue, this many, which are names of initial values.
-fn first_values(alloc: Global, count: usize) -> Result<Vec<u64>, AllocError>
+pub(crate) fn first_values(alloc: Global, count: usize) -> Result<Vec<u64>, AllocError>
     requires { count ≤ MAX_STRESS_INITIAL }
     ensures { IfOk result (λ values. values.items ≡ first_values count) }
 {
@@ -111,7 +114,7 @@ fn first_values(alloc: Global, count: usize) -> Result<Vec<u64>, AllocError>
 }
 
 /// The version in which the history of a run is written.
-fn run_version(count: usize) -> Version
+pub(crate) fn run_version(count: usize) -> Version
     ensures { result ≡ run_version count }
 {
     if count == 0 {

@@ -10,7 +10,7 @@ ghost use Rattle.commands.specs.Running.{AnswersOf};
 
 use crate::draw::draw;
 use crate::input::given_history;
-use crate::outcome::{Found, Outcome};
+use crate::outcome::{Outcome, Report};
 use crate::print::write_outcome;
 use crate::shrink::shrink;
 use crate::stats::stats;
@@ -28,7 +28,7 @@ pub fn check_text(alloc: Global, text: &[u8]) -> Outcome
 {
     let (_version, history) = given_history(alloc, MemorySource::new(text))?;
     let verdict = decide(alloc, &history)?;
-    Ok(Found::Judged(history, verdict))
+    Ok(Report::Judged(history, verdict))
 }
 
 /// What `shrink` finds in a text.
@@ -65,13 +65,12 @@ pub fn stats_text(alloc: Global, text: &[u8]) -> Outcome
 
 /// What `check` finds in the history that a history builder was given.
 pub fn judge_gathered(alloc: Global, builder: HistoryBuilder) -> Outcome
-    requires { (history : HistoryView) × IsGathered history builder }
     ensures found { (history : HistoryView) → IsGathered history builder → AnswersOrNoMemory JudgesHistory history (answer_of result) }
     ensures places { NamesPlaces result }
 {
     let history = builder.finish()?;
     let verdict = decide(alloc, &history)?;
-    Ok(Found::Judged(history, verdict))
+    Ok(Report::Judged(history, verdict))
 }
 
 /// The text that a command prints of what it found, or why it found nothing. `AllocError` comes only where a growth was refused.

@@ -6,8 +6,8 @@ ghost use Rattle.commands.specs.Inputs.{IsClaimOf, IsFaultOfClaimInput};
 ghost use Rattle.commands.specs.Judging.{IsFaulty, IsSound, Verifies, AnswersFor, AnswersOrNoMemory, said_by};
 ghost use Rattle.commands.specs.Outcomes.{answer_of, NamesPlaces};
 
-use crate::input::{claim_of, history_of};
-use crate::outcome::{Found, Outcome};
+use crate::input::{claimed_of, history_of};
+use crate::outcome::{Outcome, Report};
 use history_merge::History;
 use history_text::{TextSource, Version};
 use std::alloc::Global;
@@ -18,7 +18,7 @@ pub fn verify<S: TextSource + Drop>(alloc: Global, reader: S) -> Outcome
     ensures found { IfSome (S.ahead reader) (λ input. AnswersFor IsClaimOf IsFaultOfClaimInput Verifies input (answer_of result)) }
     ensures places { NamesPlaces result }
 {
-    let (gathered, claimed) = claim_of(alloc, reader)?;
+    let (gathered, claimed) = claimed_of(alloc, reader)?;
     let (_version, history) = history_of(gathered)?;
     verify_claim(alloc, &history, &claimed)
 }
@@ -30,5 +30,5 @@ fn verify_claim(alloc: Global, history: &History, claimed: &Claimed) -> Outcome
     ensures places { NamesPlaces result }
 {
     let valid = verdicts::verify(alloc, history, claimed)?;
-    Ok(Found::Verified(valid))
+    Ok(Report::Verified(valid))
 }

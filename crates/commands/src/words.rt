@@ -51,7 +51,7 @@ pub fn print_start_fault<W: TextSink, E: TextSink>(
     requires fresh { W.has_refused writer.old ≡ false }
     ensures no_text { fault ≡ NoText → Prints (W.contents writer.old) (W.contents writer.new) (W.has_refused writer.new) result no_text 2 }
     ensures memory { fault ≡ Memory → PrintsAnswer (W.contents writer.old) (W.contents writer.new) (W.has_refused writer.new) result memory_fault }
-    ensures asked { WritesAndFlushes W.goes (W.has_refused writer.new) writer.old writer.new }
+    ensures asked { WritesAndFlushes W.transition (W.has_refused writer.new) writer.old writer.new }
     ensures passed_on { W.has_refused writer.new ≡ false → W.holds_back writer.new ≡ false }
 {
     let status = match fault {

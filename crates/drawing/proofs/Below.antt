@@ -1,42 +1,39 @@
--- How many numbers lie below a bound.
-use Rattle.std.proofs.Common.{◌≡◌, ℕ, ◌+◌, ◌<◌, ◌≤◌, ◌⊎◌, inl, inr, List, [], ◌∷◌, arith, cond, subst, refl}
-use Rattle.std.specs.Prelude.{Contains, nat_lt, count_by}
-use Rattle.std.proofs.lemmas.Bool.Decides.{nat_tests}
+-- How many elements pass a test, where another test lets more of them pass.
+use Rattle.std.proofs.Common.{◌≡◌, ℕ, ◌+◌, ◌≤◌, Bool, true, false, inl, inr, List, [], ◌∷◌, arith, cond, subst, sym, refl}
+use Rattle.std.specs.Prelude.{Contains, count_by}
 use Rattle.std.proofs.lemmas.List.Sums.{sum_by-cons}
 use Rattle.history_merge.proofs.Distinct.{contains_cons, not_in_none}
 
-not_more : (x s t : ℕ) → s ≤ t → cond (nat_lt x s) 1 0 ≤ cond (nat_lt x t) 1 0
-not_more x s t less = grind (arith, nat_tests)
+module _ {X : Type 0} (p q : X → Bool) (more : (x : X) → p x ≡ true → q x ≡ true) where
+  first_of : (r : X → Bool) (x : X) (xs : List X) → count_by r (x ∷ xs) ≡ cond (r x) 1 0 + count_by r xs
+  first_of r x xs = sum_by-cons (λ y. cond (r y) 1 0) x xs
 
-one_more : (x s t : ℕ) → x ≡ s → s < t → cond (nat_lt x s) 1 0 + 1 ≤ cond (nat_lt x t) 1 0
-one_more x s t same less = grind (arith, nat_tests)
-
--- how many of these lie below a bound
-module _ {X : Type 0} (f : X → ℕ) where
-  count_more : (x : X) (xs : List X) (s : ℕ)
-      → count_by (λ y. nat_lt (f y) s) (x ∷ xs) ≡ cond (nat_lt (f x) s) 1 0 + count_by (λ y. nat_lt (f y) s) xs
-  count_more x xs s = sum_by-cons (λ y. cond (nat_lt (f y) s) 1 0) x xs
-
-  -- no more lie below a lower bound
-  pub fewer : (xs : List X) (s t : ℕ) → s ≤ t → count_by (λ x. nat_lt (f x) s) xs ≤ count_by (λ x. nat_lt (f x) t) xs
-  fewer [] s t less = omega arith
-  fewer (x ∷ xs) s t less =
-      let more = fewer xs s t less in
-      let first = not_more (f x) s t less in
-      omega (arith, count_more x xs s, count_more x xs t)
-
-  -- one that lies at the lower bound is among those below the higher
-  pub one_fewer : (xs : List X) (x : X) (t : ℕ) → Contains xs x → f x < t → count_by (λ y. nat_lt (f y) (f x)) xs + 1 ≤ count_by (λ y. nat_lt (f y) t) xs
-  one_fewer [] x t among less = absurd (not_in_none x among)
-  one_fewer (y ∷ ys) x t among less = join (contains_cons y ys x among) (λ there. one_fewer ys x t there less)
+  not_more : (x : X) → cond (p x) 1 0 ≤ cond (q x) 1 0
+  not_more x = join (p x) refl
     where
-      join : (y ≡ x) ⊎ Contains ys x → (Contains ys x → count_by (λ z. nat_lt (f z) (f x)) ys + 1 ≤ count_by (λ z. nat_lt (f z) t) ys)
-          → count_by (λ z. nat_lt (f z) (f x)) (y ∷ ys) + 1 ≤ count_by (λ z. nat_lt (f z) t) (y ∷ ys)
-      join (inl here) later =
-          let more = fewer ys (f x) t (omega arith) in
-          let first = one_more (f y) (f x) t (subst (λ z. f y ≡ f z) here refl) less in
-          omega (arith, count_more y ys (f x), count_more y ys t)
-      join (inr there) later =
-          let more = later there in
-          let first = not_more (f y) (f x) t (omega arith) in
-          omega (arith, count_more y ys (f x), count_more y ys t)
+      join : (b : Bool) → p x ≡ b → cond b 1 0 ≤ cond (q x) 1 0
+      join true is = subst (λ c. 1 ≤ cond c 1 0) (sym (more x is)) (omega arith)
+      join false is = omega arith
+
+  -- no more pass the first
+  pub fewer : (xs : List X) → count_by p xs ≤ count_by q xs
+  fewer [] = omega arith
+  fewer (x ∷ xs) =
+      let later = fewer xs in
+      let here = not_more x in
+      omega (arith, first_of p x xs, first_of q x xs)
+
+  -- and fewer, where one passes the second alone
+  pub one_fewer : (xs : List X) (x : X) → Contains xs x → p x ≡ false → q x ≡ true → count_by p xs + 1 ≤ count_by q xs
+  one_fewer [] x among fails passes = absurd (not_in_none x among)
+  one_fewer (y ∷ ys) x among fails passes = elim (contains_cons y ys x among) [
+    | inl here ↦
+        let later = fewer ys in
+        let none : cond {A = ℕ} (p y) 1 0 ≡ 0 = subst (λ z. cond {A = ℕ} (p z) 1 0 ≡ 0) (sym here) (subst (λ c. cond {A = ℕ} c 1 0 ≡ 0) (sym fails) refl) in
+        let one : cond {A = ℕ} (q y) 1 0 ≡ 1 = subst (λ z. cond {A = ℕ} (q z) 1 0 ≡ 1) (sym here) (subst (λ c. cond {A = ℕ} c 1 0 ≡ 1) (sym passes) refl) in
+        omega (arith, first_of p y ys, first_of q y ys)
+    | inr there ↦
+        let later = one_fewer ys x there fails passes in
+        let here = not_more y in
+        omega (arith, first_of p y ys, first_of q y ys)
+  ]

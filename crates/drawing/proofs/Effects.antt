@@ -1,6 +1,6 @@
 -- The effects of a `YES`, and the numbers of a claim.
-use Rattle.std.proofs.Common.{◌≡◌, ℕ, zero, suc, ◌+◌, ◌<◌, ◌≤◌, inl, inr, max, List, [], ◌∷◌, take, Some}
-use Rattle.std.proofs.Common.{refl, ap, subst, arith, add-one}
+use Rattle.std.proofs.Common.{◌≡◌, ℕ, zero, suc, ◌+◌, ◌<◌, ◌≤◌, ◌⊎◌, inl, inr, max, List, [], ◌∷◌, take, Some}
+use Rattle.std.proofs.Common.{refl, sym, ap, subst, arith, add-one}
 use Rattle.std.specs.Prelude.{Contains, fold, slice_get}
 use Rattle.std.proofs.lemmas.Bool.{cases_lt}
 use Rattle.std.proofs.lemmas.List.Sorted.{Contains-permutation, IsPermutation-sym}
@@ -8,7 +8,9 @@ use Rattle.history_merge.specs.declared.operation.Operation.{Operation}
 use Rattle.history_merge.specs.Complete.{AreComplete}
 use Rattle.history_merge.specs.Operations.{operations_of, Precedes}
 use Rattle.history_merge.proofs.Completeness.{operations_are_complete}
-use Rattle.history_merge.proofs.Distinct.{pairs_at, one_at, contains_at, return_differs_from_call, call_before_return}
+use Rattle.history_merge.specs.Legal.{IsLegalOrderFrom}
+use Rattle.history_merge.proofs.Distinct.{pairs_at, one_at, contains_at, traced, return_differs_from_call, call_before_return}
+use Rattle.event_records.specs.declared.event.Event.{Event}
 use Rattle.drawing.specs.Layout.{point}
 use Rattle.drawing.specs.Laws.{EffectsAreInBars, EffectsRise}
 
@@ -45,14 +47,36 @@ call_at_most g (x ∷ rest) zero o at = let same : x ≡ o = cc in let more = fr
     ap (λ y. y.call) same in omega arith
 call_at_most g (x ∷ rest) (suc i) o at = call_at_most (max g x.call) rest i o at
 
--- the greatest call is below n, where each call is
-all_below : (g n : ℕ) (order : List Operation) (k : ℕ) → g < n → ((j : ℕ) (o : Operation) → j < k → slice_get order j ≡ Some o → o.call < n)
-    → greatest_from g (take k order) < n
-all_below g n order zero below each = below
-all_below g n [] (suc k) below each = below
-all_below g n (x ∷ rest) (suc k) below each =
-    let first = each zero x (omega arith) refl in
-    all_below (max g x.call) n rest k (omega arith) (λ j o less at. each (suc j) o (omega arith) at)
+-- what holds of each call holds of the greatest
+of_greatest : (P : ℕ → Type 0) (g : ℕ) (order : List Operation) (k : ℕ) → P g → ((j : ℕ) (o : Operation) → j < k → slice_get order j ≡ Some o → P o.call)
+    → P (greatest_from g (take k order))
+of_greatest P g order zero holds each = holds
+of_greatest P g [] (suc k) holds each = holds
+of_greatest P g (x ∷ rest) (suc k) holds each =
+    of_greatest P (max g x.call) rest k (either (cases_lt g x.call)) (λ j o less at. each (suc j) o (omega arith) at)
+  where
+    either : (g < x.call) ⊎ (x.call ≤ g) → P (max g x.call)
+    either (inl less) = let e : x.call ≡ max g x.call = omega arith in subst P e (each zero x (omega arith) refl)
+    either (inr no_more) = let e : g ≡ max g x.call = omega arith in subst P e holds
+
+-- an operation of a linearization takes effect just after the event of a call
+pub point_is_a_call : (initial : List ℕ) (events : List Event) (order : List Operation) (i : ℕ) (o : Operation)
+    → IsLegalOrderFrom initial (operations_of events) order → slice_get order i ≡ Some o
+    → (e : Event) × (Contains events e) × (e.ticket ≡ point order i)
+point_is_a_call initial events [] i o legal at = absurd (cc)
+point_is_a_call initial events (x ∷ rest) i o legal at =
+    let first : max 0 x.call ≡ x.call = omega arith in
+    rw add-one (of_greatest IsTicket (max 0 x.call) rest i (subst IsTicket (sym first) (called x 0 refl)) (λ j p less here. called p (suc j) here))
+  where
+    IsTicket : ℕ → Type 0
+    IsTicket t = (e : Event) × (Contains events e) × (e.ticket ≡ t)
+
+    called : (p : Operation) (j : ℕ) → slice_get (x ∷ rest) j ≡ Some p → IsTicket p.call
+    called p j here =
+        let among = Contains-permutation (x ∷ rest) (operations_of events) p (IsPermutation-sym (operations_of events) (x ∷ rest) legal.holds_each_once)
+        (contains_at (x ∷ rest) j p here) in
+        let t = traced events p among in
+        (t.call, contains_at events t.called_at t.call t.at_call, sym t.made.called)
 
 -- effects of a linearization lie within the bars
 pub effects_are_in_bars : EffectsAreInBars
@@ -83,4 +107,4 @@ effects_are_in_bars initial events order i o complete legal at = (called, below)
     ]
 
     below : point order i < o.ret
-    below = all_below 0 o.ret order (i + 1) (let rises = call_before_return (operations_of events) o all (listed o i at) in omega arith) each
+    below = of_greatest (λ n. n < o.ret) 0 order (i + 1) (let rises = call_before_return (operations_of events) o all (listed o i at) in omega arith) each

@@ -11,7 +11,7 @@ use Rattle.history_merge.specs.Operations.{Did, NoneDid, Precedes}
 use Rattle.history_merge.proofs.Distinct.{contains_at, contains_cons, not_in_none}
 use Rattle.value_match.specs.declared.life.Life.{Life}
 use Rattle.value_match.specs.Lives.{IsLife, dequeue_of, enqueue_of, operations_of_life}
-use Rattle.value_match.specs.Violations.{Breach, fresh, repeat, order, witness, CoversFrom, IsBreachOf, lines_of}
+use Rattle.value_match.specs.Violations.{FullViolation, fresh, repeat, order, witness, CoversFrom, IsViolationOf, lines_of}
 use Rattle.value_match.proofs.Lists.{one_deeper}
 use Rattle.verdicts.specs.declared.verifying.ClaimLine.{ClaimLine}
 use Rattle.verdicts.specs.declared.verifying.ClaimLine.TheVariants.{Op, Initial}
@@ -61,18 +61,18 @@ module _ (operations : List Operation) (x : Operation) where
       go (Some d) m later = later d m
 
   -- the lines of a violation are operations
-  breach_lines : (breach : Breach) → IsBreachOf operations breach → Contains (lines_of breach) x → Contains operations x
-  breach_lines (fresh deq None) is among = among_first deq [] is.dequeues.0 nothing among
-  breach_lines (fresh deq (Some enq)) is among =
+  full_lines : (full : FullViolation) → IsViolationOf operations full → Contains (lines_of full) x → Contains operations x
+  full_lines (fresh deq None) is among = among_first deq [] is.dequeues.0 nothing among
+  full_lines (fresh deq (Some enq)) is among =
       let enqueued : Contains operations enq = elim is.enqueues [
         | inl refused ↦ refused.0
         | inr late ↦ late.0.0
       ] in
       among_first deq (enq ∷ []) is.dequeues.0 (λ there. among_first enq [] enqueued nothing there) among
-  breach_lines (repeat enq first second) is among =
+  full_lines (repeat enq first second) is among =
       among_first enq (first ∷ second ∷ []) is.enqueues.0
       (λ rest. among_first first (second ∷ []) is.dequeues.0 (λ last. among_first second [] is.dequeues_again.0 nothing last) rest) among
-  breach_lines (order enq_a enq_b deq_b deq_a) is among =
+  full_lines (order enq_a enq_b deq_b deq_a) is among =
       among_first enq_a (enq_b ∷ deq_b ∷ option_to_list deq_a) is.enqueues_a.0
       (λ rest. among_first enq_b (deq_b ∷ option_to_list deq_a) is.enqueues_b.0
       (λ more. among_first deq_b (option_to_list deq_a) is.dequeues_b.0 (go deq_a is.dequeued_later) more) rest) among
@@ -81,7 +81,7 @@ module _ (operations : List Operation) (x : Operation) where
           → Contains (option_to_list d) x → Contains operations x
       go None m there = nothing there
       go (Some d) m there = among_first d [] m.0.0 nothing there
-  breach_lines (witness empty cover) is among =
+  full_lines (witness empty cover) is among =
       among_first empty (flat_map operations_of_life cover) is.answers_empty.0 (λ rest. cover_lines empty empty cover is.covers rest) among
 
 -- ---- what lines stand for
@@ -119,7 +119,7 @@ lines_are_of_history initial operations kind lines claim = (listed, held)
         let s = stands initial lines claim.0 (Op o) claim.1 among in
         let later = stands_later (length initial) o s.0 s.2 in
         let shown = subst (λ os. Contains os s.0) (sym claim.2.2) s.1 in
-        let there = breach_lines (filled initial operations) s.0 claim.2.0 claim.2.3 shown in
+        let there = full_lines (filled initial operations) s.0 claim.2.0 claim.2.3 shown in
         let called : o.call + 2 * length initial ≡ s.0.call = ap (λ (y : Operation). y.call) later in
         (called_late initial operations s.0 o (omega arith) later).1 there
 

@@ -2,7 +2,7 @@
 use Rattle.std.proofs.Common.{◌≡◌, ℕ, zero, suc, ◌+◌, ◌<◌, List, [], ◌∷◌, ◌++◌, map, length, take, get_or, ap, sym, ◌∙◌, add-one, zero-add}
 use Rattle.std.proofs.Common.{append-nil, append_assoc, arith, max, length-take-le, cond, Bool, true, false, drop, Some, refl}
 use Rattle.std.specs.List.{range_with_len, flat_map, filter, find, enumerate_from}
-use Rattle.std.proofs.lemmas.List.{map-append, take_more, at_drop_more, map_more}
+use Rattle.std.proofs.lemmas.List.{map-append, take_more, at_drop_more}
 use Rattle.std.proofs.lemmas.List.Elements.{filter-append}
 use Rattle.std.proofs.lemmas.Grind.{flat_map-append}
 use Rattle.std.proofs.lemmas.List.Sums.{fold_more, fold-append}
@@ -24,19 +24,6 @@ range_more n = ap (range_with_len 0) (add-one n) ∙ range_suc 0 n ∙ ap (λ (x
 -- what is made of one number more
 pub map_range_more : {A : Type 0} (f : ℕ → A) (n : ℕ) → map f (range_with_len 0 (n + 1)) ≡ map f (range_with_len 0 n) ++ f n ∷ []
 map_range_more f n = ap (map f) (range_more n) ∙ map-append f (range_with_len 0 n) (n ∷ [])
-
--- the pieces of one number more
-pub flat_map_range_more : {A : Type 0} (f : ℕ → List A) (n : ℕ) → flat_map f (range_with_len 0 (n + 1)) ≡ flat_map f (range_with_len 0 n) ++ f n
-flat_map_range_more f n =
-    ap (flat_map f) (range_more n) ∙ flat_map-append f (range_with_len 0 n) (n ∷ [])
-    ∙ ap (λ (r : List _). flat_map f (range_with_len 0 n) ++ r) (append-nil (f n))
-
--- the pieces of one element more
-pub flat_map_more : {X A : Type 0} (f : X → List A) (xs : List X) (i : ℕ) (d : X) → i < length xs
-    → flat_map f (take (i + 1) xs) ≡ flat_map f (take i xs) ++ f (get_or xs i d)
-flat_map_more f xs i d within =
-    ap (flat_map f) (take_more xs i d within) ∙ flat_map-append f (take i xs) (get_or xs i d ∷ [])
-    ∙ ap (λ (r : List _). flat_map f (take i xs) ++ r) (append-nil (f (get_or xs i d)))
 
 -- what is found from one element on is that element, or is found from the next one on
 pub find_step : {X : Type 0} (p : X → Bool) (xs : List X) (i : ℕ) (d : X) → i < length xs
@@ -101,15 +88,6 @@ flat_map_enumerated_more f xs i d within =
 pub words_push : (line : List ℕ) (words : List Word) (word : Word) → with_words line (words ++ word ∷ []) ≡ placed (with_words line words) word
 words_push line words word = fold-append placed line words (word ∷ [])
 
--- more words
-pub words_append : (line : List ℕ) (xs ys : List Word) → with_words line (xs ++ ys) ≡ with_words (with_words line xs) ys
-words_append line xs ys = fold-append placed line xs ys
-
--- the words of one element more
-pub words_more : {X : Type 0} (f : X → Word) (line : List ℕ) (xs : List X) (i : ℕ) (d : X) → i < length xs
-    → with_words line (map f (take (i + 1) xs)) ≡ placed (with_words line (map f (take i xs))) (f (get_or xs i d))
-words_more f line xs i d within = ap (with_words line) (map_more f xs i d within) ∙ words_push line (map f (take i xs)) (f (get_or xs i d))
-
 -- the words of one element more, with its place
 pub words_enumerated_more : {X : Type 0} (f : ℕ × X → Word) (line : List ℕ) (xs : List X) (i : ℕ) (d : X) → i < length xs
     → with_words line (map f (enumerate_from 0 (take (i + 1) xs))) ≡ placed (with_words line (map f (enumerate_from 0 (take i xs)))) (f (i, get_or xs i d))
@@ -131,18 +109,12 @@ words_enumerated_step f line xs i d old new within before now =
     now ∙ ap (λ (l : List ℕ). placed l (f (i, get_or xs i d))) before ∙ sym (words_enumerated_more f line xs i d within)
 
 -- a piece of one element more, with its place, was added
-pub flat_map_enumerated_step : {X : Type 0} (f : ℕ × X → List ℕ) (text : List ℕ) (xs : List X) (i : ℕ) (d : X) (old new : List ℕ) → i < length xs
+pub flat_map_enumerated_step : {X A : Type 0} (f : ℕ × X → List A) (text : List A) (xs : List X) (i : ℕ) (d : X) (old new : List A) → i < length xs
     → old ≡ text ++ flat_map f (enumerate_from 0 (take i xs)) → new ≡ old ++ f (i, get_or xs i d)
     → new ≡ text ++ flat_map f (enumerate_from 0 (take (i + 1) xs))
 flat_map_enumerated_step f text xs i d old new within before now =
-    now ∙ ap (λ (t : List ℕ). t ++ f (i, get_or xs i d)) before ∙ append_assoc text _ _
-    ∙ ap (λ (t : List ℕ). text ++ t) (sym (flat_map_enumerated_more f xs i d within))
-
--- a piece of one element more was added
-pub flat_map_step : {X : Type 0} (f : X → List ℕ) (text : List ℕ) (xs : List X) (i : ℕ) (d : X) (old new : List ℕ) → i < length xs
-    → old ≡ text ++ flat_map f (take i xs) → new ≡ old ++ f (get_or xs i d) → new ≡ text ++ flat_map f (take (i + 1) xs)
-flat_map_step f text xs i d old new within before now =
-    now ∙ ap (λ (t : List ℕ). t ++ f (get_or xs i d)) before ∙ append_assoc text _ _ ∙ ap (λ (t : List ℕ). text ++ t) (sym (flat_map_more f xs i d within))
+    now ∙ ap (λ (t : List _). t ++ f (i, get_or xs i d)) before ∙ append_assoc text _ _
+    ∙ ap (λ (t : List _). text ++ t) (sym (flat_map_enumerated_more f xs i d within))
 
 -- a word of one number more was added
 pub words_range_step : (f : ℕ → Word) (line : List ℕ) (n : ℕ) (old new : List ℕ) → old ≡ with_words line (map f (range_with_len 0 n))

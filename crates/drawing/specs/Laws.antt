@@ -1,26 +1,32 @@
 -- What holds of pictures.
-use Rattle.std.specs.Prelude.{◌≡◌, ℕ, ◌+◌, ◌^◌, ◌<◌, ◌≤◌, List, Some, Contains, slice_get}
+use Rattle.std.specs.Prelude.{◌≡◌, ℕ, ◌+◌, ◌^◌, ◌<◌, ◌≤◌, ◌↔◌, true, List, Some, Contains, slice_get}
 use Rattle.event_records.specs.declared.event.Event.{Event}
 use Rattle.history_merge.specs.declared.operation.Operation.{Operation}
 use Rattle.history_merge.specs.Complete.{IsCompleteHistory}
 use Rattle.history_merge.specs.Legal.{IsLegalOrderFrom}
-use Rattle.history_merge.specs.Operations.{IsInWindow, operations_of}
+use Rattle.history_merge.specs.Initial.{HistoryView}
+use Rattle.history_merge.specs.Operations.{IsInWindow, Precedes, operations_of}
 use Rattle.verdicts.specs.declared.verifying.ClaimLine.{ClaimLine}
 use Rattle.verdicts.specs.declared.verifying.ClaimLine.TheVariants.{Op, Initial}
-use Rattle.verdicts.specs.declared.verifying.Claimed.TheVariants.{No}
+use Rattle.verdicts.specs.declared.verifying.Claimed.{Claimed}
+use Rattle.verdicts.specs.declared.verifying.Claimed.TheVariants.{Yes, No}
 use Rattle.verdicts.specs.declared.verifying.ViolationKind.{ViolationKind}
 use Rattle.verdicts.specs.Claims.{IsTrueClaim}
 use Rattle.drawing.specs.declared.columns.Columns.{Columns}
 use Rattle.drawing.specs.Names.{value_text}
-use Rattle.drawing.specs.Layout.{initial_label, threads_of, lane_of, under_way, place_in, initial_place_in, point}
+use Rattle.drawing.specs.Layout.{initial_label, under_way, place_in, initial_place_in, point}
+use Rattle.drawing.specs.Scene.{rows_of, row_number, stands_above}
+use Rattle.drawing.specs.Terminal.{lane_column}
+use Rattle.drawing.specs.declared.scene.Row.{Row}
+use Rattle.drawing.specs.declared.scene.Row.TheVariants as row
 
 -- ---- lanes
 
 -- the lane of a thread ends before that of a higher one begins
 abbrev pub LanesAreApart : Type 0
 LanesAreApart =
-    (events : List Event) (columns : Columns) (thread higher : ℕ) → Contains (threads_of events) thread → thread < higher
-    → (lane_of columns (threads_of events) thread).column + columns.lane ≤ (lane_of columns (threads_of events) higher).column
+    (threads : List ℕ) (columns : Columns) (thread higher : ℕ) → Contains threads thread → thread < higher
+    → lane_column columns threads thread + columns.lane ≤ lane_column columns threads higher
 
 -- ---- bars
 
@@ -53,6 +59,58 @@ EffectsAreInBars =
 -- the effects of a `YES` rise in its order
 abbrev pub EffectsRise : Type 0
 EffectsRise = (order : List Operation) (i j : ℕ) → i ≤ j → point order i ≤ point order j
+
+-- ---- rows
+
+-- the numbers of rows rise from top to bottom
+abbrev pub RowsRise : Type 0
+RowsRise = (rows : List Row) (other r : Row) → Contains rows other → stands_above other r ≡ true → row_number rows other < row_number rows r
+
+-- each initial value has its row
+abbrev pub InitialValuesHaveRows : Type 0
+InitialValuesHaveRows =
+    (history : HistoryView) (claimed : Claimed) (j v : ℕ) → slice_get history.initial j ≡ Some v → Contains (rows_of history claimed) (row.Initial j v)
+
+-- each event has its row
+abbrev pub EventsHaveRows : Type 0
+EventsHaveRows =
+    (history : HistoryView) (claimed : Claimed) (e : Event) → Contains history.events e → Contains (rows_of history claimed) (row.Ticket e.ticket)
+
+-- each operation of a linearization has its row, where it takes effect
+abbrev pub EffectsHaveRows : Type 0
+EffectsHaveRows =
+    (history : HistoryView) (order : List Operation) (i : ℕ) (o : Operation) → IsCompleteHistory history.events
+    → IsLegalOrderFrom history.initial (operations_of history.events) order → slice_get order i ≡ Some o
+    → Contains (rows_of history (Yes order)) (row.Effect o (i + 1) (point order i))
+
+-- the rows of initial values stand one below another, and above those of all events
+abbrev pub InitialRowsAreFirst : Type 0
+InitialRowsAreFirst =
+    (history : HistoryView) (claimed : Claimed) (j later v w ticket : ℕ) → slice_get history.initial j ≡ Some v → j < later
+    → (row_number (rows_of history claimed) (row.Initial j v) < row_number (rows_of history claimed) (row.Initial later w))
+    × (row_number (rows_of history claimed) (row.Initial j v) < row_number (rows_of history claimed) (row.Ticket ticket))
+
+-- a return stands above a call if and only if its operation precedes the other
+abbrev pub RowsTellPrecedence : Type 0
+RowsTellPrecedence =
+    (history : HistoryView) (claimed : Claimed) (x y : Operation) → Contains (operations_of history.events) x
+    → Precedes x y ↔ (row_number (rows_of history claimed) (row.Ticket x.ret) < row_number (rows_of history claimed) (row.Ticket y.call))
+
+-- an operation of a linearization takes effect in a row between those of its call and of its return
+abbrev pub EffectRowsAreInBars : Type 0
+EffectRowsAreInBars =
+    (history : HistoryView) (order : List Operation) (i : ℕ) (o : Operation) → IsCompleteHistory history.events
+    → IsLegalOrderFrom history.initial (operations_of history.events) order → slice_get order i ≡ Some o
+    → (row_number (rows_of history (Yes order)) (row.Ticket o.call) < row_number (rows_of history (Yes order)) (row.Effect o (i + 1) (point order i)))
+    × (row_number (rows_of history (Yes order)) (row.Effect o (i + 1) (point order i)) < row_number (rows_of history (Yes order)) (row.Ticket o.ret))
+
+-- and these rows rise in its order
+abbrev pub EffectRowsRise : Type 0
+EffectRowsRise =
+    (history : HistoryView) (order : List Operation) (i j : ℕ) (o p : Operation) → IsCompleteHistory history.events
+    → IsLegalOrderFrom history.initial (operations_of history.events) order → slice_get order i ≡ Some o → i < j
+    → row_number (rows_of history (Yes order)) (row.Effect o (i + 1) (point order i))
+    < row_number (rows_of history (Yes order)) (row.Effect p (j + 1) (point order j))
 
 -- ---- names
 

@@ -1,5 +1,5 @@
--- Where things stand in a picture: lanes for threads, columns, numbers and points of effect.
-use Rattle.std.specs.Prelude.{ℕ, ◌+◌, ◌-◌, ◌*◌, ◌++◌, codes, max, ◌&&◌, nat_lt, nat_le, nat_eq, Bool, false, Option, Some, None, List, [], map, filter, find, count_by}
+-- What stands in a picture: labels, threads, tickets, the operations in rows, numbers and points of effect.
+use Rattle.std.specs.Prelude.{ℕ, ◌+◌, ◌-◌, ◌++◌, codes, max, ◌&&◌, nat_le, nat_eq, Bool, false, Option, Some, None, List, [], filter, find}
 use Rattle.std.specs.Prelude.{length, take, decimal, slice_get, fold}
 use Rattle.std.specs.List.{list_any, range_with_len, position}
 use Rattle.event_records.specs.declared.event.Event.{Event}
@@ -10,11 +10,8 @@ use Rattle.history_merge.specs.declared.operation.OpKind.TheVariants as kind
 use Rattle.verdicts.specs.declared.verifying.ClaimLine.{ClaimLine}
 use Rattle.verdicts.specs.declared.verifying.ClaimLine.TheVariants.{Op, Initial}
 use Rattle.verdicts.specs.declared.verifying.Claimed.{Claimed}
-use Rattle.verdicts.specs.declared.verifying.Claimed.TheVariants.{Yes, No}
-use Rattle.drawing.specs.Claim.{lines_in, count_of_lines}
+use Rattle.drawing.specs.Claim.{lines_in}
 use Rattle.drawing.specs.Names.{value_text, name_of, initial_text}
-use Rattle.drawing.specs.declared.columns.Columns.{Columns}
-use Rattle.drawing.specs.declared.columns.Lane.{Lane}
 
 -- ---- words
 
@@ -29,11 +26,15 @@ label (kind.Deq v) = codes "deq " ++ value_text v
 label (kind.Not v) = codes "not " ++ value_text v
 label kind.Empty = codes "empty"
 
+-- the same after its number
+abbrev pub numbered_label : ℕ → OpKind → List ℕ
+numbered_label number kind = decimal number ++ (codes " " ++ label kind)
+
 -- an initial value by its name
 abbrev pub initial_label : ℕ → List ℕ
 initial_label v = initial_text (name_of v)
 
--- ---- lanes
+-- ---- threads
 
 -- some event is of this thread
 abbrev pub has_events : List Event → ℕ → Bool
@@ -47,7 +48,7 @@ threads_below events n = filter (has_events events) (range_with_len 0 n)
 abbrev pub threads_of : List Event → List ℕ
 threads_of events = threads_below events (MAX_THREAD + 1)
 
--- ---- columns
+-- ---- tickets and labels
 
 -- the ticket of an event, or 0 where there is none
 abbrev pub ticket_or_zero : Option Event → ℕ
@@ -65,28 +66,6 @@ initial_width initial = fold (λ widest v. max widest (length (initial_label v))
 -- the length of the longest label of initial values and operations, or of `empty`
 abbrev pub label_width : List ℕ → List Operation → ℕ
 label_width initial operations = fold (λ widest o. max widest (length (label o.kind))) (initial_width initial) operations
-
--- how much room the order of a `YES` takes, or this many bands of a `NO`
-abbrev pub room_beside : Claimed → ℕ → ℕ → ℕ
-room_beside (Yes order) widest_label bands = digits (length order) + widest_label + 3
-room_beside (No kind lines) widest_label bands = 5 * bands
-
--- the columns of a picture: tickets are at least as wide as the word above them, a lane has room for a bracket with a number
-abbrev pub columns_of : List Event → List ℕ → ℕ → Claimed → ℕ → Columns
-columns_of events threads widest_label claimed bands =
-    let ticket = max 6 (digits (last_ticket events)) in
-    let lane = max 2 (digits (count_of_lines claimed)) + 2 in
-    let lanes = ticket + 2 + room_beside claimed widest_label bands in
-    record { ticket = ticket; beside = ticket + 2; lanes = lanes; lane = lane; label = lanes + 2 + max 6 (lane * length threads) }
-
--- a thread's lane stands to the right of those of lower threads
-abbrev pub lane_of : Columns → List ℕ → ℕ → Lane
-lane_of columns threads thread =
-    record { thread = thread; column = columns.lanes + columns.lane * count_by (λ lower. nat_lt lower thread) threads }
-
--- the lanes of the threads
-abbrev pub lanes_of : Columns → List ℕ → List Lane
-lanes_of columns threads = map (lane_of columns threads) threads
 
 -- ---- operations in rows
 

@@ -1,25 +1,22 @@
--- A picture as lines of characters. Time runs down: a line for each event, and of a `YES` one for each effect.
-use Rattle.std.specs.Prelude.{ℕ, ◌+◌, ◌-◌, ◌*◌, ◌%◌, ◌==◌, ◌&&◌, nat_lt, if◌then◌else◌, Bool, true, false, Option, Some, None, List, [], ◌∷◌, ◌++◌, map, length, codes, decimal}
+-- A scene as lines of characters: a line for each row.
+use Rattle.std.specs.Prelude.{ℕ, ◌+◌, ◌-◌, ◌*◌, ◌%◌, ◌==◌, ◌&&◌, nat_lt, max, if◌then◌else◌, Option, Some, None, List, [], ◌∷◌, ◌++◌, map, length, codes, decimal}
 use Rattle.std.specs.List.{concat, flat_map, range_with_len, enumerate_from}
-use Rattle.event_records.specs.declared.event.Event.{Event}
 use Rattle.history_merge.specs.Initial.{HistoryView}
 use Rattle.history_merge.specs.declared.operation.Operation.{Operation}
-use Rattle.history_merge.specs.declared.operation.OpKind.{OpKind}
-use Rattle.history_merge.specs.declared.operation.OpKind.TheVariants as kind
-use Rattle.history_merge.specs.Operations.{operations_of}
 use Rattle.verdicts.specs.declared.verifying.ClaimLine.{ClaimLine}
 use Rattle.verdicts.specs.declared.verifying.Claimed.{Claimed}
 use Rattle.verdicts.specs.declared.verifying.Claimed.TheVariants.{Yes, No}
-use Rattle.verdicts.specs.declared.verifying.ViolationKind.TheVariants.{VRepeat}
 use Rattle.text_lines.specs.Lines.{line}
-use Rattle.drawing.specs.Claim.{count_of_lines, order_of, shown_by}
+use Rattle.drawing.specs.Claim.{count_of_lines, shown_by}
 use Rattle.drawing.specs.declared.columns.Columns.{Columns}
-use Rattle.drawing.specs.declared.columns.Lane.{Lane}
 use Rattle.drawing.specs.declared.bands.Band.{Band}
 use Rattle.drawing.specs.declared.bands.Head.{Head}
-use Rattle.drawing.specs.Layout.{digits, label, initial_label, label_width, threads_of, columns_of, lanes_of, under_way, called_at}
-use Rattle.drawing.specs.Layout.{place_in, initial_place_in, number_at, number_in, point}
-use Rattle.drawing.specs.Bands.{bands_of, head_text, form, holds_gap}
+use Rattle.drawing.specs.Layout.{digits, label, numbered_label, initial_label, label_width, under_way, called_at}
+use Rattle.drawing.specs.Layout.{initial_place_in, number_at, number_in}
+use Rattle.drawing.specs.Bands.{head_text, form, holds_gap}
+use Rattle.drawing.specs.Scene.{SceneView, scene_of, lanes_before, way_word, initial_way}
+use Rattle.drawing.specs.declared.scene.Row.{Row}
+use Rattle.drawing.specs.declared.scene.Row.TheVariants as row
 use Rattle.drawing.specs.Words.{Word, line_of}
 use Rattle.drawing.specs.Captions.{headline, caption}
 use Rattle.drawing.specs.Signs.{signs_of, meaning}
@@ -27,27 +24,38 @@ use Rattle.drawing.specs.declared.signs.Sign.{Sign}
 use Rattle.drawing.specs.declared.signs.Sign.TheVariants.{First, InOrder, OfOperations, OfValues, Present, Absent}
 use Rattle.drawing.specs.declared.columns.TheConstants.{ROWS_UNDER_HEADS}
 
+-- ---- columns
+
+-- how much room the order of a `YES` takes, or this many bands of a `NO`
+abbrev pub room_beside : Claimed → ℕ → ℕ → ℕ
+room_beside (Yes order) widest_label bands = digits (length order) + widest_label + 3
+room_beside (No kind lines) widest_label bands = 5 * bands
+
+-- the columns, where tickets, the room beside them and lanes are so wide, and there are this many lanes
+abbrev pub columns_for : ℕ → ℕ → ℕ → ℕ → Columns
+columns_for ticket room lane lanes = record {
+  ticket = ticket;
+  beside = ticket + 2;
+  lanes = ticket + 2 + room;
+  lane = lane;
+  label = ticket + 2 + room + 2 + max 6 (lane * lanes);
+}
+
+-- the columns of a scene: tickets are at least as wide as the word above them, a lane has room for a bracket with a number
+abbrev pub columns_of : SceneView → Columns
+columns_of scene =
+    columns_for (max 6 (digits scene.last_ticket)) (room_beside scene.claimed (label_width scene.initial scene.operations) (length scene.bands))
+    (max 2 (digits (count_of_lines scene.claimed)) + 2) (length scene.threads)
+
+-- a thread's lane stands to the right of those of lower threads
+abbrev pub lane_column : Columns → List ℕ → ℕ → ℕ
+lane_column columns threads thread = columns.lanes + columns.lane * lanes_before threads thread
+
 -- ---- words of a line
 
 -- a ticket, at the right of its column
 abbrev pub ticket_word : Columns → ℕ → Word
 ticket_word columns ticket = record { column = columns.ticket - digits ticket; bytes = decimal ticket }
-
--- what stands in a lane in the row of an event: its call with its number, its return, or that it is under way
-abbrev pub sign : List ClaimLine → ℕ → Option Operation → List ℕ
-sign shown ticket None = []
-sign shown ticket (Some o) =
-    if o.call == ticket then codes "[" ++ number_in shown o else (if o.ret == ticket then codes "]" else codes "|")
-
--- the words in the lanes in the row of an event
-abbrev pub lane_words : List Operation → List ClaimLine → List Lane → ℕ → List Word
-lane_words operations shown lanes ticket =
-    map (λ lane. record { column = lane.column; bytes = sign shown ticket (under_way operations lane.thread ticket) }) lanes
-
--- the label of an operation, where there is one
-abbrev pub label_if : Option Operation → List ℕ
-label_if None = []
-label_if (Some o) = label o.kind
 
 -- where band i stands
 abbrev pub band_column : Columns → ℕ → ℕ
@@ -65,48 +73,57 @@ band_word columns gap (i, band) = band_at (band_column columns i) band gap
 abbrev pub band_words : Columns → List Band → Option ℕ → List Word
 band_words columns bands gap = map (band_word columns gap) (enumerate_from 0 bands)
 
--- whether a value goes in or out
-abbrev pub way : OpKind → List ℕ
-way (kind.Enq v) = codes "in"
-way _ = codes "out"
+-- what stands in a lane in the row of an event: a call with its number, a return, or that an operation is under way
+abbrev pub event_sign : List ClaimLine → ℕ → Operation → List ℕ
+event_sign shown ticket o = if o.call == ticket then codes "[" ++ number_in shown o else (if o.ret == ticket then codes "]" else codes "|")
 
--- the word of an operation at this place of a claim
-abbrev pub way_at : OpKind → Option ℕ → List ℕ
-way_at kind None = []
-way_at kind (Some place) = way kind
+-- what stands in a lane in the row of an effect: the number of the operation that takes effect, or that another is under way
+abbrev pub effect_sign : Operation → ℕ → ℕ → Operation → List ℕ
+effect_sign effect number point o =
+    if o.call == effect.call then decimal number else (if o.ret == point then [] else codes "|")
 
--- the word of an operation, where the lines have it
-abbrev pub way_of : List ClaimLine → Option Operation → List ℕ
-way_of lines None = []
-way_of lines (Some o) = way_at o.kind (place_in lines o)
+-- what stands in a lane in a row, where this operation is under way
+abbrev pub lane_sign : List ClaimLine → Row → Option Operation → List ℕ
+lane_sign shown (row.Ticket ticket) (Some o) = event_sign shown ticket o
+lane_sign shown (row.Effect effect number point) (Some o) = effect_sign effect number point o
+lane_sign shown r under = []
 
--- the words `in` and `out` where a value was dequeued twice
-abbrev pub way_word : Claimed → Option Operation → List ℕ
-way_word (No VRepeat lines) called = way_of lines called
-way_word _ called = []
+-- the words in the lanes in a row just after a ticket
+abbrev pub lane_words : Columns → SceneView → Row → ℕ → List Word
+lane_words columns scene r ticket =
+    map (λ thread. record {
+      column = lane_column columns scene.threads thread;
+      bytes = lane_sign (shown_by scene.claimed) r (under_way scene.operations thread ticket);
+    }) scene.threads
+
+-- the label of an operation, where there is one
+abbrev pub label_if : Option Operation → List ℕ
+label_if None = []
+label_if (Some o) = label o.kind
+
+-- ---- rows
 
 -- the words in the row of an event: its ticket, the bands, what its thread and the others do, and the label of what is called
-unfoldable pub event_words : Columns → List Lane → List Band → List Operation → Claimed → ℕ → List Word
-event_words columns lanes bands operations claimed ticket =
-    ticket_word columns ticket ∷ record { column = columns.beside; bytes = way_word claimed (called_at operations ticket) }
-    ∷ (band_words columns bands (Some ticket) ++ (lane_words operations (shown_by claimed) lanes ticket
-    ++ record { column = columns.label; bytes = label_if (called_at operations ticket) } ∷ []))
+unfoldable pub event_words : Columns → SceneView → ℕ → List Word
+event_words columns scene ticket =
+    ticket_word columns ticket ∷ record { column = columns.beside; bytes = way_word scene.claimed (called_at scene.operations ticket) }
+    ∷ (band_words columns scene.bands (Some ticket) ++ (lane_words columns scene (row.Ticket ticket) ticket
+    ++ record { column = columns.label; bytes = label_if (called_at scene.operations ticket) } ∷ []))
 
--- ---- initial values
+-- the number and the label of what takes effect, of this many
+abbrev pub effect_word : Columns → ℕ → Operation → ℕ → Word
+effect_word columns count effect number =
+    record { column = columns.beside + (digits count - digits number); bytes = numbered_label number effect.kind }
+
+-- the words in the row of an effect
+unfoldable pub effect_words : Columns → SceneView → Operation → ℕ → ℕ → List Word
+effect_words columns scene effect number point =
+    effect_word columns (count_of_lines scene.claimed) effect number ∷ lane_words columns scene (row.Effect effect number point) point
 
 -- the words above the rows of the initial values, and the bands from the top on
-unfoldable pub first_words : Columns → List Band → List Word
-first_words columns bands = band_words columns bands None ++ record { column = columns.lanes; bytes = codes "in the queue first" } ∷ []
-
--- the word of an initial value at this place of a claim
-abbrev pub in_at : Option ℕ → List ℕ
-in_at None = []
-in_at (Some place) = codes "in"
-
--- the word `in`, where the value was dequeued twice
-abbrev pub initial_way : Claimed → ℕ → List ℕ
-initial_way (No VRepeat lines) v = in_at (initial_place_in lines v)
-initial_way _ v = []
+unfoldable pub first_words : Columns → SceneView → List Word
+first_words columns scene =
+    band_words columns scene.bands None ++ record { column = columns.lanes; bytes = codes "in the queue first" } ∷ []
 
 -- the number of an initial value among the lines that show a `NO`, at the right of a column that ends here
 abbrev pub initial_number : ℕ → List ℕ → Word
@@ -117,66 +134,20 @@ abbrev pub numbers_end : Columns → Claimed → ℕ
 numbers_end columns claimed = columns.lanes + digits (count_of_lines claimed)
 
 -- the words in the row of an initial value: the bands from the top on, its number, if a `NO` names it, and its label
-unfoldable pub initial_words : Columns → List Band → Claimed → ℕ → List Word
-initial_words columns bands claimed v =
-    record { column = columns.beside; bytes = initial_way claimed v } ∷ (band_words columns bands None
-    ++ (initial_number (numbers_end columns claimed) (number_at (initial_place_in (shown_by claimed) v))
-    ∷ record { column = numbers_end columns claimed + 1; bytes = initial_label v } ∷ []))
+unfoldable pub initial_words : Columns → SceneView → ℕ → List Word
+initial_words columns scene v =
+    record { column = columns.beside; bytes = initial_way scene.claimed v } ∷ (band_words columns scene.bands None
+    ++ (initial_number (numbers_end columns scene.claimed) (number_at (initial_place_in (shown_by scene.claimed) v))
+    ∷ record { column = numbers_end columns scene.claimed + 1; bytes = initial_label v } ∷ []))
 
--- the row of an initial value
-abbrev pub initial_row : Columns → List Band → Claimed → ℕ → List ℕ
-initial_row columns bands claimed v = line (line_of (initial_words columns bands claimed v))
+-- the words in a row
+abbrev pub row_words : Columns → SceneView → Row → List Word
+row_words columns scene row.Head = first_words columns scene
+row_words columns scene (row.Initial place v) = initial_words columns scene v
+row_words columns scene (row.Ticket ticket) = event_words columns scene ticket
+row_words columns scene (row.Effect effect number point) = effect_words columns scene effect number point
 
--- the rows of the initial values under their head, the front one first; nothing where there are none
-abbrev pub initial_rows : Columns → List Band → Claimed → List ℕ → List ℕ
-initial_rows columns bands claimed [] = []
-initial_rows columns bands claimed (front ∷ others) =
-    line (line_of (first_words columns bands)) ++ flat_map (initial_row columns bands claimed) (front ∷ others)
-
--- ---- the order of a `YES`
-
--- what stands in a lane in the row of an effect: the number of the operation that takes effect, or that another is under way
-abbrev pub effect_sign : Operation → ℕ → ℕ → Option Operation → List ℕ
-effect_sign effect number ticket None = []
-effect_sign effect number ticket (Some o) =
-    if o.call == effect.call then decimal number else (if o.ret == ticket then [] else codes "|")
-
--- the words in the lanes in the row of an effect
-abbrev pub effect_lane_words : List Operation → List Lane → Operation → ℕ → ℕ → List Word
-effect_lane_words operations lanes effect number ticket =
-    map (λ lane. record { column = lane.column; bytes = effect_sign effect number ticket (under_way operations lane.thread ticket) }) lanes
-
--- the number and the label of what takes effect, of this many
-abbrev pub effect_word : Columns → ℕ → Operation → ℕ → Word
-effect_word columns claimed effect number =
-    record { column = columns.beside + (digits claimed - digits number); bytes = decimal number ++ (codes " " ++ label effect.kind) }
-
--- the words in the row of an effect, just after a ticket
-unfoldable pub effect_words : Columns → List Lane → List Operation → ℕ → ℕ → ℕ → Operation → List Word
-effect_words columns lanes operations claimed ticket number effect =
-    effect_word columns claimed effect number ∷ effect_lane_words operations lanes effect number ticket
-
--- the row of an operation, if it takes effect just after this ticket
-abbrev pub effect_row_if : Bool → Columns → List Lane → List Operation → ℕ → ℕ → ℕ → Operation → List ℕ
-effect_row_if true columns lanes operations claimed ticket number effect =
-    line (line_of (effect_words columns lanes operations claimed ticket number effect))
-effect_row_if false columns lanes operations claimed ticket number effect = []
-
--- the row of operation i of an order, if it takes effect just after this ticket
-abbrev pub effect_if : Columns → List Lane → List Operation → List Operation → ℕ → ℕ × Operation → List ℕ
-effect_if columns lanes operations order ticket (i, effect) =
-    effect_row_if (point order i == ticket) columns lanes operations (length order) ticket (i + 1) effect
-
--- the rows of the operations that take effect just after this ticket
-unfoldable pub effect_rows : Columns → List Lane → List Operation → List Operation → ℕ → List ℕ
-effect_rows columns lanes operations order ticket = flat_map (effect_if columns lanes operations order ticket) (enumerate_from 0 order)
-
--- ---- the picture
-
--- the row of the event at a ticket, and of the effects after it
-abbrev pub event_rows : Columns → List Lane → List Band → List Operation → Claimed → ℕ → List ℕ
-event_rows columns lanes bands operations claimed ticket =
-    line (line_of (event_words columns lanes bands operations claimed ticket)) ++ effect_rows columns lanes operations (order_of claimed) ticket
+-- ---- heads
 
 -- a stroke for each band, under its head
 abbrev pub strokes : Columns → ℕ → List Word
@@ -204,40 +175,33 @@ order_word (Yes order) = codes "order"
 order_word (No kind lines) = []
 
 -- the numbers of the threads above their lanes
-abbrev pub lane_names : List Lane → List Word
-lane_names lanes = map (λ lane. record { column = lane.column; bytes = decimal lane.thread }) lanes
+abbrev pub lane_names : Columns → List ℕ → List ℕ → List Word
+lane_names columns all threads = map (λ thread. record { column = lane_column columns all thread; bytes = decimal thread }) threads
 
 -- the word above the tickets, that above the order of a `YES`, and the numbers of the threads
-unfoldable pub name_words : Columns → List Lane → ℕ → Claimed → List Word
-name_words columns lanes bands claimed =
-    record { column = columns.ticket - 6; bytes = codes "ticket" } ∷ record { column = columns.beside; bytes = order_word claimed }
-    ∷ (strokes columns bands ++ lane_names lanes)
+unfoldable pub name_words : Columns → SceneView → List Word
+name_words columns scene =
+    record { column = columns.ticket - 6; bytes = codes "ticket" } ∷ record { column = columns.beside; bytes = order_word scene.claimed }
+    ∷ (strokes columns (length scene.bands) ++ lane_names columns scene.threads scene.threads)
 
 -- the heads: those of the bands, and those of the tickets and the lanes
-unfoldable pub heads : Columns → List Lane → List Band → Claimed → List ℕ
-heads columns lanes bands claimed =
-    head_lines columns bands ++ (line (line_of (thread_words columns (length bands))) ++ line (line_of (name_words columns lanes (length bands) claimed)))
+unfoldable pub heads : Columns → SceneView → List ℕ
+heads columns scene =
+    head_lines columns scene.bands ++ (line (line_of (thread_words columns (length scene.bands))) ++ line (line_of (name_words columns scene)))
 
--- the heads once more, above each 40th event
+-- ---- the picture
+
+-- the heads once more, above each 40th row
 abbrev pub heads_again : ℕ → List ℕ → List ℕ
 heads_again i heads = if nat_lt 0 i && i % ROWS_UNDER_HEADS == 0 then heads else []
 
--- the rows of event i and of the effects after it, under heads of their own if it is a 40th one
-abbrev pub numbered_rows : Columns → List Lane → List Band → List Operation → Claimed → ℕ × Event → List ℕ
-numbered_rows columns lanes bands operations claimed (i, e) =
-    heads_again i (heads columns lanes bands claimed) ++ event_rows columns lanes bands operations claimed e.ticket
+-- row i, under heads of its own if it is a 40th one
+abbrev pub numbered_row : Columns → SceneView → ℕ × Row → List ℕ
+numbered_row columns scene (i, r) = heads_again i (heads columns scene) ++ line (line_of (row_words columns scene r))
 
--- the heads, the rows of the initial values, and those of the events and effects
-unfoldable pub rows : Columns → List Lane → List Band → HistoryView → List Operation → Claimed → List ℕ
-rows columns lanes bands history operations claimed =
-    heads columns lanes bands claimed ++ (initial_rows columns bands claimed history.initial
-    ++ flat_map (numbered_rows columns lanes bands operations claimed) (enumerate_from 0 history.events))
-
--- the columns of the picture of a history and what is claimed of it
-abbrev pub columns_in : HistoryView → Claimed → Columns
-columns_in history claimed =
-    columns_of history.events (threads_of history.events) (label_width history.initial (operations_of history.events)) claimed
-    (length (bands_of claimed))
+-- the heads, and the rows
+unfoldable pub lines : Columns → SceneView → List ℕ
+lines columns scene = heads columns scene ++ flat_map (numbered_row columns scene) (enumerate_from 0 scene.rows)
 
 -- a sign in characters
 abbrev pub sign_text : Sign → List ℕ
@@ -262,15 +226,14 @@ unfoldable pub legend : List ℕ → Claimed → List ℕ
 legend initial claimed = lane_meanings ++ flat_map sign_line (signs_of initial claimed)
 
 -- what stands above the rows
-unfoldable pub words : List ℕ → Claimed → List ℕ
-words initial claimed = line (headline claimed) ++ (caption claimed ++ (line [] ++ (legend initial claimed ++ line [])))
+unfoldable pub words : SceneView → List ℕ
+words scene =
+    line (headline scene.claimed) ++ (caption scene.claimed ++ (line [] ++ (legend scene.initial scene.claimed ++ line [])))
 
--- the rows of the picture of a history and what is claimed of it
-abbrev pub rows_in : HistoryView → Claimed → List ℕ
-rows_in history claimed =
-    rows (columns_in history claimed) (lanes_of (columns_in history claimed) (threads_of history.events)) (bands_of claimed) history
-    (operations_of history.events) claimed
+-- a scene in lines of characters
+abbrev pub scene_text : SceneView → List ℕ
+scene_text scene = words scene ++ lines (columns_of scene) scene
 
 -- the picture of a history and what is claimed of it, in lines of characters
 unfoldable pub terminal_picture : HistoryView → Claimed → List ℕ
-terminal_picture history claimed = words history.initial claimed ++ rows_in history claimed
+terminal_picture history claimed = scene_text (scene_of history claimed)

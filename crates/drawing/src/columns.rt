@@ -1,10 +1,13 @@
-//! Columns and lanes.
-ghost use Rattle.std.specs.Prelude.{◌≡◌, ◌+◌, ◌*◌, ◌≤◌, ◌<◌, IfOk, length, max, decimal, vec_len, count_by, nat_lt};
-ghost use Rattle.drawing.specs.Layout.{digits, label, has_events, threads_of, last_ticket, initial_width, label_width, room_beside, columns_of, lanes_of};
+//! Columns, and what they make room for.
+ghost use Rattle.std.specs.Prelude.{◌≡◌, ◌+◌, ◌*◌, ◌≤◌, IfOk, length, vec_len};
+ghost use Rattle.drawing.specs.Layout.{digits, label, has_events, threads_of, last_ticket, initial_width, label_width};
+ghost use Rattle.drawing.specs.Terminal.{room_beside, columns_of};
+ghost use Rattle.drawing.specs.Scene.{scene_on};
 ghost use Rattle.drawing.specs.Claim.{count_of_lines};
 
 use crate::claim::count_of_lines;
 use crate::names::{initial_label_len, value_len};
+use crate::sheet::Scene;
 use event_records::{Event, MAX_THREAD, MAX_THREADS};
 use history_merge::{History, OpKind, Operation};
 use itoa::Buffer;
@@ -40,13 +43,6 @@ pub struct Columns {
     pub lane: usize,
     /// Where the labels of calls stand.
     pub label: usize,
-}
-
-/// The lane of a thread, by the column where it stands.
-#[derive(Clone, Copy, Debug, PartialEq, Eq)]
-pub struct Lane {
-    pub thread: u8,
-    pub column: usize,
 }
 
 /// How many digits a number has.
@@ -135,63 +131,25 @@ fn room_beside(claimed: &Claimed, widest_label: usize, bands: usize) -> usize
     }
 }
 
-/// The columns of a picture of these events, whose longest label is so wide, for a claim with this many bands.
-pub(crate) fn columns_of(
-    events: &[Event],
-    threads: &[u8],
-    widest_label: usize,
-    claimed: &Claimed,
-    bands: usize,
-) -> Columns
-    requires threads { length threads.now ≤ MAX_THREADS }
-    requires label { widest_label ≤ 46 }
-    requires bands { bands ≤ MOST_DRAWN + 2 }
-    ensures columns { result ≡ columns_of events.now threads.now widest_label claimed.now bands }
+/// The columns of a scene.
+pub(crate) fn columns_of(scene: &Scene<'_>) -> Columns
+    requires { count_of_lines scene.now.claimed.now ≤ MOST_DRAWN }
+    ensures columns { result ≡ columns_of (scene_on scene.now) }
     ensures ticket { result.ticket ≤ 20 }
     ensures beside { result.beside ≤ 22 }
     ensures lanes { result.lanes ≤ MAX_LANES }
     ensures lane { result.lane ≤ 22 }
     ensures wide { 6 ≤ result.ticket }
 {
-    let ticket = digits(last_ticket(events)).max(6);
-    let lane = digits(count_of_lines(claimed) as u64).max(2) + 2;
-    let lanes = ticket + 2 + room_beside(claimed, widest_label, bands);
+    let ticket = digits(scene.last_ticket).max(6);
+    let widest_label = label_width(scene.initial, scene.operations);
+    let room = room_beside(scene.claimed, widest_label, scene.bands.len());
+    let lane = digits(count_of_lines(scene.claimed) as u64).max(2) + 2;
     Columns {
         ticket,
         beside: ticket + 2,
-        lanes,
+        lanes: ticket + 2 + room,
         lane,
-        label: lanes + 2 + (lane * threads.len()).max(6),
+        label: ticket + 2 + room + 2 + (lane * scene.threads.len()).max(6),
     }
-}
-
-/// How many lanes stand to the left of a thread's.
-fn lanes_before(threads: &[u8], thread: u8) -> usize
-    requires { length threads.now ≤ MAX_THREADS }
-    ensures value { result ≡ count_by (λ lower. nat_lt lower thread) threads.now }
-    ensures few { result ≤ MAX_THREADS }
-{
-    threads.iter().filter(|lower| **lower < thread).count()
-}
-
-/// The lanes of these threads.
-pub(crate) fn lanes_of(
-    alloc: Global,
-    columns: Columns,
-    threads: &[u8],
-) -> Result<Vec<Lane>, AllocError>
-    requires few { length threads.now ≤ MAX_THREADS }
-    requires lanes { columns.lanes ≤ MAX_LANES }
-    requires lane { columns.lane ≤ 22 }
-    ensures { IfOk result (λ lanes. lanes.items ≡ lanes_of columns threads.now) }
-{
-    let mut lanes = Vec::with_capacity(alloc, threads.len())?;
-    for thread in threads {
-        let column = columns.lanes + columns.lane * lanes_before(threads, *thread);
-        lanes.push(Lane {
-            thread: *thread,
-            column,
-        })?;
-    }
-    Ok(lanes)
 }

@@ -1,21 +1,20 @@
 //! The rows of the values that the queue holds first, in a picture as lines of characters.
-ghost use Rattle.std.specs.Prelude.{◌≡◌, ◌≤◌, ◌++◌, IfOk, IfSome, OnOk};
-ghost use Rattle.std.specs.List.{flat_map};
-ghost use Rattle.text_lines.specs.Lines.{line};
+ghost use Rattle.std.specs.Prelude.{◌≡◌, ◌≤◌, IfOk, IfSome, OnOk};
 ghost use Rattle.drawing.specs.Layout.{initial_label, number_at};
+ghost use Rattle.drawing.specs.Inner.Words.{scene_in};
 ghost use Rattle.drawing.specs.Words.{placed, line_of};
-ghost use Rattle.drawing.specs.Terminal.{first_words, initial_way, initial_number, initial_row, initial_rows};
+ghost use Rattle.drawing.specs.Terminal.{first_words, initial_number, initial_words};
 
 use crate::claim::{count_of_lines, shown_by};
 use crate::columns::{MOST_DRAWN, digits};
-use crate::line::{Added, place, push_line};
+use crate::line::{Added, place};
 use crate::lookup::initial_place_in;
 use crate::names::push_initial_label;
+use crate::scene::initial_way;
 use crate::sheet::Sheet;
 use crate::terminal::place_bands;
 use itoa::Buffer;
 use std::alloc::{AllocError, Global};
-use verdicts::{Claimed, ViolationKind};
 
 /// An initial value by its name.
 fn initial_label(alloc: Global, value: u64) -> Result<Vec<u8>, AllocError>
@@ -28,8 +27,8 @@ fn initial_label(alloc: Global, value: u64) -> Result<Vec<u8>, AllocError>
 
 /// The line above the rows of the initial values.
 #[tactic(auto, unfolding(crate::specs::Terminal::first_words))]
-fn first_line(sheet: &Sheet<'_>) -> Result<Vec<u8>, AllocError>
-    ensures { IfOk result (λ bytes. bytes.items ≡ line_of (first_words sheet.now.columns sheet.now.bands.now)) }
+pub(crate) fn first_line(sheet: &Sheet<'_>) -> Result<Vec<u8>, AllocError>
+    ensures { IfOk result (λ bytes. bytes.items ≡ line_of (first_words sheet.now.columns (scene_in sheet.now))) }
 {
     let mut bytes = Vec::new(sheet.alloc);
     place_bands(&mut bytes, sheet, None)?;
@@ -52,26 +51,12 @@ fn place_number_at(line: &mut Vec<u8>, end: usize, place_in_claim: Option<usize>
     }
 }
 
-fn initial_way(claimed: &Claimed, value: u64) -> &'static [u8]
-    ensures { result.now ≡ initial_way claimed.now value }
-{
-    match claimed {
-        Claimed::No(ViolationKind::VRepeat, lines) => {
-            match initial_place_in(lines.as_slice(), value) {
-                None => b"",
-                Some(_) => b"in",
-            }
-        }
-        _ => b"",
-    }
-}
-
-/// Adds the row of an initial value.
+/// The row of an initial value.
 #[tactic(auto, unfolding(crate::specs::Terminal::initial_words))]
-fn push_initial_row(text: &mut Vec<u8>, sheet: &Sheet<'_>, value: u64) -> Added
-    ensures { OnOk result (text.new.items ≡ text.old.items ++ initial_row sheet.now.columns sheet.now.bands.now sheet.now.claimed.now value) }
+pub(crate) fn initial_line(sheet: &Sheet<'_>, value: u64) -> Result<Vec<u8>, AllocError>
+    ensures { IfOk result (λ bytes. bytes.items ≡ line_of (initial_words sheet.now.columns (scene_in sheet.now) value)) }
 {
-    let claimed = sheet.claimed;
+    let claimed = sheet.scene.claimed;
     let end = sheet.columns.lanes + digits(count_of_lines(claimed) as u64);
     let found = initial_place_in(shown_by(claimed), value);
     let label = initial_label(sheet.alloc, value)?;
@@ -84,30 +69,5 @@ fn push_initial_row(text: &mut Vec<u8>, sheet: &Sheet<'_>, value: u64) -> Added
     place_bands(&mut bytes, sheet, None)?;
     place_number_at(&mut bytes, end, found)?;
     place(&mut bytes, end + 1, label.as_slice())?;
-    push_line(text, bytes.as_slice())
-}
-
-fn push_each_initial_row(text: &mut Vec<u8>, sheet: &Sheet<'_>, initial: &[u64]) -> Added
-    ensures { OnOk result (text.new.items ≡ text.old.items ++ flat_map
-        (initial_row sheet.now.columns sheet.now.bands.now sheet.now.claimed.now) initial.now) }
-{
-    for value in initial {
-        push_initial_row(text, sheet, *value)?;
-    }
-    Ok(())
-}
-
-/// Adds the rows of the initial values under their head, where there are some.
-pub(crate) fn push_initial_rows(text: &mut Vec<u8>, sheet: &Sheet<'_>, initial: &[u64]) -> Added
-    ensures { OnOk result (text.new.items ≡ text.old.items
-        ++ initial_rows sheet.now.columns sheet.now.bands.now sheet.now.claimed.now initial.now) }
-{
-    match initial {
-        [] => Ok(()),
-        [_, ..] => {
-            let first = first_line(sheet)?;
-            push_line(text, first.as_slice())?;
-            push_each_initial_row(text, sheet, initial)
-        }
-    }
+    Ok(bytes)
 }

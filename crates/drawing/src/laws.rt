@@ -1,4 +1,6 @@
 ghost use Rattle.drawing.specs.Laws.{LanesAreApart, BarsAreOfOperations, NoOtherBars, EffectsAreInBars, EffectsRise, NumbersAreOfLines};
+ghost use Rattle.drawing.specs.Laws.{RowsRise, InitialValuesHaveRows, EventsHaveRows, EffectsHaveRows, InitialRowsAreFirst, RowsTellPrecedence};
+ghost use Rattle.drawing.specs.Laws.{EffectRowsAreInBars, EffectRowsRise};
 ghost use Rattle.drawing.specs.Laws.{ValuesHaveTheirNames, InitialValuesHaveTheirNames, LinesHaveNumbers, InitialNumbersAreOfLines, InitialLinesHaveNumbers, LinesAreOfHistory};
 
 /// The bars in the lanes are the operations, each in the lane of its thread, from its call to its return. The laws are the
@@ -13,6 +15,19 @@ pub fn bars_are_the_operations()
 pub fn effects_rise_within_bars()
     ensures within { EffectsAreInBars }
     ensures rise { EffectsRise }
+{}
+
+/// Rows stand in the order of time: initial values, front first, then events by their tickets, and of a `YES` the effects in its order,
+/// each within its bar. Returns stand above calls as operations precede one another. The laws are the contract; the body is empty.
+pub fn rows_stand_in_time()
+    ensures rise { RowsRise }
+    ensures initial { InitialValuesHaveRows }
+    ensures events { EventsHaveRows }
+    ensures effects { EffectsHaveRows }
+    ensures first { InitialRowsAreFirst }
+    ensures precedence { RowsTellPrecedence }
+    ensures within { EffectRowsAreInBars }
+    ensures in_order { EffectRowsRise }
 {}
 
 /// The lane of a thread ends before that of a higher one begins. The law is the contract; the body is empty.

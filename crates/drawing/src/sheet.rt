@@ -1,27 +1,47 @@
-//! What the rows of a picture of characters are made of.
-ghost use Rattle.std.specs.Prelude.{◌+◌, ◌≤◌, length};
+//! What pictures are made of.
+ghost use Rattle.std.specs.Prelude.{◌+◌, ◌≤◌, vec_len};
 ghost use Rattle.drawing.specs.Claim.{count_of_lines};
 ghost use Rattle.drawing.specs.declared.columns.TheConstants.{MAX_LANES, MOST_DRAWN};
+ghost use Rattle.event_records.specs.declared.limits.TheConstants.{MAX_THREADS};
 
 use crate::bands::Band;
-use crate::columns::{Columns, Lane};
+use crate::columns::Columns;
+use crate::scene::Row;
 use history_merge::Operation;
 use std::alloc::Global;
 use verdicts::Claimed;
 
-/// What the rows of a picture are made of.
+/// What a picture shows of a history and a claim.
+#[derive(Drop)]
+pub struct Scene<'a> {
+    /// What the queue holds first, front first.
+    pub initial: &'a [u64],
+    pub operations: &'a [Operation],
+    pub claimed: &'a Claimed,
+    /// The threads that have events, the least first.
+    pub threads: Vec<u8>,
+    /// The bands of a `NO`, left to right.
+    pub bands: Vec<Band>,
+    /// From top to bottom.
+    pub rows: Vec<Row>,
+    /// The ticket of the last event, or 0 where there is none.
+    pub last_ticket: u64,
+    ghost few_threads: { vec_len threads ≤ MAX_THREADS },
+    ghost few_bands: { vec_len bands ≤ count_of_lines claimed.now + 2 },
+}
+
+/// A scene, and its columns.
 #[derive(Clone, Copy)]
 pub(crate) struct Sheet<'a> {
     /// Where the memory of its words comes from.
     pub alloc: Global,
     pub columns: Columns,
-    pub lanes: &'a [Lane],
-    pub bands: &'a [Band],
-    pub operations: &'a [Operation],
-    pub claimed: &'a Claimed,
-    ghost few_lines: { count_of_lines claimed.now ≤ MOST_DRAWN },
-    ghost few_bands: { length bands.now ≤ MOST_DRAWN + 2 },
+    pub scene: &'a Scene<'a>,
+    ghost few_lines: { count_of_lines scene.now.claimed.now ≤ MOST_DRAWN },
+    ghost few_bands: { vec_len scene.now.bands ≤ MOST_DRAWN + 2 },
+    ghost few_threads: { vec_len scene.now.threads ≤ MAX_THREADS },
     ghost ticket: { columns.ticket ≤ 20 },
     ghost beside: { columns.beside ≤ 22 },
     ghost lanes_begin: { columns.lanes ≤ MAX_LANES },
+    ghost lane: { columns.lane ≤ 22 },
 }

@@ -1,35 +1,31 @@
 //! A picture as lines of characters.
-ghost use Rattle.std.specs.Prelude.{◌≡◌, ◌==◌, ◌+◌, ◌≤◌, ◌++◌, ◌∷◌, [], Some, IfOk, OnOk, length, map, codes, decimal};
-ghost use Rattle.std.specs.List.{flat_map, enumerate_from, range_with_len};
-ghost use Rattle.history_merge.specs.Operations.{operations_of};
-ghost use Rattle.drawing.specs.Claim.{count_of_lines, shown_by};
+ghost use Rattle.std.specs.Prelude.{◌≡◌, ◌≤◌, ◌++◌, Some, IfOk, OnOk, length, codes, decimal};
+ghost use Rattle.std.specs.List.{flat_map, enumerate_from};
+ghost use Rattle.drawing.specs.Claim.{count_of_lines};
 ghost use Rattle.text_lines.specs.Lines.{line};
-ghost use Rattle.drawing.specs.Layout.{label, label_width, threads_of, columns_of, lanes_of, number_in};
-ghost use Rattle.drawing.specs.Bands.{bands_of};
+ghost use Rattle.drawing.specs.Layout.{label, numbered_label, number_in};
+ghost use Rattle.drawing.specs.Scene.{scene_on};
+ghost use Rattle.drawing.specs.Inner.Words.{scene_in};
 ghost use Rattle.drawing.specs.Words.{placed, with_words, line_of};
-ghost use Rattle.drawing.specs.Terminal.{ticket_word, sign, lane_words, label_if, band_column, band_at, band_words, way, way_of, way_word};
-ghost use Rattle.drawing.specs.Terminal.{event_words, effect_sign, effect_lane_words, effect_words, effect_row_if, effect_rows, event_rows};
-ghost use Rattle.drawing.specs.Terminal.{strokes, head_words, head_lines, thread_words, order_word, lane_names, name_words, heads, heads_again};
-ghost use Rattle.drawing.specs.Terminal.{numbered_rows, rows, sign_text, sign_line, lane_meanings, legend, words};
-ghost use Rattle.drawing.specs.Terminal.{terminal_picture};
+ghost use Rattle.drawing.specs.Terminal.{ticket_word, event_sign, effect_sign, lane_sign, lane_column, lane_words, label_if, band_at, band_words};
+ghost use Rattle.drawing.specs.Terminal.{event_words, effect_words, row_words, strokes, head_words, head_lines, thread_words, order_word, lane_names};
+ghost use Rattle.drawing.specs.Terminal.{name_words, heads, heads_again, numbered_row, lines, sign_text, sign_line, lane_meanings, legend, words};
+ghost use Rattle.drawing.specs.Terminal.{scene_text, terminal_picture};
 
-use crate::bands::{Band, Head, bands_of, form, head_words, holds_gap};
+use crate::bands::{Band, Head, form, head_words, holds_gap};
 use crate::captions::{headline, push_caption};
-use crate::claim::{count_of_lines, order_of, shown_by};
-use crate::columns::{
-    Columns, Lane, MOST_DRAWN, ROWS_UNDER_HEADS, columns_of, digits, events_of, label_width,
-    lanes_of, threads_of,
-};
-use crate::initial::push_initial_rows;
+use crate::claim::{count_of_lines, shown_by};
+use crate::columns::{Columns, MOST_DRAWN, ROWS_UNDER_HEADS, columns_of, digits};
+use crate::initial::{first_line, initial_line};
 use crate::line::{Added, Piece, place, push_all, push_line};
 use crate::lookup::{called_at, place_in, under_way};
-use crate::sheet::Sheet;
+use crate::scene::{Row, lanes_before, scene_of, way_word};
+use crate::sheet::{Scene, Sheet};
 use crate::signs::{Sign, meaning, signs_of};
-use event_records::Event;
 use history_merge::{History, OpKind, Operation};
 use itoa::Buffer;
 use std::alloc::{AllocError, Global};
-use verdicts::{ClaimLine, Claimed, ViolationKind};
+use verdicts::{ClaimLine, Claimed};
 
 /// Adds a number to a line at a column.
 fn place_number(line: &mut Vec<u8>, column: usize, number: u64) -> Added
@@ -63,38 +59,81 @@ fn numbered_call(
     Ok(word)
 }
 
-fn sign(
+/// What stands in a lane in the row of an event.
+fn event_sign(
     alloc: Global,
     shown: &[ClaimLine],
     ticket: u64,
-    operation: Option<Operation>,
+    operation: Operation,
 ) -> Result<Vec<u8>, AllocError>
     requires { length shown.now ≤ MOST_DRAWN }
-    ensures { IfOk result (λ word. word.items ≡ sign shown.now ticket operation) }
+    ensures { IfOk result (λ word. word.items ≡ event_sign shown.now ticket operation) }
 {
-    match operation {
-        None => Ok(Vec::new(alloc)),
-        Some(operation) => {
-            if operation.call == ticket {
-                numbered_call(alloc, shown, operation)
-            } else if operation.ret == ticket {
-                Vec::from_slice(alloc, b"]")
-            } else {
-                Vec::from_slice(alloc, b"|")
-            }
-        }
+    if operation.call == ticket {
+        numbered_call(alloc, shown, operation)
+    } else if operation.ret == ticket {
+        Vec::from_slice(alloc, b"]")
+    } else {
+        Vec::from_slice(alloc, b"|")
     }
 }
 
-fn place_lanes(line: &mut Vec<u8>, sheet: &Sheet<'_>, ticket: u64) -> Added
-    ensures { OnOk result (line.new.items ≡ with_words line.old.items
-        (lane_words sheet.now.operations.now (shown_by sheet.now.claimed.now) sheet.now.lanes.now ticket)) }
+/// What stands in a lane in the row of an effect.
+fn effect_sign(
+    alloc: Global,
+    effect: Operation,
+    number: u64,
+    point: u64,
+    operation: Operation,
+) -> Result<Vec<u8>, AllocError>
+    ensures { IfOk result (λ word. word.items ≡ effect_sign effect number point operation) }
 {
-    let shown = shown_by(sheet.claimed);
-    for lane in sheet.lanes {
-        let operation = under_way(sheet.operations, lane.thread, ticket);
-        let word = sign(sheet.alloc, shown, ticket, operation)?;
-        place(line, lane.column, word.as_slice())?;
+    if operation.call == effect.call {
+        let mut buffer = Buffer::new();
+        Vec::from_slice(alloc, buffer.format(number).as_bytes())
+    } else if operation.ret == point {
+        Ok(Vec::new(alloc))
+    } else {
+        Vec::from_slice(alloc, b"|")
+    }
+}
+
+/// What stands in a lane in a row, where this operation is under way.
+fn lane_sign(
+    alloc: Global,
+    shown: &[ClaimLine],
+    row: Row,
+    under: Option<Operation>,
+) -> Result<Vec<u8>, AllocError>
+    requires { length shown.now ≤ MOST_DRAWN }
+    ensures { IfOk result (λ word. word.items ≡ lane_sign shown.now row under) }
+{
+    match (row, under) {
+        (Row::Ticket(ticket), Some(operation)) => event_sign(alloc, shown, ticket, operation),
+        (Row::Effect(effect, number, point), Some(operation)) => {
+            effect_sign(alloc, effect, number, point, operation)
+        }
+        _ => Ok(Vec::new(alloc)),
+    }
+}
+
+/// Where the lane of a thread stands.
+fn lane_column(sheet: &Sheet<'_>, thread: u8) -> usize
+    ensures { result ≡ lane_column sheet.now.columns (scene_in sheet.now).threads thread }
+{
+    sheet.columns.lanes + sheet.columns.lane * lanes_before(sheet.scene.threads.as_slice(), thread)
+}
+
+/// The words in the lanes in a row just after a ticket.
+fn place_lanes(line: &mut Vec<u8>, sheet: &Sheet<'_>, row: Row, ticket: u64) -> Added
+    ensures { OnOk result (line.new.items ≡ with_words line.old.items (lane_words sheet.now.columns (scene_in sheet.now) row ticket)) }
+{
+    let shown = shown_by(sheet.scene.claimed);
+    let threads = sheet.scene.threads.as_slice();
+    for thread in threads {
+        let operation = under_way(sheet.scene.operations, *thread, ticket);
+        let word = lane_sign(sheet.alloc, shown, row, operation)?;
+        place(line, lane_column(sheet, *thread), word.as_slice())?;
     }
     Ok(())
 }
@@ -135,181 +174,68 @@ fn place_band(line: &mut Vec<u8>, column: usize, band: Band, gap: Option<u64>) -
 /// The bands that hold a gap: that just after a ticket, or for none that before all tickets.
 #[tactic(auto, using(crate::proofs::Loops::words_enumerated_more))]
 pub(crate) fn place_bands(line: &mut Vec<u8>, sheet: &Sheet<'_>, gap: Option<u64>) -> Added
-    ensures { OnOk result (line.new.items ≡ with_words line.old.items (band_words sheet.now.columns sheet.now.bands.now gap)) }
+    ensures { OnOk result (line.new.items ≡ with_words line.old.items (band_words sheet.now.columns (scene_in sheet.now).bands gap)) }
 {
-    for (i, band) in sheet.bands.iter().enumerate() {
+    let bands = sheet.scene.bands.as_slice();
+    for (i, band) in bands.iter().enumerate() {
         place_band(line, sheet.columns.beside + 5 * i, *band, gap)?;
     }
     Ok(())
-}
-
-/// Whether the value of an operation goes in or out.
-pub fn way(kind: OpKind) -> &'static [u8]
-    ensures { result.now ≡ way kind }
-{
-    match kind {
-        OpKind::Enq(_) => b"in",
-        _ => b"out",
-    }
-}
-
-fn way_of(lines: &[ClaimLine], operation: Option<Operation>) -> &'static [u8]
-    ensures { result.now ≡ way_of lines.now operation }
-{
-    match operation {
-        None => b"",
-        Some(operation) => match place_in(lines, operation) {
-            None => b"",
-            Some(_) => way(operation.kind),
-        },
-    }
-}
-
-fn way_word(claimed: &Claimed, operation: Option<Operation>) -> &'static [u8]
-    ensures { result.now ≡ way_word claimed.now operation }
-{
-    match claimed {
-        Claimed::No(ViolationKind::VRepeat, lines) => way_of(lines.as_slice(), operation),
-        _ => b"",
-    }
 }
 
 /// The line of an event.
 #[tactic(auto, unfolding(crate::specs::Terminal::event_words))]
 fn event_line(sheet: &Sheet<'_>, ticket: u64) -> Result<Vec<u8>, AllocError>
     ensures { IfOk result (λ bytes. bytes.items ≡ line_of
-        (event_words sheet.now.columns sheet.now.lanes.now sheet.now.bands.now sheet.now.operations.now sheet.now.claimed.now ticket)) }
+        (event_words sheet.now.columns (scene_in sheet.now) ticket)) }
 {
     let mut bytes = Vec::new(sheet.alloc);
-    let called = called_at(sheet.operations, ticket);
+    let called = called_at(sheet.scene.operations, ticket);
     place_ticket(&mut bytes, sheet.columns, ticket)?;
     place(
         &mut bytes,
         sheet.columns.beside,
-        way_word(sheet.claimed, called),
+        way_word(sheet.scene.claimed, called),
     )?;
     place_bands(&mut bytes, sheet, Some(ticket))?;
-    place_lanes(&mut bytes, sheet, ticket)?;
+    place_lanes(&mut bytes, sheet, Row::Ticket(ticket), ticket)?;
     let label = label_if(sheet.alloc, called)?;
     place(&mut bytes, sheet.columns.label, label.as_slice())?;
     Ok(bytes)
 }
 
-/// An operation of an order, its number, how many there are, and the ticket just after which it takes effect.
-#[derive(Clone, Copy)]
-struct Effect {
-    operation: Operation,
-    number: u64,
-    count: usize,
-    point: u64,
-}
-
-fn effect_sign(
-    alloc: Global,
-    effect: Effect,
-    operation: Option<Operation>,
-) -> Result<Vec<u8>, AllocError>
-    ensures { IfOk result (λ word. word.items ≡ effect_sign effect.operation effect.number effect.point operation) }
-{
-    match operation {
-        None => Ok(Vec::new(alloc)),
-        Some(operation) => {
-            if operation.call == effect.operation.call {
-                let mut buffer = Buffer::new();
-                Vec::from_slice(alloc, buffer.format(effect.number).as_bytes())
-            } else if operation.ret == effect.point {
-                Ok(Vec::new(alloc))
-            } else {
-                Vec::from_slice(alloc, b"|")
-            }
-        }
-    }
-}
-
-fn place_effect_lanes(line: &mut Vec<u8>, sheet: &Sheet<'_>, effect: Effect) -> Added
-    ensures { OnOk result (line.new.items ≡ with_words line.old.items
-        (effect_lane_words sheet.now.operations.now sheet.now.lanes.now effect.operation effect.number effect.point)) }
-{
-    for lane in sheet.lanes {
-        let operation = under_way(sheet.operations, lane.thread, effect.point);
-        let word = effect_sign(sheet.alloc, effect, operation)?;
-        place(line, lane.column, word.as_slice())?;
-    }
-    Ok(())
-}
-
-fn effect_label(alloc: Global, effect: Effect) -> Result<Vec<u8>, AllocError>
-    ensures { IfOk result (λ word. word.items ≡ decimal effect.number ++ (codes " " ++ label effect.operation.kind)) }
+/// What an operation did, and its value by its name, after its number.
+pub fn numbered_label(alloc: Global, number: u64, kind: OpKind) -> Result<Vec<u8>, AllocError>
+    ensures { IfOk result (λ word. word.items ≡ numbered_label number kind) }
 {
     let mut word = Vec::new(alloc);
-    push_all(
-        &mut word,
-        &[Piece::Number(effect.number), Piece::Words(b" ")],
-    )?;
-    push_label(&mut word, effect.operation.kind)?;
+    push_all(&mut word, &[Piece::Number(number), Piece::Words(b" ")])?;
+    push_label(&mut word, kind)?;
     Ok(word)
 }
 
 /// The line of an effect.
 #[tactic(auto, unfolding(crate::specs::Terminal::effect_words))]
-fn effect_line(sheet: &Sheet<'_>, effect: Effect) -> Result<Vec<u8>, AllocError>
-    ensures { IfOk result (λ bytes. bytes.items ≡ line_of
-        (effect_words sheet.now.columns sheet.now.lanes.now sheet.now.operations.now effect.count effect.point effect.number effect.operation)) }
+fn effect_line(
+    sheet: &Sheet<'_>,
+    effect: Operation,
+    number: u64,
+    point: u64,
+) -> Result<Vec<u8>, AllocError>
+    ensures { IfOk result (λ bytes. bytes.items ≡ line_of (effect_words sheet.now.columns (scene_in sheet.now) effect number point)) }
 {
     let mut bytes = Vec::new(sheet.alloc);
-    let word = effect_label(sheet.alloc, effect)?;
-    let blanks = digits(effect.count as u64).saturating_sub(digits(effect.number));
+    let word = numbered_label(sheet.alloc, number, effect.kind)?;
+    let count = count_of_lines(sheet.scene.claimed) as u64;
+    let blanks = digits(count).saturating_sub(digits(number));
     place(&mut bytes, sheet.columns.beside + blanks, word.as_slice())?;
-    place_effect_lanes(&mut bytes, sheet, effect)?;
+    place_lanes(&mut bytes, sheet, Row::Effect(effect, number, point), point)?;
     Ok(bytes)
-}
-
-/// Adds the line of an effect, if it is just after this ticket.
-fn push_effect_if(text: &mut Vec<u8>, sheet: &Sheet<'_>, effect: Effect, ticket: u64) -> Added
-    ensures { OnOk result (text.new.items ≡ text.old.items ++ effect_row_if
-        (effect.point == ticket) sheet.now.columns sheet.now.lanes.now sheet.now.operations.now effect.count ticket effect.number effect.operation) }
-{
-    if effect.point == ticket {
-        let bytes = effect_line(sheet, effect)?;
-        push_line(text, bytes.as_slice())
-    } else {
-        Ok(())
-    }
-}
-
-/// Adds the lines of the effects just after a ticket.
-#[tactic(auto, unfolding(crate::specs::Terminal::effect_rows))]
-fn push_effects(text: &mut Vec<u8>, sheet: &Sheet<'_>, order: &[Operation], ticket: u64) -> Added
-    requires { length order.now ≤ MOST_DRAWN }
-    ensures { OnOk result (text.new.items ≡ text.old.items ++ effect_rows sheet.now.columns sheet.now.lanes.now sheet.now.operations.now order.now ticket) }
-{
-    let mut greatest = 0u64;
-    for (i, operation) in order.iter().enumerate() {
-        greatest = greatest.max(operation.call);
-        let effect = Effect {
-            operation: *operation,
-            number: i as u64 + 1,
-            count: order.len(),
-            point: greatest,
-        };
-        push_effect_if(text, sheet, effect, ticket)?;
-    }
-    Ok(())
-}
-
-/// Adds the lines of an event and of the effects after it.
-fn push_event(text: &mut Vec<u8>, sheet: &Sheet<'_>, ticket: u64) -> Added
-    ensures { OnOk result (text.new.items ≡ text.old.items
-        ++ event_rows sheet.now.columns sheet.now.lanes.now sheet.now.bands.now sheet.now.operations.now sheet.now.claimed.now ticket) }
-{
-    let bytes = event_line(sheet, ticket)?;
-    push_line(text, bytes.as_slice())?;
-    push_effects(text, sheet, order_of(sheet.claimed), ticket)
 }
 
 /// A stroke under the head of each of this many bands.
 fn place_strokes(line: &mut Vec<u8>, sheet: &Sheet<'_>, bands: usize) -> Added
-    requires { bands ≤ length sheet.now.bands.now }
+    requires { bands ≤ length (scene_in sheet.now).bands }
     ensures { OnOk result (line.new.items ≡ with_words line.old.items (strokes sheet.now.columns bands)) }
 {
     for i in 0..bands {
@@ -320,7 +246,7 @@ fn place_strokes(line: &mut Vec<u8>, sheet: &Sheet<'_>, bands: usize) -> Added
 
 /// Adds the line of the head of band i.
 fn push_head_line(text: &mut Vec<u8>, sheet: &Sheet<'_>, i: usize, head: Head) -> Added
-    requires { i ≤ length sheet.now.bands.now }
+    requires { i ≤ length (scene_in sheet.now).bands }
     ensures { OnOk result (text.new.items ≡ text.old.items ++ line (line_of (head_words sheet.now.columns i head))) }
 {
     let mut bytes = Vec::new(sheet.alloc);
@@ -332,29 +258,32 @@ fn push_head_line(text: &mut Vec<u8>, sheet: &Sheet<'_>, i: usize, head: Head) -
 
 #[tactic(auto, unfolding(crate::specs::Terminal::head_lines))]
 fn push_band_heads(text: &mut Vec<u8>, sheet: &Sheet<'_>) -> Added
-    ensures { OnOk result (text.new.items ≡ text.old.items ++ head_lines sheet.now.columns sheet.now.bands.now) }
+    ensures { OnOk result (text.new.items ≡ text.old.items ++ head_lines sheet.now.columns (scene_in sheet.now).bands) }
 {
-    for (i, band) in sheet.bands.iter().enumerate() {
+    let bands = sheet.scene.bands.as_slice();
+    for (i, band) in bands.iter().enumerate() {
         push_head_line(text, sheet, i, band.head)?;
     }
     Ok(())
 }
 
-fn place_lane_names(line: &mut Vec<u8>, lanes: &[Lane]) -> Added
-    ensures { OnOk result (line.new.items ≡ with_words line.old.items (lane_names lanes.now)) }
+fn place_lane_names(line: &mut Vec<u8>, sheet: &Sheet<'_>) -> Added
+    ensures { OnOk result (line.new.items ≡ with_words line.old.items
+        (lane_names sheet.now.columns (scene_in sheet.now).threads (scene_in sheet.now).threads)) }
 {
-    for lane in lanes {
-        place_number(line, lane.column, u64::from(lane.thread))?;
+    let threads = sheet.scene.threads.as_slice();
+    for thread in threads {
+        place_number(line, lane_column(sheet, *thread), u64::from(*thread))?;
     }
     Ok(())
 }
 
 #[tactic(auto, unfolding(crate::specs::Terminal::thread_words))]
 fn thread_bytes(sheet: &Sheet<'_>) -> Result<Vec<u8>, AllocError>
-    ensures { IfOk result (λ bytes. bytes.items ≡ line_of (thread_words sheet.now.columns (length sheet.now.bands.now))) }
+    ensures { IfOk result (λ bytes. bytes.items ≡ line_of (thread_words sheet.now.columns (length (scene_in sheet.now).bands))) }
 {
     let mut bytes = Vec::new(sheet.alloc);
-    place_strokes(&mut bytes, sheet, sheet.bands.len())?;
+    place_strokes(&mut bytes, sheet, sheet.scene.bands.len())?;
     place(&mut bytes, sheet.columns.lanes, b"thread")?;
     Ok(bytes)
 }
@@ -371,22 +300,25 @@ fn order_word(claimed: &Claimed) -> &'static [u8]
 #[tactic(auto, unfolding(crate::specs::Terminal::name_words))]
 fn name_bytes(sheet: &Sheet<'_>) -> Result<Vec<u8>, AllocError>
     ensures { IfOk result (λ bytes. bytes.items ≡ line_of
-        (name_words sheet.now.columns sheet.now.lanes.now (length sheet.now.bands.now) sheet.now.claimed.now)) }
+        (name_words sheet.now.columns (scene_in sheet.now))) }
 {
     let mut bytes = Vec::new(sheet.alloc);
     let column = sheet.columns.ticket.saturating_sub(6);
     place(&mut bytes, column, b"ticket")?;
-    place(&mut bytes, sheet.columns.beside, order_word(sheet.claimed))?;
-    place_strokes(&mut bytes, sheet, sheet.bands.len())?;
-    place_lane_names(&mut bytes, sheet.lanes)?;
+    place(
+        &mut bytes,
+        sheet.columns.beside,
+        order_word(sheet.scene.claimed),
+    )?;
+    place_strokes(&mut bytes, sheet, sheet.scene.bands.len())?;
+    place_lane_names(&mut bytes, sheet)?;
     Ok(bytes)
 }
 
 /// Adds the heads: those of the bands, and those of the tickets and the lanes.
 #[tactic(auto, unfolding(crate::specs::Terminal::heads))]
 fn push_heads(text: &mut Vec<u8>, sheet: &Sheet<'_>) -> Added
-    ensures { OnOk result (text.new.items ≡ text.old.items
-        ++ heads sheet.now.columns sheet.now.lanes.now sheet.now.bands.now sheet.now.claimed.now) }
+    ensures { OnOk result (text.new.items ≡ text.old.items ++ heads sheet.now.columns (scene_in sheet.now)) }
 {
     push_band_heads(text, sheet)?;
     let threads = thread_bytes(sheet)?;
@@ -395,10 +327,9 @@ fn push_heads(text: &mut Vec<u8>, sheet: &Sheet<'_>) -> Added
     push_line(text, names.as_slice())
 }
 
-/// Adds the heads once more, above each 40th event.
+/// Adds the heads once more, above each 40th row.
 fn push_heads_again(text: &mut Vec<u8>, sheet: &Sheet<'_>, i: usize) -> Added
-    ensures { OnOk result (text.new.items ≡ text.old.items
-        ++ heads_again i (heads sheet.now.columns sheet.now.lanes.now sheet.now.bands.now sheet.now.claimed.now)) }
+    ensures { OnOk result (text.new.items ≡ text.old.items ++ heads_again i (heads sheet.now.columns (scene_in sheet.now))) }
 {
     if i > 0 && i % ROWS_UNDER_HEADS == 0 {
         push_heads(text, sheet)
@@ -407,35 +338,44 @@ fn push_heads_again(text: &mut Vec<u8>, sheet: &Sheet<'_>, i: usize) -> Added
     }
 }
 
-/// Adds the lines of event i.
-fn push_numbered(text: &mut Vec<u8>, sheet: &Sheet<'_>, i: usize, event: Event) -> Added
-    ensures { OnOk result (text.new.items ≡ text.old.items ++ numbered_rows
-        sheet.now.columns sheet.now.lanes.now sheet.now.bands.now sheet.now.operations.now sheet.now.claimed.now (i, event)) }
+/// The line of a row.
+fn row_line(sheet: &Sheet<'_>, row: Row) -> Result<Vec<u8>, AllocError>
+    ensures { IfOk result (λ bytes. bytes.items ≡ line_of (row_words sheet.now.columns (scene_in sheet.now) row)) }
 {
-    push_heads_again(text, sheet, i)?;
-    push_event(text, sheet, event.ticket)
+    match row {
+        Row::Head => first_line(sheet),
+        Row::Initial(_, value) => initial_line(sheet, value),
+        Row::Ticket(ticket) => event_line(sheet, ticket),
+        Row::Effect(effect, number, point) => effect_line(sheet, effect, number, point),
+    }
 }
 
-fn push_events(text: &mut Vec<u8>, sheet: &Sheet<'_>, events: &[Event]) -> Added
-    ensures { OnOk result (text.new.items ≡ text.old.items ++ flat_map
-        (numbered_rows sheet.now.columns sheet.now.lanes.now sheet.now.bands.now sheet.now.operations.now sheet.now.claimed.now)
-        (enumerate_from 0 events.now)) }
+/// Adds row i.
+fn push_numbered(text: &mut Vec<u8>, sheet: &Sheet<'_>, i: usize, row: Row) -> Added
+    ensures { OnOk result (text.new.items ≡ text.old.items ++ numbered_row sheet.now.columns (scene_in sheet.now) (i, row)) }
 {
-    for (i, event) in events.iter().enumerate() {
-        push_numbered(text, sheet, i, *event)?;
+    push_heads_again(text, sheet, i)?;
+    let bytes = row_line(sheet, row)?;
+    push_line(text, bytes.as_slice())
+}
+
+fn push_each_row(text: &mut Vec<u8>, sheet: &Sheet<'_>) -> Added
+    ensures { OnOk result (text.new.items ≡ text.old.items
+        ++ flat_map (numbered_row sheet.now.columns (scene_in sheet.now)) (enumerate_from 0 (scene_in sheet.now).rows)) }
+{
+    let rows = sheet.scene.rows.as_slice();
+    for (i, row) in rows.iter().enumerate() {
+        push_numbered(text, sheet, i, *row)?;
     }
     Ok(())
 }
 
-#[tactic(auto, unfolding(crate::specs::Terminal::rows))]
-fn push_rows(text: &mut Vec<u8>, sheet: &Sheet<'_>, history: &History, events: &[Event]) -> Added
-    requires { events.now ≡ history.now.events }
-    ensures { OnOk result (text.new.items ≡ text.old.items
-        ++ rows sheet.now.columns sheet.now.lanes.now sheet.now.bands.now history.now sheet.now.operations.now sheet.now.claimed.now) }
+#[tactic(auto, unfolding(crate::specs::Terminal::lines))]
+fn push_lines(text: &mut Vec<u8>, sheet: &Sheet<'_>) -> Added
+    ensures { OnOk result (text.new.items ≡ text.old.items ++ lines sheet.now.columns (scene_in sheet.now)) }
 {
     push_heads(text, sheet)?;
-    push_initial_rows(text, sheet, history.initial())?;
-    push_events(text, sheet, events)
+    push_each_row(text, sheet)
 }
 
 fn sign_text(sign: Sign) -> &'static [u8]
@@ -487,15 +427,31 @@ fn push_legend(alloc: Global, text: &mut Vec<u8>, initial: &[u64], claimed: &Cla
 
 /// Adds what stands above the rows: what the picture shows, and how to read it.
 #[tactic(auto, unfolding(crate::specs::Terminal::words))]
-fn push_words(alloc: Global, text: &mut Vec<u8>, initial: &[u64], claimed: &Claimed) -> Added
-    requires { count_of_lines claimed.now ≤ MOST_DRAWN }
-    ensures { OnOk result (text.new.items ≡ text.old.items ++ words initial.now claimed.now) }
+fn push_words(alloc: Global, text: &mut Vec<u8>, scene: &Scene<'_>) -> Added
+    requires { count_of_lines scene.now.claimed.now ≤ MOST_DRAWN }
+    ensures { OnOk result (text.new.items ≡ text.old.items ++ words (scene_on scene.now)) }
 {
-    push_line(text, headline(claimed))?;
-    push_caption(text, claimed)?;
+    push_line(text, headline(scene.claimed))?;
+    push_caption(text, scene.claimed)?;
     push_line(text, b"")?;
-    push_legend(alloc, text, initial, claimed)?;
+    push_legend(alloc, text, scene.initial, scene.claimed)?;
     push_line(text, b"")
+}
+
+/// A scene in lines of characters.
+fn scene_text(alloc: Global, scene: &Scene<'_>) -> Result<Vec<u8>, AllocError>
+    requires { count_of_lines scene.now.claimed.now ≤ MOST_DRAWN }
+    ensures { IfOk result (λ text. text.items ≡ scene_text (scene_on scene.now)) }
+{
+    let sheet = Sheet {
+        alloc,
+        columns: columns_of(scene),
+        scene,
+    };
+    let mut text = Vec::new(alloc);
+    push_words(alloc, &mut text, scene)?;
+    push_lines(&mut text, &sheet)?;
+    Ok(text)
 }
 
 /// Draws a history and what is claimed of it, in lines of ASCII for a terminal.
@@ -525,29 +481,6 @@ pub fn terminal_picture(
     requires { count_of_lines claimed.now ≤ MOST_DRAWN }
     ensures { IfOk result (λ text. text.items ≡ terminal_picture history.now claimed.now) }
 {
-    let events = events_of(alloc, history)?;
-    let operations = history.operations();
-    let threads = threads_of(alloc, events.as_slice())?;
-    let widest_label = label_width(history.initial(), operations);
-    let bands = bands_of(alloc, claimed)?;
-    let columns = columns_of(
-        events.as_slice(),
-        threads.as_slice(),
-        widest_label,
-        claimed,
-        bands.len(),
-    );
-    let lanes = lanes_of(alloc, columns, threads.as_slice())?;
-    let sheet = Sheet {
-        alloc,
-        columns,
-        lanes: lanes.as_slice(),
-        bands: bands.as_slice(),
-        operations,
-        claimed,
-    };
-    let mut text = Vec::new(alloc);
-    push_words(alloc, &mut text, history.initial(), claimed)?;
-    push_rows(&mut text, &sheet, history, events.as_slice())?;
-    Ok(text)
+    let scene = scene_of(alloc, history, claimed)?;
+    scene_text(alloc, &scene)
 }

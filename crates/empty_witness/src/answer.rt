@@ -1,9 +1,9 @@
-use event_records::Listed;
+use event_records::OwnedSlice;
 use history_merge::OpId;
 use value_match::Cover;
 
 /// The gaps of empty dequeues, seen as a list. Gap c is the place just after ticket c.
-pub type Gaps = Listed<u64>;
+pub type Gaps = OwnedSlice<u64>;
 
 /// What a search finds in the window of one empty dequeue.
 #[derive(Debug, Drop)]

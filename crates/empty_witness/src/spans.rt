@@ -3,7 +3,7 @@ ghost use Rattle.std.specs.List.Sorted.{IsNonDecreasingBy};
 ghost use Rattle.empty_witness.specs.Spans.{AreJoined, AreSpansOf, holds_some, stay_of};
 
 use std::alloc::{AllocError, Global};
-use value_match::{FilledMatching, Life, Values, settle};
+use value_match::{FilledMatching, Life, Values, presort};
 
 /// The gaps from the start to before the end.
 #[derive(Clone, Copy, Debug)]
@@ -19,7 +19,7 @@ pub fn spans_of(alloc: Global, matching: &FilledMatching) -> Result<Vec<Span>, A
     ensures { IfOk result (λ spans. AreSpansOf matching.now spans.items) }
 {
     let mut stays = stays_of(alloc, &matching.values())?;
-    settle(&mut stays, &|stay: &Span| stay.start);
+    presort(&mut stays, &|stay: &Span| stay.start);
     stays.sort_unstable_by_key(|stay| stay.start);
     join_spans(alloc, stays.as_slice())
 }

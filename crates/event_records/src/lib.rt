@@ -6,9 +6,9 @@ mod answers;
 mod event;
 mod kind;
 mod limits;
-mod listed;
 mod lists;
 mod noted;
+mod owned_slice;
 mod questions;
 mod thread_no;
 mod turns;
@@ -21,9 +21,9 @@ pub use limits::{
     MAX_RING, MAX_SEED, MAX_STEPS, MAX_STRESS_INITIAL, MAX_THREAD, MAX_THREAD_OPERATIONS,
     MAX_THREADS, MAX_TICKET, MAX_WORKERS, MIN_RING, NAMES_OF_A_THREAD,
 };
-pub use listed::Listed;
 pub use lists::Lists;
 pub use noted::Noted;
+pub use owned_slice::OwnedSlice;
 pub use questions::{AskDeq, AskEnq, Namer};
 pub use thread_no::ThreadNo;
 pub use turns::alternates;

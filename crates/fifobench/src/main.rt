@@ -1,7 +1,9 @@
 //! The program: one subcommand over the standard streams, or a run of one of the built-in queues.
 #![tactic(auto)]
 
-use commands::{Shelved, StartFault, Terminals, built_ins, print_start_fault, run_over, words_of};
+use commands::{
+    NamedQueue, StartFault, Terminals, built_ins, print_start_fault, run_over, words_of,
+};
 use history_text::{Buffered, Watched};
 use std::io::{IsTerminal, Write};
 use std::process::ExitCode;
@@ -19,13 +21,13 @@ fn main(rt: HostRuntime) -> ExitCode {
     let Ok(queues) = built_ins(rt, rt.alloc()) else {
         return explain_start(&rt, StartFault::Memory, errors, terminals);
     };
-    let mut shelf: Vec<Shelved> = Vec::new(rt.alloc());
+    let mut shelf: Vec<NamedQueue> = Vec::new(rt.alloc());
     for queue in queues {
         let name = queue.name();
         let Ok(queue) = Box::new(rt.alloc(), queue) else {
             return explain_start(&rt, StartFault::Memory, errors, terminals);
         };
-        if shelf.push(Shelved { name, queue }).is_err() {
+        if shelf.push(NamedQueue { name, queue }).is_err() {
             return explain_start(&rt, StartFault::Memory, errors, terminals);
         }
     }

@@ -16,11 +16,11 @@ one_goes true = refl
 one_goes false = refl
 
 -- one initial value more
-pub value_more : (goes : ℕ → Bool) (values : List ℕ) (i gone new_gone base : ℕ) (d : ℕ) → i < length values
-    → count_by (λ v. not (goes v)) (take i values) + gone ≡ i + base → new_gone ≡ gone + cond (goes (get_or values i d)) 1 0
-    → count_by (λ v. not (goes v)) (take (i + 1) values) + new_gone ≡ i + 1 + base
-value_more goes values i gone new_gone base d within so_far is =
-    omega (arith, so_far, is, sum_by_more (λ v. cond (not (goes v)) 1 0) values i d within, one_goes (goes (get_or values i d)))
+pub value_more : (departures : ℕ → Bool) (values : List ℕ) (i gone new_gone base : ℕ) (d : ℕ) → i < length values
+    → count_by (λ v. not (departures v)) (take i values) + gone ≡ i + base → new_gone ≡ gone + cond (departures (get_or values i d)) 1 0
+    → count_by (λ v. not (departures v)) (take (i + 1) values) + new_gone ≡ i + 1 + base
+value_more departures values i gone new_gone base d within so_far is =
+    omega (arith, so_far, is, sum_by_more (λ v. cond (not (departures v)) 1 0) values i d within, one_goes (departures (get_or values i d)))
 
 -- one operation more puts its value, if it puts one
 pub put_more : (gap : ℕ) (stays : ℕ → Bool) (operations : List Operation) (i : ℕ) (d : Operation) → i < length operations
@@ -32,32 +32,32 @@ put_more gap stays operations i d within =
     ∙ sum_by-append (λ v. cond (stays v) 1 0) (values_put_before gap (take i operations)) (values_put_before gap (get_or operations i d ∷ []))
 
 -- what comes and goes with it
-pub stay_more : (gap : ℕ) (stays : ℕ → Bool) (operations : List Operation) (i : ℕ) (d : Operation) (goes goes' comes comes' first_goes first_comes : List ℕ)
+pub stay_more : (gap : ℕ) (stays : ℕ → Bool) (operations : List Operation) (i : ℕ) (d : Operation) (departures departures' arrivals arrivals' first_goes first_comes : List ℕ)
     → i < length operations
-    → count_by stays (values_put_before gap (take i operations)) + count_before gap goes + count_before gap first_comes
-    ≡ count_before gap comes + count_before gap first_goes
-    → count_by stays (values_put_before gap (get_or operations i d ∷ [])) + count_before gap goes' + count_before gap comes
-    ≡ count_before gap comes' + count_before gap goes
-    → count_by stays (values_put_before gap (take (i + 1) operations)) + count_before gap goes' + count_before gap first_comes
-    ≡ count_before gap comes' + count_before gap first_goes
-stay_more gap stays operations i d goes goes' comes comes' first_goes first_comes within so_far step =
+    → count_by stays (values_put_before gap (take i operations)) + count_before gap departures + count_before gap first_comes
+    ≡ count_before gap arrivals + count_before gap first_goes
+    → count_by stays (values_put_before gap (get_or operations i d ∷ [])) + count_before gap departures' + count_before gap arrivals
+    ≡ count_before gap arrivals' + count_before gap departures
+    → count_by stays (values_put_before gap (take (i + 1) operations)) + count_before gap departures' + count_before gap first_comes
+    ≡ count_before gap arrivals' + count_before gap first_goes
+stay_more gap stays operations i d departures departures' arrivals arrivals' first_goes first_comes within so_far step =
     omega (arith, so_far, step, put_more gap stays operations i d within)
 
 -- the most that stayed is the most that is there of what comes and goes
-pub most_queued_is : (initial : List ℕ) (operations : List Operation) (goes_before : ℕ → ℕ → Bool) (comes first_goes goes : List ℕ) (most : ℕ)
+pub most_queued_is : (initial : List ℕ) (operations : List Operation) (goes_before : ℕ → ℕ → Bool) (arrivals first_goes departures : List ℕ) (most : ℕ)
     → ((gap v : ℕ) → goes_before gap v ≡ is_taken_before gap operations v)
     → ((gap : ℕ) → count_by (λ v. not (goes_before gap v)) initial + count_before gap first_goes ≡ length initial + count_before gap [])
-    → ((gap : ℕ) → count_by (λ v. not (goes_before gap v)) (values_put_before gap operations) + count_before gap goes + count_before gap []
-    ≡ count_before gap comes + count_before gap first_goes)
-    → IsMost (there_at (length initial) comes goes) most
+    → ((gap : ℕ) → count_by (λ v. not (goes_before gap v)) (values_put_before gap operations) + count_before gap departures + count_before gap []
+    ≡ count_before gap arrivals + count_before gap first_goes)
+    → IsMost (there_at (length initial) arrivals departures) most
     → IsMost (λ gap. stay_count gap operations (initial ++ values_put_before gap operations)) most
-most_queued_is initial operations goes_before comes first_goes goes most same firsts puts is =
-    same_most (there_at (length initial) comes goes) (λ gap. stay_count gap operations (initial ++ values_put_before gap operations)) most there is
+most_queued_is initial operations goes_before arrivals first_goes departures most same firsts puts is =
+    same_most (there_at (length initial) arrivals departures) (λ gap. stay_count gap operations (initial ++ values_put_before gap operations)) most there is
   where
     alike : (gap : ℕ) (values : List ℕ) → count_by (λ v. not (goes_before gap v)) values ≡ stay_count gap operations values
     alike gap values = λ i. count_by (λ v. not (same gap v i)) values
 
-    there : (gap : ℕ) → there_at (length initial) comes goes gap ≡ stay_count gap operations (initial ++ values_put_before gap operations)
+    there : (gap : ℕ) → there_at (length initial) arrivals departures gap ≡ stay_count gap operations (initial ++ values_put_before gap operations)
     there gap =
         let both = sum_by-append (λ v. cond (not (is_taken_before gap operations v)) 1 0) initial (values_put_before gap operations) in
         let one = firsts gap in

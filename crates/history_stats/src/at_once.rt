@@ -8,39 +8,39 @@ ghost use Rattle.history_stats.specs.Inner.AtOnce.{count_before};
 /// first tickets, and one goes at each of the second.
 ///
 /// Takes time O(n log n) for n tickets, and no memory.
-pub(crate) fn most_of(first: usize, mut comes: Vec<u64>, mut goes: Vec<u64>) -> usize
-    requires few { first + vec_len comes < 2 ^ 63 }
-    ensures { IsMost (λ gap. first + count_before gap comes.items - count_before gap goes.items) result }
+pub(crate) fn most_of(first: usize, mut arrivals: Vec<u64>, mut departures: Vec<u64>) -> usize
+    requires few { first + vec_len arrivals < 2 ^ 63 }
+    ensures { IsMost (λ gap. first + count_before gap arrivals.items - count_before gap departures.items) result }
 {
-    comes.sort_unstable();
-    goes.sort_unstable();
-    most_in_order(first, &comes, &goes)
+    arrivals.sort_unstable();
+    departures.sort_unstable();
+    most_in_order(first, &arrivals, &departures)
 }
 
 /// Does so for tickets that lie in order, in time in proportion to them.
-fn most_in_order(first: usize, comes: &[u64], goes: &[u64]) -> usize
-    requires comes { IsNonDecreasing comes.now }
-    requires goes { IsNonDecreasing goes.now }
-    requires few { first + length comes.now < 2 ^ 63 }
-    ensures { IsMost (λ gap. first + count_before gap comes.now - count_before gap goes.now) result }
+fn most_in_order(first: usize, arrivals: &[u64], departures: &[u64]) -> usize
+    requires arrivals { IsNonDecreasing arrivals.now }
+    requires departures { IsNonDecreasing departures.now }
+    requires few { first + length arrivals.now < 2 ^ 63 }
+    ensures { IsMost (λ gap. first + count_before gap arrivals.now - count_before gap departures.now) result }
 {
     let mut most = first;
     let mut gone = 0;
-    for (place, come) in comes.iter().enumerate() {
-        gone = gone_by(goes, gone, *come);
+    for (place, come) in arrivals.iter().enumerate() {
+        gone = gone_by(departures, gone, *come);
         most = most.max((first + place + 1).saturating_sub(gone));
     }
     most
 }
 
 /// Returns how many go at this ticket or before it, of which some are known to.
-fn gone_by(goes: &[u64], known: usize, ticket: u64) -> usize
-    requires goes { IsNonDecreasing goes.now }
-    requires known { known ≤ count_before (ticket + 1) goes.now }
-    ensures { result ≡ count_before (ticket + 1) goes.now }
+fn gone_by(departures: &[u64], known: usize, ticket: u64) -> usize
+    requires departures { IsNonDecreasing departures.now }
+    requires known { known ≤ count_before (ticket + 1) departures.now }
+    ensures { result ≡ count_before (ticket + 1) departures.now }
 {
     let mut gone = known;
-    while gone < goes.len() && goes[gone] <= ticket {
+    while gone < departures.len() && departures[gone] <= ticket {
         gone += 1;
     }
     gone

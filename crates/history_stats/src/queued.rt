@@ -25,11 +25,11 @@ pub(crate) fn most_queued(
     ensures { IfOk result (IsMost (λ gap. stay_count gap operations.now (initial.now ++ values_put_before gap operations.now))) }
 {
     let takes = first_takes(alloc, operations)?;
-    let mut comes = Vec::new(alloc);
-    let mut goes = Vec::new(alloc);
-    add_initial(&mut goes, initial, &takes)?;
-    add_enqueued(&mut comes, &mut goes, operations, &takes)?;
-    Ok(most_of(initial.len(), comes, goes))
+    let mut arrivals = Vec::new(alloc);
+    let mut departures = Vec::new(alloc);
+    add_initial(&mut departures, initial, &takes)?;
+    add_enqueued(&mut arrivals, &mut departures, operations, &takes)?;
+    Ok(most_of(initial.len(), arrivals, departures))
 }
 
 /// Returns for each value that a dequeue gave the ticket at which the first such dequeue was called.
@@ -66,78 +66,83 @@ fn ticket_for(kept: &BTreeMap<u64, u64>, value: u64) -> Option<u64>
 
 /// Adds the tickets at which initial values go.
 fn add_initial(
-    goes: &mut Vec<u64>,
+    departures: &mut Vec<u64>,
     values: &[u64],
     takes: &BTreeMap<u64, u64>,
 ) -> Result<(), AllocError>
-    ensures { OnOk result ((gap : ℕ) → count_by (λ v. not (is_kept_before gap takes.now v)) values.now + count_before gap goes.new.items
-        ≡ length values.now + count_before gap goes.old.items) }
+    ensures { OnOk result ((gap : ℕ) → count_by (λ v. not (is_kept_before gap takes.now v)) values.now + count_before gap departures.new.items
+        ≡ length values.now + count_before gap departures.old.items) }
 {
     for value in values {
-        add_go(goes, ticket_for(takes, *value))?;
+        add_go(departures, ticket_for(takes, *value))?;
     }
     Ok(())
 }
 
 /// Adds the ticket at which a value goes, if it was taken.
-fn add_go(goes: &mut Vec<u64>, take: Option<u64>) -> Result<(), AllocError>
-    ensures { OnOk result ((gap : ℕ) → count_before gap goes.new.items
-        ≡ count_before gap goes.old.items + (if option_map_or (λ t. nat_lt t gap) take false then 1 else 0)) }
+fn add_go(departures: &mut Vec<u64>, take: Option<u64>) -> Result<(), AllocError>
+    ensures { OnOk result ((gap : ℕ) → count_before gap departures.new.items
+        ≡ count_before gap departures.old.items + (if option_map_or (λ t. nat_lt t gap) take false then 1 else 0)) }
 {
     if let Some(ticket) = take {
-        goes.push(ticket)?;
+        departures.push(ticket)?;
     }
     Ok(())
 }
 
 /// Adds the tickets at which the values of enqueues come and go.
 fn add_enqueued(
-    comes: &mut Vec<u64>,
-    goes: &mut Vec<u64>,
+    arrivals: &mut Vec<u64>,
+    departures: &mut Vec<u64>,
     operations: &[Operation],
     takes: &BTreeMap<u64, u64>,
 ) -> Result<(), AllocError>
     ensures stays { OnOk result ((gap : ℕ) → count_by (λ v. not (is_kept_before gap takes.now v)) (values_put_before gap operations.now)
-        + count_before gap goes.new.items + count_before gap comes.old.items ≡ count_before gap comes.new.items + count_before gap goes.old.items) }
-    ensures few { OnOk result (vec_len comes.new ≤ vec_len comes.old + length operations.now) }
+        + count_before gap departures.new.items + count_before gap arrivals.old.items ≡ count_before gap arrivals.new.items + count_before gap departures.old.items) }
+    ensures few { OnOk result (vec_len arrivals.new ≤ vec_len arrivals.old + length operations.now) }
 {
     for operation in operations {
-        add_one(comes, goes, *operation, takes)?;
+        add_one(arrivals, departures, *operation, takes)?;
     }
     Ok(())
 }
 
 /// Adds the tickets at which the value of one operation comes and goes, if it is an enqueue.
 fn add_one(
-    comes: &mut Vec<u64>,
-    goes: &mut Vec<u64>,
+    arrivals: &mut Vec<u64>,
+    departures: &mut Vec<u64>,
     operation: Operation,
     takes: &BTreeMap<u64, u64>,
 ) -> Result<(), AllocError>
     ensures stays { OnOk result ((gap : ℕ) → count_by (λ v. not (is_kept_before gap takes.now v)) (values_put_before gap (operation ∷ []))
-        + count_before gap goes.new.items + count_before gap comes.old.items ≡ count_before gap comes.new.items + count_before gap goes.old.items) }
-    ensures few { OnOk result (vec_len comes.new ≤ vec_len comes.old + 1) }
+        + count_before gap departures.new.items + count_before gap arrivals.old.items ≡ count_before gap arrivals.new.items + count_before gap departures.old.items) }
+    ensures few { OnOk result (vec_len arrivals.new ≤ vec_len arrivals.old + 1) }
 {
     match operation.kind {
-        OpKind::Enq(value) => add_stay(comes, goes, operation.ret, ticket_for(takes, value)),
+        OpKind::Enq(value) => add_stay(
+            arrivals,
+            departures,
+            operation.ret,
+            ticket_for(takes, value),
+        ),
         _ => Ok(()),
     }
 }
 
 /// Adds the tickets at which a value comes, and goes if it was taken. It doesn't go before it comes.
 fn add_stay(
-    comes: &mut Vec<u64>,
-    goes: &mut Vec<u64>,
+    arrivals: &mut Vec<u64>,
+    departures: &mut Vec<u64>,
     put: u64,
     take: Option<u64>,
 ) -> Result<(), AllocError>
     ensures stays { OnOk result ((gap : ℕ) → (if nat_lt put gap && not (option_map_or (λ t. nat_lt t gap) take false) then 1 else 0)
-        + count_before gap goes.new.items + count_before gap comes.old.items ≡ count_before gap comes.new.items + count_before gap goes.old.items) }
-    ensures few { OnOk result (vec_len comes.new ≤ vec_len comes.old + 1) }
+        + count_before gap departures.new.items + count_before gap arrivals.old.items ≡ count_before gap arrivals.new.items + count_before gap departures.old.items) }
+    ensures few { OnOk result (vec_len arrivals.new ≤ vec_len arrivals.old + 1) }
 {
-    comes.push(put)?;
+    arrivals.push(put)?;
     if let Some(ticket) = take {
-        goes.push(ticket.max(put))?;
+        departures.push(ticket.max(put))?;
     }
     Ok(())
 }

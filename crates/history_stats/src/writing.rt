@@ -1,30 +1,25 @@
 //! How statistics are written.
-ghost use Rattle.std.specs.Prelude.{◌≡◌, ◌+◌, ◌≤◌, ◌||◌, ◌++◌, OnOk, OnErr, codes, decimal, is_err, length, []};
-ghost use Rattle.std.specs.Io.KnownBytes.{Appends};
-ghost use Rattle.text_lines.specs.Writing.{AppendsFront, IsWritten, IsRefused};
+ghost use Rattle.std.specs.Prelude.{◌≡◌, ◌+◌, ◌≤◌, ◌++◌, decimal, length, []};
+ghost use Rattle.text_lines.specs.Writing.{Writes};
 ghost use Rattle.history_stats.specs.Text.{decimal_of_tenths, statistic_line, statistics_text};
 
 use crate::statistics::Statistics;
-use text_lines::{Kept, TextSink, WriteFault, write_piece};
+use text_lines::{TextSink, WriteBuffer, WriteFault, write_piece};
 
 /// Writes the lines of statistics, each a name, a space and a value. It doesn't flush the writer.
 pub fn write_statistics<W: TextSink>(
     statistics: &Statistics,
     writer: &mut W,
 ) -> Result<(), WriteFault>
-    ensures ok { OnOk result (Appends (W.contents writer.old) (W.contents writer.new) (statistics_text statistics.now)) }
-    ensures err { OnErr result (AppendsFront (W.contents writer.old) (W.contents writer.new) (statistics_text statistics.now)) }
-    ensures refused { W.has_refused writer.new ≡ (W.has_refused writer.old || is_err result) }
-    ensures written { OnOk result (IsWritten W.goes writer.old writer.new) }
-    ensures stopped { OnErr result (IsRefused W.goes writer.old writer.new) }
+    ensures { Writes W.contents W.has_refused W.transition (statistics_text statistics.now) writer.old writer.new result }
 {
-    let mut kept = Kept::new();
+    let mut kept = WriteBuffer::new();
     push_statistics(&mut kept, statistics);
     write_piece(kept.as_slice(), writer)
 }
 
 /// Adds all lines.
-fn push_statistics(kept: &mut Kept, statistics: &Statistics)
+fn push_statistics(kept: &mut WriteBuffer, statistics: &Statistics)
     requires { kept.old ≡ [] }
     ensures { kept.new ≡ statistics_text statistics.now }
 {
@@ -44,7 +39,7 @@ fn push_statistics(kept: &mut Kept, statistics: &Statistics)
 }
 
 /// Adds the line of a number.
-fn push_line(kept: &mut Kept, name: &[u8], value: usize)
+fn push_line(kept: &mut WriteBuffer, name: &[u8], value: usize)
     requires room { length kept.old + 64 ≤ 4096 }
     requires short_name { length name.now ≤ 20 }
     ensures line { kept.new ≡ kept.old ++ statistic_line name.now (decimal value) }
@@ -57,7 +52,7 @@ fn push_line(kept: &mut Kept, name: &[u8], value: usize)
 }
 
 /// Adds the line of a number of tenths.
-fn push_tenths_line(kept: &mut Kept, name: &[u8], tenths: usize)
+fn push_tenths_line(kept: &mut WriteBuffer, name: &[u8], tenths: usize)
     requires room { length kept.old + 64 ≤ 4096 }
     requires short_name { length name.now ≤ 20 }
     ensures line { kept.new ≡ kept.old ++ statistic_line name.now (decimal_of_tenths tenths) }

@@ -1,67 +1,65 @@
 -- The lines at some places.
-use Rattle.std.proofs.Common.{◌≡◌, ℕ, ◌+◌, ◌<◌, List, [], ◌∷◌, ◌++◌, length, take, drop, get_or, Option, Some, None, ap, ap₂, subst, sym, ◌∙◌, refl}
-use Rattle.std.proofs.Common.{append-nil, append_assoc}
+use Rattle.std.proofs.Common.{◌≡◌, ℕ, ◌+◌, ◌<◌, List, [], ◌∷◌, ◌++◌, length, take, get_or, Bool, Option, Some, None, ap, ap₂, subst, sym, ◌∙◌, refl}
+use Rattle.std.proofs.Common.{append-nil}
 use Rattle.std.specs.Prelude.{filter_map, option_map, slice_get}
 use Rattle.std.specs.List.{flat_map, cons_option}
+use Rattle.std.specs.Result.{IsErrAnd}
+use Rattle.std.specs.declared.result.Result.{Result}
 use Rattle.std.specs.Option.{option_to_list}
 use Rattle.std.proofs.lemmas.Grind.{flat_map-append}
-use Rattle.std.proofs.lemmas.List.{take_more, take-append-drop}
 use Rattle.history_merge.specs.declared.operation.Operation.{Operation}
 use Rattle.verdicts.specs.declared.verifying.ClaimLine.TheVariants.{Op}
 use Rattle.history_text.specs.Verdicts.{operation_line, claim_line}
 use Rattle.history_text.specs.Inner.Verdicts.{operation_text}
-use Rattle.text_lines.specs.Writing.{AppendsFront, Puts}
-use Rattle.text_lines.proofs.Appending.{Puts-append, front_first, front_next}
+use Rattle.text_lines.specs.Writing.{Asked, PutsText, TakesFront, TakesSome}
+use Rattle.text_lines.proofs.Putting.{one_more_put, puts_then, stops_at_next, stops_before}
 
--- the lines of the first places went out in part
-pub first_stops : {P : Type 0} (f : P → List ℕ) (xs ys : List P) (a b : Option (List ℕ)) (kept : List ℕ)
-    → AppendsFront a b (kept ++ flat_map f xs) → AppendsFront a b (kept ++ flat_map f (xs ++ ys))
-first_stops f xs ys a b kept h =
-    subst (AppendsFront a b) (append_assoc kept (flat_map f xs) (flat_map f ys)
-    ∙ ap (λ (l : List ℕ). kept ++ l) (sym (flat_map-append f xs ys))) (front_first a b _ (flat_map f ys) h)
+module _ {S : Type 0} (contents : S → Option (List ℕ)) (has_refused : S → Bool) (transition : S → Asked → S → Type 0) where
+  -- the lines of the first places went out in part
+  pub first_stops : {P T E : Type 0} (f : P → List ℕ) (Q : E → Type 0) (r : Result T E) (xs ys : List P) (kept rest : List ℕ) (a b : S) → IsErrAnd r Q
+      → TakesFront contents has_refused transition (kept ++ flat_map f xs) a b
+      → PutsText contents has_refused transition kept rest (flat_map f (xs ++ ys)) a b r
+  first_stops f Q r xs ys kept rest a b is h =
+      subst (λ (t : List ℕ). PutsText contents has_refused transition kept rest t a b r) (sym (flat_map-append f xs ys))
+      (stops_before contents has_refused transition Q r kept rest (flat_map f xs) (flat_map f ys) a b is h)
 
--- the lines of the others went out in part
-pub next_stops : {P : Type 0} (f : P → List ℕ) (xs ys : List P) (a b c : Option (List ℕ)) (kept mid : List ℕ)
-    → Puts a b kept mid (flat_map f xs) → AppendsFront b c (mid ++ flat_map f ys) → AppendsFront a c (kept ++ flat_map f (xs ++ ys))
-next_stops f xs ys a b c kept mid h k = subst (λ (l : List ℕ). AppendsFront a c (kept ++ l)) (sym (flat_map-append f xs ys))
-    (front_next a b c kept mid _ _ h k)
+  -- the lines of the first places are put, and then those of the others
+  pub others_then : {P T E : Type 0} (f : P → List ℕ) (r : Result T E) (xs ys : List P) (kept mid rest : List ℕ) (a b c : S)
+      → TakesSome contents has_refused transition kept mid (flat_map f xs) a b → PutsText contents has_refused transition mid rest (flat_map f ys) b c r
+      → PutsText contents has_refused transition kept rest (flat_map f (xs ++ ys)) a c r
+  others_then f r xs ys kept mid rest a b c h k =
+      subst (λ (t : List ℕ). PutsText contents has_refused transition kept rest t a c r) (sym (flat_map-append f xs ys))
+      (puts_then contents has_refused transition r kept mid rest (flat_map f xs) (flat_map f ys) a b c h k)
 
--- the lines of both are put
-pub both_put : {P : Type 0} (f : P → List ℕ) (xs ys : List P) (a b c : Option (List ℕ)) (kept mid rest : List ℕ)
-    → Puts a b kept mid (flat_map f xs) → Puts b c mid rest (flat_map f ys) → Puts a c kept rest (flat_map f (xs ++ ys))
-both_put f xs ys a b c kept mid rest h k = subst (Puts a c kept rest) (sym (flat_map-append f xs ys))
-    (Puts-append a b c kept mid rest _ _ h k)
+  -- ---- places for each of a list
 
--- ---- places for each of a list
+  module _ {X P : Type 0} (f : P → List ℕ) (g : X → List P) where
+    -- the lines for each of a list are those of all its places
+    lines_for_each : (xs : List X) → flat_map (λ x. flat_map f (g x)) xs ≡ flat_map f (flat_map g xs)
+    lines_for_each [] = refl
+    lines_for_each (x ∷ xs) = ap (λ (r : List ℕ). flat_map f (g x) ++ r) (lines_for_each xs) ∙ sym (flat_map-append f (g x) (flat_map g xs))
 
-module _ {X P : Type 0} (f : P → List ℕ) (g : X → List P) where
-  step_places : (xs : List X) (i : ℕ) (x : X) → i < length xs → x ≡ get_or xs i x → flat_map g (take (i + 1) xs) ≡ flat_map g (take i xs) ++ g x
-  step_places xs i x within is =
-      ap (flat_map g) (take_more xs i x within) ∙ flat_map-append g (take i xs) (get_or xs i x ∷ [])
-      ∙ ap (λ (r : List P). flat_map g (take i xs) ++ r) (append-nil (g (get_or xs i x)) ∙ ap g (sym is))
+    -- the lines of one more step are put
+    pub step_is_put : (xs : List X) (i : ℕ) (x : X) (kept mid rest : List ℕ) (a b c : S) → i < length xs → x ≡ get_or xs i x
+        → TakesSome contents has_refused transition kept mid (flat_map f (flat_map g (take i xs))) a b
+        → TakesSome contents has_refused transition mid rest (flat_map f (g x)) b c
+        → TakesSome contents has_refused transition kept rest (flat_map f (flat_map g (take (i + 1) xs))) a c
+    step_is_put xs i x kept mid rest a b c within is before now =
+        subst (λ (t : List ℕ). TakesSome contents has_refused transition kept rest t a c) (lines_for_each (take (i + 1) xs))
+        (one_more_put contents has_refused transition (λ x. flat_map f (g x)) xs i x kept mid rest a b c within
+        (subst (λ (t : List ℕ). TakesSome contents has_refused transition kept mid t a b) (sym (lines_for_each (take i xs))) before)
+        (subst (λ (y : X). TakesSome contents has_refused transition mid rest (flat_map f (g y)) b c) is now))
 
-  step_rest : (xs : List X) (i : ℕ) (x : X) → i < length xs → x ≡ get_or xs i x
-      → (flat_map g (take i xs) ++ g x) ++ flat_map g (drop (i + 1) xs) ≡ flat_map g xs
-  step_rest xs i x within is =
-      ap (λ (r : List P). r ++ flat_map g (drop (i + 1) xs)) (sym (step_places xs i x within is))
-      ∙ sym (flat_map-append g (take (i + 1) xs) (drop (i + 1) xs)) ∙ ap (flat_map g) (take-append-drop (i + 1) xs)
-
-  -- the lines of one more step are put
-  pub step_is_put : (xs : List X) (i : ℕ) (x : X) (a b c : Option (List ℕ)) (kept mid rest : List ℕ) → i < length xs → x ≡ get_or xs i x
-      → Puts a b kept mid (flat_map f (flat_map g (take i xs))) → Puts b c mid rest (flat_map f (g x))
-      → Puts a c kept rest (flat_map f (flat_map g (take (i + 1) xs)))
-  step_is_put xs i x a b c kept mid rest within is before now =
-      subst (λ (p : List P). Puts a c kept rest (flat_map f p)) (sym (step_places xs i x within is))
-      (both_put f _ _ a b c kept mid rest before now)
-
-  -- the lines of one step went out in part
-  pub step_stops : (xs : List X) (i : ℕ) (x : X) (a b c : Option (List ℕ)) (kept mid : List ℕ) → i < length xs → x ≡ get_or xs i x
-      → Puts a b kept mid (flat_map f (flat_map g (take i xs))) → AppendsFront b c (mid ++ flat_map f (g x))
-      → AppendsFront a c (kept ++ flat_map f (flat_map g xs))
-  step_stops xs i x a b c kept mid within is before now =
-      subst (λ (p : List P). AppendsFront a c (kept ++ flat_map f p)) (step_rest xs i x within is)
-      (first_stops f (flat_map g (take i xs) ++ g x) (flat_map g (drop (i + 1) xs)) a c kept
-      (next_stops f (flat_map g (take i xs)) (g x) a b c kept mid before now))
+    -- the lines of one step went out in part
+    pub step_stops : {T E : Type 0} (Q : E → Type 0) (r : Result T E) (xs : List X) (i : ℕ) (x : X) (kept mid rest : List ℕ) (a b c : S) → i < length xs
+        → x ≡ get_or xs i x → TakesSome contents has_refused transition kept mid (flat_map f (flat_map g (take i xs))) a b → IsErrAnd r Q
+        → TakesFront contents has_refused transition (mid ++ flat_map f (g x)) b c
+        → PutsText contents has_refused transition kept rest (flat_map f (flat_map g xs)) a c r
+    step_stops Q r xs i x kept mid rest a b c within is before failed now =
+        subst (λ (t : List ℕ). PutsText contents has_refused transition kept rest t a c r) (lines_for_each xs)
+        (stops_at_next contents has_refused transition (λ x. flat_map f (g x)) Q r xs i x kept mid rest a b c within
+        (subst (λ (t : List ℕ). TakesSome contents has_refused transition kept mid t a b) (sym (lines_for_each (take i xs))) before) failed
+        (subst (λ (y : X). TakesFront contents has_refused transition (mid ++ flat_map f (g y)) b c) is now))
 
 -- ---- what is claimed
 

@@ -27,7 +27,7 @@ use Rattle.history_text.specs.declared.version.Version.TheVariants.{One, Two}
 use Rattle.history_text.specs.Versions.{HistoryText}
 use Rattle.history_text.specs.Histories.{HasValueInRange, HasEventLine, HasHistoryText}
 use Rattle.history_text.specs.Versions.{HaveValueLines, HasText}
-use Rattle.history_text.specs.Verdicts.{places_of, places_of_violation, claim_of}
+use Rattle.history_text.specs.Verdicts.{verdict_places, violation_places, claim_of}
 use Rattle.history_text.specs.Claims.{IsKindInRange, HasOperationLine, HasClaimLine, HasVerdictText}
 
 deeper : {X : Type 0} (y : X) (xs : List X) (x : X) → Contains xs x → Contains (y ∷ xs) x
@@ -96,15 +96,15 @@ module _ (initial : List ℕ) (events : List Event) (values : AllByRecursion (λ
       held (Some v) at is' = let one : Initial v ≡ l = cc in subst HasClaimLine one
           (all_of (λ v. v ≤ greatest_value) initial v values (contains_at initial p v at))
 
-  claim_by_parts : (verdict : Verdict) → length (places_of verdict) ≤ MAX_CLAIM_LINES → HasVerdictText (claim_of initial (operations_of events) verdict)
+  claim_by_parts : (verdict : Verdict) → length (verdict_places verdict) ≤ MAX_CLAIM_LINES → HasVerdictText (claim_of initial (operations_of events) verdict)
   claim_by_parts (found.Yes places) few = record {
     each = at_places HasOperationLine (slice_get (operations_of events)) places has_line_at;
     few = let fewer = few_places (slice_get (operations_of events)) places in
         let shown : length (map place.Op places) ≡ length places = simp length-map in omega (arith, fewer, few, shown);
   }
   claim_by_parts (found.No violation) few = record {
-    each = at_places HasClaimLine (line_at initial (operations_of events)) (places_of_violation violation) has_claim_line;
-    few = let fewer = few_places (line_at initial (operations_of events)) (places_of_violation violation) in omega (arith, fewer, few);
+    each = at_places HasClaimLine (line_at initial (operations_of events)) (violation_places violation) has_claim_line;
+    few = let fewer = few_places (line_at initial (operations_of events)) (violation_places violation) in omega (arith, fewer, few);
   }
 
 values_of : (version : Version) (initial : List ℕ) → HaveValueLines version initial → AllByRecursion (λ v. v ≤ greatest_value) initial
@@ -113,6 +113,6 @@ values_of One (v ∷ vs) right = absurd (cc)
 values_of Two initial right = right.each
 
 -- the claim of a verdict on a history with a text has a text
-pub claim_has_text : (text : HistoryText) (verdict : Verdict) → HasText text → length (places_of verdict) ≤ MAX_CLAIM_LINES
+pub claim_has_text : (text : HistoryText) (verdict : Verdict) → HasText text → length (verdict_places verdict) ≤ MAX_CLAIM_LINES
     → HasVerdictText (claim_of text.initial (operations_of text.events) verdict)
 claim_has_text text verdict has few = claim_by_parts text.initial text.events (values_of text.version text.initial has.initial) has.events verdict few

@@ -12,9 +12,9 @@ use Rattle.verdicts.specs.declared.verifying.Claimed.{Claimed}
 use Rattle.verdicts.specs.declared.verifying.Claimed.TheVariants as claimed
 use Rattle.text_lines.specs.Lines.{line, spaced}
 -- the places of a violation's operations, and of a value's in its cover, in the order in which they are shown
-pub use Rattle.verdicts.specs.Shown.{maybe_place, places_of_step, places_of as places_of_violation}
+pub use Rattle.verdicts.specs.Shown.{maybe_place, places_of_step, violation_places}
 -- the places of a verdict's operations and initial values, and what it claims
-pub use Rattle.verdicts.specs.Claiming.{places_of, violation_kind, IsWithin, lines_at, operations_at, claim_of}
+pub use Rattle.verdicts.specs.Claiming.{verdict_places, violation_kind, IsWithin, lines_at, operations_at, claim_of}
 
 -- the words of what an operation did, with its value
 abbrev pub kind_fields : OpKind → List (List ℕ)

@@ -1,21 +1,20 @@
 //! How the text of a history is written.
-ghost use Rattle.std.specs.Prelude.{◌≡◌, ◌+◌, ◌≤◌, ◌||◌, ◌++◌, [], length, is_err, OnOk, OnErr, All};
+ghost use Rattle.std.specs.Prelude.{◌≡◌, ◌+◌, ◌≤◌, ◌++◌, [], length, OnOk, All};
 ghost use Rattle.std.specs.List.{flat_map};
-ghost use Rattle.std.specs.Io.KnownBytes.{Appends};
 ghost use Rattle.text_lines.specs.Lines.{spaced, end_line, greatest_value};
 ghost use Rattle.history_text.specs.declared.version.Version.TheVariants.{One, Two};
-ghost use Rattle.history_text.specs.Items.{line_of, lines_of};
+ghost use Rattle.history_text.specs.Items.{line_of};
 ghost use Rattle.history_text.specs.Histories.{what_fields, event_line, HasValueInRange};
 ghost use Rattle.history_text.specs.Versions.{value_format, lines_before_events, text_by, text_of, said_in, HasText};
-ghost use Rattle.text_lines.specs.Writing.{AppendsFront, Puts, IsWritten, IsRefused};
+ghost use Rattle.text_lines.specs.Writing.{Puts, Writes, PutsText};
 
 use crate::lines::{WritesLine, put_each};
 use crate::version::Version;
 use event_records::{Event, What};
 use history_merge::{Events, History};
-use text_lines::{Kept, TextSink, WriteFault, make_room, write_piece};
+use text_lines::{TextSink, WriteBuffer, WriteFault, make_room, write_piece};
 
-fn push_what(kept: &mut Kept, what: What)
+fn push_what(kept: &mut WriteBuffer, what: What)
     requires { length kept.old + 29 ≤ 4096 }
     ensures words { kept.new ≡ kept.old ++ spaced (what_fields what) }
     ensures short { length kept.new ≤ length kept.old + 29 }
@@ -39,7 +38,7 @@ fn push_what(kept: &mut Kept, what: What)
 
 /// Adds the line of an event.
 #[inline(always)]
-fn push_event(kept: &mut Kept, event: Event)
+fn push_event(kept: &mut WriteBuffer, event: Event)
     requires { length kept.old + 96 ≤ 4096 }
     ensures line { kept.new ≡ kept.old ++ event_line event }
     ensures fits { HasValueInRange event.what }
@@ -52,12 +51,12 @@ fn push_event(kept: &mut Kept, event: Event)
 
 /// Puts the line of an event, and may hold back the end of the text.
 #[inline(always)]
-fn put_event<W: TextSink>(event: Event, kept: &mut Kept, writer: &mut W) -> Result<(), WriteFault>
-    ensures ok { OnOk result (Puts (W.contents writer.old) (W.contents writer.new) kept.old kept.new (event_line event)) }
-    ensures err { OnErr result (AppendsFront (W.contents writer.old) (W.contents writer.new) kept.old) }
-    ensures refused { W.has_refused writer.new ≡ (W.has_refused writer.old || is_err result) }
-    ensures written { OnOk result (IsWritten W.goes writer.old writer.new) }
-    ensures stopped { OnErr result (IsRefused W.goes writer.old writer.new) }
+fn put_event<W: TextSink>(
+    event: Event,
+    kept: &mut WriteBuffer,
+    writer: &mut W,
+) -> Result<(), WriteFault>
+    ensures text { PutsText W.contents W.has_refused W.transition kept.old kept.new (event_line event) writer.old writer.new result }
     ensures fits { OnOk result (HasValueInRange event.what) }
 {
     make_room(kept, writer)?;
@@ -68,14 +67,10 @@ fn put_event<W: TextSink>(event: Event, kept: &mut Kept, writer: &mut W) -> Resu
 /// Puts the lines of events, and may hold back the end of the text.
 fn put_events<W: TextSink>(
     events: Events<'_>,
-    kept: &mut Kept,
+    kept: &mut WriteBuffer,
     writer: &mut W,
 ) -> Result<(), WriteFault>
-    ensures ok { OnOk result (Puts (W.contents writer.old) (W.contents writer.new) kept.old kept.new (flat_map event_line events.entry)) }
-    ensures err { OnErr result (AppendsFront (W.contents writer.old) (W.contents writer.new) (kept.old ++ flat_map event_line events.entry)) }
-    ensures refused { W.has_refused writer.new ≡ (W.has_refused writer.old || is_err result) }
-    ensures written { OnOk result (IsWritten W.goes writer.old writer.new) }
-    ensures stopped { OnErr result (IsRefused W.goes writer.old writer.new) }
+    ensures text { PutsText W.contents W.has_refused W.transition kept.old kept.new (flat_map event_line events.entry) writer.old writer.new result }
     ensures fits { OnOk result (All (λ e. HasValueInRange e.what) events.entry) }
 {
     for event in events {
@@ -94,7 +89,7 @@ impl WritesLine<u64> for ValueLines {
     ghost Fits = { λ _ value. value ≤ greatest_value };
 
     #[inline(always)]
-    fn push(&self, value: &u64, kept: &mut Kept) {
+    fn push(&self, value: &u64, kept: &mut WriteBuffer) {
         kept.push_number(*value);
         kept.push(b"\n");
     }
@@ -104,15 +99,11 @@ impl WritesLine<u64> for ValueLines {
 fn put_before_events<W: TextSink>(
     version: Version,
     initial: &[u64],
-    kept: &mut Kept,
+    kept: &mut WriteBuffer,
     writer: &mut W,
 ) -> Result<(), WriteFault>
     requires { kept.old ≡ [] }
-    ensures ok { OnOk result (Puts (W.contents writer.old) (W.contents writer.new) [] kept.new (lines_before_events version initial.now)) }
-    ensures err { OnErr result (AppendsFront (W.contents writer.old) (W.contents writer.new) (lines_before_events version initial.now)) }
-    ensures refused { W.has_refused writer.new ≡ (W.has_refused writer.old || is_err result) }
-    ensures written { OnOk result (IsWritten W.goes writer.old writer.new) }
-    ensures stopped { OnErr result (IsRefused W.goes writer.old writer.new) }
+    ensures text { PutsText W.contents W.has_refused W.transition [] kept.new (lines_before_events version initial.now) writer.old writer.new result }
     ensures fits { version ≡ Two → OnOk result (All (λ v. v ≤ greatest_value) initial.now) }
 {
     match version {
@@ -130,12 +121,12 @@ fn put_before_events<W: TextSink>(
 }
 
 /// Puts the last line, after this many events.
-fn put_end<W: TextSink>(count: usize, kept: &mut Kept, writer: &mut W) -> Result<(), WriteFault>
-    ensures ok { OnOk result (Puts (W.contents writer.old) (W.contents writer.new) kept.old kept.new (end_line count)) }
-    ensures err { OnErr result (AppendsFront (W.contents writer.old) (W.contents writer.new) kept.old) }
-    ensures refused { W.has_refused writer.new ≡ (W.has_refused writer.old || is_err result) }
-    ensures written { OnOk result (IsWritten W.goes writer.old writer.new) }
-    ensures stopped { OnErr result (IsRefused W.goes writer.old writer.new) }
+fn put_end<W: TextSink>(
+    count: usize,
+    kept: &mut WriteBuffer,
+    writer: &mut W,
+) -> Result<(), WriteFault>
+    ensures { PutsText W.contents W.has_refused W.transition kept.old kept.new (end_line count) writer.old writer.new result }
 {
     make_room(kept, writer)?;
     kept.push(b"end ");
@@ -148,16 +139,12 @@ fn put_end<W: TextSink>(count: usize, kept: &mut Kept, writer: &mut W) -> Result
 fn put_text<W: TextSink>(
     version: Version,
     history: &History,
-    kept: &mut Kept,
+    kept: &mut WriteBuffer,
     writer: &mut W,
 ) -> Result<(), WriteFault>
     requires kept { kept.old ≡ [] }
     requires version { version ≡ One → history.now.initial ≡ [] }
-    ensures ok { OnOk result (Puts (W.contents writer.old) (W.contents writer.new) [] kept.new (text_by version history.now.initial history.now.events)) }
-    ensures err { OnErr result (AppendsFront (W.contents writer.old) (W.contents writer.new) (text_by version history.now.initial history.now.events)) }
-    ensures refused { W.has_refused writer.new ≡ (W.has_refused writer.old || is_err result) }
-    ensures written { OnOk result (IsWritten W.goes writer.old writer.new) }
-    ensures stopped { OnErr result (IsRefused W.goes writer.old writer.new) }
+    ensures text { PutsText W.contents W.has_refused W.transition [] kept.new (text_by version history.now.initial history.now.events) writer.old writer.new result }
     ensures readable { OnOk result (HasText (said_in version history.now)) }
 {
     put_before_events(version, history.initial(), kept, writer)?;
@@ -175,16 +162,12 @@ pub fn write_history<W: TextSink>(
 ) -> Result<(), WriteFault>
     // Version 1 has no initial values.
     requires { version ≡ One → history.now.initial ≡ [] }
-    ensures ok { OnOk result (Appends (W.contents writer.old) (W.contents writer.new) (text_of (said_in version history.now))) }
-    ensures err { OnErr result (AppendsFront (W.contents writer.old) (W.contents writer.new) (text_of (said_in version history.now))) }
-    ensures refused { W.has_refused writer.new ≡ (W.has_refused writer.old || is_err result) }
-    ensures written { OnOk result (IsWritten W.goes writer.old writer.new) }
-    ensures stopped { OnErr result (IsRefused W.goes writer.old writer.new) }
+    ensures text { Writes W.contents W.has_refused W.transition (text_of (said_in version history.now)) writer.old writer.new result }
 
     // `read_history` reads back what is written, as it reads each text at the front of its input.
     ensures readable { OnOk result (HasText (said_in version history.now)) }
 {
-    let mut kept = Kept::new();
+    let mut kept = WriteBuffer::new();
     put_text(version, history, &mut kept, writer)?;
     write_piece(kept.as_slice(), writer)
 }

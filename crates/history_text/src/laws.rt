@@ -6,7 +6,7 @@ ghost use Rattle.verdicts.specs.declared.verifying.Claimed.{Claimed};
 ghost use Rattle.verdicts.specs.declared.verdict.Verdict.{Verdict};
 ghost use Rattle.text_lines.specs.declared.fault.TextFault.{TextFault};
 ghost use Rattle.history_text.specs.declared.schedule.Schedule.{Schedule};
-ghost use Rattle.history_text.specs.Verdicts.{claim_of, places_of, verdict_text};
+ghost use Rattle.history_text.specs.Verdicts.{claim_of, verdict_places, verdict_text};
 ghost use Rattle.history_text.specs.Claims.{HasVerdictText, IsVerdictTextFault};
 ghost use Rattle.history_text.specs.Versions.{HasText, HistoryText, text_of, IsTextFault};
 ghost use Rattle.history_text.specs.Schedules.{HasScheduleText, schedule_text, IsScheduleTextFault};
@@ -43,7 +43,7 @@ pub fn a_text_has_one_claim()
 ///
 /// So `read_verdict` reads back what `write_verdict` wrote.
 pub fn a_claim_on_a_text_has_a_text()
-    ensures { (text : HistoryText) (verdict : Verdict) → HasText text → length (places_of verdict) ≤ MAX_CLAIM_LINES
+    ensures { (text : HistoryText) (verdict : Verdict) → HasText text → length (verdict_places verdict) ≤ MAX_CLAIM_LINES
         → HasVerdictText (claim_of text.initial (operations_of text.events) verdict) }
 {}
 

@@ -1,9 +1,9 @@
 //! How lines are written one after another, while the end of the text is held back.
-ghost use Rattle.std.specs.Prelude.{◌≡◌, ◌+◌, ◌≤◌, ◌||◌, ◌++◌, List, ℕ, length, is_err, OnOk, OnErr, All};
+ghost use Rattle.std.specs.Prelude.{◌≡◌, ◌+◌, ◌≤◌, ◌++◌, List, ℕ, length, OnOk, All};
 ghost use Rattle.std.specs.List.{flat_map};
-ghost use Rattle.text_lines.specs.Writing.{AppendsFront, Puts, IsWritten, IsRefused};
+ghost use Rattle.text_lines.specs.Writing.{Puts, PutsText};
 
-use text_lines::{Kept, TextSink, WriteFault, make_room};
+use text_lines::{TextSink, WriteBuffer, WriteFault, make_room};
 
 /// How items are written in a text, one in each line.
 pub(crate) trait WritesLine<T> {
@@ -14,7 +14,7 @@ pub(crate) trait WritesLine<T> {
     ghost Fits: { Self → T → Type 0 };
 
     /// Adds the item's line to what is held back.
-    fn push(&self, item: &T, kept: &mut Kept)
+    fn push(&self, item: &T, kept: &mut WriteBuffer)
         requires { length kept.old + 96 ≤ 4096 }
         ensures line { kept.new ≡ kept.old ++ line self.now item.now }
         ensures fits { Fits self.now item.now };
@@ -25,14 +25,10 @@ pub(crate) trait WritesLine<T> {
 fn put_one<T, L: WritesLine<T>, W: TextSink>(
     lines: &L,
     item: &T,
-    kept: &mut Kept,
+    kept: &mut WriteBuffer,
     writer: &mut W,
 ) -> Result<(), WriteFault>
-    ensures ok { OnOk result (Puts (W.contents writer.old) (W.contents writer.new) kept.old kept.new (L.line lines.now item.now)) }
-    ensures err { OnErr result (AppendsFront (W.contents writer.old) (W.contents writer.new) kept.old) }
-    ensures refused { W.has_refused writer.new ≡ (W.has_refused writer.old || is_err result) }
-    ensures written { OnOk result (IsWritten W.goes writer.old writer.new) }
-    ensures stopped { OnErr result (IsRefused W.goes writer.old writer.new) }
+    ensures text { PutsText W.contents W.has_refused W.transition kept.old kept.new (L.line lines.now item.now) writer.old writer.new result }
     ensures fits { OnOk result (L.Fits lines.now item.now) }
 {
     make_room(kept, writer)?;
@@ -44,14 +40,10 @@ fn put_one<T, L: WritesLine<T>, W: TextSink>(
 pub(crate) fn put_each<T, L: WritesLine<T>, W: TextSink>(
     lines: &L,
     items: &[T],
-    kept: &mut Kept,
+    kept: &mut WriteBuffer,
     writer: &mut W,
 ) -> Result<(), WriteFault>
-    ensures ok { OnOk result (Puts (W.contents writer.old) (W.contents writer.new) kept.old kept.new (flat_map (L.line lines.now) items.now)) }
-    ensures err { OnErr result (AppendsFront (W.contents writer.old) (W.contents writer.new) (kept.old ++ flat_map (L.line lines.now) items.now)) }
-    ensures refused { W.has_refused writer.new ≡ (W.has_refused writer.old || is_err result) }
-    ensures written { OnOk result (IsWritten W.goes writer.old writer.new) }
-    ensures stopped { OnErr result (IsRefused W.goes writer.old writer.new) }
+    ensures text { PutsText W.contents W.has_refused W.transition kept.old kept.new (flat_map (L.line lines.now) items.now) writer.old writer.new result }
     ensures fits { OnOk result (All (L.Fits lines.now) items.now) }
 {
     for item in items {

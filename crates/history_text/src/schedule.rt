@@ -1,12 +1,12 @@
 //! Schedules: a setting, and the steps that are tried in it.
-use event_records::{Listed, MAX_RING};
+use event_records::{MAX_RING, OwnedSlice};
 use recorder_core::Step;
 
 /// The most events that one step of a schedule's text drains.
 pub const MOST_DRAINED: u32 = MAX_RING as u32;
 
 /// The steps of a schedule in order, seen as a list.
-pub type Steps = Listed<Step>;
+pub type Steps = OwnedSlice<Step>;
 
 /// What a schedule's text says. It may have any numbers and steps; `read_schedule` returns those of a text.
 #[derive(Debug, Drop)]

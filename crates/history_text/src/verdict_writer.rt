@@ -1,25 +1,24 @@
 //! How the text of a verdict is written.
-ghost use Rattle.std.specs.Prelude.{◌≡◌, ◌+◌, ◌≤◌, ◌||◌, ◌∷◌, ◌++◌, [], length, is_err, OnOk, OnErr, All, codes, option_map, slice_get};
+ghost use Rattle.std.specs.Prelude.{◌≡◌, ◌+◌, ◌≤◌, ◌∷◌, ◌++◌, [], length, codes, option_map, slice_get};
 ghost use Rattle.std.specs.List.{flat_map};
-ghost use Rattle.std.specs.Io.KnownBytes.{Appends};
 ghost use Rattle.std.specs.Option.{option_to_list};
 ghost use Rattle.history_merge.specs.Operations.{operations_of};
 ghost use Rattle.text_lines.specs.Lines.{line, spaced};
 ghost use Rattle.history_text.specs.Verdicts.{kind_fields, kind_name, operation_line, claim_line, verdict_text, IsWithin};
-ghost use Rattle.history_text.specs.Verdicts.{maybe_place, places_of_violation, places_of_step, violation_kind, claim_of};
+ghost use Rattle.history_text.specs.Verdicts.{maybe_place, violation_places, places_of_step, violation_kind, claim_of};
 ghost use Rattle.history_text.specs.Inner.Verdicts.{operation_text, line_text, lines_text};
 ghost use Rattle.verdicts.specs.declared.verifying.ClaimLine.TheVariants.{Op};
 ghost use Rattle.verdicts.specs.declared.shown.LinePlace.TheVariants as place;
-ghost use Rattle.text_lines.specs.Writing.{AppendsFront, Puts, IsWritten, IsRefused};
+ghost use Rattle.text_lines.specs.Writing.{Puts, Writes, PutsText};
 
 use crate::lines::{WritesLine, put_each};
 use history_merge::{History, OpId, OpKind, Operation};
-use text_lines::{Kept, TextSink, WriteFault, write_piece};
+use text_lines::{TextSink, WriteBuffer, WriteFault, write_piece};
 use value_match::{CoverStep, Violation};
 use verdicts::{ClaimLine, LinePlace, Verdict};
 
 #[inline(always)]
-fn push_kind(kept: &mut Kept, kind: OpKind)
+fn push_kind(kept: &mut WriteBuffer, kind: OpKind)
     requires { length kept.old + 29 ≤ 4096 }
     ensures words { kept.new ≡ kept.old ++ spaced (kind_fields kind) }
     ensures short { length kept.new ≤ length kept.old + 29 }
@@ -42,7 +41,7 @@ fn push_kind(kept: &mut Kept, kind: OpKind)
 }
 
 #[inline(always)]
-fn push_operation(kept: &mut Kept, operation: &Operation)
+fn push_operation(kept: &mut WriteBuffer, operation: &Operation)
     requires { length kept.old + 96 ≤ 4096 }
     ensures { kept.new ≡ kept.old ++ operation_line operation.now }
 {
@@ -54,7 +53,7 @@ fn push_operation(kept: &mut Kept, operation: &Operation)
 }
 
 #[inline(always)]
-fn push_line(kept: &mut Kept, shown: &ClaimLine)
+fn push_line(kept: &mut WriteBuffer, shown: &ClaimLine)
     requires { length kept.old + 96 ≤ 4096 }
     ensures { kept.new ≡ kept.old ++ claim_line shown.now }
 {
@@ -77,7 +76,7 @@ fn order_line_at(operations: &[Operation], place: OpId) -> Option<ClaimLine>
 
 /// Puts a line, if there is one.
 #[inline(always)]
-fn push_if_shown(kept: &mut Kept, shown: Option<ClaimLine>)
+fn push_if_shown(kept: &mut WriteBuffer, shown: Option<ClaimLine>)
     requires { length kept.old + 96 ≤ 4096 }
     ensures { kept.new ≡ kept.old ++ flat_map claim_line (option_to_list shown) }
 {
@@ -99,7 +98,7 @@ impl<'a> WritesLine<OpId> for PlaceLines<'a> {
     ghost Fits = { λ _ _. Unit {0} };
 
     #[inline(always)]
-    fn push(&self, id: &OpId, kept: &mut Kept) {
+    fn push(&self, id: &OpId, kept: &mut WriteBuffer) {
         push_if_shown(kept, order_line_at(self.operations, *id));
     }
 }
@@ -110,7 +109,7 @@ impl<'a> WritesLine<LinePlace> for PlaceLines<'a> {
     ghost Fits = { λ _ _. Unit {0} };
 
     #[inline(always)]
-    fn push(&self, place: &LinePlace, kept: &mut Kept) {
+    fn push(&self, place: &LinePlace, kept: &mut WriteBuffer) {
         push_if_shown(kept, place.line(self.initial, self.operations));
     }
 }
@@ -118,16 +117,11 @@ impl<'a> WritesLine<LinePlace> for PlaceLines<'a> {
 fn put_maybe<W: TextSink>(
     lines: &PlaceLines,
     place: Option<OpId>,
-    kept: &mut Kept,
+    kept: &mut WriteBuffer,
     writer: &mut W,
 ) -> Result<(), WriteFault>
-    ensures ok { OnOk result (Puts (W.contents writer.old) (W.contents writer.new) kept.old kept.new
-        (lines_text lines.now.initial.now lines.now.operations.now (maybe_place place))) }
-    ensures err { OnErr result (AppendsFront (W.contents writer.old) (W.contents writer.new)
-        (kept.old ++ lines_text lines.now.initial.now lines.now.operations.now (maybe_place place))) }
-    ensures refused { W.has_refused writer.new ≡ (W.has_refused writer.old || is_err result) }
-    ensures written { OnOk result (IsWritten W.goes writer.old writer.new) }
-    ensures stopped { OnErr result (IsRefused W.goes writer.old writer.new) }
+    ensures { PutsText W.contents W.has_refused W.transition kept.old kept.new
+        (lines_text lines.now.initial.now lines.now.operations.now (maybe_place place)) writer.old writer.new result }
 {
     match place {
         Some(place) => put_each(lines, &[LinePlace::Op(place)], kept, writer),
@@ -140,16 +134,11 @@ fn put_with_last<W: TextSink>(
     lines: &PlaceLines,
     first: &[LinePlace],
     last: Option<OpId>,
-    kept: &mut Kept,
+    kept: &mut WriteBuffer,
     writer: &mut W,
 ) -> Result<(), WriteFault>
-    ensures ok { OnOk result (Puts (W.contents writer.old) (W.contents writer.new) kept.old kept.new
-        (lines_text lines.now.initial.now lines.now.operations.now (first.now ++ maybe_place last))) }
-    ensures err { OnErr result (AppendsFront (W.contents writer.old) (W.contents writer.new)
-        (kept.old ++ lines_text lines.now.initial.now lines.now.operations.now (first.now ++ maybe_place last))) }
-    ensures refused { W.has_refused writer.new ≡ (W.has_refused writer.old || is_err result) }
-    ensures written { OnOk result (IsWritten W.goes writer.old writer.new) }
-    ensures stopped { OnErr result (IsRefused W.goes writer.old writer.new) }
+    ensures { PutsText W.contents W.has_refused W.transition kept.old kept.new
+        (lines_text lines.now.initial.now lines.now.operations.now (first.now ++ maybe_place last)) writer.old writer.new result }
 {
     put_each(lines, first, kept, writer)?;
     put_maybe(lines, last, kept, writer)
@@ -158,16 +147,11 @@ fn put_with_last<W: TextSink>(
 fn put_cover<W: TextSink>(
     lines: &PlaceLines,
     steps: &[CoverStep],
-    kept: &mut Kept,
+    kept: &mut WriteBuffer,
     writer: &mut W,
 ) -> Result<(), WriteFault>
-    ensures ok { OnOk result (Puts (W.contents writer.old) (W.contents writer.new) kept.old kept.new
-        (lines_text lines.now.initial.now lines.now.operations.now (flat_map places_of_step steps.now))) }
-    ensures err { OnErr result (AppendsFront (W.contents writer.old) (W.contents writer.new)
-        (kept.old ++ lines_text lines.now.initial.now lines.now.operations.now (flat_map places_of_step steps.now))) }
-    ensures refused { W.has_refused writer.new ≡ (W.has_refused writer.old || is_err result) }
-    ensures written { OnOk result (IsWritten W.goes writer.old writer.new) }
-    ensures stopped { OnErr result (IsRefused W.goes writer.old writer.new) }
+    ensures { PutsText W.contents W.has_refused W.transition kept.old kept.new
+        (lines_text lines.now.initial.now lines.now.operations.now (flat_map places_of_step steps.now)) writer.old writer.new result }
 {
     for step in steps {
         put_with_last(
@@ -185,16 +169,11 @@ fn put_witness<W: TextSink>(
     lines: &PlaceLines,
     empty: OpId,
     cover: &[CoverStep],
-    kept: &mut Kept,
+    kept: &mut WriteBuffer,
     writer: &mut W,
 ) -> Result<(), WriteFault>
-    ensures ok { OnOk result (Puts (W.contents writer.old) (W.contents writer.new) kept.old kept.new
-        (lines_text lines.now.initial.now lines.now.operations.now (place.Op empty ∷ flat_map places_of_step cover.now))) }
-    ensures err { OnErr result (AppendsFront (W.contents writer.old) (W.contents writer.new)
-        (kept.old ++ lines_text lines.now.initial.now lines.now.operations.now (place.Op empty ∷ flat_map places_of_step cover.now))) }
-    ensures refused { W.has_refused writer.new ≡ (W.has_refused writer.old || is_err result) }
-    ensures written { OnOk result (IsWritten W.goes writer.old writer.new) }
-    ensures stopped { OnErr result (IsRefused W.goes writer.old writer.new) }
+    ensures { PutsText W.contents W.has_refused W.transition kept.old kept.new
+        (lines_text lines.now.initial.now lines.now.operations.now (place.Op empty ∷ flat_map places_of_step cover.now)) writer.old writer.new result }
 {
     put_each(lines, &[LinePlace::Op(empty)], kept, writer)?;
     put_cover(lines, cover, kept, writer)
@@ -216,16 +195,11 @@ fn violation_line(violation: &Violation) -> &'static [u8]
 fn put_violation<W: TextSink>(
     lines: &PlaceLines,
     violation: &Violation,
-    kept: &mut Kept,
+    kept: &mut WriteBuffer,
     writer: &mut W,
 ) -> Result<(), WriteFault>
-    ensures ok { OnOk result (Puts (W.contents writer.old) (W.contents writer.new) kept.old kept.new
-        (lines_text lines.now.initial.now lines.now.operations.now (places_of_violation violation.now))) }
-    ensures err { OnErr result (AppendsFront (W.contents writer.old) (W.contents writer.new)
-        (kept.old ++ lines_text lines.now.initial.now lines.now.operations.now (places_of_violation violation.now))) }
-    ensures refused { W.has_refused writer.new ≡ (W.has_refused writer.old || is_err result) }
-    ensures written { OnOk result (IsWritten W.goes writer.old writer.new) }
-    ensures stopped { OnErr result (IsRefused W.goes writer.old writer.new) }
+    ensures { PutsText W.contents W.has_refused W.transition kept.old kept.new
+        (lines_text lines.now.initial.now lines.now.operations.now (violation_places violation.now)) writer.old writer.new result }
 {
     match violation {
         Violation::Fresh { deq, enq } => {
@@ -266,16 +240,12 @@ fn put_verdict<W: TextSink>(
     initial: &[u64],
     operations: &[Operation],
     verdict: &Verdict,
-    kept: &mut Kept,
+    kept: &mut WriteBuffer,
     writer: &mut W,
 ) -> Result<(), WriteFault>
     requires { kept.old ≡ [] }
-    ensures ok { OnOk result (Puts (W.contents writer.old) (W.contents writer.new) [] kept.new
-        (verdict_text (claim_of initial.now operations.now verdict.now))) }
-    ensures err { OnErr result (AppendsFront (W.contents writer.old) (W.contents writer.new) (verdict_text (claim_of initial.now operations.now verdict.now))) }
-    ensures refused { W.has_refused writer.new ≡ (W.has_refused writer.old || is_err result) }
-    ensures written { OnOk result (IsWritten W.goes writer.old writer.new) }
-    ensures stopped { OnErr result (IsRefused W.goes writer.old writer.new) }
+    ensures { PutsText W.contents W.has_refused W.transition [] kept.new
+        (verdict_text (claim_of initial.now operations.now verdict.now)) writer.old writer.new result }
 {
     let lines = PlaceLines {
         initial,
@@ -317,15 +287,10 @@ pub fn write_verdict<W: TextSink>(
     // The verdict's places are those of this history's initial values and operations.
     requires { IsWithin history.now.initial (operations_of history.now.events) verdict.now }
 
-    ensures ok { OnOk result (Appends (W.contents writer.old) (W.contents writer.new)
-        (verdict_text (claim_of history.now.initial (operations_of history.now.events) verdict.now))) }
-    ensures err { OnErr result (AppendsFront (W.contents writer.old) (W.contents writer.new)
-        (verdict_text (claim_of history.now.initial (operations_of history.now.events) verdict.now))) }
-    ensures refused { W.has_refused writer.new ≡ (W.has_refused writer.old || is_err result) }
-    ensures written { OnOk result (IsWritten W.goes writer.old writer.new) }
-    ensures stopped { OnErr result (IsRefused W.goes writer.old writer.new) }
+    ensures { Writes W.contents W.has_refused W.transition
+        (verdict_text (claim_of history.now.initial (operations_of history.now.events) verdict.now)) writer.old writer.new result }
 {
-    let mut kept = Kept::new();
+    let mut kept = WriteBuffer::new();
     put_verdict(
         history.initial(),
         history.operations(),

@@ -15,7 +15,7 @@ use Rattle.history_merge.specs.Legal.{ArePlacesOf}
 use Rattle.value_match.specs.declared.life.Life.{Life}
 use Rattle.value_match.specs.Lives.{IsLeastFreeGap, is_empty_answer, is_empty_kind, is_refused, is_refused_kind}
 use Rattle.linearizer.specs.declared.position.Placed.{Placed}
-use Rattle.linearizer.specs.Order.{IsPositionFor, idle_answers, idle_position}
+use Rattle.linearizer.specs.Order.{IsPositionFor, noop_answers, noop_position}
 use Rattle.linearizer.specs.Inner.Placement.{Adds, IsPlaced, position_of}
 use Rattle.linearizer.proofs.Positions.{beside}
 
@@ -74,14 +74,14 @@ passes_at p xs k x at =
     (All-get_or (λ y. p y ≡ true) (filter p xs) k x (slice_get_within (filter p xs) k x at) (filter_passes p xs))
 
 stands_empty : (operations : List Operation) (lives : List Life) (o : Operation) (gap : ℕ) (k : OpKind) → is_empty_kind k ≡ true
-    → IsLeastFreeGap operations o gap → IsPositionFor operations lives o k (idle_position o gap)
+    → IsLeastFreeGap operations o gap → IsPositionFor operations lives o k (noop_position o gap)
 stands_empty operations lives o gap Empty is free = (gap, free, refl)
 stands_empty operations lives o gap (Enq v) is free = cc
 stands_empty operations lives o gap (Deq v) is free = cc
 stands_empty operations lives o gap (Not v) is free = cc
 
 stands_refused : (operations : List Operation) (lives : List Life) (o : Operation) (k : OpKind) → is_refused_kind k ≡ true
-    → IsPositionFor operations lives o k (idle_position o o.call)
+    → IsPositionFor operations lives o k (noop_position o o.call)
 stands_refused operations lives o (Not v) is = refl
 stands_refused operations lives o (Enq v) is = cc
 stands_refused operations lives o (Deq v) is = cc
@@ -91,7 +91,7 @@ stands_refused operations lives o Empty is = cc
 pub adds_empty : (operations : List Operation) (k p gap call : ℕ) (old new : List Placed) (placed : Placed)
     (is : IsNamed operations (filter is_empty_answer operations) k p)
     → Adds operations (take k (filter is_empty_answer operations)) old new → IsLeastFreeGap operations is.o gap → placed.operation ≡ p → call ≡ is.o.call
-    → position_of placed.position ≡ record { gap = gap; class = idle_answers; rank = call }
+    → position_of placed.position ≡ record { gap = gap; class = noop_answers; rank = call }
     → Adds operations (take (k + 1) (filter is_empty_answer operations)) old (new ++ placed ∷ [])
 adds_empty operations k p gap call old new placed is adds free names calls stands =
     adds_more operations (filter is_empty_answer operations) k is.o old new placed adds is.is_listed
@@ -101,14 +101,14 @@ adds_empty operations k p gap call old new placed is adds free names calls stand
           (stands_empty operations lives is.o gap is.o.kind (passes_at is_empty_answer operations k is.o is.is_listed) free),
     ))
   where
-    here : position_of placed.position ≡ idle_position is.o gap
-    here = stands ∙ ap (λ c. record { gap = gap; class = idle_answers; rank = c }) calls
+    here : position_of placed.position ≡ noop_position is.o gap
+    here = stands ∙ ap (λ c. record { gap = gap; class = noop_answers; rank = c }) calls
 
 -- one failed enqueue more
 pub adds_refused : (operations : List Operation) (k p call : ℕ) (old new : List Placed) (placed : Placed)
     (is : IsNamed operations (filter is_refused operations) k p)
     → Adds operations (take k (filter is_refused operations)) old new → placed.operation ≡ p → call ≡ is.o.call
-    → position_of placed.position ≡ record { gap = call; class = idle_answers; rank = call }
+    → position_of placed.position ≡ record { gap = call; class = noop_answers; rank = call }
     → Adds operations (take (k + 1) (filter is_refused operations)) old (new ++ placed ∷ [])
 adds_refused operations k p call old new placed is adds names calls stands =
     adds_more operations (filter is_refused operations) k is.o old new placed adds is.is_listed
@@ -118,8 +118,8 @@ adds_refused operations k p call old new placed is adds names calls stands =
           (stands_refused operations lives is.o is.o.kind (passes_at is_refused operations k is.o is.is_listed)),
     ))
   where
-    here : position_of placed.position ≡ idle_position is.o is.o.call
-    here = stands ∙ ap (λ c. record { gap = c; class = idle_answers; rank = c }) calls
+    here : position_of placed.position ≡ noop_position is.o is.o.call
+    here = stands ∙ ap (λ c. record { gap = c; class = noop_answers; rank = c }) calls
 
 -- the gap beside an answer, and how many there are of both
 pub gap_beside : (operations listed : List Operation) (gaps : List ℕ) (k gap d : ℕ) (o : Operation)

@@ -12,10 +12,10 @@ use Rattle.history_merge.specs.Legal.{ArePlacesOf}
 use Rattle.value_match.specs.declared.life.Life.{Life}
 use Rattle.value_match.specs.Lives.{is_empty_answer, is_refused}
 use Rattle.value_match.specs.Violations.{IsClear, NoOrderViolation}
-use Rattle.linearizer.specs.declared.position.Class.TheVariants.{Idle}
+use Rattle.linearizer.specs.declared.position.Class.TheVariants.{Noop}
 use Rattle.linearizer.specs.declared.position.Placed.{Placed}
 use Rattle.linearizer.specs.Order.{StandsBefore, IsPositionOf, AreChosenAndLegal}
-use Rattle.linearizer.specs.Inner.Placement.{Adds, AreByPosition, HoldsIdles, HoldsValues, IsPlaced, NeverFall, dequeues_of, enqueues_of, position_of}
+use Rattle.linearizer.specs.Inner.Placement.{Adds, AreByPosition, HoldsNoops, HoldsValues, IsPlaced, NeverFall, dequeues_of, enqueues_of, position_of}
 use Rattle.linearizer.specs.Inner.Merging.{IsMerge}
 use Rattle.linearizer.proofs.LegalOrder.{chosen_order_is_legal}
 use Rattle.linearizer.proofs.OneOrder.{operations_rise, sorted_is_chosen}
@@ -30,7 +30,7 @@ abbrev operation_of : List Operation → Placed → Operation
 operation_of operations p = get_or operations p.operation nothing_done
 
 nowhere : Placed
-nowhere = record { operation = 0; position = record { gap = 0; class = Idle; rank = 0 } }
+nowhere = record { operation = 0; position = record { gap = 0; class = Noop; rank = 0 } }
 
 well_placed : (operations : List Operation) (lives : List Life) (o : Operation) (p : Placed) → IsPlaced operations lives o p
     → (operation_of operations p ≡ o) × IsPlaced operations lives (operation_of operations p) p
@@ -85,10 +85,10 @@ positions_never_fall placed never i j d below within =
     (never i j nowhere below inside)
 
 -- what is added to no operations, and sorted
-pub idles_held : (operations : List Operation) (empties all idles : List Placed) → Adds operations (filter is_empty_answer operations) [] empties
-    → Adds operations (filter is_refused operations) empties all → IsPermutation all idles → NeverFall idles
-    → HoldsIdles operations idles
-idles_held operations empties all idles first second moved never = record {
+pub noops_held : (operations : List Operation) (empties all noops : List Placed) → Adds operations (filter is_empty_answer operations) [] empties
+    → Adds operations (filter is_refused operations) empties all → IsPermutation all noops → NeverFall noops
+    → HoldsNoops operations noops
+noops_held operations empties all noops first second moved never = record {
   added = all;
   each_placed = λ lives. subst (AllZip (IsPlaced operations lives) (filter is_empty_answer operations ++ filter is_refused operations))
       (sym (second.after ∙ ap (λ xs. xs ++ second.added) first.after))
@@ -99,9 +99,9 @@ idles_held operations empties all idles first second moved never = record {
 }
 
 -- all operations stand at their positions, and are merged by them
-pub chosen_and_legal : (operations : List Operation) (idles : List Placed) (places : List ℕ) → IsClear operations → NoOrderViolation operations
-    → HoldsIdles operations idles → IsMerge operations idles places → AreChosenAndLegal operations places
-chosen_and_legal operations idles places clear none idle merged =
+pub chosen_and_legal : (operations : List Operation) (noops : List Placed) (places : List ℕ) → IsClear operations → NoOrderViolation operations
+    → HoldsNoops operations noops → IsMerge operations noops places → AreChosenAndLegal operations places
+chosen_and_legal operations noops places clear none noop merged =
     let lives = held.lives in
     let same = listed_are operations lives listed all zipped in
     let moved : IsPermutation operations (map (operation_of operations) sorted.sorted) =
@@ -126,31 +126,31 @@ chosen_and_legal operations idles places clear none idle merged =
     held : HoldsValues operations values
     held = merged.1
 
-    sorted : AreByPosition (values ++ idles) places
+    sorted : AreByPosition (values ++ noops) places
     sorted = merged.2
 
-    idle_listed : List Operation
-    idle_listed = filter is_empty_answer operations ++ filter is_refused operations
+    noop_listed : List Operation
+    noop_listed = filter is_empty_answer operations ++ filter is_refused operations
 
     listed : List Operation
-    listed = held.listed ++ idle_listed
+    listed = held.listed ++ noop_listed
 
     all : List Placed
-    all = values ++ idle.added
+    all = values ++ noop.added
 
     all_sorted : IsPermutation all sorted.sorted
-    all_sorted = IsPermutation-trans all (values ++ idles) sorted.sorted
-        (IsPermutation-append_right values idle.added idles idle.each_once) sorted.holds_each_once
+    all_sorted = IsPermutation-trans all (values ++ noops) sorted.sorted
+        (IsPermutation-append_right values noop.added noops noop.each_once) sorted.holds_each_once
 
     values_listed : List Operation
     values_listed = enqueues_of held.lives ++ dequeues_of held.lives
 
     listed_once : IsPermutation operations listed
     listed_once =
-        IsPermutation-trans operations (values_listed ++ idle_listed) listed
+        IsPermutation-trans operations (values_listed ++ noop_listed) listed
         (subst (IsPermutation operations) (append_assoc values_listed (filter is_empty_answer operations) (filter is_refused operations))
         (each_once operations clear held.lives held.in_order (operations_rise operations clear.complete)))
-        (IsPermutation-append_left idle_listed values_listed held.listed held.each_once)
+        (IsPermutation-append_left noop_listed values_listed held.listed held.each_once)
 
     zipped : AllZip (IsPlaced operations held.lives) listed all
-    zipped = zip_joined (IsPlaced operations held.lives) held.listed idle_listed values idle.added held.each_placed (idle.each_placed held.lives)
+    zipped = zip_joined (IsPlaced operations held.lives) held.listed noop_listed values noop.added held.each_placed (noop.each_placed held.lives)

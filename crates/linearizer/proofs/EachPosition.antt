@@ -12,10 +12,10 @@ use Rattle.value_match.specs.declared.life.Life.{Life}
 use Rattle.value_match.specs.Lives.{IsLife, IsLeastFreeGap, AreLeastFreeGaps, is_dequeue_of, is_empty_answer, dequeue_of, enqueue_of}
 use Rattle.value_match.specs.Violations.{IsClear, NoOrderViolation}
 use Rattle.linearizer.specs.Values.{IsValueOrder, enqueue_gap, dequeue_gap}
-use Rattle.linearizer.specs.Order.{Position, IsPositionFor, IsPositionOf, enqueue_position, dequeue_position, idle_position, idle_answers}
+use Rattle.linearizer.specs.Order.{Position, IsPositionFor, IsPositionOf, enqueue_position, dequeue_position, noop_position, noop_answers}
 use Rattle.value_match.proofs.Lives.{found_dequeue, same_dequeue}
 use Rattle.linearizer.proofs.Opposites.{stands_in_order, one_deeper}
-use Rattle.linearizer.proofs.Rising.{enqueue_is_no_dequeue, idle_is_no_enqueue, idle_is_no_dequeue}
+use Rattle.linearizer.proofs.Rising.{enqueue_is_no_dequeue, noop_is_no_enqueue, noop_is_no_dequeue}
 use Rattle.linearizer.proofs.Positions.{are_gaps, beside}
 use Rattle.linearizer.proofs.LegalOrder.{position_of_enqueue, position_of_dequeue, position_in_window}
 use Rattle.value_match.proofs.Lists.{passes_filter}
@@ -110,8 +110,8 @@ has_position operations lives gaps clear order free o among Empty is =
     let answers : is_empty_answer o ≡ true = rw is refl in
     let place = place_of (filter is_empty_answer operations) o (passes_filter is_empty_answer operations o answers among) in
     let gap = beside (λ o c. IsLeastFreeGap operations o c) (filter is_empty_answer operations) gaps place.0 o free place.1 in
-    (idle_position o gap.0, (gap.0, gap.2, refl))
-has_position operations lives gaps clear order free o among (Not v) is = (idle_position o o.call, refl)
+    (noop_position o gap.0, (gap.0, gap.2, refl))
+has_position operations lives gaps clear order free o among (Not v) is = (noop_position o o.call, refl)
 
 -- each operation has a position
 pub each_has_position : (operations : List Operation) (lives : List Life) (gaps : List ℕ) (o : Operation) → IsClear operations
@@ -136,7 +136,7 @@ one_position_for operations lives clear order o Empty p q at_p at_q =
     let first = at_p.1.least at_q.0 at_q.1.in_window at_q.1.is_free in
     let second = at_q.1.least at_p.0 at_p.1.in_window at_p.1.is_free in
     let gaps : at_p.0 ≡ at_q.0 = omega arith in
-    at_p.2 ∙ ap (idle_position o) gaps ∙ sym at_q.2
+    at_p.2 ∙ ap (noop_position o) gaps ∙ sym at_q.2
 one_position_for operations lives clear order o (Not v) p q at_p at_q = at_p ∙ sym at_q
 
 -- an operation has one position
@@ -145,25 +145,25 @@ pub one_position : (operations : List Operation) (lives : List Life) (o : Operat
 one_position operations lives o p q clear order at_p at_q = one_position_for operations lives clear order o o.kind p q at_p at_q
 
 -- an answer that changes nothing stands in its class, by its call
-record IsIdleAt (o : Operation) (p : Position) : Type 0 where
-  class : p.class ≡ idle_answers
+record IsNoopAt (o : Operation) (p : Position) : Type 0 where
+  class : p.class ≡ noop_answers
   rank : p.rank ≡ o.call
 
-idle_at_gap : (o : Operation) (c : ℕ) (p : Position) → p ≡ idle_position o c → IsIdleAt o p
-idle_at_gap o c p is = record { class = ap (λ r. r.class) is; rank = ap (λ r. r.rank) is }
+noop_at_gap : (o : Operation) (c : ℕ) (p : Position) → p ≡ noop_position o c → IsNoopAt o p
+noop_at_gap o c p is = record { class = ap (λ r. r.class) is; rank = ap (λ r. r.rank) is }
 
 -- the operation is an enqueue, a dequeue, or changes nothing, and its position shows which
 data Stands (lives : List Life) (o : Operation) (p : Position) : Type 0 where
   enters : (i : ℕ) (life : Life) → slice_get lives i ≡ Some life → enqueue_of life ≡ o → p ≡ enqueue_position lives i → Stands lives o p
   leaves : (i : ℕ) (life : Life) → slice_get lives i ≡ Some life → dequeue_of life ≡ Some o → p ≡ dequeue_position lives i → Stands lives o p
-  idles : IsIdleAt o p → Stands lives o p
+  noops : IsNoopAt o p → Stands lives o p
 
 stands_as : (operations : List Operation) (lives : List Life) (o : Operation) (k : OpKind) (p : Position) → IsPositionFor operations lives o k p
     → Stands lives o p
 stands_as operations lives o (Enq v) p at = enters at.0 at.1 at.2 at.3 at.4
 stands_as operations lives o (Deq v) p at = leaves at.0 at.1 at.2 at.3 at.4
-stands_as operations lives o Empty p at = idles (idle_at_gap o at.0 p at.2)
-stands_as operations lives o (Not v) p at = idles (idle_at_gap o o.call p at)
+stands_as operations lives o Empty p at = noops (noop_at_gap o at.0 p at.2)
+stands_as operations lives o (Not v) p at = noops (noop_at_gap o o.call p at)
 
 -- what stands in two equal options is equal
 pub some_injective : {x y : Operation} → ◌≡◌ {A = Option Operation} (Some x) (Some y) → x ≡ y
@@ -177,22 +177,22 @@ one_operation_at operations lives x y p clear in_x in_y (enters i a at_a of_a is
     sym of_a ∙ ap enqueue_of one ∙ of_b
 one_operation_at operations lives x y p clear in_x in_y (enters i a at_a of_a is_a) (leaves j b at_b of_b is_b) =
     absurd (enqueue_is_no_dequeue (length lives) (enqueue_gap lives) (dequeue_gap lives) (are_gaps lives) i j (sym is_a ∙ is_b))
-one_operation_at operations lives x y p clear in_x in_y (enters i a at_a of_a is_a) (idles idle) =
-    absurd (idle_is_no_enqueue (length lives) (enqueue_gap lives) (dequeue_gap lives) (are_gaps lives) p i idle.class is_a)
+one_operation_at operations lives x y p clear in_x in_y (enters i a at_a of_a is_a) (noops noop) =
+    absurd (noop_is_no_enqueue (length lives) (enqueue_gap lives) (dequeue_gap lives) (are_gaps lives) p i noop.class is_a)
 one_operation_at operations lives x y p clear in_x in_y (leaves i a at_a of_a is_a) (enters j b at_b of_b is_b) =
     absurd (enqueue_is_no_dequeue (length lives) (enqueue_gap lives) (dequeue_gap lives) (are_gaps lives) j i (sym is_b ∙ is_a))
 one_operation_at operations lives x y p clear in_x in_y (leaves i a at_a of_a is_a) (leaves j b at_b of_b is_b) =
     let places : i ≡ j = ap (λ r. r.rank) (sym is_a ∙ is_b) in
     let one = one_at lives j a b (subst (λ k. slice_get lives k ≡ Some a) places at_a) at_b in
     some_injective (sym of_a ∙ ap dequeue_of one ∙ of_b)
-one_operation_at operations lives x y p clear in_x in_y (leaves i a at_a of_a is_a) (idles idle) =
-    absurd (idle_is_no_dequeue (length lives) (enqueue_gap lives) (dequeue_gap lives) (are_gaps lives) p i idle.class is_a)
-one_operation_at operations lives x y p clear in_x in_y (idles idle) (enters j b at_b of_b is_b) =
-    absurd (idle_is_no_enqueue (length lives) (enqueue_gap lives) (dequeue_gap lives) (are_gaps lives) p j idle.class is_b)
-one_operation_at operations lives x y p clear in_x in_y (idles idle) (leaves j b at_b of_b is_b) =
-    absurd (idle_is_no_dequeue (length lives) (enqueue_gap lives) (dequeue_gap lives) (are_gaps lives) p j idle.class is_b)
-one_operation_at operations lives x y p clear in_x in_y (idles idle_x) (idles idle_y) =
-    same_call operations x y clear.complete in_x in_y (sym idle_x.rank ∙ idle_y.rank)
+one_operation_at operations lives x y p clear in_x in_y (leaves i a at_a of_a is_a) (noops noop) =
+    absurd (noop_is_no_dequeue (length lives) (enqueue_gap lives) (dequeue_gap lives) (are_gaps lives) p i noop.class is_a)
+one_operation_at operations lives x y p clear in_x in_y (noops noop) (enters j b at_b of_b is_b) =
+    absurd (noop_is_no_enqueue (length lives) (enqueue_gap lives) (dequeue_gap lives) (are_gaps lives) p j noop.class is_b)
+one_operation_at operations lives x y p clear in_x in_y (noops noop) (leaves j b at_b of_b is_b) =
+    absurd (noop_is_no_dequeue (length lives) (enqueue_gap lives) (dequeue_gap lives) (are_gaps lives) p j noop.class is_b)
+one_operation_at operations lives x y p clear in_x in_y (noops noop_x) (noops noop_y) =
+    same_call operations x y clear.complete in_x in_y (sym noop_x.rank ∙ noop_y.rank)
 
 -- one operation has a position
 pub one_operation : (operations : List Operation) (lives : List Life) (x y : Operation) (p : Position) → IsClear operations → Contains operations x

@@ -2,7 +2,7 @@
 use Rattle.std.proofs.Common.{◌≡◌, ℕ, ◌<◌, ◌≤◌, ◌⊎◌, List, [], ◌∷◌, ap, subst, inl, inr, arith}
 use Rattle.std.specs.Prelude.{nat_lt, if◌then◌else◌, ⊤}
 use Rattle.std.proofs.lemmas.Bool.Decides.{nat_tests}
-use Rattle.linearizer.specs.Order.{Position, StandsBefore, earlier_dequeues, idle_answers, enqueues, other_dequeues}
+use Rattle.linearizer.specs.Order.{Position, StandsBefore, earlier_dequeues, noop_answers, enqueues, other_dequeues}
 
 -- the position stands before each of these
 abbrev pub BeforeAll : Position → List Position → Type 0
@@ -104,12 +104,12 @@ module _ (n : ℕ) (enter leave : ℕ → ℕ) (gaps : AreGaps n enter leave) wh
       let classes : 2 ≡ (dequeue_at enter leave j).class = ap (λ p. p.class) same in
       elim (class_of enter leave j) [ inl early ↦ absurd (omega (arith, early.1)) | inr late ↦ absurd (omega (arith, late.1)) ]
 
-  -- the position of an idle answer is that of no enqueue
-  pub idle_is_no_enqueue : (p : Position) (i : ℕ) → p.class ≡ idle_answers → ¬ (p ≡ enqueue_at enter i)
-  idle_is_no_enqueue p i idle same = let classes : p.class ≡ 2 = ap (λ p. p.class) same in omega arith
+  -- the position of an no-op is that of no enqueue
+  pub noop_is_no_enqueue : (p : Position) (i : ℕ) → p.class ≡ noop_answers → ¬ (p ≡ enqueue_at enter i)
+  noop_is_no_enqueue p i noop same = let classes : p.class ≡ 2 = ap (λ p. p.class) same in omega arith
 
-  -- the position of an idle answer is that of no dequeue
-  pub idle_is_no_dequeue : (p : Position) (i : ℕ) → p.class ≡ idle_answers → ¬ (p ≡ dequeue_at enter leave i)
-  idle_is_no_dequeue p i idle same =
+  -- the position of an no-op is that of no dequeue
+  pub noop_is_no_dequeue : (p : Position) (i : ℕ) → p.class ≡ noop_answers → ¬ (p ≡ dequeue_at enter leave i)
+  noop_is_no_dequeue p i noop same =
       let classes : p.class ≡ (dequeue_at enter leave i).class = ap (λ p. p.class) same in
       elim (class_of enter leave i) [ inl early ↦ absurd (omega (arith, early.1)) | inr late ↦ absurd (omega (arith, late.1)) ]

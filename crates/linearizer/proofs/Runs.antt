@@ -7,18 +7,18 @@ use Rattle.std.proofs.lemmas.Bool.{eq-eqb}
 use Rattle.history_merge.specs.declared.operation.OpKind.{OpKind}
 use Rattle.history_merge.specs.declared.operation.OpKind.TheVariants.{Enq, Deq, Empty, Not}
 use Rattle.history_merge.specs.Queue.{IsAccepted}
-use Rattle.linearizer.specs.Order.{Position, StandsBefore, idle_answers}
+use Rattle.linearizer.specs.Order.{Position, StandsBefore, noop_answers}
 use Rattle.linearizer.proofs.Rising.{Among, AreGaps, BeforeAll, Rises, before_one, by_class, by_gap, class_of, dequeue_at, dequeues_rise, enqueue_at}
-use Rattle.linearizer.proofs.Rising.{enqueue_is_no_dequeue, enqueued_before_dequeued, enqueues_rise, idle_is_no_dequeue, idle_is_no_enqueue, not_both}
+use Rattle.linearizer.proofs.Rising.{enqueue_is_no_dequeue, enqueued_before_dequeued, enqueues_rise, noop_is_no_dequeue, noop_is_no_enqueue, not_both}
 use Rattle.linearizer.proofs.Rising.{not_itself}
 
 -- what an operation of the run does, and where it stands: of n values the i-th holds v, and some are dequeued
 abbrev pub IsItem : (n : ℕ) → (enter leave : ℕ → ℕ) → (ℕ → ℕ → Type 0) → (ℕ → Type 0) → OpKind → Position → Type 0
 IsItem n enter leave Holds Leaves (Enq v) position = (i : ℕ) × (i < n) × Holds i v × (position ≡ enqueue_at enter i)
 IsItem n enter leave Holds Leaves (Deq v) position = (i : ℕ) × (i < n) × Holds i v × Leaves i × (position ≡ dequeue_at enter leave i)
-IsItem n enter leave Holds Leaves Empty position = (position.class ≡ idle_answers)
+IsItem n enter leave Holds Leaves Empty position = (position.class ≡ noop_answers)
     × ((i : ℕ) → i < n → enter i < position.gap → (leave i ≤ position.gap) × Leaves i)
-IsItem n enter leave Holds Leaves (Not v) position = position.class ≡ idle_answers
+IsItem n enter leave Holds Leaves (Not v) position = position.class ≡ noop_answers
 
 -- between two operations of the run: d values have been dequeued, and of e values enqueued the others are in the queue
 record IsBetween (n : ℕ) (enter leave : ℕ → ℕ) (Holds : ℕ → ℕ → Type 0) (Leaves : ℕ → Type 0) (e d : ℕ) (queue : List ℕ)
@@ -106,17 +106,17 @@ module _ (n : ℕ) (enter leave : ℕ → ℕ) (gaps : AreGaps n enter leave) (H
             let before : StandsBefore (enqueue_at enter d) x = (state.enqueues_gone d below).0 in
             let entered : enter d < x.gap = gap_below before is.0 in
             let gone = is.1 d (omega arith) entered in
-            let there = past_first (dequeue_at enter leave d) x xs (idle_is_no_dequeue n enter leave gaps x d is.0)
+            let there = past_first (dequeue_at enter leave d) x xs (noop_is_no_dequeue n enter leave gaps x d is.0)
             (state.dequeues_left d (omega arith) (omega arith) gone.1) in
             let after = before_one x (dequeue_at enter leave d) xs rises there in
             absurd (not_both (dequeue_at enter leave d) x (left_before entered gone.0 is.0) after)
       ]
     where
-      gap_below : StandsBefore (enqueue_at enter d) x → x.class ≡ idle_answers → enter d < x.gap
-      gap_below before idle = grind arith
+      gap_below : StandsBefore (enqueue_at enter d) x → x.class ≡ noop_answers → enter d < x.gap
+      gap_below before noop = grind arith
 
-      left_before : enter d < x.gap → leave d ≤ x.gap → x.class ≡ idle_answers → StandsBefore (dequeue_at enter leave d) x
-      left_before entered left idle =
+      left_before : enter d < x.gap → leave d ≤ x.gap → x.class ≡ noop_answers → StandsBefore (dequeue_at enter leave d) x
+      left_before entered left noop =
           elim (class_of enter leave d) [
             | inl early ↦ by_class (dequeue_at enter leave d) x left (omega (arith, early.1))
             | inr late ↦ by_gap (dequeue_at enter leave d) x (omega (arith, late.0))
@@ -172,17 +172,17 @@ module _ (n : ℕ) (enter leave : ℕ → ℕ) (gaps : AreGaps n enter leave) (H
           let order : (i < d) ⊎ (d ≡ i) = grind arith in
           elim order [ inl less ↦ (state.dequeues_gone i less).1 | inr same ↦ subst (λ p. BeforeAll p xs) (is ∙ ap (dequeue_at enter leave) same) rises ]
 
-  after_idle : (e d : ℕ) (queue : List ℕ) (x : Position) (xs : List Position) → IsBetween n enter leave Holds Leaves e d queue (x ∷ xs)
-      → x.class ≡ idle_answers → IsBetween n enter leave Holds Leaves e d queue xs
-  after_idle e d queue x xs state idle = record {
+  after_noop : (e d : ℕ) (queue : List ℕ) (x : Position) (xs : List Position) → IsBetween n enter leave Holds Leaves e d queue (x ∷ xs)
+      → x.class ≡ noop_answers → IsBetween n enter leave Holds Leaves e d queue xs
+  after_noop e d queue x xs state noop = record {
     in_order = state.in_order;
     within = state.within;
     long = state.long;
     queued = state.queued;
     enqueues_gone = λ i below. (state.enqueues_gone i below).1;
-    enqueues_left = λ i above below. past_first (enqueue_at enter i) x xs (idle_is_no_enqueue n enter leave gaps x i idle) (state.enqueues_left i above below);
+    enqueues_left = λ i above below. past_first (enqueue_at enter i) x xs (noop_is_no_enqueue n enter leave gaps x i noop) (state.enqueues_left i above below);
     dequeues_gone = λ i below. (state.dequeues_gone i below).1;
-    dequeues_left = λ i above below leaves. past_first (dequeue_at enter leave i) x xs (idle_is_no_dequeue n enter leave gaps x i idle)
+    dequeues_left = λ i above below leaves. past_first (dequeue_at enter leave i) x xs (noop_is_no_dequeue n enter leave gaps x i noop)
         (state.dequeues_left i above below leaves);
   }
 
@@ -197,8 +197,8 @@ module _ (n : ℕ) (enter leave : ℕ → ℕ) (gaps : AreGaps n enter leave) (H
       let within : e < n = omega (arith, next, items.0.1) in
       is_accepted kinds xs (suc e) d (queue ++ v ∷ []) items.1 rises.1
       (after_enqueue e d v queue x xs state rises.0 within (subst (λ i. Holds i v) next items.0.2) (items.0.3 ∙ ap (enqueue_at enter) next))
-  is_accepted (Not v ∷ kinds) (x ∷ xs) e d queue items rises state = is_accepted kinds xs e d queue items.1 rises.1 (after_idle e d queue x xs state items.0)
-  is_accepted (Empty ∷ kinds) (x ∷ xs) e d [] items rises state = is_accepted kinds xs e d [] items.1 rises.1 (after_idle e d [] x xs state items.0.0)
+  is_accepted (Not v ∷ kinds) (x ∷ xs) e d queue items rises state = is_accepted kinds xs e d queue items.1 rises.1 (after_noop e d queue x xs state items.0)
+  is_accepted (Empty ∷ kinds) (x ∷ xs) e d [] items rises state = is_accepted kinds xs e d [] items.1 rises.1 (after_noop e d [] x xs state items.0.0)
   is_accepted (Empty ∷ kinds) (x ∷ xs) e d (front ∷ rest) items rises state =
       let gone = all_gone e d (front ∷ rest) x xs state rises.0 state.within items.0 in
       let long : length (front ∷ rest) + d ≡ e = state.long in

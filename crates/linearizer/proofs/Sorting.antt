@@ -5,7 +5,7 @@ use Rattle.std.specs.Ordering.{is_lt, nat_cmp, ordering_then}
 use Rattle.std.proofs.lemmas.Bool.Decides.{nat_tests}
 use Rattle.std.proofs.lemmas.List.Sorted.{ranks_by, sorted_far}
 use Rattle.linearizer.specs.declared.position.Class.{Class}
-use Rattle.linearizer.specs.declared.position.Class.TheVariants.{EarlierDequeue, Idle, Enqueue, OtherDequeue}
+use Rattle.linearizer.specs.declared.position.Class.TheVariants.{EarlierDequeue, Noop, Enqueue, OtherDequeue}
 use Rattle.linearizer.specs.declared.position.Position.{Position as Stored}
 use Rattle.linearizer.specs.declared.position.Placed.{Placed}
 use Rattle.linearizer.specs.contracts.position.ClassOrd.TheImpl as classes
@@ -18,13 +18,13 @@ use Rattle.linearizer.specs.Inner.Placement.{class_number, position_of}
 class_order : (c d : Class) → classes.cmp-value.it c d ≡ nat_cmp (class_number c) (class_number d)
 class_order c d = elim c as (λ c. classes.cmp-value.it c d ≡ nat_cmp (class_number c) (class_number d)) [
   | EarlierDequeue ↦ elim d as (λ d. classes.cmp-value.it EarlierDequeue d ≡ nat_cmp 0 (class_number d))
-      [ EarlierDequeue ↦ refl | Idle ↦ refl | Enqueue ↦ refl | OtherDequeue ↦ refl ]
-  | Idle ↦ elim d as (λ d. classes.cmp-value.it Idle d ≡ nat_cmp 1 (class_number d))
-      [ EarlierDequeue ↦ refl | Idle ↦ refl | Enqueue ↦ refl | OtherDequeue ↦ refl ]
+      [ EarlierDequeue ↦ refl | Noop ↦ refl | Enqueue ↦ refl | OtherDequeue ↦ refl ]
+  | Noop ↦ elim d as (λ d. classes.cmp-value.it Noop d ≡ nat_cmp 1 (class_number d))
+      [ EarlierDequeue ↦ refl | Noop ↦ refl | Enqueue ↦ refl | OtherDequeue ↦ refl ]
   | Enqueue ↦ elim d as (λ d. classes.cmp-value.it Enqueue d ≡ nat_cmp 2 (class_number d))
-      [ EarlierDequeue ↦ refl | Idle ↦ refl | Enqueue ↦ refl | OtherDequeue ↦ refl ]
+      [ EarlierDequeue ↦ refl | Noop ↦ refl | Enqueue ↦ refl | OtherDequeue ↦ refl ]
   | OtherDequeue ↦ elim d as (λ d. classes.cmp-value.it OtherDequeue d ≡ nat_cmp 3 (class_number d))
-      [ EarlierDequeue ↦ refl | Idle ↦ refl | Enqueue ↦ refl | OtherDequeue ↦ refl ]
+      [ EarlierDequeue ↦ refl | Noop ↦ refl | Enqueue ↦ refl | OtherDequeue ↦ refl ]
 ]
 
 before_is_less : (p q : Position) → StandsBefore p q → is_lt (ordering_then (nat_cmp p.gap q.gap)

@@ -22,8 +22,8 @@ abbrev pub earlier_dequeues : ℕ
 earlier_dequeues = 0
 
 -- the class of the empty answers and the refused enqueues
-abbrev pub idle_answers : ℕ
-idle_answers = 1
+abbrev pub noop_answers : ℕ
+noop_answers = 1
 
 -- the class of the accepted enqueues
 abbrev pub enqueues : ℕ
@@ -43,8 +43,8 @@ dequeue_position lives i =
     record { gap = dequeue_gap lives i; class = (if nat_lt (enqueue_gap lives i) (dequeue_gap lives i) then earlier_dequeues else other_dequeues); rank = i }
 
 -- an operation that changes nothing stands at this gap, by its call ticket
-abbrev pub idle_position : Operation → ℕ → Position
-idle_position o c = record { gap = c; class = idle_answers; rank = o.call }
+abbrev pub noop_position : Operation → ℕ → Position
+noop_position o c = record { gap = c; class = noop_answers; rank = o.call }
 
 -- where the operation stands, by what it did
 abbrev pub IsPositionFor : List Operation → List Life → Operation → OpKind → Position → Type 0
@@ -52,8 +52,8 @@ IsPositionFor operations lives o (Enq v) position =
     (i : ℕ) × (life : Life) × (slice_get lives i ≡ Some life) × (enqueue_of life ≡ o) × (position ≡ enqueue_position lives i)
 IsPositionFor operations lives o (Deq v) position =
     (i : ℕ) × (life : Life) × (slice_get lives i ≡ Some life) × (dequeue_of life ≡ Some o) × (position ≡ dequeue_position lives i)
-IsPositionFor operations lives o Empty position = (c : ℕ) × IsLeastFreeGap operations o c × (position ≡ idle_position o c)
-IsPositionFor operations lives o (Not v) position = position ≡ idle_position o o.call
+IsPositionFor operations lives o Empty position = (c : ℕ) × IsLeastFreeGap operations o c × (position ≡ noop_position o c)
+IsPositionFor operations lives o (Not v) position = position ≡ noop_position o o.call
 
 -- where the operation stands
 abbrev pub IsPositionOf : List Operation → List Life → Operation → Position → Type 0

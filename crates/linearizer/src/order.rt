@@ -7,7 +7,7 @@ ghost use Rattle.value_match.specs.Violations.{NoOrderViolation};
 ghost use Rattle.linearizer.specs.Order.{AreChosenAndLegal, AreChosenAndLegalFrom, AreLeastFreeGapsFrom};
 
 use crate::ordered_values::OrderedValues;
-use crate::placing::{idles_of, merge};
+use crate::placing::{merge, noops_of};
 use history_merge::OpId;
 use std::alloc::{AllocError, Global};
 use value_match::{FilledMatching, Matching};
@@ -53,8 +53,8 @@ fn order_in_filled(
     requires least_free_gaps { AreLeastFreeGaps matching.now gaps.now }
     ensures { IfOk result (λ places. AreChosenAndLegal matching.now places.items) }
 {
-    let idles = idles_of(alloc, matching, gaps)?;
-    merge(alloc, matching, values, &idles)
+    let noops = noops_of(alloc, matching, gaps)?;
+    merge(alloc, matching, values, &noops)
 }
 
 /// The gaps by the clocks of the filled history.

@@ -5,8 +5,8 @@ ghost use Rattle.value_match.specs.declared.life.Life.{Life};
 ghost use Rattle.value_match.specs.Lives.{AreLeastFreeGaps, is_empty_answer, is_refused};
 ghost use Rattle.value_match.specs.Violations.{IsClear};
 ghost use Rattle.linearizer.specs.Order.{StandsBefore};
-ghost use Rattle.linearizer.specs.Inner.Placement.{Adds, AreEnqueueGaps, HoldsIdles, IsOrderOfPlaces, NeverFall, lives_at, position_of};
-ghost use Rattle.linearizer.specs.Inner.Merging.{IsDequeueFrom, IsEnqueueFrom, IsIdleFrom, IsMerge, IsMergedUpTo, IsValueFrom, NoneBelow};
+ghost use Rattle.linearizer.specs.Inner.Placement.{Adds, AreEnqueueGaps, HoldsNoops, IsOrderOfPlaces, NeverFall, lives_at, position_of};
+ghost use Rattle.linearizer.specs.Inner.Merging.{IsDequeueFrom, IsEnqueueFrom, IsNoopFrom, IsMerge, IsMergedUpTo, IsValueFrom, NoneBelow};
 
 use crate::ordered_values::OrderedValues;
 use crate::position::{Placed, Position};
@@ -16,33 +16,33 @@ use value_match::{FilledMatching, NEVER};
 
 /// The operations by rising position.
 ///
-/// The enqueues rise, the dequeues do, and the idle operations are sorted: the three lists are merged.
+/// The enqueues rise, the dequeues do, and the no-ops are sorted: the three lists are merged.
 pub(crate) fn merge(
     alloc: Global,
     matching: &FilledMatching,
     values: &OrderedValues,
-    idles: &[Placed],
+    noops: &[Placed],
 ) -> Result<Vec<OpId>, AllocError>
     requires values { values.now ≡ matching.now }
-    requires idles { NeverFall idles.now }
+    requires noops { NeverFall noops.now }
     ensures clear { IsClear matching.now }
-    ensures merged { IfOk result (λ places. IsMerge matching.now idles.now places.items) }
+    ensures merged { IfOk result (λ places. IsMerge matching.now noops.now places.items) }
 {
     let (order, gaps) = values.parts();
     let mut places = Vec::with_capacity(alloc, matching.operations().len())?;
-    let mut so_far = place_enqueues(&mut places, matching, order, gaps, idles)?;
-    place_dequeues(&mut places, &mut so_far, matching, order, gaps, idles, None)?;
-    place_idles(&mut places, &mut so_far.idles, idles, None)?;
+    let mut so_far = place_enqueues(&mut places, matching, order, gaps, noops)?;
+    place_dequeues(&mut places, &mut so_far, matching, order, gaps, noops, None)?;
+    place_noops(&mut places, &mut so_far.noops, noops, None)?;
     Ok(places)
 }
 
 /// How many values of the order had their dequeues placed, and the time from which all of these can have left; and how
-/// many idle operations were placed.
+/// many no-ops were placed.
 #[derive(Clone, Copy)]
 pub(crate) struct Merged {
     pub(crate) dequeues: usize,
     pub(crate) left: u64,
-    pub(crate) idles: usize,
+    pub(crate) noops: usize,
 }
 
 /// The gap of the enqueue of each value, in the order of the values.
@@ -70,50 +70,50 @@ fn place_enqueues(
     matching: &FilledMatching,
     order: &[usize],
     gaps: &[u64],
-    idles: &[Placed],
+    noops: &[Placed],
 ) -> Result<Merged, AllocError>
     requires none { places.old.items ≡ [] }
     requires order { IsOrderOfPlaces matching.now order.now }
     requires gaps { AreEnqueueGaps (lives_at matching.now order.now) gaps.now }
-    requires idles { NeverFall idles.now }
-    ensures { IfOk result (λ so_far. IsMergedUpTo matching.now (lives_at matching.now order.now) idles.now (length order.now)
-        so_far.dequeues so_far.left so_far.idles places.new.items) }
+    requires noops { NeverFall noops.now }
+    ensures { IfOk result (λ so_far. IsMergedUpTo matching.now (lives_at matching.now order.now) noops.now (length order.now)
+        so_far.dequeues so_far.left so_far.noops places.new.items) }
 {
     let values = matching.values();
     let mut so_far = Merged {
         dequeues: 0,
         left: 0,
-        idles: 0,
+        noops: 0,
     };
     for (rank, place) in order.iter().enumerate() {
         let enqueue = Placed::enqueue(values.get(*place).enqueue, gaps[rank], rank);
         let before = Some(enqueue.position);
-        place_dequeues(places, &mut so_far, matching, order, gaps, idles, before)?;
-        place_idles(places, &mut so_far.idles, idles, before)?;
+        place_dequeues(places, &mut so_far, matching, order, gaps, noops, before)?;
+        place_noops(places, &mut so_far.noops, noops, before)?;
         places.push(enqueue.operation)?;
     }
     Ok(so_far)
 }
 
 /// Adds the next dequeues in the order of the values, up to the first that stands after this position, if one is given;
-/// each after the idle operations that stand before it.
+/// each after the no-ops that stand before it.
 fn place_dequeues(
     places: &mut Vec<OpId>,
     so_far: &mut Merged,
     matching: &FilledMatching,
     order: &[usize],
     gaps: &[u64],
-    idles: &[Placed],
+    noops: &[Placed],
     before: Option<Position>,
 ) -> Result<(), AllocError>
     requires order { IsOrderOfPlaces matching.now order.now }
     requires gaps { AreEnqueueGaps (lives_at matching.now order.now) gaps.now }
-    requires idles { NeverFall idles.now }
+    requires noops { NeverFall noops.now }
     ensures adds { OnOk result ((i : ℕ) → NoneBelow (IsEnqueueFrom (lives_at matching.now order.now) i) before
-        → IsMergedUpTo matching.now (lives_at matching.now order.now) idles.now i so_far.old.dequeues so_far.old.left so_far.old.idles places.old.items
-        → IsMergedUpTo matching.now (lives_at matching.now order.now) idles.now i so_far.new.dequeues so_far.new.left so_far.new.idles places.new.items) }
+        → IsMergedUpTo matching.now (lives_at matching.now order.now) noops.now i so_far.old.dequeues so_far.old.left so_far.old.noops places.old.items
+        → IsMergedUpTo matching.now (lives_at matching.now order.now) noops.now i so_far.new.dequeues so_far.new.left so_far.new.noops places.new.items) }
     ensures up_to { OnOk result ((i : ℕ) → NoneBelow (IsEnqueueFrom (lives_at matching.now order.now) i) before
-        → IsMergedUpTo matching.now (lives_at matching.now order.now) idles.now i so_far.old.dequeues so_far.old.left so_far.old.idles places.old.items
+        → IsMergedUpTo matching.now (lives_at matching.now order.now) noops.now i so_far.old.dequeues so_far.old.left so_far.old.noops places.old.items
         → NoneBelow (IsDequeueFrom (lives_at matching.now order.now) so_far.new.dequeues) before) }
 {
     let values = matching.values();
@@ -127,37 +127,37 @@ fn place_dequeues(
             if stands_after(&dequeue, before) {
                 return Ok(());
             }
-            place_idles(places, &mut so_far.idles, idles, Some(dequeue.position))?;
+            place_noops(places, &mut so_far.noops, noops, Some(dequeue.position))?;
             places.push(dequeue.operation)?;
         }
         *so_far = Merged {
             dequeues: rank + 1,
             left,
-            idles: so_far.idles,
+            noops: so_far.noops,
         };
     }
     Ok(())
 }
 
-/// Adds the next idle operations, up to the first that stands after this position, if one is given.
-fn place_idles(
+/// Adds the next no-ops, up to the first that stands after this position, if one is given.
+fn place_noops(
     places: &mut Vec<OpId>,
     count: &mut usize,
-    idles: &[Placed],
+    noops: &[Placed],
     before: Option<Position>,
 ) -> Result<(), AllocError>
-    requires { NeverFall idles.now }
+    requires { NeverFall noops.now }
     ensures adds { OnOk result ((operations : List Operation) (lives : List Life) (i j left : ℕ) → NoneBelow (IsValueFrom lives i j) before
-        → IsMergedUpTo operations lives idles.now i j left count.old places.old.items
-        → IsMergedUpTo operations lives idles.now i j left count.new places.new.items) }
-    ensures up_to { OnOk result (NoneBelow (IsIdleFrom idles.now count.new) before) }
+        → IsMergedUpTo operations lives noops.now i j left count.old places.old.items
+        → IsMergedUpTo operations lives noops.now i j left count.new places.new.items) }
+    ensures up_to { OnOk result (NoneBelow (IsNoopFrom noops.now count.new) before) }
 {
-    while *count < idles.len() {
-        let idle = idles[*count];
-        if stands_after(&idle, before) {
+    while *count < noops.len() {
+        let noop = noops[*count];
+        if stands_after(&noop, before) {
             return Ok(());
         }
-        places.push(idle.operation)?;
+        places.push(noop.operation)?;
         *count += 1;
     }
     Ok(())
@@ -174,20 +174,20 @@ fn stands_after(placed: &Placed, position: Option<Position>) -> bool
 }
 
 /// The empty answers and the refused enqueues, by rising position.
-pub(crate) fn idles_of(
+pub(crate) fn noops_of(
     alloc: Global,
     matching: &FilledMatching,
     gaps: &[u64],
 ) -> Result<Vec<Placed>, AllocError>
     requires { AreLeastFreeGaps matching.now gaps.now }
-    ensures { IfOk result (λ idles. HoldsIdles matching.now idles.items) }
+    ensures { IfOk result (λ noops. HoldsNoops matching.now noops.items) }
 {
     let count = gaps.len().saturating_add(matching.refused().len());
-    let mut idles = Vec::with_capacity(alloc, count)?;
-    place_empties(&mut idles, matching, gaps)?;
-    place_refused(&mut idles, matching)?;
-    idles.sort_by_key(|idle| idle.position)?;
-    Ok(idles)
+    let mut noops = Vec::with_capacity(alloc, count)?;
+    place_empties(&mut noops, matching, gaps)?;
+    place_refused(&mut noops, matching)?;
+    noops.sort_by_key(|noop| noop.position)?;
+    Ok(noops)
 }
 
 /// Adds the empty answers.
@@ -203,7 +203,7 @@ fn place_empties(
     let operations = matching.operations();
     for (id, gap) in matching.empties().iter().zip(gaps) {
         let call = call_at(operations, id.place());
-        placed.push(Placed::idle(*id, *gap, call))?;
+        placed.push(Placed::noop(*id, *gap, call))?;
     }
     Ok(())
 }
@@ -216,7 +216,7 @@ fn place_refused(placed: &mut Vec<Placed>, matching: &FilledMatching) -> Result<
     let operations = matching.operations();
     for id in matching.refused() {
         let call = call_at(operations, id.place());
-        placed.push(Placed::idle(*id, call, call))?;
+        placed.push(Placed::noop(*id, call, call))?;
     }
     Ok(())
 }

@@ -1,5 +1,5 @@
 ghost use Rattle.std.specs.Prelude.{◌≡◌, if◌then◌else◌, nat_lt};
-ghost use Rattle.linearizer.specs.Order.{earlier_dequeues, enqueues, idle_answers, other_dequeues};
+ghost use Rattle.linearizer.specs.Order.{earlier_dequeues, enqueues, noop_answers, other_dequeues};
 
 use history_merge::OpId;
 
@@ -9,7 +9,7 @@ pub(crate) enum Class {
     /// Dequeues of values that were enqueued at an earlier gap.
     EarlierDequeue,
     /// Empty answers and refused enqueues.
-    Idle,
+    Noop,
     /// Enqueues of accepted values.
     Enqueue,
     /// Dequeues of values that were enqueued at this gap.
@@ -71,10 +71,10 @@ impl Placed {
     }
 
     /// An operation that changes nothing.
-    pub(crate) fn idle(operation: OpId, gap: u64, call: u64) -> Placed
+    pub(crate) fn noop(operation: OpId, gap: u64, call: u64) -> Placed
         ensures operation { result.operation ≡ operation }
-        ensures position { position_of result.position ≡ record { gap = gap; class = idle_answers; rank = call } }
+        ensures position { position_of result.position ≡ record { gap = gap; class = noop_answers; rank = call } }
     {
-        Placed::at(operation, gap, Class::Idle, call)
+        Placed::at(operation, gap, Class::Noop, call)
     }
 }

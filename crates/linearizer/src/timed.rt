@@ -2,7 +2,7 @@ ghost use Rattle.std.specs.Prelude.{◌≡◌, ◌<◌, All, Contains, IfOk, len
 ghost use Rattle.linearizer.specs.Inner.Sweep.{AreByTime, IsFirstLeft, IsLeft, IsTaken, time_at};
 
 use std::alloc::{AllocError, Global};
-use value_match::{Life, Values, settle};
+use value_match::{Life, Values, presort};
 
 /// A value by its place, and one of its times.
 #[derive(Clone, Copy)]
@@ -45,7 +45,7 @@ pub(crate) fn by_time(
         let time = moment.of(&value.life);
         entries.push(Timed { time, place })?;
     }
-    settle(&mut entries, &|entry: &Timed| entry.time);
+    presort(&mut entries, &|entry: &Timed| entry.time);
     entries.sort_unstable_by_key(|entry| entry.time);
     Ok(entries)
 }

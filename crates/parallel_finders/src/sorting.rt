@@ -5,7 +5,7 @@ ghost use Rattle.std.specs.List.Sorted.{IsNonDecreasingBy};
 use empty_witness::Span;
 use rayon::prelude::*;
 use std::thread::Threads;
-use value_match::{Front, settle};
+use value_match::{Front, presort};
 
 /// Sorts by rising enqueue return.
 pub fn sort_fronts<R: Threads + Sync>(rt: &R, fronts: &mut Vec<Front>)
@@ -33,7 +33,7 @@ fn sort_by_number<R: Threads + Sync, T: Copy + Send, F: Fn(&T) -> u64 + Copy + S
     ensures permutation { IsPermutation items.old.items items.new.items }
     ensures rises { (n : T → ℕ) → ComputesKey F.FnMut n number → IsNonDecreasingBy n items.new.items }
 {
-    settle(items, &number);
+    presort(items, &number);
     if !items.is_sorted_by_key(number) {
         par_sort_unstable_by_key(rt, items.as_mut_slice(), number);
     }

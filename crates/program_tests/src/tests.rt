@@ -11,16 +11,17 @@ mod stressing;
 mod words;
 mod writing;
 
-use commands::{Shelved, Terminals, run_command};
+use commands::{NamedQueue, Terminals, run_command};
 use history_text::{MemorySource, TextSink, TextSource, Watched};
 use std::alloc::AllocError;
 use std::io;
+use std::sync::Wait;
 use std::thread::Threads;
 
 /// The status of a run of the program without queues that writes to this sink, to which nothing was written before.
 fn run_on<'a, R, S, W>(rt: &R, words: &'a [&'a str], source: S, writer: &mut W) -> u8
 where
-    R: AllocGlobal + Threads + Sync,
+    R: AllocGlobal + Threads + Wait + Sync,
     S: TextSource + Drop,
     W: TextSink,
     requires { W.has_refused writer.old ≡ false }
@@ -30,11 +31,11 @@ where
 }
 
 /// What a run of the program writes, and its status. Out of memory is an error of its own.
-fn run<'a, R: AllocGlobal + Threads + Sync, S: TextSource + Drop>(
+fn run<'a, R: AllocGlobal + Threads + Wait + Sync, S: TextSource + Drop>(
     rt: &R,
     words: &'a [&'a str],
     source: S,
-    shelf: &[Shelved<'a>],
+    shelf: &[NamedQueue<'a>],
 ) -> Result<(Vec<u8>, u8), AllocError> {
     let mut writer = Watched::new(Vec::new(rt.alloc()));
     let mut errors = Watched::new(io::sink());
@@ -55,11 +56,11 @@ fn run<'a, R: AllocGlobal + Threads + Sync, S: TextSource + Drop>(
 }
 
 /// Whether a run of the program writes this text and ends with this status.
-fn answers<'a, R: AllocGlobal + Threads + Sync, S: TextSource + Drop>(
+fn answers<'a, R: AllocGlobal + Threads + Wait + Sync, S: TextSource + Drop>(
     rt: &R,
     words: &'a [&'a str],
     source: S,
-    shelf: &[Shelved<'a>],
+    shelf: &[NamedQueue<'a>],
     text: &str,
     status: u8,
 ) -> Result<bool, AllocError> {

@@ -8,6 +8,7 @@ mod listed;
 mod machine;
 mod plans;
 mod playing;
+mod proved;
 mod questions;
 mod queues;
 mod rings;

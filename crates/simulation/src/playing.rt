@@ -8,7 +8,7 @@ ghost use Rattle.recorder_core.specs.After.{IsAfter};
 ghost use Rattle.recorder_core.specs.Laws.{collected_in};
 ghost use Rattle.simulation.specs.Simulations.{tried, schedule_of, rejections, EndsSo};
 
-use event_records::{Event, Listed, Lists};
+use event_records::{Event, Lists, OwnedSlice};
 use recorder_core::{Machine, Step, StepRefused};
 use std::alloc::{AllocError, Global};
 
@@ -20,7 +20,7 @@ pub struct Rejection {
 }
 
 /// The refused steps of a schedule in order, seen as a list.
-pub type Rejections = Listed<Rejection>;
+pub type Rejections = OwnedSlice<Rejection>;
 
 /// What the machine is after the last step of a schedule.
 #[derive(Debug, Drop)]

@@ -8,6 +8,7 @@ use Rattle.std.proofs.lemmas.List.Sums.{sum_by-append, sum_by-cons}
 use Rattle.std.proofs.lemmas.List.Sorted.{IsPermutation-refl, IsPermutation-trans, IsPermutation-append}
 use Rattle.std.proofs.lemmas.Grind.{flat_map-append}
 use Rattle.tickets.specs.Views.{PassView}
+use Rattle.tickets.specs.declared.note.Note.{Note}
 use Rattle.event_rings.specs.Ring.{TokenView}
 use Rattle.stress_run.specs.Workers.{WorkerView}
 use Rattle.stress_run.specs.Crew.{IsFaultOfWorker, IsNotAfterStall, token_of}
@@ -25,14 +26,15 @@ closed_none rest = record {
   key = refl;
   left = omega arith;
   drawn = subst (λ l. IsPermutation l rest.drawn) (sym (append-nil rest.drawn)) (IsPermutation-refl rest.drawn);
+  noted = sym (append-nil rest.noted);
 }
 
 -- one worker more is closed
 pub closed_more : (rest : PassView) (workers : List WorkerView) (tokens : List TokenView) (pass : PassView) (w : WorkerView)
     (tokens' : List TokenView) (pass' : PassView)
     → AreClosed rest workers tokens pass → w.stopped ≡ false → tokens' ≡ tokens ++ token_of w ∷ [] → pass'.key ≡ pass.key → pass'.left ≡ pass.left + w.pass.left
-    → IsPermutation (pass.drawn ++ w.pass.drawn) pass'.drawn → AreClosed rest (workers ++ w ∷ []) tokens' pass'
-closed_more rest workers tokens pass w tokens' pass' p runs token key left drawn = record {
+    → IsPermutation (pass.drawn ++ w.pass.drawn) pass'.drawn → pass'.noted ≡ pass.noted ++ w.pass.noted → AreClosed rest (workers ++ w ∷ []) tokens' pass'
+closed_more rest workers tokens pass w tokens' pass' p runs token key left drawn noted = record {
   running = All-push (λ (v : WorkerView). v.stopped ≡ false) workers w p.running runs;
   tokens_are = token ∙ ap (λ l. l ++ token_of w ∷ []) p.tokens_are ∙ sym (map-append token_of workers (w ∷ []));
   key = key ∙ p.key;
@@ -40,6 +42,7 @@ closed_more rest workers tokens pass w tokens' pass' p runs token key left drawn
   drawn = subst (λ l. IsPermutation l pass'.drawn) (sym all) (IsPermutation-trans ((rest.drawn ++ flat_map drawn_of workers) ++ w.pass.drawn)
       (pass.drawn ++ w.pass.drawn) pass'.drawn (IsPermutation-append
       (rest.drawn ++ flat_map drawn_of workers) pass.drawn w.pass.drawn w.pass.drawn p.drawn (IsPermutation-refl w.pass.drawn)) drawn);
+  noted = noted ∙ ap (λ l. l ++ w.pass.noted) p.noted ∙ sym all_noted;
 }
   where
     left_of : WorkerView → ℕ
@@ -47,6 +50,13 @@ closed_more rest workers tokens pass w tokens' pass' p runs token key left drawn
 
     drawn_of : WorkerView → List ℕ
     drawn_of v = v.pass.drawn
+
+    noted_of : WorkerView → List Note
+    noted_of v = v.pass.noted
+
+    all_noted : rest.noted ++ flat_map noted_of (workers ++ w ∷ []) ≡ (rest.noted ++ flat_map noted_of workers) ++ w.pass.noted
+    all_noted = ap (λ l. rest.noted ++ l) (flat_map-append noted_of workers (w ∷ []) ∙ ap (λ l. flat_map noted_of workers ++ l) (append-nil w.pass.noted))
+        ∙ sym (append_assoc rest.noted (flat_map noted_of workers) w.pass.noted)
 
     all : rest.drawn ++ flat_map drawn_of (workers ++ w ∷ []) ≡ (rest.drawn ++ flat_map drawn_of workers) ++ w.pass.drawn
     all = ap (λ l. rest.drawn ++ l) (flat_map-append drawn_of workers (w ∷ []) ∙ ap (λ l. flat_map drawn_of workers ++ l) (append-nil w.pass.drawn))
@@ -129,14 +139,15 @@ module _ (rest : PassView) (done : List WorkerView) (w : WorkerView) where
       → IfNone fault' (tokens' ≡ tokens ++ token_of w ∷ [])
       → IfNone fault' (pass'.left ≡ pass.left + w.pass.left)
       → IfNone fault' (IsPermutation (pass.drawn ++ w.pass.drawn) pass'.drawn)
+      → IfNone fault' (pass'.noted ≡ pass.noted ++ w.pass.noted)
       → IsClosing rest (done ++ w ∷ []) standing tokens' pass' fault'
-  closing_more standing tokens pass fault tokens' pass' fault' p key not_later stall stands runs token left drawn = record {
+  closing_more standing tokens pass fault tokens' pass' fault' p key not_later stall stands runs token left drawn noted = record {
     closed = at_none fault' _ (λ none.
         let run = none_of fault' _ none runs in
         let was = none_of fault _ run.0 p.closed in (
           was.0,
           closed_more rest done tokens pass w tokens' pass' was.1 run.1 (none_of fault' _ none token) key (none_of fault' _ none left)
-              (none_of fault' _ none drawn),
+              (none_of fault' _ none drawn) (none_of fault' _ none noted),
         ));
     first = still_first standing fault fault' (λ none. (none_of fault _ none p.closed).0) p.first not_later;
     stalls = still_stalls fault fault' (λ none. let was = none_of fault _ none p.closed in was.1.running) p.stalls not_later stall;

@@ -10,7 +10,7 @@ use Rattle.std.proofs.lemmas.Slice.Zip.{AllZip-long}
 use Rattle.std.specs.List.{AllZip}
 use Rattle.std.specs.List.Sorted.{IsStrictlyIncreasing}
 use Rattle.atomic_table.specs.Seated.{TableId}
-use Rattle.tickets.specs.Views.{PassView, share_of, numbers_below}
+use Rattle.tickets.specs.Views.{PassView, fresh_pass, share_of, numbers_below}
 use Rattle.event_records.specs.Question.{Question}
 use Rattle.event_records.specs.declared.kind.Kind.{Kind}
 use Rattle.event_records.specs.declared.kind.Answer.{Answer}
@@ -241,7 +241,7 @@ module _ (key : TableId) (sizes : SizesView) (rows : List (List Kind)) (workers 
         ∙ crew.threads
         ∙ ap numbers_below (sym (ap length are ∙ length-map after token_of ∙ after_long))
 
-    module _ (tokens : List TokenView) (pass : PassView) (closed : AreClosed (record { key = key; left = 0; drawn = [] }) after tokens pass) where
+    module _ (tokens : List TokenView) (pass : PassView) (closed : AreClosed (fresh_pass key 0) after tokens pass) where
       works : (t : ℕ) (a : WorkerView) → t < length rows → IsAt after t a → (p : Past t a) → Works may (row_of rows p.w) p.w a
       works t a h at p =
           let long = after_long in

@@ -3,6 +3,9 @@
 -- Zipped, Places, Made: a crew with one worker more, each at its place.
 -- Finished, Own, Closed, Order: workers that made their rows, tokens at their threads' places, closed rings, the least fault.
 -- Recording: the lists of a run are recorded lists, which replay.
+mod Told
+mod Noting
+mod Accepting
 mod Composed
 mod Once
 mod Zipped

@@ -6,7 +6,7 @@ use Rattle.std.proofs.Math.Seq.{take-suc, drop-cons}
 use Rattle.std.proofs.lemmas.List.{map-append, take_all}
 use Rattle.std.proofs.lemmas.List.Sums.{sum_by-cons}
 use Rattle.atomic_table.specs.Seated.{TableId}
-use Rattle.tickets.specs.Views.{PassView, numbers_below}
+use Rattle.tickets.specs.Views.{PassView, fresh_pass, numbers_below}
 use Rattle.event_records.specs.declared.kind.Kind.{Kind}
 use Rattle.event_rings.specs.Ring.{DrainView}
 use Rattle.stress_run.specs.Workers.{WorkerView}
@@ -20,11 +20,11 @@ pub record IsMaking (key : TableId) (sizes : SizesView) (rows : List (List Kind)
     (ends : List DrainView) : Type 0 where
   pub crew : IsCrew key sizes (take place rows) workers
   pub ends_are : ends ≡ map end_of workers
-  pub rest_is : rest ≡ record { key = key; left = 2 * sum_by length (drop place rows); drawn = [] }
+  pub rest_is : rest ≡ fresh_pass key (2 * sum_by length (drop place rows))
 
 -- no worker is made at first
 pub made_none : (key : TableId) (sizes : SizesView) (rows : List (List Kind)) (rest : PassView) (workers : List WorkerView) (ends : List DrainView)
-    → rest ≡ record { key = key; left = 2 * sum_by length rows; drawn = [] } → workers ≡ [] → ends ≡ [] → IsMaking key sizes rows 0 rest workers ends
+    → rest ≡ fresh_pass key (2 * sum_by length rows) → workers ≡ [] → ends ≡ [] → IsMaking key sizes rows 0 rest workers ends
 made_none key sizes rows rest workers ends is none no_ends = record {
   crew = subst (λ ws. IsCrew key sizes [] ws) (sym none) (record { threads = refl; each = tt });
   ends_are = no_ends ∙ ap (map end_of) (sym none);
@@ -34,10 +34,10 @@ made_none key sizes rows rest workers ends is none no_ends = record {
 -- with a worker for each row the crew is whole, and nothing is left of the pass
 pub made_all : (key : TableId) (sizes : SizesView) (rows : List (List Kind)) (place : ℕ) (rest : PassView) (workers : List WorkerView) (ends : List DrainView)
     → length rows ≤ place → IsMaking key sizes rows place rest workers ends
-    → IsCrew key sizes rows workers × (rest ≡ record { key = key; left = 0; drawn = [] })
+    → IsCrew key sizes rows workers × (rest ≡ fresh_pass key 0)
 made_all key sizes rows place rest workers ends all p = (
   subst (λ rs. IsCrew key sizes rs workers) (take_all place rows all) p.crew,
-  p.rest_is ∙ ap (λ (rs : List (List Kind)). record { key = key; left = 2 * sum_by length rs; drawn = [] }) (drop_of_length-le rows all),
+  p.rest_is ∙ ap (λ (rs : List (List Kind)). fresh_pass key (2 * sum_by length rs)) (drop_of_length-le rows all),
 )
 
 crew_more : (key : TableId) (sizes : SizesView) (rows : List (List Kind)) (workers : List WorkerView) (row : List Kind) (w : WorkerView)
@@ -83,7 +83,7 @@ module _ (key : TableId) (sizes : SizesView) (rows : List (List Kind)) (place : 
         (crew_more key sizes (take place rows) workers row w p.crew new (thread ∙ sym shown)));
     ends_are = more_ends ∙ ap (λ l. l ++ end ∷ []) p.ends_are ∙ ap (λ e. map end_of workers ++ e ∷ []) end_is
         ∙ sym (map-append end_of workers (w ∷ [])) ∙ ap (map end_of) (sym more);
-    rest_is = rest_is ∙ fields rest _ _ (ap (λ (r : PassView). r.key) p.rest_is) (ap (λ (r : PassView). r.drawn) p.rest_is) left;
+    rest_is = rest_is ∙ fields rest _ _ (ap (λ (r : PassView). r.key) p.rest_is) (ap (λ (r : PassView). r.drawn) p.rest_is) (ap (λ (r : PassView). r.noted) p.rest_is) left;
   }
     where
       taken : take (place + 1) rows ≡ take place rows ++ row ∷ []
@@ -99,5 +99,5 @@ module _ (key : TableId) (sizes : SizesView) (rows : List (List Kind)) (place : 
           let same = ap (λ (r : List Kind). length r) is in
           omega (arith, was, sum, same)
 
-      fields : (r : PassView) (m n : ℕ) → r.key ≡ key → r.drawn ≡ [] → m ≡ n → record r { left = m } ≡ record { key = key; left = n; drawn = [] }
-      fields r m n k d e = cc
+      fields : (r : PassView) (m n : ℕ) → r.key ≡ key → r.drawn ≡ [] → r.noted ≡ [] → m ≡ n → record r { left = m } ≡ fresh_pass key n
+      fields r m n k d ns e = cc

@@ -1,11 +1,16 @@
 -- One operation as a worker's whole work.
 use Rattle.std.proofs.Common.{◌≡◌, ℕ, ◌+◌, ◌<◌, ◌≤◌, [], ◌∷◌, ◌++◌, length, All, refl, ap, sym, ◌∙◌, arith, subst, append_assoc, length-append, inl, inr}
 use Rattle.std.proofs.Common.{true, false}
-use Rattle.std.proofs.lemmas.List.Elements.{All-push, All-cons}
+use Rattle.std.proofs.lemmas.List.Elements.{All-push, All-cons, All-head, All-tail, Contains-push}
 use Rattle.std.proofs.lemmas.Bool.{false≢true}
 use Rattle.std.specs.List.Sorted.{IsStrictlyIncreasing}
 use Rattle.stress_run.proofs.Composed.{rising-join, All-left, All-right}
 use Rattle.tickets.specs.Views.{PassView, DrawnView, DrawsOne}
+use Rattle.tickets.specs.Log.{note_at}
+use Rattle.tickets.specs.declared.note.Note.{Note}
+use Rattle.std.proofs.Common.{Bool, List, Some, Contains}
+use Rattle.history_merge.specs.Operations.{kind_of}
+use Rattle.stress_run.specs.Noted.{effect_of, kind_noted, NotesOne, IsNoteOf, AreNotesOf, KeepsNotes}
 use Rattle.std.proofs.Common.{Result, Ok, Err}
 use Rattle.std.specs.Prelude.{IsTrue, OnErr}
 use Rattle.event_records.specs.Question.{Answered, NamerView, Question, call_event, call_what, next_question, return_event, return_what, value_name}
@@ -30,9 +35,9 @@ module _ (may : Question → Answer → Type 0) where
       → (u.thread ≡ w.thread) × (u.ring ≡ w.ring) × (u.asked ≡ w.asked + 1) × (u.sent ≡ w.sent ++ events_of o) × (u.stopped ≡ w.stopped)
       × (u.capacity ≡ w.capacity) × (u.tries ≡ w.tries)
       → DrawsOne w.pass o.question.call p
-      → DrawsOne p o.ret u.pass
+      → (m : List Note) → DrawsOne (record p { noted = m }) o.ret u.pass
       → Works may (k ∷ []) w u
-  works_one k w u o p q of_kind allowed s d e =
+  works_one k w u o p q of_kind allowed s d m e =
       let drawn : u.pass.drawn ≡ w.pass.drawn ++ (o.question.call ∷ o.ret ∷ []) =
       e.drawn ∙ ap (λ l. l ++ o.ret ∷ []) d.drawn ∙ append_assoc w.pass.drawn (o.question.call ∷ []) (o.ret ∷ []) in
       let grown = ap length drawn ∙ length-append w.pass.drawn (o.question.call ∷ o.ret ∷ []) in
@@ -84,9 +89,9 @@ stalls_after : (k : Kind) (w u : WorkerView) (q : Question) (ret : ℕ) (p : Pas
     → u.capacity ≤ length u.sent
     → w.stopped ≡ false
     → DrawsOne w.pass q.call p
-    → DrawsOne p ret u.pass
+    → (m : List Note) → DrawsOne (record p { noted = m }) ret u.pass
     → Stalls k w u
-stalls_after k w u q ret p asked s filled ran d e =
+stalls_after k w u q ret p asked s filled ran d m e =
     let first = ap length d.drawn ∙ length-append w.pass.drawn (q.call ∷ []) in
     let second = ap length e.drawn ∙ length-append p.drawn (ret ∷ []) in
     record {
@@ -133,6 +138,36 @@ pub on_err : {A E : Type 0} (r : Result A E) (P : Type 0) → P → OnErr r P
 on_err (Ok x) P p = tt
 on_err (Err e) P p = p
 
+-- the pass holds the ticket that it drew last
+pub drew_call : (held : List ℕ) (ticket : ℕ) (drawn : List ℕ) (call : ℕ) → drawn ≡ held ++ ticket ∷ [] → call ≡ ticket → Contains drawn call
+drew_call held ticket drawn call grown same =
+    subst (λ (l : List ℕ). Contains l call) (sym grown) (subst (Contains (held ++ ticket ∷ [])) (sym same) (Contains-push held ticket))
+
+-- one note more, of one operation more
+notes_push : (es : List Event) (ns : List Note) (call ret : Event) (n : Note) → AreNotesOf es ns → IsNoteOf call ret n
+    → AreNotesOf (es ++ call ∷ ret ∷ []) (ns ++ n ∷ [])
+notes_push [] [] call ret n h one = (one, tt)
+notes_push [] (x ∷ ns) call ret n h one = absurd h
+notes_push (e ∷ []) ns call ret n h one = absurd h
+notes_push (e ∷ f ∷ es) [] call ret n h one = absurd h
+notes_push (e ∷ f ∷ es) (x ∷ ns) call ret n h one = (h.0, notes_push es ns call ret n h.1 one)
+
+-- what a note says of an answer is what its operation did
+kind_is : (k : Kind) (q : Question) (a : Answer) → IsTrue (answers (call_what k (value_name q.thread q.number)) (return_what a))
+    → kind_of (call_what k (value_name q.thread q.number)) (return_what a) ≡ Some (kind_noted (effect_of q a))
+kind_is Enq q Taken h = refl
+kind_is Enq q Not h = refl
+kind_is Enq q (Got x) h = absurd (false≢true h)
+kind_is Enq q Empty h = absurd (false≢true h)
+kind_is Deq q Taken h = absurd (false≢true h)
+kind_is Deq q Not h = absurd (false≢true h)
+kind_is Deq q (Got x) h = refl
+kind_is Deq q Empty h = refl
+
+all_last : (P : Note → Type 0) (ns : List Note) (n : Note) → All P (ns ++ n ∷ []) → P n
+all_last P [] n all = All-head P n [] all
+all_last P (x ∷ ns) n all = all_last P ns n (All-tail P x (ns ++ n ∷ []) all)
+
 -- a worker that drew a ticket, and sent an event
 abbrev sent_by : PassView → Event → WorkerView → WorkerView
 sent_by p e w = record w { pass = p; sent = w.sent ++ e ∷ [] }
@@ -146,11 +181,11 @@ abbrev stopped_by : PassView → WorkerView → WorkerView
 stopped_by p w = record w { pass = p; stopped = true }
 
 -- a worker opened at `b`, with the namer `n`, that draws, asks, and sends the call, so that it is at `v`; reopened there it draws again
-module _ (k : Kind) (w b v b' u : WorkerView) (n : NamerView) (asked : ℕ) (d : DrawnView) (p r : PassView) (q : Question) (call returned : Event)
+module _ (k : Kind) (w b v b' u : WorkerView) (n : NamerView) (asked : ℕ) (d : DrawnView) (p r : PassView) (q : Question) (call returned : Event) (m : List Note)
     (opened : b ≡ w) (own : (n.thread ≡ b.thread) × (n.asked ≡ b.asked)) (draws : DrawsOne b.pass d.ticket p)
     (asks : (q ≡ next_question n k d) × (call ≡ call_event q) × (asked ≡ n.asked + 1))
     (called : v ≡ called_by p asked call b)
-    (reopened : b' ≡ v) (draws_again : DrawsOne b'.pass returned.ticket r) where
+    (reopened : b' ≡ v) (draws_again : DrawsOne (record b'.pass { noted = m }) returned.ticket r) where
   -- the worker before its second push, by what it was at first
   halfway : b' ≡ called_by p (w.asked + 1) (call_event q) w
   halfway =
@@ -162,8 +197,8 @@ module _ (k : Kind) (w b v b' u : WorkerView) (n : NamerView) (asked : ℕ) (d :
   first_draw : DrawsOne w.pass q.call p
   first_draw = subst (λ x. DrawsOne x.pass q.call p) opened (subst (λ t. DrawsOne b.pass t p) (sym (ap (λ x. x.call) asks.0)) draws)
 
-  second_draw : DrawsOne p returned.ticket r
-  second_draw = subst (λ x. DrawsOne x.pass returned.ticket r) halfway draws_again
+  second_draw : DrawsOne (record p { noted = m }) returned.ticket r
+  second_draw = subst (λ x. DrawsOne (record x.pass { noted = m }) returned.ticket r) halfway draws_again
 
   of_worker : (q.thread ≡ w.thread) × (q.number ≡ w.asked) × (q.kind ≡ k)
   of_worker = (
@@ -196,7 +231,34 @@ module _ (k : Kind) (w b v b' u : WorkerView) (n : NamerView) (asked : ℕ) (d :
         ap (λ x. x.capacity) is,
         ap (λ x. x.tries) is,
       )
-      first_draw (subst (DrawsOne p returned.ticket) (sym (ap (λ x. x.pass) is)) second_draw)
+      first_draw m (subst (DrawsOne (record p { noted = m }) returned.ticket) (sym (ap (λ x. x.pass) is)) second_draw)
+
+  -- it has one note more, if the queue notes its answers
+  pub told_once : (notes : Bool) (a : Answered) → a.question ≡ q → returned ≡ return_event a returned.ticket
+      → IsTrue (answers (call_event a.question).what returned.what) → u ≡ sent_by r returned b'
+      → (notes ≡ true → NotesOne q a.answer b'.pass.noted m) → KeepsNotes notes w u
+  told_once notes a of_question said answers_call ended noted on running kept =
+      let is : u ≡ sent_by r returned (called_by p (w.asked + 1) (call_event q) w) = ended ∙ ap (sent_by r returned) halfway in
+      let one = noted on in
+      let note = note_at q.call (effect_of q a.answer) one.0 in
+      let before : b'.pass.noted ≡ w.pass.noted = ap (λ x. x.pass.noted) halfway ∙ first_draw.noted in
+      let grown : m ≡ w.pass.noted ++ note ∷ [] = one.1 ∙ ap (λ l. l ++ note ∷ []) before in
+      let answered_to : Question → Answered = λ x. record { question = x; answer = a.answer } in
+      let whole : a ≡ answered_to q = ap answered_to of_question in
+      let says : returned ≡ return_event (answered_to q) returned.ticket = said ∙ ap (λ x. return_event x returned.ticket) whole in
+      let is_answer = subst (λ x. IsTrue (answers (call_event x).what returned.what)) of_question answers_call in
+      let past : All (λ n. n.look ≤ returned.ticket) (w.pass.noted ++ note ∷ []) = subst (All (λ n. n.look ≤ returned.ticket)) grown second_draw.past in
+      let all_sent : u.sent ≡ w.sent ++ call_event q ∷ returned ∷ [] = ap (λ x. x.sent) is ∙ append_assoc w.sent (call_event q ∷ []) (returned ∷ []) in
+      let all_noted : u.pass.noted ≡ w.pass.noted ++ note ∷ [] = ap (λ x. x.pass.noted) is ∙ second_draw.noted ∙ grown in
+      let of_it : IsNoteOf (call_event q) returned note = record {
+        called = refl;
+        did = subst (λ (e : Event). kind_of (call_event q).what e.what ≡ Some (kind_noted (effect_of q a.answer))) (sym says)
+            (kind_is q.kind q a.answer (subst (λ (e : Event). IsTrue (answers (call_event q).what e.what)) says is_answer));
+        returned = all_last (λ (n : Note). n.look ≤ returned.ticket) w.pass.noted note past;
+      } in
+      subst (λ (l : List Event). AreNotesOf l u.pass.noted) (sym all_sent)
+      (subst (AreNotesOf (w.sent ++ call_event q ∷ returned ∷ [])) (sym all_noted)
+      (notes_push w.sent w.pass.noted (call_event q) returned note kept of_it))
 
   -- it stalls, if the return finds no room
   pub stalls_once : w.stopped ≡ false → b'.capacity ≤ length b'.sent → u ≡ stopped_by r b' → Stalls k w u
@@ -214,4 +276,4 @@ module _ (k : Kind) (w b v b' u : WorkerView) (n : NamerView) (asked : ℕ) (d :
         ap (λ x. x.tries) is,
       )
       (subst (λ x. x.capacity ≤ length x.sent) (sym is) full)
-      ran first_draw (subst (DrawsOne p returned.ticket) (sym (ap (λ x. x.pass) is)) second_draw)
+      ran first_draw m (subst (DrawsOne (record p { noted = m }) returned.ticket) (sym (ap (λ x. x.pass) is)) second_draw)

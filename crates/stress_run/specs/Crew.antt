@@ -2,7 +2,7 @@
 use Rattle.std.specs.Prelude.{◌≡◌, ℕ, ◌*◌, List, [], length, map, true, false}
 use Rattle.std.specs.List.{AllZip}
 use Rattle.atomic_table.specs.Seated.{TableId}
-use Rattle.tickets.specs.Views.{numbers_below}
+use Rattle.tickets.specs.Views.{fresh_pass, numbers_below}
 use Rattle.event_records.specs.declared.kind.Kind.{Kind}
 use Rattle.event_rings.specs.Ring.{TokenView}
 use Rattle.stress_run.specs.Workers.{WorkerView}
@@ -17,7 +17,7 @@ pub record SizesView : Type 0 where
 
 -- a worker that has a share for this row and a ring and tries of these sizes, and has done nothing yet
 pub record IsNew (key : TableId) (sizes : SizesView) (row : List Kind) (w : WorkerView) : Type 0 where
-  pub pass : w.pass ≡ record { key = key; left = 2 * length row; drawn = [] }
+  pub pass : w.pass ≡ fresh_pass key (2 * length row)
   pub capacity : w.capacity ≡ sizes.ring
   pub tries : w.tries ≡ sizes.tries
   pub asked : w.asked ≡ 0

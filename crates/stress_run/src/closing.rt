@@ -49,6 +49,7 @@ fn keep_closed(
     ensures token { IfNone result.fault (IfOk closed (λ c. result.tokens.items ≡ closing.tokens.items ++ c.0 ∷ [])) }
     ensures left { IfNone result.fault (IfOk closed (λ c. result.pass.left ≡ closing.pass.left + c.1.left)) }
     ensures drawn { IfNone result.fault (IfOk closed (λ c. IsPermutation (closing.pass.drawn ++ c.1.drawn) result.pass.drawn)) }
+    ensures noted { IfNone result.fault (IfOk closed (λ c. result.pass.noted ≡ closing.pass.noted ++ c.1.noted)) }
 {
     let Closing {
         mut tokens,
@@ -83,6 +84,7 @@ fn close_one(tickets: &Tickets, closing: Closing, worker: Worker) -> Closing
     ensures token { IfNone result.fault (result.tokens.items ≡ closing.tokens.items ++ token_of worker ∷ []) }
     ensures left { IfNone result.fault (result.pass.left ≡ closing.pass.left + worker.pass.left) }
     ensures drawn { IfNone result.fault (IsPermutation (closing.pass.drawn ++ worker.pass.drawn) result.pass.drawn) }
+    ensures noted { IfNone result.fault (result.pass.noted ≡ closing.pass.noted ++ worker.pass.noted) }
 {
     let thread = worker.thread();
     let mut closing = closing;

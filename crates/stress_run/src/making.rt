@@ -1,5 +1,6 @@
 // The workers of a run, each with its thread, its share of the tickets and its ring.
 ghost use Rattle.std.specs.Prelude.{◌≡◌, ◌-◌, ◌*◌, ◌≤◌, ◌<◌, ◌↔◌, [], length, map, sum_by, IfOk, IsSome, IfSome};
+ghost use Rattle.tickets.specs.Views.{fresh_pass};
 ghost use Rattle.workloads.specs.Plans.{IsPlan};
 ghost use Rattle.event_records.specs.declared.limits.TheConstants.{MAX_RING, MAX_THREAD_OPERATIONS, MAX_THREADS};
 ghost use Rattle.stress_run.specs.Crew.{IsNew, IsCrew};
@@ -107,10 +108,10 @@ pub(crate) fn make_crew(
     sizes: Sizes,
 ) -> Result<Crew, AllocError>
     requires plan { IsPlan rows.now }
-    requires pass { pass ≡ record { key = tickets.now.key; left = 2 * sum_by length rows.now; drawn = [] } }
+    requires pass { pass ≡ fresh_pass tickets.now.key (2 * sum_by length rows.now) }
     ensures workers { IfOk result (λ crew. IsCrew tickets.now.key sizes rows.now crew.workers.items) }
     ensures ends { IfOk result (λ crew. crew.ends.items ≡ map end_of crew.workers.items) }
-    ensures rest { IfOk result (λ crew. crew.rest ≡ record { key = tickets.now.key; left = 0; drawn = [] }) }
+    ensures rest { IfOk result (λ crew. crew.rest ≡ fresh_pass tickets.now.key 0) }
 {
     let mut rest = pass;
     let mut workers = Vec::new(alloc);

@@ -1,5 +1,5 @@
 // A whole run, from a plan to the recorded lists.
-ghost use Rattle.std.specs.Prelude.{◌≡◌, ℕ, ◌<◌, ◌↔◌, ◌⊎◌, List, [], All, Err, None, Some, length, map, IfOk, IfErr, IfSome, true, false};
+ghost use Rattle.std.specs.Prelude.{◌≡◌, ℕ, ◌<◌, ◌*◌, sum_by, ◌↔◌, ◌⊎◌, List, [], All, Err, None, Some, length, map, IfOk, IfErr, IfSome, true, false};
 ghost use Rattle.std.specs.List.{AllZip};
 ghost use Rattle.collector.specs.Ends.{rings_of, threads_of_tokens};
 ghost use Rattle.collector.specs.Inner.Ends.{rings_of_tokens};
@@ -15,8 +15,10 @@ ghost use Rattle.stress_run.specs.Preloaded.{AreTaken, IsFirstRefused};
 ghost use Rattle.stress_run.specs.Workers.{WorksIn};
 ghost use Rattle.stress_run.specs.Inner.Workers.{IsReadyIn};
 ghost use Rattle.stress_run.specs.declared.faults.RunFault.TheVariants.{Limit, Memory, Preload};
-ghost use Rattle.tickets.specs.Views.{numbers_below};
+ghost use Rattle.stress_run.specs.Noted.{AreNotesOfAll, KeepsNotes};
+ghost use Rattle.tickets.specs.Views.{fresh_pass, numbers_below, share_of};
 
+use crate::asked::Asked;
 use crate::closing::close_all;
 use crate::crew::work_all;
 use crate::faults::RunFault;
@@ -33,7 +35,7 @@ use std::marker::Model;
 use std::sync::atomic::{AtomicBool, Ordering};
 use std::thread;
 use std::thread::Threads;
-use tickets::Tickets;
+use tickets::{Pass, Tickets};
 use workloads::{Plan, Row};
 
 // The most times that the collector yields between two rounds.
@@ -42,9 +44,9 @@ const LONGEST_PAUSE: u32 = 64;
 /// The events of a run, one list for each worker, with what the queue held at first and how many tickets were drawn.
 #[derive(Drop)]
 pub struct Recorded {
-    initial: Vec<u64>,
-    lists: Lists,
-    total: u64,
+    pub(crate) initial: Vec<u64>,
+    pub(crate) lists: Lists,
+    pub(crate) total: u64,
 }
 
 impl Model for Recorded {
@@ -232,26 +234,50 @@ fn run_within<R: Threads + Sync>(
     ensures fits { IfOk result (λ r. (merged : List Event) → IsMerged r.lists merged → IsCompleteFrom initial.items merged) }
     ensures fault { IfErr result (IsFaultOfRun (may queue.now) [] plan.now sizes) }
 {
-    let rows = plan.rows();
     let (tickets, pass) = Tickets::new(alloc, 2 * plan.operations())?;
-    let Crew {
-        rest,
-        workers,
-        ends,
-    } = make_crew(alloc, &tickets, pass, rows, sizes)?;
-    let collector = Collector::with_room(alloc, ends, most_events(rows))?;
-    let (workers, collector) = work_and_collect(
-        rt, queue, &tickets, rows, workers, collector, sizes,
-    )?;
-    let standing = standing_fault(&collector);
-    let (tokens, pass) = close_all(alloc, &tickets, rest, workers, standing)?;
-    let lists = seal(collector, tokens)?;
+    let (lists, pass) = run_on(rt, alloc, &queue, &tickets, pass, plan, sizes)?;
     let total = tickets.close(pass);
     Ok(Recorded {
         initial,
         lists,
         total,
     })
+}
+
+// Runs a plan on what the workers ask, and returns the lists and the joined pass.
+pub(crate) fn run_on<Q: Asked + Sync, R: Threads + Sync>(
+    rt: &R,
+    alloc: Global,
+    queue: &Q,
+    tickets: &Tickets,
+    pass: Pass,
+    plan: &Plan,
+    sizes: Sizes,
+) -> Result<(Lists, Pass), RunFault>
+    requires sizes { IsWithinLimits sizes.ring sizes.tries }
+    requires pass { pass ≡ fresh_pass tickets.now.key (2 * sum_by length plan.now) }
+    requires word { Q.of_word queue.now tickets.now.key }
+    ensures key { IfOk result (λ r. r.1.key ≡ tickets.now.key) }
+    ensures whole { IfOk result (λ r. share_of r.1 ≡ 2 * sum_by length plan.now) }
+    ensures recorded { IfOk result (λ r. (total : ℕ) → r.1.drawn ≡ numbers_below total → IsRun (Q.may queue.now) plan.now r.0 total) }
+    ensures lists { IfOk result (λ r. (total : ℕ) → r.1.drawn ≡ numbers_below total → AreRecorded r.0) }
+    ensures told { IfOk result (λ r. Q.notes queue.now ≡ true → AreNotesOfAll r.0 r.1.noted) }
+    ensures fault { IfErr result (IsFaultOfRun (Q.may queue.now) [] plan.now sizes) }
+{
+    let rows = plan.rows();
+    let Crew {
+        rest,
+        workers,
+        ends,
+    } = make_crew(alloc, tickets, pass, rows, sizes)?;
+    let collector = Collector::with_room(alloc, ends, most_events(rows))?;
+    let (workers, collector) = work_and_collect(
+        rt, queue, tickets, rows, workers, collector, sizes,
+    )?;
+    let standing = standing_fault(&collector);
+    let (tokens, pass) = close_all(alloc, tickets, rest, workers, standing)?;
+    let lists = seal(collector, tokens)?;
+    Ok((lists, pass))
 }
 
 // Returns how many events a row gives at most: two for each operation.
@@ -261,24 +287,27 @@ fn most_events(rows: &[Row]) -> usize {
 }
 
 // Returns the workers after their rows, and the collector, which drained their rings meanwhile.
-fn work_and_collect<R: Threads + Sync>(
+fn work_and_collect<Q: Asked + Sync, R: Threads + Sync>(
     rt: &R,
-    queue: &dyn TestQueue,
+    queue: &Q,
     tickets: &Tickets,
     rows: &[Row],
     workers: Vec<Worker>,
     collector: Collector,
     sizes: Sizes,
 ) -> Result<(Vec<Worker>, Collector), AllocError>
-    requires { All (IsReadyIn tickets.now.key rows.now) workers.items }
-    ensures worked { IfOk result (λ r. AllZip (WorksIn (may queue.now) rows.now) workers.items r.0.items) }
+    requires ready { All (IsReadyIn tickets.now.key rows.now) workers.items }
+    requires word { Q.of_word queue.now tickets.now.key }
+    ensures worked { IfOk result (λ r. AllZip (WorksIn (Q.may queue.now) rows.now) workers.items r.0.items) }
+    ensures told { IfOk result (λ r. AllZip (KeepsNotes (Q.notes queue.now)) workers.items r.0.items) }
     ensures rings { IfOk result (λ r. rings_of r.1.rings ≡ rings_of collector.rings) }
 {
     let over = AtomicBool::new(false);
     let flag = &over;
     let working = move || -> Result<Vec<Worker>, AllocError>
-        requires { All (IsReadyIn tickets.now.key rows.now) workers.items }
-        ensures { IfOk result (λ after. AllZip (WorksIn (may queue.entry.now) rows.entry.now) workers.items after.items) }
+        requires { All (IsReadyIn tickets.now.key rows.now) workers.items × Q.of_word queue.now tickets.now.key }
+        ensures worked { IfOk result (λ after. AllZip (WorksIn (Q.may queue.entry.now) rows.entry.now) workers.items after.items) }
+        ensures told { IfOk result (λ after. AllZip (KeepsNotes (Q.notes queue.entry.now)) workers.items after.items) }
     {
         let after = work_all(rt, queue, tickets, rows, workers);
         flag.store(true, Ordering::SeqCst);

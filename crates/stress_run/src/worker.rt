@@ -4,8 +4,10 @@ ghost use Rattle.event_records.specs.declared.kind.Kind.TheVariants.{Enq, Deq};
 ghost use Rattle.event_records.specs.declared.limits.TheConstants.{NAMES_OF_A_THREAD};
 ghost use Rattle.stress_run.specs.Crew.{token_of};
 ghost use Rattle.stress_run.specs.Faults.{AreTries};
+ghost use Rattle.stress_run.specs.Noted.{KeepsNotes};
 ghost use Rattle.stress_run.specs.Workers.{Works, Stalls};
 
+use crate::asked::Asked;
 use event_records::{Kind, Namer, Noted};
 use event_rings::{CloseLost, CloseToken, PushEnd};
 use queue_interface::TestQueue;
@@ -168,33 +170,37 @@ impl Worker {
     }
 
     // Makes one enqueue, from the call's ticket to the event of its return.
-    fn enqueue_once(&mut self, queue: &dyn TestQueue, tickets: &Tickets) -> Result<(), WorkerFault>
+    fn enqueue_once<Q: Asked>(&mut self, queue: &Q, tickets: &Tickets) -> Result<(), WorkerFault>
         requires key { self.old.pass.key ≡ tickets.now.key }
         requires left { 2 ≤ self.old.pass.left }
         requires room { self.old.asked < NAMES_OF_A_THREAD }
         requires running { self.old.stopped ≡ false }
-        ensures works { OnOk result (Works (may queue.now) (Enq ∷ []) self.old self.new) }
+        requires word { Q.of_word queue.now tickets.now.key }
+        ensures works { OnOk result (Works (Q.may queue.now) (Enq ∷ []) self.old self.new) }
+        ensures told { OnOk result (KeepsNotes (Q.notes queue.now) self.old self.new) }
         ensures stalls { OnErr result (Stalls Enq self.old self.new) }
     {
         let (ask, noted) = self.namer.ask_enq(self.pass.draw(tickets));
         self.record(noted)?;
-        let taken = queue.enqueue(ask);
+        let taken = queue.enqueue(ask, &mut self.pass, tickets);
         let returned = taken.stamp(&mut self.pass, tickets);
         self.record(returned)
     }
 
     // Makes one dequeue, from the call's ticket to the event of its return.
-    fn dequeue_once(&mut self, queue: &dyn TestQueue, tickets: &Tickets) -> Result<(), WorkerFault>
+    fn dequeue_once<Q: Asked>(&mut self, queue: &Q, tickets: &Tickets) -> Result<(), WorkerFault>
         requires key { self.old.pass.key ≡ tickets.now.key }
         requires left { 2 ≤ self.old.pass.left }
         requires room { self.old.asked < NAMES_OF_A_THREAD }
         requires running { self.old.stopped ≡ false }
-        ensures works { OnOk result (Works (may queue.now) (Deq ∷ []) self.old self.new) }
+        requires word { Q.of_word queue.now tickets.now.key }
+        ensures works { OnOk result (Works (Q.may queue.now) (Deq ∷ []) self.old self.new) }
+        ensures told { OnOk result (KeepsNotes (Q.notes queue.now) self.old self.new) }
         ensures stalls { OnErr result (Stalls Deq self.old self.new) }
     {
         let (ask, noted) = self.namer.ask_deq(self.pass.draw(tickets));
         self.record(noted)?;
-        let got = queue.dequeue(ask);
+        let got = queue.dequeue(ask, &mut self.pass, tickets);
         let returned = got.stamp(&mut self.pass, tickets);
         self.record(returned)
     }
@@ -220,6 +226,25 @@ pub fn one_call(
     ensures works { OnOk result (Works (may queue.now) (kind ∷ []) worker.old worker.new) }
     ensures stalls { OnErr result (Stalls kind worker.old worker.new) }
     ensures running { OnOk result (worker.old.stopped ≡ false) }
+{
+    call_on(&queue, tickets, worker, kind)
+}
+
+// Makes one operation on what the worker asks.
+pub(crate) fn call_on<Q: Asked>(
+    queue: &Q,
+    tickets: &Tickets,
+    worker: &mut Worker,
+    kind: Kind,
+) -> Result<(), WorkerFault>
+    requires key { worker.old.pass.key ≡ tickets.now.key }
+    requires left { 2 ≤ worker.old.pass.left }
+    requires room { worker.old.asked < NAMES_OF_A_THREAD }
+    requires word { Q.of_word queue.now tickets.now.key }
+    ensures works { OnOk result (Works (Q.may queue.now) (kind ∷ []) worker.old worker.new) }
+    ensures stalls { OnErr result (Stalls kind worker.old worker.new) }
+    ensures running { OnOk result (worker.old.stopped ≡ false) }
+    ensures told { OnOk result (KeepsNotes (Q.notes queue.now) worker.old worker.new) }
 {
     if worker.stopped {
         return Err(WorkerFault::Stalled);

@@ -1,5 +1,5 @@
 -- Texts to which pieces are added in turn.
-use Rattle.std.proofs.Common.{◌≡◌, ℕ, List, [], ◌∷◌, ◌++◌, ap, sym, ◌∙◌, append-nil, append_assoc, Ok, Err}
+use Rattle.std.proofs.Common.{◌≡◌, ℕ, List, [], ◌∷◌, ◌++◌, ap, ◌∙◌, append-nil, append_assoc, Ok, Err}
 use Rattle.std.specs.List.{concat}
 use Rattle.std.specs.Prelude.{OnOk}
 use Rattle.std.specs.declared.result.Result.{Result}
@@ -10,14 +10,6 @@ pub around : {A T E : Type 0} (r : Result T E) (old one two last a b c : List A)
 around (Ok x) old one two last a b c h k l =
     l ∙ ap (λ (t : List _). t ++ c) k ∙ append_assoc one b c ∙ ap (λ (t : List _). t ++ (b ++ c)) h ∙ append_assoc old a (b ++ c)
 around (Err e) old one two last a b c h k l = tt
-
--- a piece behind another
-pub behind : {A : Type 0} (old one two a b : List A) → one ≡ old ++ a → two ≡ one ++ b → two ≡ old ++ (a ++ b)
-behind old one two a b h k = k ∙ ap (λ (t : List _). t ++ b) h ∙ append_assoc old a b
-
--- a last piece, and nothing after it
-pub at_end : {A : Type 0} (old new a : List A) → new ≡ old ++ a → new ≡ old ++ (a ++ [])
-at_end old new a h = h ∙ ap (λ (t : List _). old ++ t) (sym (append-nil a))
 
 -- a first piece, and three more
 pub four_pieces : (a b c d one two three four : List ℕ) → one ≡ a → two ≡ one ++ b → three ≡ two ++ c → four ≡ three ++ d

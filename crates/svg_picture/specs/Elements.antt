@@ -1,26 +1,20 @@
 -- The elements of a picture.
 use Rattle.std.specs.Prelude.{ℕ, ◌+◌, ◌*◌, List, [], ◌∷◌, length, codes}
-use Rattle.svg_picture.specs.Markup.{Content, Nothing, Words, Element, Then, group, number, words}
+use Rattle.svg_picture.specs.Markup.{Content, Nothing, Words, Element, Then, Style, Pattern, Text, Rect, Line, group}
 use Rattle.svg_picture.specs.Layout.{parts}
 use Rattle.svg_picture.specs.Words.{light, dark}
 
 -- words of a class from this point on, this many pixels for each character
 unfoldable pub text_at : ℕ → List ℕ → ℕ → ℕ → List ℕ → Content
-text_at char class x y bytes =
-    Element (codes "text") (number (codes "x") x ∷ number (codes "y") y ∷ number (codes "textLength") (char * length bytes)
-    ∷ words (codes "class") class ∷ []) (Words bytes)
+text_at char class x y bytes = Element (Text x y (char * length bytes) class) (Words bytes)
 
 -- a rectangle of a class, with round corners
 unfoldable pub rect : List ℕ → ℕ → ℕ → ℕ → ℕ → ℕ → Content
-rect class round x y wide high =
-    Element (codes "rect") (number (codes "x") x ∷ number (codes "y") y ∷ number (codes "width") wide ∷ number (codes "height") high
-    ∷ number (codes "rx") round ∷ words (codes "class") class ∷ []) Nothing
+rect class round x y wide high = Element (Rect x y wide high round class) (Words [])
 
 -- a straight line of a class
 unfoldable pub stroke : List ℕ → ℕ → ℕ → ℕ → ℕ → Content
-stroke class x1 y1 x2 y2 =
-    Element (codes "line") (number (codes "x1") x1 ∷ number (codes "y1") y1 ∷ number (codes "x2") x2 ∷ number (codes "y2") y2
-    ∷ words (codes "class") class ∷ []) Nothing
+stroke class x1 y1 x2 y2 = Element (Line x1 y1 x2 y2 class) (Words [])
 
 -- a line of words; nothing of an empty one
 abbrev pub line_at : ℕ → List ℕ → ℕ → List ℕ → Content
@@ -49,10 +43,8 @@ samples y =
 
 -- the pattern of a hatched band
 unfoldable pub hatch : Content
-hatch =
-    Element (codes "pattern") (words (codes "id") (codes "hatch") ∷ number (codes "width") 8 ∷ number (codes "height") 8
-    ∷ words (codes "patternUnits") (codes "userSpaceOnUse") ∷ []) (stroke (codes "hatch") 0 8 8 0)
+hatch = Element (Pattern (codes "hatch") 0 8 8) (stroke (codes "hatch") 0 8 8 0)
 
 -- the fonts and the colours
 unfoldable pub style_element : Content
-style_element = Element (codes "style") [] (group (Words light ∷ Words dark ∷ []))
+style_element = Element Style (group (Words light ∷ Words dark ∷ []))

@@ -1,19 +1,16 @@
 -- What holds of SVG pictures.
-use Rattle.std.specs.Prelude.{◌≡◌, ℕ, ◌+◌, ◌<◌, ◌≤◌, ◌↔◌, ◌&&◌, ◌||◌, not, nat_le, ⊤, Bool, true, List, [], ◌∷◌, ◌++◌, map, length, codes}
-use Rattle.std.specs.Prelude.{Some, slice_get, Contains}
+use Rattle.std.specs.Prelude.{◌≡◌, ℕ, ◌+◌, ◌<◌, ◌≤◌, ◌↔◌, ◌&&◌, ◌||◌, not, nat_le, ⊤, Bool, true, List, [], ◌∷◌, ◌++◌, map, codes, Contains}
 use Rattle.std.specs.List.{list_all, list_any}
 use Rattle.std.specs.Str.{bytes_eq}
-use Rattle.event_records.specs.declared.event.Event.{Event}
 use Rattle.history_merge.specs.declared.operation.Operation.{Operation}
-use Rattle.history_merge.specs.Complete.{IsCompleteHistory}
 use Rattle.history_merge.specs.Operations.{Precedes, operations_of}
-use Rattle.history_merge.specs.Legal.{IsLegalOrderFrom}
 use Rattle.history_merge.specs.Initial.{HistoryView}
 use Rattle.verdicts.specs.declared.verifying.Claimed.{Claimed}
-use Rattle.verdicts.specs.declared.verifying.Claimed.TheVariants.{Yes}
+use Rattle.drawing.specs.Scene.{scene_of, stands_above}
+use Rattle.drawing.specs.declared.scene.Row.{Row}
 use Rattle.svg_picture.specs.Markup.{Named, is_plain, declaration, start_tag, end_tag}
-use Rattle.svg_picture.specs.Layout.{Page, lane_width, thread_x, initial_row, row, row_y, call_y, ret_y}
-use Rattle.svg_picture.specs.Picture.{page_of, row_of_effect, svg_picture}
+use Rattle.svg_picture.specs.Layout.{Page, lane_width, thread_x, row_y, call_y, ret_y}
+use Rattle.svg_picture.specs.Picture.{page_of, svg_picture}
 
 -- ---- well-formed text
 
@@ -72,43 +69,21 @@ PicturesAreWellFormed = (history : HistoryView) (claimed : Claimed) → IsDocume
 
 -- ---- time
 
--- the row of an event stands above those of later tickets
-abbrev pub RowsRise : Type 0
-RowsRise = (page : Page) (e : Event) (later : ℕ) → Contains page.events e → e.ticket < later → row page e.ticket < row page later
-
--- each initial value has a row of its own, below those of the values in front of it
-abbrev pub InitialRowsRise : Type 0
-InitialRowsRise = (page : Page) (j later : ℕ) → j < later → row_y page (initial_row j) + 20 ≤ row_y page (initial_row later)
-
--- the rows of initial values stand above those of all events
-abbrev pub InitialRowsAreFirst : Type 0
-InitialRowsAreFirst =
-    (page : Page) (j ticket : ℕ) → j < page.measures.initial → row_y page (initial_row j) + 20 ≤ row_y page (row page ticket)
+-- a row ends where those below it begin, or above
+abbrev pub RowsAreApart : Type 0
+RowsAreApart =
+    (page : Page) (other row : Row) → Contains page.scene.rows other → stands_above other row ≡ true → row_y page other + 20 ≤ row_y page row
 
 -- a bar ends above another begins if and only if its operation precedes the other: so bars share a height if and only if operations overlap
 abbrev pub BarsOverlapInTime : Type 0
 BarsOverlapInTime =
-    (history : HistoryView) (claimed : Claimed) (x y : Operation) → IsCompleteHistory history.events → Contains (operations_of history.events) x
-    → Contains (operations_of history.events) y → Precedes x y ↔ (ret_y (page_of history claimed) x.ret < call_y (page_of history claimed) y.call)
-
--- of a `YES` an operation takes effect in a row between those of its call and of its return
-abbrev pub EffectsAreInBars : Type 0
-EffectsAreInBars =
-    (history : HistoryView) (order : List Operation) (i : ℕ) (o : Operation) → IsCompleteHistory history.events
-    → IsLegalOrderFrom history.initial (operations_of history.events) order → slice_get order i ≡ Some o
-    → (row (page_of history (Yes order)) o.call < row_of_effect (page_of history (Yes order)) i)
-    × (row_of_effect (page_of history (Yes order)) i < row (page_of history (Yes order)) o.ret)
-
--- the rows of effects rise in the order of a `YES`
-abbrev pub EffectsRise : Type 0
-EffectsRise =
-    (history : HistoryView) (order : List Operation) (i j : ℕ) → i < j → j < length order
-    → row_of_effect (page_of history (Yes order)) i < row_of_effect (page_of history (Yes order)) j
+    (history : HistoryView) (claimed : Claimed) (x y : Operation) → Contains (operations_of history.events) x
+    → Precedes x y ↔ (ret_y (page_of (scene_of history claimed)) x.ret < call_y (page_of (scene_of history claimed)) y.call)
 
 -- ---- lanes
 
 -- the lane of a thread ends before that of a higher one begins
 abbrev pub LanesAreApart : Type 0
 LanesAreApart =
-    (page : Page) (thread higher : ℕ) → Contains page.threads thread → thread < higher
+    (page : Page) (thread higher : ℕ) → Contains page.scene.threads thread → thread < higher
     → thread_x page thread + lane_width page.measures ≤ thread_x page higher

@@ -1,38 +1,21 @@
 -- Where things stand in an SVG picture, in pixels: time runs down, threads stand side by side.
-use Rattle.std.specs.Prelude.{ℕ, ◌+◌, ◌*◌, ◌==◌, max, nat_lt, nat_le, if◌then◌else◌, List, [], ◌∷◌, length, count_by}
+use Rattle.std.specs.Prelude.{ℕ, ◌+◌, ◌*◌, max, if◌then◌else◌, List, [], ◌∷◌, length, count_by}
 use Rattle.std.specs.List.{slice_split}
-use Rattle.event_records.specs.declared.event.Event.{Event}
-use Rattle.history_merge.specs.declared.operation.Operation.{Operation}
-use Rattle.verdicts.specs.declared.verifying.Claimed.{Claimed}
 use Rattle.text_lines.specs.Lines.{is_line_feed}
-use Rattle.drawing.specs.declared.bands.Band.{Band}
+use Rattle.drawing.specs.Scene.{SceneView, scene_on, row_number, lanes_before}
+use Rattle.drawing.specs.declared.scene.Row.{Row}
+use Rattle.drawing.specs.declared.scene.Row.TheVariants.{Ticket}
 use Rattle.svg_picture.specs.declared.sheet.Measures.{Measures}
 use Rattle.svg_picture.specs.declared.sheet.Sheet.{Sheet}
 
--- what a picture is made of: its measures, what the queue holds first, the history, the claim with its bands, and the tickets just
--- after which the operations of a `YES` take effect
+-- a scene, and its measures
 pub record Page : Type 0 where
   pub measures : Measures
-  pub initial : List ℕ
-  pub events : List Event
-  pub operations : List Operation
-  pub threads : List ℕ
-  pub claimed : Claimed
-  pub bands : List Band
-  pub points : List ℕ
+  pub scene : SceneView
 
 -- the page that a value of the program stands for
 abbrev pub page_on : Sheet → Page
-page_on sheet = record {
-  measures = sheet.measures;
-  initial = sheet.initial.now;
-  events = sheet.events.now;
-  operations = sheet.operations.now;
-  threads = sheet.threads.now;
-  claimed = sheet.claimed.now;
-  bands = sheet.bands.now;
-  points = sheet.points.now;
-}
+page_on sheet = record { measures = sheet.measures; scene = scene_on sheet.scene.now }
 
 -- ---- from left to right
 
@@ -66,7 +49,7 @@ lane_x m before = left m + lane_width m * before
 
 -- where the lane of a thread begins: after those of lower threads
 unfoldable pub thread_x : Page → ℕ → ℕ
-thread_x page thread = lane_x page.measures (count_by (λ lower. nat_lt lower thread) page.threads)
+thread_x page thread = lane_x page.measures (lanes_before page.scene.threads thread)
 
 -- where the lanes end, with a gap
 abbrev pub right : Measures → ℕ
@@ -86,38 +69,21 @@ legend_y m = 40 + 20 * m.captions
 unfoldable pub top : Measures → ℕ
 top m = legend_y m + 32 + 20 * (m.legend + m.heads + 1)
 
--- how many rows the initial values take: one for their head, and one each; none where there are no values. Rows are counted from 0
-abbrev pub initial_rows : Measures → ℕ
-initial_rows m = if m.initial == 0 then 0 else m.initial + 1
-
--- the row of the initial value at place j: below the head and those of the values before it
-abbrev pub initial_row : ℕ → ℕ
-initial_row j = j + 1
-
--- the row of an event: below those of the initial values, of the events before it and of the effects before it
-unfoldable pub row : Page → ℕ → ℕ
-row page ticket =
-    initial_rows page.measures + (count_by (λ e. nat_lt e.ticket ticket) page.events + count_by (λ point. nat_lt point ticket) page.points)
-
--- the row of effect i, just after this ticket: below those of the initial values, of the events up to it and of the effects before it
-unfoldable pub effect_row : Page → ℕ → ℕ → ℕ
-effect_row page point i = initial_rows page.measures + (count_by (λ e. nat_le e.ticket point) page.events + i)
-
 -- the upper edge of a row
-abbrev pub row_y : Page → ℕ → ℕ
-row_y page r = top page.measures + 20 * r
+abbrev pub row_y : Page → Row → ℕ
+row_y page row = top page.measures + 20 * row_number page.scene.rows row
 
 -- the upper edge of a bar, in the row of its call
 abbrev pub call_y : Page → ℕ → ℕ
-call_y page ticket = row_y page (row page ticket) + 3
+call_y page ticket = row_y page (Ticket ticket) + 3
 
 -- the lower edge of a bar, in the row of its return
 abbrev pub ret_y : Page → ℕ → ℕ
-ret_y page ticket = row_y page (row page ticket) + 17
+ret_y page ticket = row_y page (Ticket ticket) + 17
 
 -- where the last row ends, which has the word `end`
 unfoldable pub bottom : Measures → ℕ
-bottom m = top m + 20 * (initial_rows m + m.events + m.effects + 1)
+bottom m = top m + 20 * (m.rows + 1)
 
 -- below the last row the threads are named again
 abbrev pub height : Measures → ℕ

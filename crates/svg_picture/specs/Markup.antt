@@ -9,11 +9,24 @@ pub record Named : Type 0 where
   pub name : List ℕ
   pub value : List ℕ
 
+-- the tag of an element: the picture itself, words on it, a pattern, bars that belong together, words, a rectangle, a straight line
+pub data Tag : Type 0 where
+  Svg : (width height : ℕ) (view_box : List ℕ) → Tag
+  Title : Tag
+  Desc : Tag
+  Style : Tag
+  Defs : Tag
+  Pattern : (id : List ℕ) (y width height : ℕ) → Tag
+  Group : (class : List ℕ) → Tag
+  Text : (x y width : ℕ) (class : List ℕ) → Tag
+  Rect : (x y width height round : ℕ) (class : List ℕ) → Tag
+  Line : (x1 y1 x2 y2 : ℕ) (class : List ℕ) → Tag
+
 -- what stands in a document: nothing, words, an element around more, or one after another
 pub data Content : Type 0 where
   Nothing : Content
   Words : List ℕ → Content
-  Element : List ℕ → List Named → Content → Content
+  Element : Tag → Content → Content
   Then : Content → Content → Content
 
 -- ---- bytes
@@ -29,6 +42,50 @@ plain_byte b = if is_plain b then b else 63
 -- words of bytes that stand for themselves
 abbrev pub plain_words : List ℕ → List ℕ
 plain_words bytes = map plain_byte bytes
+
+-- ---- tags
+
+-- an attribute whose value is a number
+abbrev pub number : List ℕ → ℕ → Named
+number name n = record { name = name; value = plain_words (decimal n) }
+
+-- an attribute whose value is words
+abbrev pub words : List ℕ → List ℕ → Named
+words name bytes = record { name = name; value = plain_words bytes }
+
+-- the name of an element
+abbrev pub tag_name : Tag → List ℕ
+tag_name (Svg width height view_box) = codes "svg"
+tag_name Title = codes "title"
+tag_name Desc = codes "desc"
+tag_name Style = codes "style"
+tag_name Defs = codes "defs"
+tag_name (Pattern id y width height) = codes "pattern"
+tag_name (Group class) = codes "g"
+tag_name (Text x y width class) = codes "text"
+tag_name (Rect x y width height round class) = codes "rect"
+tag_name (Line x1 y1 x2 y2 class) = codes "line"
+
+-- the attributes of an element
+abbrev pub tag_attributes : Tag → List Named
+tag_attributes (Svg width height view_box) =
+    words (codes "xmlns") (codes "http://www.w3.org/2000/svg") ∷ words (codes "version") (codes "1.1") ∷ number (codes "width") width
+    ∷ number (codes "height") height ∷ words (codes "viewBox") view_box ∷ words (codes "role") (codes "img") ∷ []
+tag_attributes Title = []
+tag_attributes Desc = []
+tag_attributes Style = []
+tag_attributes Defs = []
+tag_attributes (Pattern id y width height) =
+    words (codes "id") id ∷ number (codes "x") 0 ∷ number (codes "y") y ∷ number (codes "width") width ∷ number (codes "height") height
+    ∷ words (codes "patternUnits") (codes "userSpaceOnUse") ∷ []
+tag_attributes (Group class) = words (codes "class") class ∷ []
+tag_attributes (Text x y width class) =
+    number (codes "x") x ∷ number (codes "y") y ∷ number (codes "textLength") width ∷ words (codes "class") class ∷ []
+tag_attributes (Rect x y width height round class) =
+    number (codes "x") x ∷ number (codes "y") y ∷ number (codes "width") width ∷ number (codes "height") height ∷ number (codes "rx") round
+    ∷ words (codes "class") class ∷ []
+tag_attributes (Line x1 y1 x2 y2 class) =
+    number (codes "x1") x1 ∷ number (codes "y1") y1 ∷ number (codes "x2") x2 ∷ number (codes "y2") y2 ∷ words (codes "class") class ∷ []
 
 -- ---- as text
 
@@ -48,7 +105,7 @@ end_tag name = codes "</" ++ (name ++ codes ">\n")
 abbrev pub text_of : Content → List ℕ
 text_of Nothing = []
 text_of (Words words) = plain_words words
-text_of (Element name attributes content) = start_tag name attributes ++ (text_of content ++ end_tag name)
+text_of (Element tag content) = start_tag (tag_name tag) (tag_attributes tag) ++ (text_of content ++ end_tag (tag_name tag))
 text_of (Then first second) = text_of first ++ text_of second
 
 -- what the text is
@@ -69,14 +126,6 @@ group (content ∷ more) = Then content (group more)
 -- a content for each of these
 abbrev pub each : {X : Type 0} → (X → Content) → List X → Content
 each f xs = group (map f xs)
-
--- an attribute whose value is a number
-abbrev pub number : List ℕ → ℕ → Named
-number name n = record { name = name; value = plain_words (decimal n) }
-
--- an attribute whose value is words
-abbrev pub words : List ℕ → List ℕ → Named
-words name bytes = record { name = name; value = plain_words bytes }
 
 -- the attribute that a value of the program stands for
 abbrev pub named : Attribute → Named

@@ -1,33 +1,29 @@
 -- The picture of a history and what is claimed of it: the whole as a tree of elements, and its text.
-use Rattle.std.specs.Prelude.{ℕ, ◌+◌, ◌-◌, ◌*◌, max, Bool, true, false, if◌then◌else◌, Option, Some, None, List, [], ◌∷◌, ◌++◌, length, map, codes}
-use Rattle.std.specs.Prelude.{decimal, nat_eq, slice_get}
-use Rattle.std.specs.List.{concat, enumerate_from, position, range_with_len}
-use Rattle.event_records.specs.declared.event.Event.{Event}
+use Rattle.std.specs.Prelude.{ℕ, ◌+◌, ◌-◌, ◌*◌, max, Bool, true, false, if◌then◌else◌, Option, Some, None, List, [], ◌∷◌, ◌++◌, length, map, codes, decimal}
+use Rattle.std.specs.List.{concat, enumerate_from}
 use Rattle.history_merge.specs.declared.operation.Operation.{Operation}
 use Rattle.history_merge.specs.declared.operation.OpKind.{OpKind}
 use Rattle.history_merge.specs.declared.operation.OpKind.TheVariants as kind
 use Rattle.history_merge.specs.Initial.{HistoryView}
-use Rattle.history_merge.specs.Operations.{operations_of}
-use Rattle.verdicts.specs.declared.verifying.ClaimLine.{ClaimLine}
-use Rattle.verdicts.specs.declared.verifying.ClaimLine.TheVariants.{Op, Initial}
 use Rattle.verdicts.specs.declared.verifying.Claimed.{Claimed}
 use Rattle.verdicts.specs.declared.verifying.Claimed.TheVariants.{Yes, No}
-use Rattle.verdicts.specs.declared.verifying.ViolationKind.TheVariants.{VRepeat}
-use Rattle.drawing.specs.Claim.{count_of_lines, order_of}
+use Rattle.drawing.specs.Claim.{count_of_lines}
 use Rattle.drawing.specs.declared.bands.Band.{Band}
-use Rattle.drawing.specs.declared.bands.Head.{Head}
-use Rattle.drawing.specs.declared.bands.Head.TheVariants.{Dequeued, InAndOut, SaidEmpty}
-use Rattle.drawing.specs.Layout.{digits, label, initial_label, label_width, last_ticket, threads_of, place_of, initial_place_of, point}
-use Rattle.drawing.specs.Bands.{bands_of, head_text}
+use Rattle.drawing.specs.declared.bands.Head.{Head as BandHead}
+use Rattle.drawing.specs.declared.bands.Head.TheVariants as band_head
+use Rattle.drawing.specs.Layout.{digits, label, numbered_label, initial_label, label_width, called_at, place_of, initial_place_of}
+use Rattle.drawing.specs.Bands.{head_text}
 use Rattle.drawing.specs.Captions.{headline, caption}
+use Rattle.drawing.specs.Scene.{SceneView, scene_of, way_word, initial_way}
+use Rattle.drawing.specs.declared.scene.Row.{Row}
+use Rattle.drawing.specs.declared.scene.Row.TheVariants.{Head, Initial, Ticket, Effect}
 use Rattle.drawing.specs.Signs.{signs_of, meaning}
 use Rattle.drawing.specs.declared.signs.Sign.{Sign}
 use Rattle.drawing.specs.declared.signs.Sign.TheVariants.{First, InOrder, OfOperations, OfValues, Present, Absent}
-use Rattle.drawing.specs.Terminal.{way}
 use Rattle.svg_picture.specs.declared.sheet.Measures.{Measures}
-use Rattle.svg_picture.specs.Markup.{Named, Content, Nothing, Words, Element, each, group, number, words, document}
-use Rattle.svg_picture.specs.Layout.{Page, shown, left, bar_width, thread_x, band_x, width, legend_y, top, initial_row, row, effect_row, row_y, call_y, ret_y}
-use Rattle.svg_picture.specs.Layout.{bottom, height, line_count, parts, longest}
+use Rattle.svg_picture.specs.Markup.{Content, Nothing, Words, Element, Svg, Title, Desc, Defs, Pattern, Group, each, group, document}
+use Rattle.svg_picture.specs.Layout.{Page, shown, left, bar_width, thread_x, band_x, width, legend_y, top, row_y, call_y, ret_y, bottom, height}
+use Rattle.svg_picture.specs.Layout.{line_count, parts, longest}
 use Rattle.svg_picture.specs.Words.{kind_word, corner, form_class, reading}
 use Rattle.svg_picture.specs.Elements.{text_at, rect, stroke, lines_at, samples, hatch, style_element}
 
@@ -38,15 +34,6 @@ abbrev pub mark : Claimed → Option ℕ → List ℕ
 mark (Yes order) place = codes "yes"
 mark (No kind lines) None = codes "off"
 mark (No kind lines) (Some place) = codes "on"
-
--- a ticket, or 0 where there is none
-abbrev pub or_zero : Option ℕ → ℕ
-or_zero None = 0
-or_zero (Some n) = n
-
--- the row of operation i of the order, where it takes effect
-abbrev pub row_of_effect : Page → ℕ → ℕ
-row_of_effect page i = effect_row page (or_zero (slice_get page.points i)) i
 
 -- ---- bars
 
@@ -68,21 +55,16 @@ bar_words o place =
     concat (codes "thread " ∷ decimal o.thread ∷ codes ": " ∷ told o.kind ∷ codes ", tickets " ∷ decimal o.call ∷ codes " to " ∷ decimal o.ret
     ∷ number_words place ∷ [])
 
--- the upper edge of a number: of a `YES` in the row of the effect, of a `NO` beside the label
-abbrev pub number_y : Page → Claimed → Operation → ℕ → ℕ
-number_y page (Yes order) o place = row_y page (row_of_effect page place) + 2
-number_y page (No kind lines) o place = row_y page (row page o.call) + 12
-
 -- a number in a pill
 unfoldable pub pill : ℕ → ℕ → ℕ → Content
 pill x y n =
     group (rect (codes "pill") 8 x y (10 + 7 * digits n) 16 ∷ text_at 7 (codes "pick") (x + 5) (y + 12) (decimal n) ∷ [])
 
--- the number of an operation at this place of the claim
-unfoldable pub bar_number : Page → Operation → Option ℕ → Content
-bar_number page o None = Nothing
-bar_number page o (Some place) =
-    pill (thread_x page o.thread + (15 + 7 * page.measures.label)) (number_y page page.claimed o place) (place + 1)
+-- the number of an operation at this place of a `NO`, beside its label; those of a `YES` stand where it takes effect
+unfoldable pub bar_number : Page → Claimed → Operation → Option ℕ → Content
+bar_number page (No kind lines) o (Some place) =
+    pill (thread_x page o.thread + (15 + 7 * page.measures.label)) (row_y page (Ticket o.call) + 12) (place + 1)
+bar_number page _ o place = Nothing
 
 -- the bar itself, from its call to its return
 unfoldable pub bar_rect : Page → Operation → Content
@@ -91,41 +73,41 @@ bar_rect page o =
 
 -- the label of a bar
 unfoldable pub bar_label : Page → Operation → Content
-bar_label page o = text_at 7 (codes "label") (thread_x page o.thread + 9) (row_y page (row page o.call) + 24) (label o.kind)
+bar_label page o = text_at 7 (codes "label") (thread_x page o.thread + 9) (row_y page (Ticket o.call) + 24) (label o.kind)
 
 -- what stands within the group of a bar
 unfoldable pub bar_parts : Page → Operation → Option ℕ → Content
 bar_parts page o place =
-    group (Element (codes "title") [] (Words (bar_words o place)) ∷ bar_rect page o ∷ bar_label page o ∷ bar_number page o place ∷ [])
+    group (Element Title (Words (bar_words o place)) ∷ bar_rect page o ∷ bar_label page o ∷ bar_number page page.scene.claimed o place ∷ [])
 
 -- the bar of an operation at this place of the claim
 unfoldable pub placed_bar : Page → Operation → Option ℕ → Content
-placed_bar page o place = Element (codes "g") (words (codes "class") (mark page.claimed place) ∷ []) (bar_parts page o place)
+placed_bar page o place = Element (Group (mark page.scene.claimed place)) (bar_parts page o place)
 
 -- the bar of an operation
 abbrev pub bar : Page → Operation → Content
-bar page o = placed_bar page o (place_of page.claimed o)
+bar page o = placed_bar page o (place_of page.scene.claimed o)
 
 -- the bars of the operations
 unfoldable pub bars : Page → Content
-bars page = each (bar page) page.operations
+bars page = each (bar page) page.scene.operations
 
 -- ---- bands of a `NO`
 
 -- the band is the time that contradicts the others
-abbrev pub is_time : Head → Bool
-is_time (Dequeued v) = true
-is_time (InAndOut v) = true
-is_time SaidEmpty = true
+abbrev pub is_time : BandHead → Bool
+is_time (band_head.Dequeued v) = true
+is_time (band_head.InAndOut v) = true
+is_time band_head.SaidEmpty = true
 is_time _ = false
 
 -- the upper edge of a band: the time begins at a call, a value definitely is in from a return on
-abbrev pub first_y : Page → Head → Option ℕ → ℕ
+abbrev pub first_y : Page → BandHead → Option ℕ → ℕ
 first_y page head None = top page.measures
 first_y page head (Some ticket) = if is_time head then call_y page ticket else ret_y page ticket
 
 -- the lower edge of a band: the time ends at a return, a value definitely is in up to a call
-abbrev pub last_y : Page → Head → Option ℕ → ℕ
+abbrev pub last_y : Page → BandHead → Option ℕ → ℕ
 last_y page head None = bottom page.measures
 last_y page head (Some ticket) = if is_time head then ret_y page ticket else call_y page ticket
 
@@ -143,7 +125,8 @@ band_between class x y first last =
 unfoldable pub drawn_band : Page → List ℕ → ℕ → ℕ → Band → Content
 drawn_band page class x y band =
     group (guide page.measures class (x + 28) (first_y page band.head band.first) band.first
-    ∷ guide page.measures class (x + 28) (last_y page band.head band.last) band.last ∷ band_between class x y (first_y page band.head band.first) (last_y page band.head band.last) ∷ [])
+    ∷ guide page.measures class (x + 28) (last_y page band.head band.last) band.last
+    ∷ band_between class x y (first_y page band.head band.first) (last_y page band.head band.last) ∷ [])
 
 -- the band, where its head has a form
 abbrev pub formed_band : Page → List ℕ → ℕ → ℕ → Band → Content
@@ -166,31 +149,7 @@ numbered_band page (i, band) = band_at page i band
 
 -- the bands of a `NO`
 unfoldable pub bands : Page → Content
-bands page = each (numbered_band page) (enumerate_from 0 page.bands)
-
--- a word in the place of the first band, with a dotted line from it to the lanes
-unfoldable pub way_at : Measures → ℕ → List ℕ → Content
-way_at m y bytes =
-    group (text_at 7 (codes "name") (shown m) (y + 4) bytes ∷ stroke (codes "time") (shown m + 28) y (left m) y ∷ [])
-
--- the row behind the head and as many values as stand before a place; that of the head, where there is no place
-abbrev pub row_behind : Option ℕ → ℕ
-row_behind None = 0
-row_behind (Some j) = initial_row j
-
--- the row of an initial value; that of their head, where it is none of them
-abbrev pub row_of_value : List ℕ → ℕ → ℕ
-row_of_value initial v = row_behind (position (λ w. nat_eq w v) initial)
-
--- whether the value of a line goes in or out, in the row of its operation, or in its own
-abbrev pub way_mark : Page → ClaimLine → Content
-way_mark page (Op o) = way_at page.measures (row_y page (row page o.call) + 20) (way o.kind)
-way_mark page (Initial v) = way_at page.measures (row_y page (row_of_value page.initial v) + 10) (codes "in")
-
--- where a value was dequeued twice, the words `in` and `out`
-unfoldable pub ways : Page → Claimed → Content
-ways page (No VRepeat lines) = each (way_mark page) lines
-ways page _ = Nothing
+bands page = each (numbered_band page) (enumerate_from 0 page.scene.bands)
 
 -- ---- initial values
 
@@ -198,68 +157,76 @@ ways page _ = Nothing
 unfoldable pub initial_words : ℕ → Option ℕ → List ℕ
 initial_words v place = concat (codes "init " ∷ decimal v ∷ codes ", in the queue first" ∷ number_words place ∷ [])
 
--- the number of the initial value in row r, at this place of the claim
-unfoldable pub initial_number : Page → ℕ → Option ℕ → Content
-initial_number page r None = Nothing
-initial_number page r (Some place) = pill (left page.measures + (15 + 7 * page.measures.label)) (row_y page r + 2) (place + 1)
+-- the number of an initial value at this place of the claim, in the row from this height on
+unfoldable pub initial_number : Measures → ℕ → Option ℕ → Content
+initial_number m y None = Nothing
+initial_number m y (Some place) = pill (left m + (15 + 7 * m.label)) (y + 2) (place + 1)
 
--- the bar of the initial value in row r, in line with the first lane, with its label
-unfoldable pub initial_rect : Page → ℕ → ℕ → Content
-initial_rect page r v =
-    group (rect (codes "enq") 0 (left page.measures + 3) (row_y page r + 2) (bar_width page.measures) 16
-    ∷ text_at 7 (codes "label") (left page.measures + 9) (row_y page r + 14) (initial_label v) ∷ [])
+-- its bar, in line with the first lane, with its label
+unfoldable pub initial_rect : Measures → ℕ → ℕ → Content
+initial_rect m y v =
+    group (rect (codes "enq") 0 (left m + 3) (y + 2) (bar_width m) 16 ∷ text_at 7 (codes "label") (left m + 9) (y + 14) (initial_label v) ∷ [])
 
--- what stands within the group of an initial value
-unfoldable pub initial_parts : Page → ℕ → ℕ → Option ℕ → Content
-initial_parts page r v place =
-    group (Element (codes "title") [] (Words (initial_words v place)) ∷ initial_rect page r v ∷ initial_number page r place ∷ [])
+-- what stands within its group
+unfoldable pub initial_parts : Measures → ℕ → ℕ → Option ℕ → Content
+initial_parts m y v place = group (Element Title (Words (initial_words v place)) ∷ initial_rect m y v ∷ initial_number m y place ∷ [])
 
--- the initial value in row r, at this place of the claim
+-- an initial value at this place of the claim
 unfoldable pub placed_initial : Page → ℕ → ℕ → Option ℕ → Content
-placed_initial page r v place = Element (codes "g") (words (codes "class") (mark page.claimed place) ∷ []) (initial_parts page r v place)
+placed_initial page y v place = Element (Group (mark page.scene.claimed place)) (initial_parts page.measures y v place)
 
--- the initial value at place j, in its row
-abbrev pub numbered_initial : Page → ℕ × ℕ → Content
-numbered_initial page (j, v) = placed_initial page (initial_row j) v (initial_place_of page.claimed v)
+-- ---- rows
 
--- the initial values under their head, the front one first; nothing where there are none
-unfoldable pub initial_values : Page → List ℕ → Content
-initial_values page [] = Nothing
-initial_values page (front ∷ others) =
-    group (text_at 7 (codes "dim") (left page.measures + 3) (top page.measures + 14) (codes "in the queue first")
-    ∷ each (numbered_initial page) (enumerate_from 0 (front ∷ others)) ∷ [])
+-- a word in the place of the first band, with a dotted line from it to the lanes; nothing without a word
+unfoldable pub way_at : Measures → ℕ → List ℕ → Content
+way_at m y [] = Nothing
+way_at m y (b ∷ bytes) =
+    group (text_at 7 (codes "name") (shown m) (y + 4) (b ∷ bytes) ∷ stroke (codes "time") (shown m + 28) y (left m) y ∷ [])
 
--- ---- the order of a `YES`
+-- an initial value, with the word `in` where it was dequeued twice
+unfoldable pub initial_value : Page → ℕ → ℕ → Content
+initial_value page y v =
+    group (way_at page.measures (y + 10) (initial_way page.scene.claimed v) ∷ placed_initial page y v (initial_place_of page.scene.claimed v) ∷ [])
 
--- the number and the label of operation i of the order, in the row where it takes effect
-unfoldable pub order_line : Page → ℕ → Operation → Content
-order_line page i o =
-    text_at 7 (codes "label") (shown page.measures + 7 * (page.measures.number - digits (i + 1))) (row_y page (row_of_effect page i) + 14)
-    (concat (decimal (i + 1) ∷ codes " " ∷ label o.kind ∷ []))
+-- a ticket, at the right of its column, with the word `in` or `out` of what is called, where its value was dequeued twice
+unfoldable pub event : Page → ℕ → ℕ → Content
+event page y ticket =
+    group (text_at 7 (codes "dim") (6 + 7 * (page.measures.ticket - digits ticket)) (y + 14) (decimal ticket)
+    ∷ way_at page.measures (y + 20) (way_word page.scene.claimed (called_at page.scene.operations ticket)) ∷ [])
 
--- the same, as it is numbered
-abbrev pub numbered_line : Page → ℕ × Operation → Content
-numbered_line page (i, o) = order_line page i o
+-- the number and the label of an operation of a `YES`, beside the tickets, and the number in its bar
+unfoldable pub effect : Page → ℕ → Operation → ℕ → Content
+effect page y o number =
+    group (text_at 7 (codes "label") (shown page.measures + 7 * (page.measures.number - digits number)) (y + 14)
+    (numbered_label number o.kind) ∷ pill (thread_x page o.thread + (15 + 7 * page.measures.label)) (y + 2) number ∷ [])
 
--- the order of a `YES` under its name
-unfoldable pub order : Page → Claimed → Content
-order page (Yes operations) =
-    group (text_at 7 (codes "dim") (shown page.measures) (top page.measures - 8) (codes "order")
-    ∷ each (numbered_line page) (enumerate_from 0 operations) ∷ [])
-order page (No kind lines) = Nothing
+-- what stands in a row, from this height on
+abbrev pub row_parts : Page → ℕ → Row → Content
+row_parts page y Head = text_at 7 (codes "dim") (left page.measures + 3) (y + 14) (codes "in the queue first")
+row_parts page y (Initial place v) = initial_value page y v
+row_parts page y (Ticket ticket) = event page y ticket
+row_parts page y (Effect o number point) = effect page y o number
 
--- ---- rows and lanes
+-- a row of the scene
+abbrev pub row_content : Page → Row → Content
+row_content page row = row_parts page (row_y page row) row
 
--- a ticket, at the right of its column
-unfoldable pub ticket_at : Page → Event → Content
-ticket_at page e =
-    text_at 7 (codes "dim") (6 + 7 * (page.measures.ticket - digits e.ticket)) (row_y page (row page e.ticket) + 14) (decimal e.ticket)
+-- the rows, under the words above their columns, and the word below them
+unfoldable pub rows : Page → Content
+rows page = each (row_content page) page.scene.rows
 
--- the tickets, between their name and the end
-unfoldable pub tickets : Page → Content
-tickets page =
-    group (text_at 7 (codes "dim") (6 + 7 * (page.measures.ticket - 6)) (top page.measures - 8) (codes "ticket") ∷ each (ticket_at page) page.events
-    ∷ text_at 7 (codes "dim") (6 + 7 * (page.measures.ticket - 3)) (bottom page.measures - 6) (codes "end") ∷ [])
+-- the words above and below the tickets
+unfoldable pub ticket_names : Measures → Content
+ticket_names m =
+    group (text_at 7 (codes "dim") (6 + 7 * (m.ticket - 6)) (top m - 8) (codes "ticket")
+    ∷ text_at 7 (codes "dim") (6 + 7 * (m.ticket - 3)) (bottom m - 6) (codes "end") ∷ [])
+
+-- the word above the order of a `YES`
+unfoldable pub order_name : Measures → Claimed → Content
+order_name m (Yes order) = text_at 7 (codes "dim") (shown m) (top m - 8) (codes "order")
+order_name m (No kind lines) = Nothing
+
+-- ---- lanes
 
 -- the name of a thread
 unfoldable pub thread_name : ℕ → List ℕ
@@ -273,17 +240,15 @@ lane_names page thread =
 
 -- the names of the threads
 unfoldable pub threads : Page → Content
-threads page = each (lane_names page) page.threads
+threads page = each (lane_names page) page.scene.threads
 
 -- the pattern of rows: each second one is tinted
 unfoldable pub row_pattern : Measures → Content
-row_pattern m =
-    Element (codes "pattern") (words (codes "id") (codes "rows") ∷ number (codes "x") 0 ∷ number (codes "y") (top m) ∷ number (codes "width") (width m)
-    ∷ number (codes "height") 40 ∷ words (codes "patternUnits") (codes "userSpaceOnUse") ∷ []) (rect (codes "row") 0 0 0 (width m) 20)
+row_pattern m = Element (Pattern (codes "rows") (top m) (width m) 40) (rect (codes "row") 0 0 0 (width m) 20)
 
 -- the patterns of hatched bands and of rows
 unfoldable pub patterns : Measures → Content
-patterns m = Element (codes "defs") [] (group (hatch ∷ row_pattern m ∷ []))
+patterns m = Element Defs (group (hatch ∷ row_pattern m ∷ []))
 
 -- the background, and the rows
 unfoldable pub background : Measures → Content
@@ -318,14 +283,14 @@ signs m list = each (numbered_sign m) (enumerate_from 0 list)
 -- the words above: the headline, the caption, and how to read the picture
 unfoldable pub heading : Page → Content
 heading page =
-    group (text_at 9 (codes "head") 6 26 (headline page.claimed) ∷ lines_at 8 (codes "say") 46 (caption page.claimed)
+    group (text_at 9 (codes "head") 6 26 (headline page.scene.claimed) ∷ lines_at 8 (codes "say") 46 (caption page.scene.claimed)
     ∷ samples (legend_y page.measures) ∷ lines_at 7 (codes "dim") (legend_y page.measures + 35) reading
-    ∷ signs page.measures (signs_of page.initial page.claimed) ∷ [])
+    ∷ signs page.measures (signs_of page.scene.initial page.scene.claimed) ∷ [])
 
 -- the words for those who don't see the picture, and its style
 unfoldable pub about : Claimed → Content
 about claimed =
-    group (Element (codes "title") [] (Words (headline claimed)) ∷ Element (codes "desc") [] (Words (caption claimed))
+    group (Element Title (Words (headline claimed)) ∷ Element Desc (Words (caption claimed))
     ∷ style_element ∷ [])
 
 -- the whole picture's own units
@@ -334,22 +299,17 @@ view_box m = concat (codes "0 0 " ∷ decimal (width m) ∷ codes " " ∷ decima
 
 -- what stands above and under the lanes
 unfoldable pub frame : Page → Content
-frame page = group (about page.claimed ∷ background page.measures ∷ heading page ∷ tickets page ∷ threads page ∷ [])
+frame page =
+    group (about page.scene.claimed ∷ background page.measures ∷ heading page ∷ ticket_names page.measures
+    ∷ order_name page.measures page.scene.claimed ∷ threads page ∷ [])
 
 -- what stands between the tags of the picture
 unfoldable pub inside : Page → Content
-inside page =
-    group (frame page ∷ bands page ∷ ways page page.claimed ∷ order page page.claimed ∷ initial_values page page.initial ∷ bars page ∷ [])
-
--- the attributes of the picture
-abbrev pub page_attributes : Measures → List Named
-page_attributes m =
-    words (codes "xmlns") (codes "http://www.w3.org/2000/svg") ∷ words (codes "version") (codes "1.1") ∷ number (codes "width") (width m)
-    ∷ number (codes "height") (height m) ∷ words (codes "viewBox") (view_box m) ∷ words (codes "role") (codes "img") ∷ []
+inside page = group (frame page ∷ bands page ∷ bars page ∷ rows page ∷ [])
 
 -- the picture on a page
 unfoldable pub page_content : Page → Content
-page_content page = Element (codes "svg") (page_attributes page.measures) (inside page)
+page_content page = Element (Svg (width page.measures) (height page.measures) (view_box page.measures)) (inside page)
 
 -- ---- of a history and a claim
 
@@ -358,44 +318,29 @@ abbrev pub is_yes : Claimed → Bool
 is_yes (Yes order) = true
 is_yes (No kind lines) = false
 
--- the tickets just after which the operations of an order take effect
-abbrev pub points_of : List Operation → List ℕ
-points_of order = map (point order) (range_with_len 0 (length order))
-
 -- how wide the parts of a picture are, in characters, and how many there are
-abbrev pub measures_of : HistoryView → Claimed → Measures
-measures_of history claimed = record {
-  ticket = max 6 (digits (last_ticket history.events));
-  number = digits (count_of_lines claimed);
-  label = label_width history.initial (operations_of history.events);
-  lanes = length (threads_of history.events);
-  initial = length history.initial;
-  events = length history.events;
-  effects = length (order_of claimed);
-  heads = length (bands_of claimed);
-  head = longest (map (λ band. head_text band.head) (bands_of claimed));
-  captions = line_count (caption claimed);
-  caption = longest (parts (caption claimed));
-  legend = 2 + length (signs_of history.initial claimed);
-  is_yes = is_yes claimed;
+abbrev pub measures_of : SceneView → Measures
+measures_of scene = record {
+  ticket = max 6 (digits scene.last_ticket);
+  number = digits (count_of_lines scene.claimed);
+  label = label_width scene.initial scene.operations;
+  lanes = length scene.threads;
+  rows = length scene.rows;
+  heads = length scene.bands;
+  head = longest (map (λ band. head_text band.head) scene.bands);
+  captions = line_count (caption scene.claimed);
+  caption = longest (parts (caption scene.claimed));
+  legend = 2 + length (signs_of scene.initial scene.claimed);
+  is_yes = is_yes scene.claimed;
 }
 
--- what the picture of a history and a claim is made of
-abbrev pub page_of : HistoryView → Claimed → Page
-page_of history claimed = record {
-  measures = measures_of history claimed;
-  initial = history.initial;
-  events = history.events;
-  operations = operations_of history.events;
-  threads = threads_of history.events;
-  claimed = claimed;
-  bands = bands_of claimed;
-  points = points_of (order_of claimed);
-}
+-- a scene and its measures
+abbrev pub page_of : SceneView → Page
+page_of scene = record { measures = measures_of scene; scene = scene }
 
 -- the picture of a history and what is claimed of it, as a tree of elements
 unfoldable pub picture_content : HistoryView → Claimed → Content
-picture_content history claimed = page_content (page_of history claimed)
+picture_content history claimed = page_content (page_of (scene_of history claimed))
 
 -- the picture of a history and what is claimed of it, as a document
 unfoldable pub svg_picture : HistoryView → Claimed → List ℕ

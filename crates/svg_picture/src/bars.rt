@@ -2,15 +2,15 @@
 ghost use Rattle.std.specs.Prelude.{◌≡◌, ◌++◌, ◌≤◌, ◌^◌, OnOk, IfOk, IfSome, decimal};
 ghost use Rattle.svg_picture.specs.Markup.{text_of};
 ghost use Rattle.svg_picture.specs.Layout.{page_on};
-ghost use Rattle.svg_picture.specs.Picture.{mark, row_of_effect, number_words, told, bar_words, number_y, pill, bar_number, bar_rect, bar_label, bar, bars};
+ghost use Rattle.svg_picture.specs.Picture.{mark, number_words, told, bar_words, pill, bar_number, bar_rect, bar_label, bar, bars};
 
 use crate::elements::{Rect, push_rect, push_text_at};
-use crate::layout::{bar_width, call_y, effect_row, ret_y, row, row_y, thread_x};
+use crate::layout::{bar_width, call_y, ret_y, row_y, thread_x};
 use crate::markup::Attribute::Words;
 use crate::markup::{push_element, push_end, push_number, push_start};
 use crate::sheet::Sheet;
 use crate::words::{corner, kind_word};
-use drawing::{Added, MOST_DRAWN, digits, place_of, push_label};
+use drawing::{Added, MOST_DRAWN, Row, digits, place_of, push_label};
 use history_merge::{OpKind, Operation};
 use itoa::Buffer;
 use std::alloc::{AllocError, Global};
@@ -27,18 +27,6 @@ pub(crate) fn mark(claimed: &Claimed, place: Option<usize>) -> &'static [u8]
             Some(_) => b"on",
         },
     }
-}
-
-/// The row of an operation of the order, where it takes effect.
-pub(crate) fn row_of_effect(sheet: &Sheet<'_>, i: usize) -> u128
-    ensures value { result ≡ row_of_effect (page_on sheet.now) i }
-    ensures small { result ≤ 2 ^ 66 }
-{
-    let point = match sheet.points.get(i) {
-        None => 0,
-        Some(point) => *point,
-    };
-    effect_row(sheet, point, i)
 }
 
 /// Adds the number of a place, in words.
@@ -94,16 +82,6 @@ fn bar_words(
     Ok(words)
 }
 
-fn number_y(sheet: &Sheet<'_>, operation: Operation, place: usize) -> u128
-    ensures value { result ≡ number_y (page_on sheet.now) sheet.now.claimed.now operation place }
-    ensures small { result ≤ 2 ^ 92 }
-{
-    match sheet.claimed {
-        Claimed::Yes(_) => row_y(sheet, row_of_effect(sheet, place)) + 2,
-        Claimed::No(_, _) => row_y(sheet, row(sheet, operation.call)) + 12,
-    }
-}
-
 /// Adds a number in a pill.
 #[tactic(auto, unfolding(crate::specs::Picture::pill))]
 pub(crate) fn push_pill(text: &mut Vec<u8>, x: u128, y: u128, number: u64) -> Added
@@ -123,6 +101,7 @@ pub(crate) fn push_pill(text: &mut Vec<u8>, x: u128, y: u128, number: u64) -> Ad
     push_text_at(text, 7, b"pick", x + 5, y + 12, words)
 }
 
+/// Adds the number of an operation of a `NO`.
 #[tactic(auto, unfolding(crate::specs::Picture::bar_number))]
 fn push_bar_number(
     text: &mut Vec<u8>,
@@ -131,16 +110,17 @@ fn push_bar_number(
     place: Option<usize>,
 ) -> Added
     requires { IfSome place (λ place. place ≤ MOST_DRAWN) }
-    ensures { OnOk result (text.new.items ≡ text.old.items ++ text_of (bar_number (page_on sheet.now) operation place)) }
+    ensures { OnOk result (text.new.items ≡ text.old.items
+        ++ text_of (bar_number (page_on sheet.now) sheet.now.scene.now.claimed.now operation place)) }
 {
-    match place {
-        None => Ok(()),
-        Some(place) => {
+    match (sheet.scene.claimed, place) {
+        (Claimed::No(_, _), Some(place)) => {
             let label = 15 + 7 * u128::from(sheet.measures.label);
             let x = thread_x(sheet, operation.thread) + label;
-            let y = number_y(sheet, operation, place);
+            let y = row_y(sheet, Row::Ticket(operation.call)) + 12;
             push_pill(text, x, y, place as u64 + 1)
         }
+        _ => Ok(()),
     }
 }
 
@@ -170,7 +150,7 @@ fn push_bar_label(text: &mut Vec<u8>, sheet: &Sheet<'_>, operation: Operation) -
     let mut label = Vec::new(sheet.alloc);
     push_label(&mut label, operation.kind)?;
     let x = thread_x(sheet, operation.thread) + 9;
-    let y = row_y(sheet, row(sheet, operation.call)) + 24;
+    let y = row_y(sheet, Row::Ticket(operation.call)) + 24;
     push_text_at(text, 7, b"label", x, y, label.as_slice())
 }
 
@@ -179,8 +159,8 @@ fn push_bar_label(text: &mut Vec<u8>, sheet: &Sheet<'_>, operation: Operation) -
 fn push_bar(text: &mut Vec<u8>, sheet: &Sheet<'_>, operation: Operation) -> Added
     ensures { OnOk result (text.new.items ≡ text.old.items ++ text_of (bar (page_on sheet.now) operation)) }
 {
-    let place = place_of(sheet.claimed, operation);
-    let class = mark(sheet.claimed, place);
+    let place = place_of(sheet.scene.claimed, operation);
+    let class = mark(sheet.scene.claimed, place);
     push_start(text, b"g", &[Words(b"class", class)])?;
     let words = bar_words(sheet.alloc, operation, place)?;
     push_element(text, b"title", &[], words.as_slice())?;
@@ -195,7 +175,7 @@ fn push_bar(text: &mut Vec<u8>, sheet: &Sheet<'_>, operation: Operation) -> Adde
 pub(crate) fn push_bars(text: &mut Vec<u8>, sheet: &Sheet<'_>) -> Added
     ensures { OnOk result (text.new.items ≡ text.old.items ++ text_of (bars (page_on sheet.now))) }
 {
-    for operation in sheet.operations {
+    for operation in sheet.scene.operations {
         push_bar(text, sheet, *operation)?;
     }
     Ok(())

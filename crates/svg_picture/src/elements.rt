@@ -164,6 +164,8 @@ pub(crate) fn push_hatch(text: &mut Vec<u8>) -> Added
         b"pattern",
         &[
             Words(b"id", b"hatch"),
+            Number(b"x", 0),
+            Number(b"y", 0),
             Number(b"width", 8),
             Number(b"height", 8),
             Words(b"patternUnits", b"userSpaceOnUse"),

@@ -1,9 +1,10 @@
 //! Where things stand in a picture, in pixels.
 ghost use Rattle.std.specs.Prelude.{◌≡◌, ◌≤◌, ◌^◌};
 ghost use Rattle.svg_picture.specs.Layout.{page_on, shown, band_x, beside_width, left, bar_width, lane_width, lane_x, thread_x, right, width};
-ghost use Rattle.svg_picture.specs.Layout.{legend_y, top, initial_rows, initial_row, row, effect_row, row_y, call_y, ret_y, bottom, height};
+ghost use Rattle.svg_picture.specs.Layout.{legend_y, top, row_y, call_y, ret_y, bottom, height};
 
 use crate::sheet::{Measures, Sheet};
+use drawing::{Row, lanes_before, row_number};
 
 /// Where the tickets end, with a gap.
 pub(crate) fn shown(m: Measures) -> u128
@@ -64,11 +65,7 @@ pub(crate) fn thread_x(sheet: &Sheet<'_>, thread: u8) -> u128
     ensures value { result ≡ thread_x (page_on sheet.now) thread }
     ensures small { result ≤ 2 ^ 90 }
 {
-    let before = sheet
-        .threads
-        .iter()
-        .filter(|lower| **lower < thread)
-        .count();
+    let before = lanes_before(sheet.scene.threads.as_slice(), thread);
     lane_x(sheet.measures, before)
 }
 
@@ -109,68 +106,27 @@ pub(crate) fn top(m: Measures) -> u128
     legend_y(m) + 32 + 20 * (m.legend as u128 + m.heads as u128 + 1)
 }
 
-/// How many rows the initial values take, with their head.
-fn initial_rows(m: Measures) -> u128
-    ensures value { result ≡ initial_rows m }
-    ensures small { result ≤ 2 ^ 65 }
-{
-    if m.initial == 0 {
-        0
-    } else {
-        m.initial as u128 + 1
-    }
-}
-
-/// The row of the initial value at this place.
-pub(crate) fn initial_row(j: usize) -> u128
-    ensures value { result ≡ initial_row j }
-    ensures small { result ≤ 2 ^ 65 }
-{
-    j as u128 + 1
-}
-
-/// The row of an event, from 0.
-#[tactic(auto, unfolding(crate::specs::Layout::row))]
-pub(crate) fn row(sheet: &Sheet<'_>, ticket: u64) -> u128
-    ensures value { result ≡ row (page_on sheet.now) ticket }
-    ensures small { result ≤ 2 ^ 66 }
-{
-    let events = sheet.events.iter().filter(|event| event.ticket < ticket);
-    let effects = sheet.points.iter().filter(|point| **point < ticket);
-    initial_rows(sheet.measures) + (events.count() as u128 + effects.count() as u128)
-}
-
-/// The row of an effect just after this ticket, from 0, with this many effects before it.
-#[tactic(auto, unfolding(crate::specs::Layout::effect_row))]
-pub(crate) fn effect_row(sheet: &Sheet<'_>, point: u64, i: usize) -> u128
-    ensures value { result ≡ effect_row (page_on sheet.now) point i }
-    ensures small { result ≤ 2 ^ 66 }
-{
-    let events = sheet.events.iter().filter(|event| event.ticket <= point);
-    initial_rows(sheet.measures) + (events.count() as u128 + i as u128)
-}
-
 /// The upper edge of a row.
-pub(crate) fn row_y(sheet: &Sheet<'_>, row: u128) -> u128
-    requires { row ≤ 2 ^ 66 }
+pub(crate) fn row_y(sheet: &Sheet<'_>, row: Row) -> u128
     ensures value { result ≡ row_y (page_on sheet.now) row }
     ensures small { result ≤ 2 ^ 91 }
 {
-    top(sheet.measures) + 20 * row
+    let number = row_number(sheet.scene.rows.as_slice(), row);
+    top(sheet.measures) + 20 * number as u128
 }
 
 /// The upper edge of a bar, in the row of its call.
 pub(crate) fn call_y(sheet: &Sheet<'_>, ticket: u64) -> u128
     ensures { result ≡ call_y (page_on sheet.now) ticket }
 {
-    row_y(sheet, row(sheet, ticket)) + 3
+    row_y(sheet, Row::Ticket(ticket)) + 3
 }
 
 /// The lower edge of a bar, in the row of its return.
 pub(crate) fn ret_y(sheet: &Sheet<'_>, ticket: u64) -> u128
     ensures { result ≡ ret_y (page_on sheet.now) ticket }
 {
-    row_y(sheet, row(sheet, ticket)) + 17
+    row_y(sheet, Row::Ticket(ticket)) + 17
 }
 
 /// Where the last row ends.
@@ -181,7 +137,7 @@ pub(crate) fn bottom(m: Measures) -> u128
     ensures room { top m ≤ result }
     ensures below { 112 ≤ result }
 {
-    top(m) + 20 * (initial_rows(m) + m.events as u128 + m.effects as u128 + 1)
+    top(m) + 20 * (m.rows as u128 + 1)
 }
 
 /// How high the picture is.

@@ -5,7 +5,7 @@ mod bars;
 mod beside;
 mod elements;
 mod html;
-mod initial;
+mod lanes;
 mod laws;
 mod layout;
 mod lines;
@@ -17,8 +17,5 @@ mod signs;
 mod words;
 
 pub use html::html_picture;
-pub use laws::{
-    bars_overlap_as_operations_do, effect_rows_rise_within_bars, initial_rows_come_first,
-    pictures_are_well_formed, svg_lanes_stand_apart,
-};
+pub use laws::{bars_overlap_as_operations_do, pictures_are_well_formed, svg_lanes_stand_apart};
 pub use picture::svg_picture;

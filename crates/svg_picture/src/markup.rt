@@ -1,8 +1,7 @@
 //! Markup: elements with attributes, each closed by its end tag.
 ghost use Rattle.std.specs.Prelude.{◌≡◌, ◌++◌, OnOk, map, decimal};
 ghost use Rattle.std.specs.List.{flat_map};
-ghost use Rattle.svg_picture.specs.Markup.{Element, is_plain, plain_byte, plain_words, attribute_text, named, start_tag, end_tag, text_of};
-ghost use Rattle.svg_picture.specs.Markup.{Words as InWords};
+ghost use Rattle.svg_picture.specs.Markup.{is_plain, plain_byte, plain_words, attribute_text, named, start_tag, end_tag};
 
 use drawing::Added;
 use itoa::Buffer;
@@ -111,7 +110,7 @@ pub(crate) fn push_element(
     attributes: &[Attribute<'_>],
     words: &[u8],
 ) -> Added
-    ensures { OnOk result (text.new.items ≡ text.old.items ++ text_of (Element name.now (map named attributes.now) (InWords words.now))) }
+    ensures { OnOk result (text.new.items ≡ text.old.items ++ (start_tag name.now (map named attributes.now) ++ (plain_words words.now ++ end_tag name.now))) }
 {
     push_start(text, name, attributes)?;
     push_plain(text, words)?;

@@ -1,31 +1,29 @@
 //! A picture as an SVG document.
-ghost use Rattle.std.specs.Prelude.{◌≡◌, ◌++◌, ◌≤◌, OnOk, IfOk, length};
+ghost use Rattle.std.specs.Prelude.{◌≡◌, ◌++◌, ◌≤◌, OnOk, IfOk};
 ghost use Rattle.drawing.specs.Claim.{count_of_lines};
-ghost use Rattle.drawing.specs.Layout.{threads_of};
-ghost use Rattle.drawing.specs.Bands.{bands_of};
+ghost use Rattle.drawing.specs.Scene.{scene_on};
 ghost use Rattle.drawing.specs.Captions.{caption};
 ghost use Rattle.svg_picture.specs.Markup.{text_of};
 ghost use Rattle.svg_picture.specs.Layout.{page_on};
-ghost use Rattle.svg_picture.specs.Picture.{about, frame, heading, inside, is_yes, measures_of, page_content, picture_content, points_of, svg_picture, view_box};
+ghost use Rattle.svg_picture.specs.Picture.{about, frame, heading, inside, is_yes, measures_of, page_content, page_of, picture_content, svg_picture, view_box};
 
 use crate::bars::push_bars;
-use crate::beside::{push_bands, push_order, push_ways};
+use crate::beside::push_bands;
 use crate::elements::{push_lines_at, push_samples, push_text_at};
-use crate::initial::push_initial_values;
+use crate::lanes::{push_background, push_threads};
 use crate::layout::{height, legend_y, width};
 use crate::lines::{line_count, longest_head, longest_line};
 use crate::markup::Attribute::{Number, Words};
 use crate::markup::{push_element, push_end, push_number, push_start};
-use crate::rows::{push_background, push_threads, push_tickets};
+use crate::rows::{push_order_name, push_rows, push_ticket_names};
 use crate::sheet::{Measures, Sheet};
 use crate::signs::push_signs;
 use crate::words::{push_style, reading};
 use drawing::{
-    Added, Band, MOST_DRAWN, bands_of, count_of_lines, digits, events_of, headline, label_width,
-    last_ticket, order_of, push_caption, signs_of, threads_of,
+    Added, MOST_DRAWN, Scene, count_of_lines, digits, headline, label_width, push_caption,
+    scene_of, signs_of,
 };
-use event_records::Event;
-use history_merge::{History, Operation};
+use history_merge::History;
 use std::alloc::{AllocError, Global};
 use verdicts::Claimed;
 
@@ -44,12 +42,12 @@ fn push_heading(text: &mut Vec<u8>, sheet: &Sheet<'_>) -> Added
     ensures { OnOk result (text.new.items ≡ text.old.items ++ text_of (heading (page_on sheet.now))) }
 {
     let y = legend_y(sheet.measures);
-    push_text_at(text, 9, b"head", 6, 26, headline(sheet.claimed))?;
-    let caption = caption_of(sheet.alloc, sheet.claimed)?;
+    push_text_at(text, 9, b"head", 6, 26, headline(sheet.scene.claimed))?;
+    let caption = caption_of(sheet.alloc, sheet.scene.claimed)?;
     push_lines_at(text, 8, b"say", 46, caption.as_slice())?;
     push_samples(text, y)?;
     push_lines_at(text, 7, b"dim", y + 35, reading())?;
-    let signs = signs_of(sheet.alloc, sheet.initial, sheet.claimed)?;
+    let signs = signs_of(sheet.alloc, sheet.scene.initial, sheet.scene.claimed)?;
     push_signs(text, sheet.measures, signs.as_slice())
 }
 
@@ -70,10 +68,11 @@ fn push_about(alloc: Global, text: &mut Vec<u8>, claimed: &Claimed) -> Added
 fn push_frame(text: &mut Vec<u8>, sheet: &Sheet<'_>) -> Added
     ensures { OnOk result (text.new.items ≡ text.old.items ++ text_of (frame (page_on sheet.now))) }
 {
-    push_about(sheet.alloc, text, sheet.claimed)?;
+    push_about(sheet.alloc, text, sheet.scene.claimed)?;
     push_background(text, sheet.measures)?;
     push_heading(text, sheet)?;
-    push_tickets(text, sheet)?;
+    push_ticket_names(text, sheet.measures)?;
+    push_order_name(text, sheet.measures, sheet.scene.claimed)?;
     push_threads(text, sheet)
 }
 
@@ -83,10 +82,8 @@ fn push_inside(text: &mut Vec<u8>, sheet: &Sheet<'_>) -> Added
 {
     push_frame(text, sheet)?;
     push_bands(text, sheet)?;
-    push_ways(text, sheet)?;
-    push_order(text, sheet)?;
-    push_initial_values(text, sheet)?;
-    push_bars(text, sheet)
+    push_bars(text, sheet)?;
+    push_rows(text, sheet)
 }
 
 #[tactic(auto, unfolding(crate::specs::Picture::view_box))]
@@ -128,54 +125,29 @@ fn is_yes(claimed: &Claimed) -> bool
     matches!(claimed, Claimed::Yes(_))
 }
 
-/// The tickets just after which the operations of an order take effect.
-fn points_of(alloc: Global, order: &[Operation]) -> Result<Vec<u64>, AllocError>
-    ensures { IfOk result (λ points. points.items ≡ points_of order.now) }
-{
-    let mut points = Vec::with_capacity(alloc, order.len())?;
-    let mut greatest = 0u64;
-    for operation in order {
-        greatest = greatest.max(operation.call);
-        points.push(greatest)?;
-    }
-    Ok(points)
-}
-
 /// How wide the parts of a picture are, and how many there are.
-fn measures_of(
-    alloc: Global,
-    history: &History,
-    events: &[Event],
-    threads: &[u8],
-    claimed: &Claimed,
-    bands: &[Band],
-) -> Result<Measures, AllocError>
-    requires events { events.now ≡ history.now.events }
-    requires few { count_of_lines claimed.now ≤ MOST_DRAWN }
-    requires threads { threads.now ≡ threads_of history.now.events }
-    requires bands { bands.now ≡ bands_of claimed.now }
-    ensures { IfOk result (λ m. m ≡ measures_of history.now claimed.now) }
+fn measures_of(alloc: Global, scene: &Scene<'_>) -> Result<Measures, AllocError>
+    requires { count_of_lines scene.now.claimed.now ≤ MOST_DRAWN }
+    ensures { IfOk result (λ m. m ≡ measures_of (scene_on scene.now)) }
 {
-    let caption = caption_of(alloc, claimed)?;
-    let signs = signs_of(alloc, history.initial(), claimed)?;
+    let caption = caption_of(alloc, scene.claimed)?;
+    let signs = signs_of(alloc, scene.initial, scene.claimed)?;
     Ok(Measures {
-        ticket: digits(last_ticket(events)).max(6) as u8,
-        number: digits(count_of_lines(claimed) as u64) as u8,
-        label: label_width(history.initial(), history.operations()) as u8,
-        lanes: threads.len(),
-        initial: history.initial().len(),
-        events: events.len(),
-        effects: order_of(claimed).len(),
-        heads: bands.len(),
-        head: longest_head(alloc, bands)?,
+        ticket: digits(scene.last_ticket).max(6) as u8,
+        number: digits(count_of_lines(scene.claimed) as u64) as u8,
+        label: label_width(scene.initial, scene.operations) as u8,
+        lanes: scene.threads.len(),
+        rows: scene.rows.len(),
+        heads: scene.bands.len(),
+        head: longest_head(alloc, scene.bands.as_slice())?,
         captions: line_count(caption.as_slice()),
         caption: longest_line(caption.as_slice()),
         legend: 2 + signs.len(),
-        is_yes: is_yes(claimed),
+        is_yes: is_yes(scene.claimed),
     })
 }
 
-/// Adds the picture of a history and what is claimed of it, from its first tag to its last.
+/// Adds the picture of a history and what is claimed of it.
 #[tactic(auto, unfolding(crate::specs::Picture::picture_content))]
 pub(crate) fn push_picture(
     alloc: Global,
@@ -186,28 +158,20 @@ pub(crate) fn push_picture(
     requires { count_of_lines claimed.now ≤ MOST_DRAWN }
     ensures { OnOk result (text.new.items ≡ text.old.items ++ text_of (picture_content history.now claimed.now)) }
 {
-    let events = events_of(alloc, history)?;
-    let threads = threads_of(alloc, events.as_slice())?;
-    let bands = bands_of(alloc, claimed)?;
-    let points = points_of(alloc, order_of(claimed))?;
-    let measures = measures_of(
-        alloc,
-        history,
-        events.as_slice(),
-        threads.as_slice(),
-        claimed,
-        bands.as_slice(),
-    )?;
+    let scene = scene_of(alloc, history, claimed)?;
+    push_scene(alloc, text, &scene)
+}
+
+/// Adds the picture of a scene.
+fn push_scene(alloc: Global, text: &mut Vec<u8>, scene: &Scene<'_>) -> Added
+    requires { count_of_lines scene.now.claimed.now ≤ MOST_DRAWN }
+    ensures { OnOk result (text.new.items ≡ text.old.items ++ text_of (page_content (page_of (scene_on scene.now)))) }
+{
+    let measures = measures_of(alloc, scene)?;
     let sheet = Sheet {
         alloc,
         measures,
-        initial: history.initial(),
-        events: events.as_slice(),
-        operations: history.operations(),
-        threads: threads.as_slice(),
-        claimed,
-        bands: bands.as_slice(),
-        points: points.as_slice(),
+        scene,
     };
     push_page(text, &sheet)
 }

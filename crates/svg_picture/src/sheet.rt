@@ -1,13 +1,11 @@
 //! What a picture is made of.
-ghost use Rattle.std.specs.Prelude.{◌≤◌};
+ghost use Rattle.std.specs.Prelude.{◌≤◌, vec_len};
 ghost use Rattle.drawing.specs.Claim.{count_of_lines};
 ghost use Rattle.drawing.specs.declared.columns.TheConstants.{MOST_DRAWN};
+ghost use Rattle.event_records.specs.declared.limits.TheConstants.{MAX_THREADS};
 
-use drawing::Band;
-use event_records::Event;
-use history_merge::Operation;
+use drawing::Scene;
 use std::alloc::Global;
-use verdicts::Claimed;
 
 /// How wide the parts of a picture are, in characters, and how many there are.
 #[derive(Clone, Copy, Debug, PartialEq, Eq)]
@@ -20,12 +18,8 @@ pub struct Measures {
     pub label: u8,
     /// How many threads have events.
     pub lanes: usize,
-    /// How many values the queue holds first.
-    pub initial: usize,
-    /// How many events there are.
-    pub events: usize,
-    /// How many operations the order of a `YES` has.
-    pub effects: usize,
+    /// How many rows there are.
+    pub rows: usize,
     /// How many bands of a `NO` have a head.
     pub heads: usize,
     /// The longest head.
@@ -40,20 +34,13 @@ pub struct Measures {
     pub is_yes: bool,
 }
 
-/// What a picture is made of.
+/// A scene, and its measures.
 #[derive(Clone, Copy)]
 pub struct Sheet<'a> {
     /// Where the memory of its words comes from.
     pub alloc: Global,
     pub measures: Measures,
-    /// What the queue holds first, front first.
-    pub initial: &'a [u64],
-    pub events: &'a [Event],
-    pub operations: &'a [Operation],
-    pub threads: &'a [u8],
-    pub claimed: &'a Claimed,
-    pub bands: &'a [Band],
-    /// The tickets just after which the operations of a `YES` take effect, in its order.
-    pub points: &'a [u64],
-    ghost few: { count_of_lines claimed.now ≤ MOST_DRAWN },
+    pub scene: &'a Scene<'a>,
+    ghost few_lines: { count_of_lines scene.now.claimed.now ≤ MOST_DRAWN },
+    ghost few_threads: { vec_len scene.now.threads ≤ MAX_THREADS },
 }

@@ -58,7 +58,7 @@ text{font-family:DejaVu Sans Mono,Menlo,Consolas,monospace;font-size:11.6px;fill
 .enq{fill:#cfe3ff;stroke:#1f5fbf}.deq{fill:#ffe2bf;stroke:#b35c00}\n\
 .not{fill:#ffffff;stroke:#1f5fbf;stroke-dasharray:5 3}.empty{fill:#ffffff;stroke:#b35c00;stroke-dasharray:5 3}\n\
 .on rect{stroke-width:3}.off rect{fill:#f7f8fa;stroke:#b4bac4}.off text{fill:#6b7280}\n\
-.pill{fill:#1a1a1a;stroke:none}.pick{fill:#ffffff;font-weight:bold}\n\
+.pill,.pick{pointer-events:none}.pill{fill:#1a1a1a;stroke:none}.pick{fill:#ffffff;font-weight:bold}\n\
 .sure{fill:#6b4bb8}.none{fill:url(#hatch);stroke:#6b4bb8}.hatch{stroke:#6b4bb8;stroke-width:2}\n\
 .time{fill:none;stroke:#b3261e;stroke-width:2;stroke-dasharray:5 3}\n\
 line.sure,line.none{stroke:#6b4bb8;stroke-dasharray:2 4}line.time{stroke-width:1;stroke-dasharray:2 4}\n"

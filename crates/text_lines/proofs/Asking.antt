@@ -5,54 +5,54 @@ use Rattle.std.proofs.lemmas.Bool.Decides.{eqb_tells}
 use Rattle.std.proofs.lemmas.Result.{on_err_weaker, on_ok_weaker}
 use Rattle.text_lines.specs.Writing.{Asked, Took, Refused, TakesTimes, IsWritten, IsRefused}
 
-module _ {S : Type 0} (goes : S → Asked → S → Type 0) where
+module _ {S : Type 0} (transition : S → Asked → S → Type 0) where
   -- one more call
-  takes_one_more : (n : ℕ) (a b c : S) → TakesTimes goes n a b → goes b Took c → TakesTimes goes (suc n) a c
-  takes_one_more zero a b c same last = (c, subst (λ (s : S). goes s Took c) (sym same) last, refl)
+  takes_one_more : (n : ℕ) (a b c : S) → TakesTimes transition n a b → transition b Took c → TakesTimes transition (suc n) a c
+  takes_one_more zero a b c same last = (c, subst (λ (s : S). transition s Took c) (sym same) last, refl)
   takes_one_more (suc n) a b c before last = (before.0, before.1, takes_one_more n before.0 b c before.2 last)
 
-  takes_then : (m n : ℕ) (a b c : S) → TakesTimes goes m a b → TakesTimes goes n b c → (k : ℕ) × TakesTimes goes k a c
-  takes_then zero n a b c same after = (n, subst (λ (s : S). TakesTimes goes n s c) (sym same) after)
+  takes_then : (m n : ℕ) (a b c : S) → TakesTimes transition m a b → TakesTimes transition n b c → (k : ℕ) × TakesTimes transition k a c
+  takes_then zero n a b c same after = (n, subst (λ (s : S). TakesTimes transition n s c) (sym same) after)
   takes_then (suc m) n a b c before after =
       let rest = takes_then m n before.0 b c before.2 after in
       (suc rest.0, (before.0, before.1, rest.1))
 
   -- nothing was asked
-  pub nothing_asked : (a : S) → IsWritten goes a a
+  pub nothing_asked : (a : S) → IsWritten transition a a
   nothing_asked a = record { calls = 0; taken = refl }
 
   -- a write that took some bytes took
-  pub took : (n : ℕ) (piece : List ℕ) (a b : S) → (n ≡ 0 → ⊥) → goes a (if (n == 0) && not (length piece == 0) then Refused else Took) b → goes a Took b
+  pub took : (n : ℕ) (piece : List ℕ) (a b : S) → (n ≡ 0 → ⊥) → transition a (if (n == 0) && not (length piece == 0) then Refused else Took) b → transition a Took b
   took n piece a b some asked =
       elim (eqb_tells n 0) [
         | inl h ↦ absurd (some h.1)
-        | inr h ↦ subst (λ (t : Bool). goes a (if t && not (length piece == 0) then Refused else Took) b) h.0 asked
+        | inr h ↦ subst (λ (t : Bool). transition a (if t && not (length piece == 0) then Refused else Took) b) h.0 asked
       ]
 
   -- bytes were taken once more
-  pub written_more : (a b c : S) → IsWritten goes a b → goes b Took c → IsWritten goes a c
+  pub written_more : (a b c : S) → IsWritten transition a b → transition b Took c → IsWritten transition a c
   written_more a b c before last = record { calls = suc before.calls; taken = takes_one_more before.calls a b c before.taken last }
 
   -- two bodies that only write, one after the other
-  pub written_then : (a b c : S) → IsWritten goes a b → IsWritten goes b c → IsWritten goes a c
+  pub written_then : (a b c : S) → IsWritten transition a b → IsWritten transition b c → IsWritten transition a c
   written_then a b c before after =
       let both = takes_then before.calls after.calls a b c before.taken after.taken in
       record { calls = both.0; taken = both.1 }
 
   -- a call is refused after bytes were taken
-  pub refused_last : (a b c : S) → IsWritten goes a b → goes b Refused c → IsRefused goes a c
+  pub refused_last : (a b c : S) → IsWritten transition a b → transition b Refused c → IsRefused transition a c
   refused_last a b c before last = record { before = b; written = before; refused = last }
 
   -- a body that only writes, and then one that is refused
-  pub refused_then : (a b c : S) → IsWritten goes a b → IsRefused goes b c → IsRefused goes a c
+  pub refused_then : (a b c : S) → IsWritten transition a b → IsRefused transition b c → IsRefused transition a c
   refused_then a b c before after = record { before = after.before; written = written_then a b after.before before after.written; refused = after.refused }
 
   -- if the first of two bodies only writes, and the second did so if it is well, both did
-  pub both_written : {T E : Type 0} {a b : S} (result : Result T E) (c : S) → IsWritten goes a b → OnOk result (IsWritten goes b c)
-      → OnOk result (IsWritten goes a c)
+  pub both_written : {T E : Type 0} {a b : S} (result : Result T E) (c : S) → IsWritten transition a b → OnOk result (IsWritten transition b c)
+      → OnOk result (IsWritten transition a c)
   both_written result c before after = on_ok_weaker result (written_then _ _ _ before) after
 
   -- and if the second was refused, both were
-  pub second_refused : {T E : Type 0} {a b : S} (result : Result T E) (c : S) → IsWritten goes a b → OnErr result (IsRefused goes b c)
-      → OnErr result (IsRefused goes a c)
+  pub second_refused : {T E : Type 0} {a b : S} (result : Result T E) (c : S) → IsWritten transition a b → OnErr result (IsRefused transition b c)
+      → OnErr result (IsRefused transition a c)
   second_refused result c before after = on_err_weaker result (refused_then _ _ _ before) after

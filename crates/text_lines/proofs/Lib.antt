@@ -4,7 +4,7 @@
 -- Tables: lines that are judged by a table of their forms.
 -- Scanning: what stands at the front, found in one pass.
 -- MemoryOrNot: out of memory, and the other faults.
--- Appending, Asking, Holding: bytes that are written in turn, what a sink was asked, and what it keeps back.
+-- Appending, Asking, Putting, Holding: bytes that are written in turn, what a sink was asked, both together, and what it keeps back.
 -- WrittenLines: what is written of fields, numbers and lines is read back.
 pub mod Digits
 pub mod Fields
@@ -13,6 +13,7 @@ pub mod Fronts
 pub mod Numbers
 pub mod Appending
 pub mod Asking
+pub mod Putting
 pub mod Holding
 pub mod WrittenLines
 pub mod Tables

@@ -26,31 +26,31 @@ asked_to_flush result = if is_err result then Refused else PassedOn
 
 -- this many calls in turn took bytes, and there was no other call
 abbrev pub TakesTimes : {S : Type 0} → (S → Asked → S → Type 0) → ℕ → S → S → Type 0
-TakesTimes goes zero old new = old ≡ new
-TakesTimes {S} goes (suc n) old new = (next : S) × goes old Took next × TakesTimes goes n next new
+TakesTimes transition zero old new = old ≡ new
+TakesTimes {S} transition (suc n) old new = (next : S) × transition old Took next × TakesTimes transition n next new
 
 -- the sink was asked to take bytes and took them, in any number of calls, and it was asked for nothing else
-pub record IsWritten {S : Type 0} (goes : S → Asked → S → Type 0) (old new : S) : Type 0 where
+pub record IsWritten {S : Type 0} (transition : S → Asked → S → Type 0) (old new : S) : Type 0 where
   pub calls : ℕ
-  pub taken : TakesTimes goes calls old new
+  pub taken : TakesTimes transition calls old new
 
 -- calls took bytes, and then the sink refused; it was asked for nothing after that
-pub record IsRefused {S : Type 0} (goes : S → Asked → S → Type 0) (old new : S) : Type 0 where
+pub record IsRefused {S : Type 0} (transition : S → Asked → S → Type 0) (old new : S) : Type 0 where
   pub before : S
-  pub written : IsWritten goes old before
-  pub refused : goes before Refused new
+  pub written : IsWritten transition old before
+  pub refused : transition before Refused new
 
 -- calls took bytes, and then the sink was flushed, once
-pub record IsFlushed {S : Type 0} (goes : S → Asked → S → Type 0) (old new : S) : Type 0 where
+pub record IsFlushed {S : Type 0} (transition : S → Asked → S → Type 0) (old new : S) : Type 0 where
   pub before : S
-  pub written : IsWritten goes old before
-  pub flushed : goes before PassedOn new
+  pub written : IsWritten transition old before
+  pub flushed : transition before PassedOn new
 
 -- what a call on a sink that holds bytes back asked of its inner sink
 abbrev pub AsksInner : {S : Type 0} → (S → Asked → S → Type 0) → S → Asked → S → Type 0
-AsksInner goes old Took new = IsWritten goes old new
-AsksInner goes old PassedOn new = IsFlushed goes old new
-AsksInner goes old Refused new = IsRefused goes old new
+AsksInner transition old Took new = IsWritten transition old new
+AsksInner transition old PassedOn new = IsFlushed transition old new
+AsksInner transition old Refused new = IsRefused transition old new
 
 -- ---- what came of it
 
@@ -66,3 +66,37 @@ pub record Puts (old new : Option (List ℕ)) (kept rest text : List ℕ) : Type
   pub out : List ℕ
   pub whole : kept ++ text ≡ out ++ rest
   pub written : Appends old new out
+
+-- ---- a text that is written to a sink, seen as its contents, whether it has refused, and what its calls make of it
+
+-- the sink took all of the text, in any number of calls
+pub record TakesAll {S : Type 0} (contents : S → Option (List ℕ)) (has_refused : S → Bool) (transition : S → Asked → S → Type 0)
+    (text : List ℕ) (old new : S) : Type 0 where
+  pub bytes : Appends (contents old) (contents new) text
+  pub asked : IsWritten transition old new
+  pub refused : has_refused new ≡ has_refused old
+
+-- the sink took a prefix of the text, and then it refused
+pub record TakesFront {S : Type 0} (contents : S → Option (List ℕ)) (has_refused : S → Bool) (transition : S → Asked → S → Type 0)
+    (text : List ℕ) (old new : S) : Type 0 where
+  pub bytes : AppendsFront (contents old) (contents new) text
+  pub asked : IsRefused transition old new
+  pub refused : has_refused new ≡ true
+
+-- a call that succeeds writes all of the text; one that fails writes a prefix, and the refusal is the last that it asked
+abbrev pub Writes : {S T E : Type 0} → (S → Option (List ℕ)) → (S → Bool) → (S → Asked → S → Type 0) → List ℕ → S → S → Result T E → Type 0
+Writes contents has_refused transition text old new (Ok x) = TakesAll contents has_refused transition text old new
+Writes contents has_refused transition text old new (Err e) = TakesFront contents has_refused transition text old new
+
+-- the text comes after what is held back; the sink took a prefix of both, in any number of calls, and the rest is held back now
+pub record TakesSome {S : Type 0} (contents : S → Option (List ℕ)) (has_refused : S → Bool) (transition : S → Asked → S → Type 0)
+    (kept rest text : List ℕ) (old new : S) : Type 0 where
+  pub bytes : Puts (contents old) (contents new) kept rest text
+  pub asked : IsWritten transition old new
+  pub refused : has_refused new ≡ has_refused old
+
+-- a call that succeeds writes the text after what is held back, and may hold back the end; one that fails writes a prefix of both
+abbrev pub PutsText : {S T E : Type 0} → (S → Option (List ℕ)) → (S → Bool) → (S → Asked → S → Type 0) → List ℕ → List ℕ → List ℕ → S → S
+    → Result T E → Type 0
+PutsText contents has_refused transition kept rest text old new (Ok x) = TakesSome contents has_refused transition kept rest text old new
+PutsText contents has_refused transition kept rest text old new (Err e) = TakesFront contents has_refused transition (kept ++ text) old new

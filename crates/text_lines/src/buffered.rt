@@ -3,8 +3,8 @@ ghost use Rattle.std.specs.Prelude.{◌≡◌, ◌≤◌, ◌<◌, ◌||◌, ◌
 ghost use Rattle.std.specs.Io.KnownBytes.{Keeps, append_known};
 ghost use Rattle.text_lines.specs.Writing.{IsWritten, IsRefused, AsksInner};
 
-use crate::kept::{KEPT_LEN, Kept};
 use crate::sink::{TextSink, WriteFault};
+use crate::write_buffer::{BUFFER_LEN, WriteBuffer};
 use std::marker::Model;
 
 /// A sink that holds back up to 4,096 bytes, so that its inner sink gets them in few pieces.
@@ -14,7 +14,7 @@ use std::marker::Model;
 #[derive(Drop)]
 pub struct Buffered<S: TextSink> {
     inner: S,
-    kept: Kept,
+    kept: WriteBuffer,
     at: usize,
 }
 
@@ -36,7 +36,7 @@ impl<S: TextSink> Buffered<S> {
     {
         Buffered {
             inner,
-            kept: Kept::new(),
+            kept: WriteBuffer::new(),
             at: 0,
         }
     }
@@ -47,8 +47,8 @@ impl<S: TextSink> Buffered<S> {
         ensures room { OnOk result (self.new.room ≡ 4096) }
         ensures bytes { Keeps (append_known (S.contents self.old.inner) self.old.kept) (append_known (S.contents self.new.inner) self.new.kept) }
         ensures refused { S.has_refused self.new.inner ≡ (S.has_refused self.old.inner || is_err result) }
-        ensures written { OnOk result (IsWritten S.goes self.old.inner self.new.inner) }
-        ensures stopped { OnErr result (IsRefused S.goes self.old.inner self.new.inner) }
+        ensures written { OnOk result (IsWritten S.transition self.old.inner self.new.inner) }
+        ensures stopped { OnErr result (IsRefused S.transition self.old.inner self.new.inner) }
     {
         while self.at < self.kept.len() {
             match self.inner.write(&self.kept.as_slice()[self.at..])? {
@@ -66,10 +66,10 @@ impl<S: TextSink> Buffered<S> {
         ensures room { OnOk result (0 < self.new.room) }
         ensures bytes { Keeps (append_known (S.contents self.old.inner) self.old.kept) (append_known (S.contents self.new.inner) self.new.kept) }
         ensures refused { S.has_refused self.new.inner ≡ (S.has_refused self.old.inner || is_err result) }
-        ensures written { OnOk result (IsWritten S.goes self.old.inner self.new.inner) }
-        ensures stopped { OnErr result (IsRefused S.goes self.old.inner self.new.inner) }
+        ensures written { OnOk result (IsWritten S.transition self.old.inner self.new.inner) }
+        ensures stopped { OnErr result (IsRefused S.transition self.old.inner self.new.inner) }
     {
-        if self.kept.len() < KEPT_LEN {
+        if self.kept.len() < BUFFER_LEN {
             return Ok(());
         }
         self.pass_on()
@@ -83,7 +83,7 @@ impl<S: TextSink> Buffered<S> {
         ensures kept { self.new.kept ≡ self.old.kept ++ take result piece.now }
         ensures inner { self.new.inner ≡ self.old.inner }
     {
-        let count = piece.len().min(KEPT_LEN - self.kept.len());
+        let count = piece.len().min(BUFFER_LEN - self.kept.len());
         self.kept.push(&piece[..count]);
         count
     }
@@ -96,7 +96,7 @@ impl<S: TextSink> TextSink for Buffered<S> {
 
     ghost holds_back = { λ b. not (length b.kept == 0) || S.holds_back b.inner };
 
-    ghost goes = { λ old asked new. AsksInner S.goes old.inner asked new.inner };
+    ghost transition = { λ old asked new. AsksInner S.transition old.inner asked new.inner };
 
     fn write(&mut self, piece: &[u8]) -> Result<usize, WriteFault> {
         self.make_room()?;

@@ -1,7 +1,7 @@
-ghost use Rattle.std.specs.Prelude.{◌≡◌, ◌≤◌, ◌||◌, ℕ, Bool, false, List, Option, IfOk, OnOk, OnErr, is_err, length};
-ghost use Rattle.std.specs.Io.KnownBytes.{Keeps, WriteAppends, Appends};
+ghost use Rattle.std.specs.Prelude.{◌≡◌, ◌≤◌, ◌||◌, ℕ, Bool, false, List, Option, IfOk, OnOk, is_err, length};
+ghost use Rattle.std.specs.Io.KnownBytes.{Keeps, WriteAppends};
 ghost use Rattle.text_lines.specs.Watching.{IsNoted};
-ghost use Rattle.text_lines.specs.Writing.{is_refusal, AppendsFront, Asked, asked_to_write, asked_to_flush, IsWritten, IsRefused};
+ghost use Rattle.text_lines.specs.Writing.{is_refusal, Asked, asked_to_write, asked_to_flush, Writes};
 
 use crate::source::Watched;
 use std::io::Write;
@@ -32,21 +32,21 @@ pub trait TextSink {
 
     /// Whether a call that ended so leads from the earlier sink to the later one. So contracts see which calls were
     /// made, and in which order.
-    ghost goes: { Self → Asked → Self → Type 0 };
+    ghost transition: { Self → Asked → Self → Type 0 };
 
     /// Takes bytes from the front of the piece, and returns how many.
     fn write(&mut self, piece: &[u8]) -> Result<usize, WriteFault>
         ensures bound { IfOk result (λ n. n ≤ length piece.now) }
         ensures bytes { WriteAppends (contents self.old) (contents self.new) result piece.now }
         ensures refused { has_refused self.new ≡ (has_refused self.old || is_refusal result piece.now) }
-        ensures asked { goes self.old (asked_to_write result piece.now) self.new };
+        ensures asked { transition self.old (asked_to_write result piece.now) self.new };
 
     /// Passes on what the sink holds back.
     fn flush(&mut self) -> Result<(), WriteFault>
         ensures bytes { Keeps (contents self.old) (contents self.new) }
         ensures refused { has_refused self.new ≡ (has_refused self.old || is_err result) }
         ensures passed_on { OnOk result (holds_back self.new ≡ false) }
-        ensures asked { goes self.old (asked_to_flush result) self.new };
+        ensures asked { transition self.old (asked_to_flush result) self.new };
 }
 
 impl<W: Write> TextSink for Watched<W> {
@@ -56,7 +56,7 @@ impl<W: Write> TextSink for Watched<W> {
 
     ghost holds_back = { λ w. w.holds_back };
 
-    ghost goes = { λ old asked new. IsNoted old asked new };
+    ghost transition = { λ old asked new. IsNoted old asked new };
 
     fn write(&mut self, piece: &[u8]) -> Result<usize, WriteFault> {
         self.holds_back = true;
@@ -91,11 +91,7 @@ impl<W: Write> TextSink for Watched<W> {
 /// Writes all of the bytes, in as many calls as the writer needs, or fails after a prefix of them. It doesn't flush
 /// the writer.
 pub fn write_piece<W: TextSink>(piece: &[u8], writer: &mut W) -> Result<(), WriteFault>
-    ensures ok { OnOk result (Appends (W.contents writer.old) (W.contents writer.new) piece.now) }
-    ensures err { OnErr result (AppendsFront (W.contents writer.old) (W.contents writer.new) piece.now) }
-    ensures refused { W.has_refused writer.new ≡ (W.has_refused writer.old || is_err result) }
-    ensures written { OnOk result (IsWritten W.goes writer.old writer.new) }
-    ensures stopped { OnErr result (IsRefused W.goes writer.old writer.new) }
+    ensures { Writes W.contents W.has_refused W.transition piece.now writer.old writer.new result }
 {
     let mut done = 0;
     while done < piece.len() {

@@ -5,3 +5,5 @@
 pub mod Once
 pub mod Rising
 mod Steps
+mod Apart
+mod Logged

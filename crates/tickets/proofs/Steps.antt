@@ -1,23 +1,30 @@
 -- Each step keeps the account.
-use Rattle.std.proofs.Common.{◌≡◌, ◌≢◌, ℕ, zero, suc, ◌+◌, ◌-◌, ◌%◌, ◌^◌, ◌<◌, ◌≤◌, List, [], ◌∷◌, ◌++◌, length, get_or, set, All, sum_by, flat_map}
+use Rattle.std.proofs.Common.{◌≡◌, ◌≢◌, ℕ, suc, ◌+◌, ◌-◌, ◌%◌, ◌^◌, ◌<◌, ◌≤◌, List, [], ◌∷◌, ◌++◌, length, get_or, set, All, sum_by, flat_map}
 use Rattle.std.proofs.Common.{IsPermutation, refl, sym, ap, ◌∙◌, subst, arith, length-append, length-set, get_or-set_same, append_assoc}
 use mathlib.Core.Option.{some, some-injective, some-ne-none}
 use lib.ListN.{get_elem?}
 use Rattle.std.specs.List.Sorted.{IsStrictlyIncreasing}
 use Rattle.std.proofs.lemmas.List.{append-nil}
 use Rattle.std.proofs.lemmas.List.Concat.{flat_map-append, length-flat_map}
-use Rattle.std.proofs.lemmas.List.Elements.{All-nil, All-cons, All-head, All-tail, All-get_or, All-set, All-push}
+use Rattle.std.proofs.lemmas.List.Elements.{All-nil, All-cons, All-head, All-tail, All-get_or, All-set, All-push, All-contains}
 use Rattle.std.proofs.lemmas.List.FromFn.{length-range_with_len}
 use Rattle.std.proofs.lemmas.List.Sums.{sum_by-cons, sum_by_push, sum_by-set, get_or-le-sum_by}
-use Rattle.std.proofs.lemmas.List.Sorted.{IsPermutation-refl, IsPermutation-sym, IsPermutation-trans, IsPermutation-append_left}
-use Rattle.std.proofs.lemmas.List.Sorted.{IsPermutation-append_right, IsPermutation-append_comm, IsPermutation-middle, IsPermutation-to_front}
+use Rattle.std.proofs.lemmas.List.Sorted.{IsPermutation-sym, IsPermutation-trans, IsPermutation-append_left}
+use Rattle.std.proofs.lemmas.List.Sorted.{IsPermutation-middle, IsPermutation-to_front}
 use Rattle.std.proofs.lemmas.List.Sorted.{IsPermutation-cons, length_permutation, All-permutation}
 use Rattle.atomic_table.specs.Table.{Me, keeps, stepped, Allows, Splits, Joins, Seen, Final}
 use Rattle.atomic_table.proofs.Lists.{set_again, set_else}
 use Rattle.tickets.specs.declared.account.Holding.{Holding}
 use Rattle.tickets.specs.Account.{whole_of, IsAccount}
-use Rattle.tickets.specs.Inner.Account.{holding, KeepsAccount, DrawsNext, LooksAtShare, merged, put_together}
+use Rattle.tickets.specs.Inner.Account.{first_of, holding, logging, known_log, knows_log, without_log, with_log}
+use Rattle.tickets.specs.Inner.Account.{noting, KeepsAccount, DrawsNext, NotesAt, LooksAtShare, merged, put_together}
+use Rattle.tickets.specs.Log.{IsLogged, Knows, LooksRise}
+use Rattle.tickets.specs.declared.note.Effect.{Effect}
+use Rattle.tickets.specs.declared.note.Note.{Note}
+use Rattle.std.specs.Prelude.{None, Contains}
 use Rattle.tickets.specs.Views.{numbers_below}
+use Rattle.tickets.proofs.Logged.{logged_same, logged_push, logged_lent, logged_taken, logged_joined, logged_noted, logged_whole, noted_within, looks_within, known_is, at_place}
+use Rattle.tickets.proofs.Apart.{place_in, one_apart, two_apart}
 use Rattle.tickets.proofs.Rising.{times, times-append, times-permutation, times-range, range-push, range-below, rises, increasing, RisesFrom-push}
 use Rattle.tickets.proofs.Rising.{all_below, IsPermutation-merged, RisesFrom-merged}
 
@@ -28,74 +35,6 @@ drawn_of h = h.drawn
 -- how many numbers a pass may still draw
 abbrev pub count_of : Holding → ℕ
 count_of h = length h.drawn
-
--- a list between two others, moved to the front
-to_front : (xs ys zs : List ℕ) → IsPermutation (xs ++ (ys ++ zs)) (ys ++ (xs ++ zs))
-to_front xs ys zs = subst (λ (l : List ℕ). IsPermutation l (ys ++ (xs ++ zs))) (append_assoc xs ys zs)
-    (subst (IsPermutation ((xs ++ ys) ++ zs)) (append_assoc ys xs zs) (IsPermutation-append_left zs (xs ++ ys) (ys ++ xs) (IsPermutation-append_comm xs ys)))
-
--- ---- the pass at a place, and the rest
-
-place_in : (views : List Holding) (i : ℕ) (v : Holding) → get_elem? views i ≡ some v → (i < length views) × ((d : Holding) → get_or views i d ≡ v)
-place_in [] i v e = absurd (some-ne-none v (sym e))
-place_in (x ∷ xs) zero v e = (omega arith, λ d. some-injective x v e)
-place_in (x ∷ xs) (suc i) v e = let r = place_in xs i v e in (omega (arith, r.0), r.1)
-
--- all tickets, as those of the pass at i and the others, whatever that pass becomes
-record OneApart (views : List Holding) (i : ℕ) (v : Holding) : Type 0 where
-  others : List ℕ
-  before : IsPermutation (flat_map drawn_of views) (v.drawn ++ others)
-  after : (w : Holding) → IsPermutation (flat_map drawn_of (set views i w)) (w.drawn ++ others)
-
--- more numbers before a list with a part in front
-behind : (xs all ys zs : List ℕ) → IsPermutation all (ys ++ zs) → IsPermutation (xs ++ all) (ys ++ (xs ++ zs))
-behind xs all ys zs p = IsPermutation-trans (xs ++ all) (xs ++ (ys ++ zs)) (ys ++ (xs ++ zs)) (IsPermutation-append_right xs all (ys ++ zs) p)
-    (to_front xs ys zs)
-
-behind_two : (xs all ys zs rest : List ℕ) → IsPermutation all (ys ++ (zs ++ rest)) → IsPermutation (xs ++ all) (ys ++ (zs ++ (xs ++ rest)))
-behind_two xs all ys zs rest p = IsPermutation-trans (xs ++ all) (ys ++ (xs ++ (zs ++ rest))) (ys ++ (zs ++ (xs ++ rest))) (behind xs all ys (zs ++ rest) p)
-    (IsPermutation-append_right ys (xs ++ (zs ++ rest)) (zs ++ (xs ++ rest)) (to_front xs zs rest))
-
-one_apart : (views : List Holding) (i : ℕ) (v : Holding) → get_elem? views i ≡ some v → OneApart views i v
-one_apart [] i v e = absurd (some-ne-none v (sym e))
-one_apart (x ∷ xs) zero v e = record {
-  others = flat_map drawn_of xs;
-  before = subst (λ (h : Holding). IsPermutation (x.drawn ++ flat_map drawn_of xs) (h.drawn ++ flat_map drawn_of xs)) (some-injective x v e)
-      (IsPermutation-refl (x.drawn ++ flat_map drawn_of xs));
-  after = λ w. IsPermutation-refl (w.drawn ++ flat_map drawn_of xs);
-}
-one_apart (x ∷ xs) (suc i) v e = let r = one_apart xs i v e in record {
-  others = x.drawn ++ r.others;
-  before = behind x.drawn (flat_map drawn_of xs) v.drawn r.others r.before;
-  after = λ w. behind x.drawn (flat_map drawn_of (set xs i w)) w.drawn r.others (r.after w);
-}
-
--- the same two facts for two passes
-record TwoApart (views : List Holding) (i j : ℕ) (v w : Holding) : Type 0 where
-  others : List ℕ
-  before : IsPermutation (flat_map drawn_of views) (v.drawn ++ (w.drawn ++ others))
-  after : (m s : Holding) → IsPermutation (flat_map drawn_of (set (set views i m) j s)) (m.drawn ++ (s.drawn ++ others))
-
-two_apart : (views : List Holding) (i j : ℕ) (v w : Holding) → get_elem? views i ≡ some v → get_elem? views j ≡ some w → j ≢ i → TwoApart views i j v w
-two_apart [] i j v w e f apart = absurd (some-ne-none v (sym e))
-two_apart (x ∷ xs) zero zero v w e f apart = absurd (apart refl)
-two_apart (x ∷ xs) zero (suc j) v w e f apart = let r = one_apart xs j w f in record {
-  others = r.others;
-  before = subst (λ (h : Holding). IsPermutation (x.drawn ++ flat_map drawn_of xs) (h.drawn ++ (w.drawn ++ r.others))) (some-injective x v e)
-      (IsPermutation-append_right x.drawn (flat_map drawn_of xs) (w.drawn ++ r.others) r.before);
-  after = λ m s. IsPermutation-append_right m.drawn (flat_map drawn_of (set xs j s)) (s.drawn ++ r.others) (r.after s);
-}
-two_apart (x ∷ xs) (suc i) zero v w e f apart = let r = one_apart xs i v e in record {
-  others = r.others;
-  before = subst (λ (h : Holding). IsPermutation (x.drawn ++ flat_map drawn_of xs) (v.drawn ++ (h.drawn ++ r.others))) (some-injective x w f)
-      (behind x.drawn (flat_map drawn_of xs) v.drawn r.others r.before);
-  after = λ m s. behind s.drawn (flat_map drawn_of (set xs i m)) m.drawn r.others (r.after m);
-}
-two_apart (x ∷ xs) (suc i) (suc j) v w e f apart = let r = two_apart xs i j v w e f (λ q. apart (ap suc q)) in record {
-  others = x.drawn ++ r.others;
-  before = behind_two x.drawn (flat_map drawn_of xs) v.drawn w.drawn r.others r.before;
-  after = λ m s. behind_two x.drawn (flat_map drawn_of (set (set xs i m) j s)) m.drawn s.drawn r.others (r.after m s);
-}
 
 -- ---- shares and counts
 
@@ -134,6 +73,12 @@ nothing : (xs : List ℕ) → length xs ≡ 0 → xs ≡ []
 nothing [] e = refl
 nothing (x ∷ xs) e = absurd (omega arith)
 
+contains_some : (xs : List ℕ) (x : ℕ) → Contains xs x → xs ≢ []
+contains_some xs x c e = let long = ap length e in let inside = c.1 in absurd (omega arith)
+
+not_empty : (xs : List ℕ) (n : ℕ) → xs ++ n ∷ [] ≢ []
+not_empty xs n e = let long = ap length e in let sum = length-append xs (n ∷ []) in absurd (omega arith)
+
 -- the numbers below n are below n
 pub below_all : (n : ℕ) → All (λ t. t < n) (numbers_below n)
 below_all n = subst (λ (m : ℕ). All (λ t. t < m) (numbers_below n)) (omega arith) (range-below 0 n)
@@ -149,7 +94,7 @@ module _ (budget : ℕ) where
   -- a pass that may still draw keeps the next number below the budget
   room : (next : ℕ) (views : List Holding) (i : ℕ) (v : Holding) → IsAccount budget next views → get_elem? views i ≡ some v → 0 < v.left → next < budget
   room next views i v a at some_left =
-      let none = holding 0 [] in
+      let none = holding 0 [] [] in
       let all = total next views a in
       let counts = counts-set views i v none at in
       let shares = shares-set views i v none at in
@@ -158,16 +103,20 @@ module _ (budget : ℕ) where
       omega arith
 
   -- the table after the word became x
-  kept : (words : List ℕ) (x : ℕ) (views : List Holding) → length words ≡ 1 → IsAccount budget x views
-      → (length (set words 0 x) ≡ 1) × IsAccount budget (get_or (set words 0 x) 0 0) views
-  kept words x views wide a = (length-set words 0 x ∙ wide, subst (λ (z : ℕ). IsAccount budget z views) (sym (get_or-set_same words 0 x 0 (omega arith))) a)
+  kept : (words : List ℕ) (x : ℕ) (views : List Holding) → length words ≡ 1 → IsAccount budget x views → IsLogged x views
+      → ((length (set words 0 x) ≡ 1) × IsAccount budget (get_or (set words 0 x) 0 0) views) × IsLogged (get_or (set words 0 x) 0 0) views
+  kept words x views wide a l =
+      let same = sym (get_or-set_same words 0 x 0 (omega arith)) in (
+        (length-set words 0 x ∙ wide, subst (λ (z : ℕ). IsAccount budget z views) same a),
+        subst (λ (z : ℕ). IsLogged z views) same l,
+      )
 
   account_drawn : (n : ℕ) (views : List Holding) (i : ℕ) (v : Holding) → IsAccount budget n views → get_elem? views i ≡ some v → 0 < v.left
       → All (λ t. t < n) v.drawn
-      → IsAccount budget (suc n) (set views i (holding (v.left - 1) (v.drawn ++ n ∷ [])))
+      → IsAccount budget (suc n) (set views i (record v { left = v.left - 1; drawn = v.drawn ++ n ∷ [] }))
   account_drawn n views i v a at some_left below =
-      let w = holding (v.left - 1) (v.drawn ++ n ∷ []) in
-      let apart = one_apart views i v at in
+      let w = record v { left = v.left - 1; drawn = v.drawn ++ n ∷ [] } in
+      let apart = one_apart drawn_of views i v at in
       let shares = shares-set views i v w at in
       let one_more = length-append v.drawn (n ∷ []) in
       let is = a.shared_out in
@@ -195,30 +144,32 @@ module _ (budget : ℕ) where
   draws slots id me some_left s r _ at small =
       let v = me.0 in
       let n : ℕ = get_or s.words 0 0 in
-      let a = r.1 in
+      let a = r.0.1 in
       let inside : n < budget = room n s.views id v a at some_left in
       let limit = a.limited in
-      let apart = one_apart s.views id v at in
+      let apart = one_apart drawn_of s.views id v at in
       let all = flat_map drawn_of s.views in
       let same = IsPermutation-trans (numbers_below n) all (v.drawn ++ apart.others) (IsPermutation-sym all (numbers_below n) a.complete) apart.before in
       let below = all_left (λ t. t < n) v.drawn apart.others (All-permutation (λ t. t < n) (numbers_below n) (v.drawn ++ apart.others) same (below_all n)) in
       let next : suc n ≡ (n + 1) % 18446744073709551616 = omega arith in
-      let w = holding (v.left - 1) (v.drawn ++ n ∷ []) in (
+      let w = record v { left = v.left - 1; drawn = v.drawn ++ n ∷ [] } in (
         w,
         keeps,
         tt,
         subst (λ (z : ℕ). KeepsAccount budget (stepped s 0 z id me.1 w keeps)) next
-            (kept s.words (suc n) (set s.views id w) r.0 (account_drawn n s.views id v a at some_left below)),
-        ((omega arith, refl, below, omega arith), refl),
+            (kept s.words (suc n) (set s.views id w) r.0.0 (account_drawn n s.views id v a at some_left below)
+            (logged_same n (suc n) s.views id v w (omega arith) r.1 at refl refl (λ e. absurd (not_empty v.drawn n e)))),
+        ((omega arith, refl, below, omega arith, refl, refl, noted_within n s.views id v r.1 at), refl),
       )
 
   -- a split keeps the account: the new pass has its share, and has drawn nothing
-  pub splits : (id : ℕ) (v : Holding) (n : ℕ) → n ≤ v.left → Splits (KeepsAccount budget) id v (holding (v.left - n) v.drawn) (holding n [])
+  pub splits : (id : ℕ) (v : Holding) (n : ℕ) → n ≤ v.left
+      → Splits (KeepsAccount budget) id v (record v { left = v.left - n }) (holding n [] [])
   splits id v n fits s r at =
-      let a = r.1 in
-      let w = holding (v.left - n) v.drawn in
-      let new = holding n [] in
-      let apart = one_apart s.views id v at in
+      let a = r.0.1 in
+      let w = record v { left = v.left - n } in
+      let new = holding n [] [] in
+      let apart = one_apart drawn_of s.views id v at in
       let shares = shares-set s.views id v w at in
       let pushed = sum_by_push whole_of (set s.views id w) new in
       let is = a.shared_out in
@@ -228,26 +179,31 @@ module _ (budget : ℕ) where
       let done = IsPermutation-trans (flat_map drawn_of (set s.views id w)) all (numbers_below (get_or s.words 0 0)) same a.complete in
       let longer : flat_map drawn_of (set s.views id w) ≡ flat_map drawn_of (set s.views id w ++ new ∷ []) =
       sym (flat_map-append drawn_of (set s.views id w) (new ∷ []) ∙ append-nil (flat_map drawn_of (set s.views id w))) in (
-        r.0,
-        record {
-          limited = a.limited;
-          shared_out = omega arith;
-          rising = All-push (λ (h : Holding). IsStrictlyIncreasing h.drawn) (set s.views id w) new
-              (All-set (λ (h : Holding). IsStrictlyIncreasing h.drawn) s.views id w (rising_at s.views id v at a.rising) a.rising) none_rise;
-          complete = subst (λ (l : List ℕ). IsPermutation l (numbers_below (get_or s.words 0 0))) longer done;
-        },
+        (
+          r.0.0,
+          record {
+            limited = a.limited;
+            shared_out = omega arith;
+            rising = All-push (λ (h : Holding). IsStrictlyIncreasing h.drawn) (set s.views id w) new
+                (All-set (λ (h : Holding). IsStrictlyIncreasing h.drawn) s.views id w (rising_at s.views id v at a.rising) a.rising) none_rise;
+            complete = subst (λ (l : List ℕ). IsPermutation l (numbers_below (get_or s.words 0 0))) longer done;
+          },
+        ),
+        logged_push (get_or s.words 0 0) (set s.views id w) new
+            (logged_same (get_or s.words 0 0) (get_or s.words 0 0) s.views id v w (omega arith) r.1 at refl refl (λ e. e)) refl refl,
       )
 
   -- a join keeps the account: share, rest and tickets of both are put together
-  pub joins : (id : ℕ) (v : Holding) (other : ℕ) (w : Holding) → Joins (KeepsAccount budget) id v other w (put_together v w) (holding 0 [])
-  joins id v other w s r at apart there =
-      let a = r.1 in
+  pub joins : (id : ℕ) (v : Holding) (other : ℕ) (w : Holding) → v.log ≡ None → w.log ≡ None
+      → Joins (KeepsAccount budget) id v other w (put_together v w) (holding 0 [] [])
+  joins id v other w none none' s r at apart there =
+      let a = r.0.1 in
       let views = s.views in
       let next : ℕ = get_or s.words 0 0 in
       let m = put_together v w in
-      let spent = holding 0 [] in
+      let spent = holding 0 [] [] in
       let here = sym (set_else views id other m apart) ∙ there in
-      let two = two_apart views id other v w at here apart in
+      let two = two_apart drawn_of views id other v w at here apart in
       let all = flat_map drawn_of views in
       let both = IsPermutation-merged v.drawn w.drawn in
       let long = length_permutation (v.drawn ++ w.drawn) (merged v.drawn w.drawn) both in
@@ -267,21 +223,25 @@ module _ (budget : ℕ) where
       let to_old = IsPermutation-trans after (v.drawn ++ (w.drawn ++ two.others)) all
       (subst (IsPermutation after) (append_assoc v.drawn w.drawn two.others) to_parts)
       (IsPermutation-sym all (v.drawn ++ (w.drawn ++ two.others)) two.before) in (
-        r.0,
-        record {
-          limited = a.limited;
-          shared_out = omega arith;
-          rising = All-set (λ (h : Holding). IsStrictlyIncreasing h.drawn) (set views id m) other spent none_rise
-              (All-set (λ (h : Holding). IsStrictlyIncreasing h.drawn) views id m rise a.rising);
-          complete = IsPermutation-trans after all (numbers_below next) to_old a.complete;
-        },
+        (
+          r.0.0,
+          record {
+            limited = a.limited;
+            shared_out = omega arith;
+            rising = All-set (λ (h : Holding). IsStrictlyIncreasing h.drawn) (set views id m) other spent none_rise
+                (All-set (λ (h : Holding). IsStrictlyIncreasing h.drawn) views id m rise a.rising);
+            complete = IsPermutation-trans after all (numbers_below next) to_old a.complete;
+          },
+        ),
+        logged_joined next views id other v w r.1 at here apart none none'
+            (λ e. let zero_long = ap length e in (nothing v.drawn (omega arith), nothing w.drawn (omega arith))),
       )
 
   -- a look at a pass keeps the account and changes nothing
   pub looks : (slots id : ℕ) (me : Me (Unit {0}) Holding) → Allows (KeepsAccount budget) slots id me 0 (λ n. n)
       (λ found after. LooksAtShare me.0 × (after ≡ me))
   looks slots id me s r _ at _ =
-      let a = r.1 in
+      let a = r.0.1 in
       let n : ℕ = get_or s.words 0 0 in
       let within = share_within s.views id me.0 at in
       let limit = a.limited in
@@ -289,7 +249,8 @@ module _ (budget : ℕ) where
         me.0,
         keeps,
         tt,
-        kept s.words n (set s.views id me.0) r.0 (subst (IsAccount budget n) (sym (set_again s.views id me.0 at)) a),
+        kept s.words n (set s.views id me.0) r.0.0 (subst (IsAccount budget n) (sym (set_again s.views id me.0 at)) a)
+            (subst (IsLogged n) (sym (set_again s.views id me.0 at)) r.1),
         ((omega arith, rising_at s.views id me.0 at a.rising), refl),
       )
 
@@ -298,11 +259,11 @@ module _ (budget : ℕ) where
       → Final (Seen (KeepsAccount budget) id v) words slots → get_elem? words 0 ≡ some next → v.drawn ≡ numbers_below next
   closes id v words slots next whole f found =
       let s = f.0 in
-      let a = f.1.0.1 in
+      let a = f.1.0.0.1 in
       let at = f.1.1 in
       let last : get_or s.words 0 0 ≡ next = ap (λ (l : List ℕ). get_or l 0 0) f.2 ∙ word_at words next found in
-      let none = holding 0 [] in
-      let apart = one_apart s.views id v at in
+      let none = holding 0 [] [] in
+      let apart = one_apart drawn_of s.views id v at in
       let shares = shares-set s.views id v none at in
       let within = counts_within (set s.views id none) in
       let is = a.shared_out in
@@ -319,9 +280,120 @@ module _ (budget : ℕ) where
       word_at [] n e = absurd (some-ne-none n (sym e))
       word_at (x ∷ xs) n e = some-injective x n e
 
+  -- a pass that draws as before
+  account_same : (next : ℕ) (views : List Holding) (i : ℕ) (v w : Holding) → IsAccount budget next views → get_elem? views i ≡ some v
+      → w.left ≡ v.left → w.drawn ≡ v.drawn → IsAccount budget next (set views i w)
+  account_same next views i v w a at left drawn =
+      let apart = one_apart drawn_of views i v at in
+      let shares = shares-set views i v w at in
+      let long = ap length drawn in
+      let is = a.shared_out in
+      let all = flat_map drawn_of views in
+      let after = flat_map drawn_of (set views i w) in
+      let same = subst (λ (l : List ℕ). IsPermutation after (l ++ apart.others)) drawn (apart.after w) in
+      record {
+        limited = a.limited;
+        shared_out = omega arith;
+        rising = All-set (λ (h : Holding). IsStrictlyIncreasing h.drawn) views i w
+            (subst IsStrictlyIncreasing (sym drawn) (rising_at views i v at a.rising)) a.rising;
+        complete = IsPermutation-trans after all (numbers_below next)
+            (IsPermutation-trans after (v.drawn ++ apart.others) all same (IsPermutation-sym all (v.drawn ++ apart.others) apart.before)) a.complete;
+      }
+
+  -- one more pass with no share
+  account_push : (next : ℕ) (views : List Holding) (log : List Note) → IsAccount budget next views → IsAccount budget next (views ++ logging log ∷ [])
+  account_push next views log a =
+      let new = logging log in
+      let pushed = sum_by_push whole_of views new in
+      let is = a.shared_out in
+      let longer : flat_map drawn_of views ≡ flat_map drawn_of (views ++ new ∷ []) =
+      sym (flat_map-append drawn_of views (new ∷ []) ∙ append-nil (flat_map drawn_of views)) in
+      record {
+        limited = a.limited;
+        shared_out = omega arith;
+        rising = All-push (λ (h : Holding). IsStrictlyIncreasing h.drawn) views new a.rising none_rise;
+        complete = subst (λ (l : List ℕ). IsPermutation l (numbers_below next)) longer a.complete;
+      }
+
+  -- the log goes to a seat of its own
+  pub lends : (id : ℕ) (v : Holding) → knows_log v → Splits (KeepsAccount budget) id v (without_log v) (logging (known_log v.log))
+  lends id v knows s r at =
+      let n : ℕ = get_or s.words 0 0 in
+      let w = without_log v in (
+        (r.0.0, account_push n (set s.views id w) (known_log v.log) (account_same n s.views id v w r.0.1 at refl refl)),
+        logged_lent n s.views id v r.1 at knows,
+      )
+
+  -- a pass takes the log
+  pub takes : (id : ℕ) (v : Holding) (other : ℕ) (log : List Note) → v.log ≡ None
+      → Joins (KeepsAccount budget) id v other (logging log) (with_log v (logging log)) (holding 0 [] [])
+  takes id v other log none s r at apart there =
+      let n : ℕ = get_or s.words 0 0 in
+      let w = logging log in
+      let m = with_log v w in
+      let here = sym (set_else s.views id other m apart) ∙ there in (
+        (r.0.0, account_same n (set s.views id m) other w (holding 0 [] []) (account_same n s.views id v m r.0.1 at refl refl) there refl refl),
+        logged_taken n s.views id other v log r.1 at here apart none,
+      )
+
+  -- a note at a look
+  pub notes : (slots id : ℕ) (me : Me (Unit {0}) Holding) (call : ℕ) (effect : Effect) → knows_log me.0 → Contains me.0.drawn call
+      → Allows (KeepsAccount budget) slots id me 0 (λ n. n) (λ found after. NotesAt call effect me.0 found after.0 × (after.1 ≡ me.1))
+  notes slots id me call effect knows drew s r _ at _ =
+      let v = me.0 in
+      let a = r.0.1 in
+      let n : ℕ = get_or s.words 0 0 in
+      let w = noting call effect n v in
+      let apart = one_apart drawn_of s.views id v at in
+      let all = flat_map drawn_of s.views in
+      let same = IsPermutation-trans (numbers_below n) all (v.drawn ++ apart.others) (IsPermutation-sym all (numbers_below n) a.complete) apart.before in
+      let below = all_left (λ t. t < n) v.drawn apart.others (All-permutation (λ t. t < n) (numbers_below n) (v.drawn ++ apart.others) same (below_all n)) in
+      let above : call < n = All-contains (λ t. t < n) v.drawn call below drew in
+      let is = known_is r.1.log v knows (at_place (λ h. Knows r.1.log h.log) s.views id v at r.1.known) in (
+        w,
+        keeps,
+        tt,
+        kept s.words n (set s.views id w) r.0.0 (account_same n s.views id v w a at refl refl)
+            (logged_noted n s.views id v call effect r.1 at knows (contains_some v.drawn call drew) above),
+        ((refl, above, subst (All (λ (m : Note). m.look ≤ n)) (sym is) (looks_within 0 r.1.log n r.1.rise)), refl),
+      )
+
+  -- the pass that has the whole budget, and knows the log, has noted all of it
+  pub settles : (id : ℕ) (v : Holding) (words : List ℕ) (slots : List (Unit {0})) (next : ℕ) → whole_of v ≡ budget → knows_log v
+      → Final (Seen (KeepsAccount budget) id v) words slots → get_elem? words 0 ≡ some next
+      → IsPermutation v.noted (known_log v.log) × LooksRise 0 (known_log v.log) next
+  settles id v words slots next whole knows f found =
+      let s = f.0 in
+      let a = f.1.0.0.1 in
+      let at = f.1.1 in
+      let n : ℕ = get_or s.words 0 0 in
+      let last : n ≡ next = ap (λ (l : List ℕ). get_or l 0 0) f.2 ∙ word_is words next found in
+      let none = holding 0 [] [] in
+      let shares = shares-set s.views id v none at in
+      let is = a.shared_out in
+      subst (λ (m : ℕ). IsPermutation v.noted (known_log v.log) × LooksRise 0 (known_log v.log) m) last
+      (logged_whole n s.views id v f.1.0.1 at knows (none_drawn (set s.views id none) (omega arith)))
+    where
+      word_is : (l : List ℕ) (n : ℕ) → get_elem? l 0 ≡ some n → get_or l 0 0 ≡ n
+      word_is [] n e = absurd (some-ne-none n (sym e))
+      word_is (x ∷ xs) n e = some-injective x n e
+
+      none_drawn : (hs : List Holding) → sum_by whole_of hs ≡ 0 → All (λ h. h.drawn ≡ []) hs
+      none_drawn [] e = All-nil (λ (h : Holding). h.drawn ≡ [])
+      none_drawn (h ∷ hs) e = let split = sum_by-cons whole_of h hs in
+          All-cons (λ (g : Holding). g.drawn ≡ []) h hs (nothing h.drawn (omega arith)) (none_drawn hs (omega arith))
+
 -- the whole of two passes put together is the sum of their wholes
 pub whole_of-put_together : (v w : Holding) → whole_of (put_together v w) ≡ whole_of v + whole_of w
 whole_of-put_together v w =
     let long = length_permutation (v.drawn ++ w.drawn) (merged v.drawn w.drawn) (IsPermutation-merged v.drawn w.drawn) in
     let sum = length-append v.drawn w.drawn in
     omega arith
+
+-- the first pass knows the log
+pub first_knows : (v : Holding) (budget : ℕ) → v ≡ first_of budget → knows_log v
+first_knows v budget is = subst knows_log (sym is) refl
+
+-- a pass that noted knows the log
+pub noted_knows : (v w : Holding) (call : ℕ) (effect : Effect) (look : ℕ) → w ≡ noting call effect look v → knows_log w
+noted_knows v w call effect look is = subst knows_log (sym is) refl

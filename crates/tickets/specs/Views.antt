@@ -1,19 +1,30 @@
 -- What contracts see of the tickets, of a pass and of one drawn ticket.
-use Rattle.std.specs.Prelude.{◌≡◌, ℕ, ◌+◌, ◌<◌, List, [], ◌∷◌, ◌++◌, length, All}
+use Rattle.std.specs.Prelude.{◌≡◌, ℕ, ◌+◌, ◌<◌, ◌≤◌, List, [], ◌∷◌, ◌++◌, length, All}
 use Rattle.std.specs.List.{range_with_len}
 use Rattle.atomic_table.specs.Seated.{TableId}
 use Rattle.tickets.specs.declared.TheConstants.{TICKET_LIMIT}
+use Rattle.tickets.specs.declared.note.Note.{Note}
 
 -- which ticket word it is, and how many tickets may be drawn in all
 pub record TicketsView : Type 0 where
   pub key : TableId
   pub budget : ℕ
 
--- the word that the pass draws from, how many it may still draw, and what it has drawn, in rising order
+-- the word that the pass draws from, how many it may still draw, what it has drawn, in rising order, and what it has noted in the log
 pub record PassView : Type 0 where
   pub key : TableId
   pub left : ℕ
   pub drawn : List ℕ
+  pub noted : List Note
+
+-- a pass of this word that may draw this many tickets, and has drawn and noted nothing
+abbrev pub fresh_pass : TableId → ℕ → PassView
+fresh_pass key left = record { key = key; left = left; drawn = []; noted = [] }
+
+-- the word whose log it is, and all notes
+pub record LogView : Type 0 where
+  pub key : TableId
+  pub notes : List Note
 
 -- the word that the ticket was drawn from, and its number
 pub record DrawnView : Type 0 where
@@ -35,3 +46,5 @@ pub record DrawsOne (before : PassView) (ticket : ℕ) (after : PassView) : Type
   pub drawn : after.drawn ≡ before.drawn ++ ticket ∷ []
   pub left : after.left + 1 ≡ before.left
   pub key : after.key ≡ before.key
+  pub noted : after.noted ≡ before.noted
+  pub past : All (λ n. n.look ≤ ticket) before.noted

@@ -4,20 +4,25 @@
 //! keeps the list of what it drew. A pass can be split for another thread, and joined again. The pass with the whole
 //! budget holds each number below the word once.
 //!
-//! Nothing here takes a lock or waits. Only `Tickets::new` takes memory and can fail. There are six kinds of step.
-//! Making sets the word to 0, and gives the first pass the whole budget. Splitting, drawing and joining change the
-//! view of the pass that steps; a pass that was joined to another keeps the empty view. A look at the word, which
-//! changes no view, follows each join. Closing reads the word.
+//! Nothing here takes a lock or waits. Only `Tickets::new` and `Tickets::with_log` take memory and can fail. There are
+//! seven kinds of step. Making sets the word to 0, and gives the first pass the whole budget. Splitting, drawing and
+//! joining change the view of the pass that steps; a pass that was joined to another keeps the empty view. A look at
+//! the word, which changes no view, follows each join. Noting reads the word, and adds to the log, which exists in
+//! proofs alone. Closing reads the word.
 #![tactic(auto)]
 
 mod account;
 mod drawn;
 mod laws;
+mod log;
+mod note;
 mod pass;
 mod source;
 
 pub use drawn::Drawn;
 pub use laws::each_ticket_is_drawn_once;
+pub use log::Log;
+pub use note::{Effect, Note};
 pub use pass::Pass;
 pub use source::Tickets;
 

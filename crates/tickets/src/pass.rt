@@ -25,11 +25,11 @@ impl Model for Pass {
 
     ghost Value = { PassView };
 
-    ghost use Rattle.std.specs.Prelude.{◌≡◌, ◌+◌, length, []};
+    ghost use Rattle.std.specs.Prelude.{◌≡◌, ◌+◌, length, [], None};
 
-    ghost view = { λ p. record { key = p.seat.table_id; left = p.left; drawn = p.seat.me.0.drawn } };
+    ghost view = { λ p. record { key = p.seat.table_id; left = p.left; drawn = p.seat.me.0.drawn; noted = p.seat.me.0.noted } };
 
-    ghost invariant = { λ p. (p.seat.me.0.left ≡ p.left) × (p.left + length p.seat.me.0.drawn ≡ p.share) × (p.seat.me.1 ≡ []) };
+    ghost invariant = { λ p. (p.seat.me.0.left ≡ p.left) × (p.left + length p.seat.me.0.drawn ≡ p.share) × (p.seat.me.1 ≡ []) × (p.seat.me.0.log ≡ None) };
 }
 
 // Cuts n tickets off the seat's share, for a new seat. The caller picks `M` for its n.
@@ -40,12 +40,12 @@ fn cut_off<M: Split<Holding>>(
 ) -> Seat<(), Holding>
     requires key { seat.old.table_id ≡ tickets.now.key }
     requires room { n ≤ seat.old.me.0.left }
-    requires left { M.left seat.old.me.0 ≡ holding (seat.old.me.0.left - n) seat.old.me.0.drawn }
-    requires right { M.right seat.old.me.0 ≡ holding n [] }
+    requires left { M.left seat.old.me.0 ≡ record seat.old.me.0 { left = seat.old.me.0.left - n } }
+    requires right { M.right seat.old.me.0 ≡ holding n [] [] }
     ensures key { seat.new.table_id ≡ tickets.now.key }
-    ensures left { seat.new.me ≡ (holding (seat.old.me.0.left - n) seat.old.me.0.drawn, seat.old.me.1) }
+    ensures left { seat.new.me ≡ (record seat.old.me.0 { left = seat.old.me.0.left - n }, seat.old.me.1) }
     ensures new_key { result.table_id ≡ tickets.now.key }
-    ensures right { result.me ≡ (holding n [], []) }
+    ensures right { result.me ≡ (holding n [] [], []) }
 {
     tickets.table.shared.split_seat::<M>(seat)
 }
@@ -53,13 +53,13 @@ fn cut_off<M: Split<Holding>>(
 impl Pass {
     ghost use Rattle.std.specs.Prelude.{◌≡◌, ◌+◌, ◌-◌, ◌<◌, ◌≤◌, [], ◌++◌, IsPermutation};
     ghost use Rattle.std.specs.List.Sorted.{IsStrictlyIncreasing};
-    ghost use Rattle.tickets.specs.Views.{share_of, DrawsOne};
+    ghost use Rattle.tickets.specs.Views.{share_of, fresh_pass, DrawsOne};
     ghost use Rattle.tickets.specs.Inner.Account.{holding};
 
     // The seat that the pass steps with, its share, and what is left of the share.
     pub(crate) fn into_parts(self) -> (Seat<(), Holding>, u64, u64)
         ensures key { result.0.table_id ≡ self.key }
-        ensures seat { result.0.me ≡ (holding self.left self.drawn, []) }
+        ensures seat { result.0.me ≡ (holding self.left self.drawn self.noted, []) }
         ensures share { result.1 ≡ share_of self }
         ensures left { result.2 ≡ self.left }
     {
@@ -102,7 +102,7 @@ impl Pass {
         requires key { self.key ≡ tickets.now.key }
         requires room { n ≤ self.left }
         ensures first { result.0 ≡ record self { left = self.left - n } }
-        ensures second { result.1 ≡ record { key = self.key; left = n; drawn = [] } }
+        ensures second { result.1 ≡ fresh_pass self.key n }
     {
         let (mut seat, share, left) = self.into_parts();
         let cut = cut_off::<Brand>(tickets, &mut seat, n);
@@ -127,6 +127,7 @@ impl Pass {
         ensures left { result.left ≡ self.left + other.left }
         ensures drawn { IsPermutation (self.drawn ++ other.drawn) result.drawn }
         ensures rising { IsStrictlyIncreasing result.drawn }
+        ensures noted { result.noted ≡ self.noted ++ other.noted }
     {
         let (mut seat, share, left) = self.into_parts();
         let (other_seat, other_share, other_left) = other.into_parts();

@@ -1,5 +1,6 @@
 // The word that all passes draw from.
-use crate::account::{Account, Holding};
+use crate::account::{Account, Holding, LogApart, TakesLog};
+use crate::log::Log;
 use crate::pass::Pass;
 use atomic_table::Table;
 use std::alloc::{AllocError, Global};
@@ -27,9 +28,10 @@ impl Model for Tickets {
 }
 
 impl Tickets {
-    ghost use Rattle.std.specs.Prelude.{◌≡◌, ◌≤◌, [], IfOk};
+    ghost use Rattle.std.specs.Prelude.{◌≡◌, ◌≤◌, [], IfOk, IsPermutation};
     ghost use Rattle.tickets.specs.declared.TheConstants.{TICKET_LIMIT};
-    ghost use Rattle.tickets.specs.Views.{share_of, numbers_below};
+    ghost use Rattle.tickets.specs.Log.{LooksRise};
+    ghost use Rattle.tickets.specs.Views.{fresh_pass, share_of, numbers_below};
 
     /// Makes a new word, and a pass that has the whole budget as its share.
     ///
@@ -40,8 +42,22 @@ impl Tickets {
         ensures key { IfOk result (λ t. t.1.key ≡ t.0.key) }
         ensures left { IfOk result (λ t. t.1.left ≡ budget) }
         ensures drawn { IfOk result (λ t. t.1.drawn ≡ []) }
+        ensures noted { IfOk result (λ t. t.1.noted ≡ []) }
     {
-        let (table, seat) = Table::of_words(alloc, &[0], &budget)?;
+        let (tickets, pass, _) = Tickets::with_log(alloc, budget)?;
+        Ok((tickets, pass))
+    }
+
+    /// Makes a new word, a pass that has the whole budget as its share, and the empty log. It takes memory and fails
+    /// as `new` does.
+    pub fn with_log(alloc: Global, budget: u64) -> Result<(Tickets, Pass, Log), AllocError>
+        requires { budget ≤ TICKET_LIMIT }
+        ensures budget { IfOk result (λ t. t.0.budget ≡ budget) }
+        ensures pass { IfOk result (λ t. t.1 ≡ fresh_pass t.0.key budget) }
+        ensures log { IfOk result (λ t. t.2 ≡ record { key = t.0.key; notes = [] }) }
+    {
+        let (table, mut seat) = Table::of_words(alloc, &[0], &budget)?;
+        let log = table.shared.split_seat::<LogApart>(&mut seat);
         Ok((
             Tickets { table },
             Pass {
@@ -49,6 +65,7 @@ impl Tickets {
                 share: budget,
                 left: budget,
             },
+            Log::of_seat(log),
         ))
     }
 
@@ -66,5 +83,26 @@ impl Tickets {
         let next = closed.word(0);
         closed.free();
         next
+    }
+
+    /// Returns how many tickets were drawn, as `close` does. The pass has the whole budget as its share, so it noted all
+    /// that is in the log, in which the looks rise. It takes no memory.
+    pub fn close_with_log(self, pass: Pass, log: Log) -> u64
+        requires key { pass.key ≡ self.key }
+        requires log_key { log.key ≡ self.key }
+        requires whole { share_of pass ≡ self.budget }
+        ensures drawn { pass.drawn ≡ numbers_below result }
+        ensures noted { IsPermutation pass.noted log.notes }
+        ensures rise { LooksRise 0 log.notes result }
+    {
+        let Tickets { table } = self;
+        let (mut seat, _, _) = pass.into_parts();
+        table
+            .shared
+            .join_seat::<TakesLog>(&mut seat, log.into_seat());
+        let closed = table.close_with(seat);
+        let total = closed.word(0);
+        closed.free();
+        total
     }
 }

@@ -18,7 +18,7 @@ use Rattle.value_match.specs.declared.violation.Violation.{Violation}
 use Rattle.value_match.specs.declared.violation.Violation.TheVariants as violation
 use Rattle.value_match.specs.Lives.{HoldsPlaces, IsMaybeAt, dequeue_of, enqueue_of, is_empty_answer, is_refused}
 use Rattle.value_match.specs.Outcome.{IsSource, Names, NamesCover, NamesChosenFresh, NamesChosenRepeat}
-use Rattle.value_match.specs.Violations.{Breach, fresh, repeat, order, witness, IsBreachOf, IsFreshViolation}
+use Rattle.value_match.specs.Violations.{FullViolation, fresh, repeat, order, witness, IsViolationOf, IsFreshViolation}
 use Rattle.value_match.specs.Filling.{behind, filled_source, filled_step, filled_violation}
 use Rattle.value_match.specs.Unfilling.{place_behind, unfilled_place, unfilled_source, unfilled_step, unfilled_violation}
 use Rattle.value_match.proofs.FilledLines.{earlier, earlier_later, earlier_none, filled_at, filled_earlier, one_later}
@@ -142,7 +142,7 @@ module _ (initial : List ℕ) (operations : List Operation) where
       ]
 
   -- a violation of the filled history comes back from that of the history
-  pub violation_back : (v : Violation) (breach : Breach) → Names all v breach → IsBreachOf all breach
+  pub violation_back : (v : Violation) (full : FullViolation) → Names all v full → IsViolationOf all full
       → filled_violation k (unfilled_violation k v) ≡ v
   violation_back (violation.Fresh deq enq) (fresh d e) names is =
       ap₂ violation.Fresh (dequeue_back deq d _ names.0 (dequeues e is).1) (enqueue_back deq d enq e names.0 names.1 is)

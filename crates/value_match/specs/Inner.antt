@@ -4,4 +4,4 @@ pub mod Named
 pub mod Others
 pub mod Sources
 pub mod Matchable
-pub mod Found
+pub mod MatchOutcome

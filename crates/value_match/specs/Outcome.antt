@@ -13,8 +13,8 @@ use Rattle.value_match.specs.declared.violation.Violation.TheVariants.{Fresh, Re
 use Rattle.value_match.specs.declared.matching.Matched.{Matched}
 use Rattle.value_match.specs.declared.matching.Matched.TheVariants as matched
 use Rattle.value_match.specs.Lives.{IsMaybeAt, dequeue_of, enqueue_of}
-use Rattle.value_match.specs.Violations.{Breach, fresh, repeat, order, witness, IsClear}
-use Rattle.value_match.specs.Choice.{IsChosenBreach}
+use Rattle.value_match.specs.Violations.{FullViolation, fresh, repeat, order, witness, IsClear}
+use Rattle.value_match.specs.Choice.{IsChosenFullViolation}
 use Rattle.value_match.specs.Filling.{filled_violation}
 
 -- the source is this enqueue: operations alone have no initial values
@@ -28,7 +28,7 @@ NamesCover operations steps cover = AllZip (λ step life. IsSource operations st
     × IsMaybeAt operations step.dequeue (dequeue_of life)) steps cover
 
 -- the sources and places of the violation are those of the operations that show it
-abbrev pub Names : List Operation → Violation → Breach → Type 0
+abbrev pub Names : List Operation → Violation → FullViolation → Type 0
 Names operations (Fresh deq enq) (fresh d e) = IsAt operations deq d × IsMaybeAt operations enq e
 Names operations (Repeat enq first second) (repeat e d d') = IsSource operations enq e × IsAt operations first d × IsAt operations second d'
 Names operations (Order enq_a enq_b deq_b deq_a) (order a b d d') =
@@ -38,18 +38,18 @@ Names operations _ _ = ⊥
 
 -- the violation is the chosen one of these operations
 abbrev pub IsChosenViolation : List Operation → Violation → Type 0
-IsChosenViolation operations violation = (breach : Breach) × Names operations violation breach × IsChosenBreach operations breach
+IsChosenViolation operations violation = (full : FullViolation) × Names operations violation full × IsChosenFullViolation operations full
 
 -- the violation names the chosen dequeue of a value that was not there
 abbrev pub NamesChosenFresh : List Operation → Violation → Type 0
 NamesChosenFresh operations violation =
-    (deq : Operation) × (enq : Option Operation) × Names operations violation (fresh deq enq) × IsChosenBreach operations (fresh deq enq)
+    (deq : Operation) × (enq : Option Operation) × Names operations violation (fresh deq enq) × IsChosenFullViolation operations (fresh deq enq)
 
 -- the violation names the chosen two dequeues of one value, and no dequeue is of a value that was not there
 abbrev pub NamesChosenRepeat : List Operation → Violation → Type 0
 NamesChosenRepeat operations violation =
     (enq : Operation) × (first : Operation) × (second : Operation) × Names operations violation (repeat enq first second)
-    × IsChosenBreach operations (repeat enq first second)
+    × IsChosenFullViolation operations (repeat enq first second)
 
 -- a matching of the history where the first two kinds of violation are absent in its filled history, else the chosen violation of
 -- the first of them

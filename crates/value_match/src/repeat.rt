@@ -6,7 +6,7 @@ ghost use Rattle.value_match.specs.Violations.{NoFreshViolation};
 
 use crate::matching::MAX_MATCHED;
 use crate::maybe_place::MaybePlace;
-use crate::settling::settle;
+use crate::presorting::presort;
 use crate::violation::{Source, Violation};
 use history_merge::{OpId, Operation};
 use std::alloc::{AllocError, Global};
@@ -67,7 +67,7 @@ fn by_return(
         }
         order.push((operation.ret, place))?;
     }
-    settle(&mut order, &|entry: &(u64, usize)| entry.0);
+    presort(&mut order, &|entry: &(u64, usize)| entry.0);
     order.sort_unstable_by_key(|entry| entry.0);
     Ok(order)
 }

@@ -6,7 +6,7 @@ ghost use Rattle.value_match.specs.Fronts.{AreEntriesOf, IsByReturn, HasFronts, 
 
 use crate::accepted::Values;
 use crate::life::MatchedValue;
-use crate::settling::settle;
+use crate::presorting::presort;
 use std::alloc::{AllocError, Global};
 use std::marker::Model;
 
@@ -51,7 +51,7 @@ impl<'a> LongestTable<'a> {
         ensures { IfOk result (λ table. table ≡ values.entry) }
     {
         let mut fronts = fronts_of(alloc, &values)?;
-        settle(&mut fronts, &|front: &Front| front.enqueue_return);
+        presort(&mut fronts, &|front: &Front| front.enqueue_return);
         fronts.sort_unstable_by_key(|front| front.enqueue_return);
         Ok(LongestTable::by_return(values, fronts))
     }

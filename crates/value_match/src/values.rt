@@ -3,7 +3,7 @@ ghost use Rattle.history_merge.specs.Complete.{AreComplete};
 ghost use Rattle.history_merge.specs.Initial.{filled};
 ghost use Rattle.history_merge.specs.Operations.{operations_of};
 ghost use Rattle.value_match.specs.Outcome.{IsMatchedFrom};
-ghost use Rattle.value_match.specs.Inner.Found.{IsFoundOf};
+ghost use Rattle.value_match.specs.Inner.MatchOutcome.{IsMatchOutcomeOf};
 ghost use Rattle.value_match.specs.Inner.Matchable.{IsSortedOutOf, operations_in};
 ghost use Rattle.value_match.specs.Inner.Sources.{HoldsDequeues};
 ghost use Rattle.value_match.specs.Violations.{IsClear};
@@ -22,7 +22,7 @@ use std::alloc::{AllocError, Global};
 
 /// What is found of operations: the three sorts of them, or the violation that rules a matching out.
 #[derive(Debug, Drop)]
-pub(crate) enum Found {
+pub(crate) enum MatchOutcome {
     Clear(SortedOut),
     Fresh(Violation),
     Repeat(Violation),
@@ -69,45 +69,45 @@ fn matched<'a>(
     initial: &'a [u64],
     operations: &'a [Operation],
     all: Matchable<'a>,
-    found: Found,
+    found: MatchOutcome,
 ) -> Result<Matched<'a>, AllocError>
     requires all { operations_in all ≡ filled initial.now operations.now }
-    requires found { IsFoundOf (operations_in all) found }
+    requires found { IsMatchOutcomeOf (operations_in all) found }
     ensures { IfOk result (IsMatchedFrom initial.now operations.now) }
 {
     match found {
-        Found::Clear(sorted) => {
+        MatchOutcome::Clear(sorted) => {
             let matching = FilledMatching::new(all, sorted);
             Ok(Matched::Clear(Matching::new(initial, operations, matching)))
         }
-        Found::Fresh(violation) => {
+        MatchOutcome::Fresh(violation) => {
             let told = unfilled_violation(alloc, initial.len(), violation)?;
             Ok(Matched::Fresh(told))
         }
-        Found::Repeat(violation) => {
+        MatchOutcome::Repeat(violation) => {
             let told = unfilled_violation(alloc, initial.len(), violation)?;
             Ok(Matched::Repeat(told))
         }
     }
 }
 
-fn find(alloc: Global, operations: &[Operation]) -> Result<Found, AllocError>
+fn find(alloc: Global, operations: &[Operation]) -> Result<MatchOutcome, AllocError>
     requires complete { AreComplete operations.now }
     requires few { length operations.now ≤ MAX_MATCHED }
-    ensures { IfOk result (IsFoundOf operations.now) }
+    ensures { IfOk result (IsMatchOutcomeOf operations.now) }
 {
     let sources = sources_of(alloc, operations)?;
     if let Some(violation) = find_fresh(operations, sources.as_slice()) {
-        return Ok(Found::Fresh(violation));
+        return Ok(MatchOutcome::Fresh(violation));
     }
     match takers_of(alloc, sources.as_slice())? {
         Some(dequeues) => {
             let sorted = sorted_out(alloc, operations, dequeues.as_slice())?;
-            Ok(Found::Clear(sorted))
+            Ok(MatchOutcome::Clear(sorted))
         }
         None => {
             let violation = find_repeat(alloc, operations, sources.as_slice())?;
-            Ok(Found::Repeat(violation))
+            Ok(MatchOutcome::Repeat(violation))
         }
     }
 }

@@ -1,4 +1,4 @@
-use event_records::Listed;
+use event_records::OwnedSlice;
 use history_merge::OpId;
 
 /// Where an accepted value comes from.
@@ -21,7 +21,7 @@ pub struct CoverStep {
 
 /// Values that between them keep the queue from being empty, in the order in which each takes over from the one before; seen
 /// as the list of them.
-pub type Cover = Listed<CoverStep>;
+pub type Cover = OwnedSlice<CoverStep>;
 
 /// What is wrong with a history, by the sources of values and the places of the operations that show it.
 #[derive(Debug, Drop)]

@@ -7,18 +7,18 @@ use Rattle.history_merge.specs.declared.operation.OpKind.TheVariants.{Enq, Deq, 
 use Rattle.history_merge.specs.Operations.{Did, NoneDid, Precedes}
 use Rattle.value_match.specs.declared.life.Life.{Life}
 use Rattle.value_match.specs.Lives.{IsLife, dequeue_of, enqueue_of}
-use Rattle.value_match.specs.Violations.{Breach, fresh, repeat, order, witness, CoversFrom, IsBreachOf, IsEnqueuedTooLate, IsFreshViolation}
+use Rattle.value_match.specs.Violations.{FullViolation, fresh, repeat, order, witness, CoversFrom, IsViolationOf, IsEnqueuedTooLate, IsFreshViolation}
 
 -- the operations of a life, each by its image
 abbrev pub mapped_life : (Operation → Operation) → Life → Life
 mapped_life f life = record { enqueue = f (enqueue_of life); dequeue = option_map f (dequeue_of life) }
 
 -- those of a violation
-abbrev pub mapped_breach : (Operation → Operation) → Breach → Breach
-mapped_breach f (fresh deq enq) = fresh (f deq) (option_map f enq)
-mapped_breach f (repeat enq first second) = repeat (f enq) (f first) (f second)
-mapped_breach f (order enq_a enq_b deq_b deq_a) = order (f enq_a) (f enq_b) (f deq_b) (option_map f deq_a)
-mapped_breach f (witness empty cover) = witness (f empty) (map (mapped_life f) cover)
+abbrev pub mapped_violation : (Operation → Operation) → FullViolation → FullViolation
+mapped_violation f (fresh deq enq) = fresh (f deq) (option_map f enq)
+mapped_violation f (repeat enq first second) = repeat (f enq) (f first) (f second)
+mapped_violation f (order enq_a enq_b deq_b deq_a) = order (f enq_a) (f enq_b) (f deq_b) (option_map f deq_a)
+mapped_violation f (witness empty cover) = witness (f empty) (map (mapped_life f) cover)
 
 -- each operation is its own image
 abbrev pub itself : Operation → Operation
@@ -37,11 +37,11 @@ cover_itself [] = refl
 cover_itself (life ∷ cover) = let first = life_itself life in let rest = cover_itself cover in λ i. first i ∷ rest i
 
 -- so a violation by itself is the same
-pub breach_itself : (breach : Breach) → mapped_breach itself breach ≡ breach
-breach_itself (fresh deq enq) = ap (fresh deq) (maybe_itself enq)
-breach_itself (repeat enq first second) = refl
-breach_itself (order enq_a enq_b deq_b deq_a) = ap (order enq_a enq_b deq_b) (maybe_itself deq_a)
-breach_itself (witness empty cover) = ap (witness empty) (cover_itself cover)
+pub violation_itself : (full : FullViolation) → mapped_violation itself full ≡ full
+violation_itself (fresh deq enq) = ap (fresh deq) (maybe_itself enq)
+violation_itself (repeat enq first second) = refl
+violation_itself (order enq_a enq_b deq_b deq_a) = ap (order enq_a enq_b deq_b) (maybe_itself deq_a)
+violation_itself (witness empty cover) = ap (witness empty) (cover_itself cover)
 
 module _ (from to : List Operation) (f g : Operation → Operation)
     (did : (o : Operation) (kind : OpKind) → Did from (f o) kind → Did to (g o) kind)
@@ -102,16 +102,16 @@ module _ (from to : List Operation) (f g : Operation → Operation)
       further (Some d) covers' more = more d covers'
 
   -- a violation is one there
-  pub breach_carried : (breach : Breach) → IsBreachOf from (mapped_breach f breach) → IsBreachOf to (mapped_breach g breach)
-  breach_carried (fresh deq enq) is = fresh_carried deq enq is
-  breach_carried (repeat enq first second) is = record {
+  pub violation_carried : (full : FullViolation) → IsViolationOf from (mapped_violation f full) → IsViolationOf to (mapped_violation g full)
+  violation_carried (fresh deq enq) is = fresh_carried deq enq is
+  violation_carried (repeat enq first second) is = record {
     value = is.value;
     enqueues = did enq (Enq is.value) is.enqueues;
     dequeues = did first (Deq is.value) is.dequeues;
     dequeues_again = did second (Deq is.value) is.dequeues_again;
     in_order = in_turn first second is.in_order;
   }
-  breach_carried (order enq_a enq_b deq_b deq_a) is = record {
+  violation_carried (order enq_a enq_b deq_b deq_a) is = record {
     a = is.a;
     enqueues_a = did enq_a (Enq is.a) is.enqueues_a;
     b = is.b;
@@ -125,7 +125,7 @@ module _ (from to : List Operation) (f g : Operation → Operation)
           → MatchOption (option_map g d) (NoneDid to (Deq is.a)) (λ d. Did to d (Deq is.a) × Precedes (g deq_b) d)
       later None none = none_did (Deq is.a) none
       later (Some d) is' = (did d (Deq is.a) is'.0, precedes deq_b d is'.1)
-  breach_carried (witness empty cover) is = record {
+  violation_carried (witness empty cover) is = record {
     answers_empty = did empty Empty is.answers_empty;
     covers = cover_carried empty empty cover is.covers;
   }

@@ -8,9 +8,9 @@ use Rattle.history_merge.specs.Complete.{AreComplete}
 use Rattle.history_merge.proofs.Distinct.{same_call, same_return, same_value_call, same_enqueue, CallsFor}
 use Rattle.value_match.specs.declared.life.Life.{Life}
 use Rattle.value_match.specs.Lives.{call_or_never, dequeue_call, enqueue_return, enqueue_of}
-use Rattle.value_match.specs.Violations.{Breach, fresh, repeat, order, witness, IsBreachOf, IsClear, NoFreshViolation, NoRepeatViolation}
+use Rattle.value_match.specs.Violations.{FullViolation, fresh, repeat, order, witness, IsViolationOf, IsClear, NoFreshViolation, NoRepeatViolation}
 use Rattle.value_match.specs.Violations.{IsFreshViolation, IsNeverEnqueued, IsEnqueuedTooLate, IsOrderViolation}
-use Rattle.value_match.specs.Choice.{IsChosenBreach, IsChosenFresh, IsChosenRepeat, IsChosenOrderViolation, IsChosenWitness, IsChosenCoverFrom}
+use Rattle.value_match.specs.Choice.{IsChosenFullViolation, IsChosenFresh, IsChosenRepeat, IsChosenOrderViolation, IsChosenWitness, IsChosenCoverFrom}
 use Rattle.value_match.specs.Choice.{IsNextOfCover, StaysAtLeast}
 use Rattle.value_match.proofs.Lives.{one_life_of_enqueue}
 use Rattle.empty_witness.proofs.Covers.{chosen_cover_violates}
@@ -19,12 +19,12 @@ are_clear : (operations : List Operation) → AreComplete operations → NoFresh
 are_clear operations complete no_fresh no_repeat = record { complete = complete; no_fresh = no_fresh; no_repeat = no_repeat }
 
 -- the chosen violation is one
-pub chosen_is_breach : (operations : List Operation) (breach : Breach) → AreComplete operations → IsChosenBreach operations breach
-    → IsBreachOf operations breach
-chosen_is_breach operations (fresh deq enq) complete chosen = chosen.violates
-chosen_is_breach operations (repeat enq first second) complete chosen = chosen.1.violates
-chosen_is_breach operations (order enq_a enq_b deq_b deq_a) complete chosen = chosen.2.violates
-chosen_is_breach operations (witness empty cover) complete chosen =
+pub chosen_is_violation : (operations : List Operation) (full : FullViolation) → AreComplete operations → IsChosenFullViolation operations full
+    → IsViolationOf operations full
+chosen_is_violation operations (fresh deq enq) complete chosen = chosen.violates
+chosen_is_violation operations (repeat enq first second) complete chosen = chosen.1.violates
+chosen_is_violation operations (order enq_a enq_b deq_b deq_a) complete chosen = chosen.2.violates
+chosen_is_violation operations (witness empty cover) complete chosen =
     chosen_cover_violates operations empty cover (are_clear operations complete chosen.0 chosen.1) chosen.3.answers_empty chosen.3.cover_is_chosen
 
 dequeued_value : (operations : List Operation) (deq : Operation) (enq : Option Operation) → IsFreshViolation operations deq enq
@@ -190,22 +190,22 @@ one_witness operations empty empty' cover cover' clear x y =
     cc
 
 -- a history has one chosen violation
-pub one_chosen_breach : (operations : List Operation) (x y : Breach) → AreComplete operations → IsChosenBreach operations x
-    → IsChosenBreach operations y → x ≡ y
-one_chosen_breach operations (fresh deq enq) (fresh deq' enq') complete x y = one_fresh operations deq deq' enq enq' complete x y
-one_chosen_breach operations (fresh deq enq) (repeat e f s) complete x y = absurd (y.0 deq enq x.violates)
-one_chosen_breach operations (fresh deq enq) (order a b d c) complete x y = absurd (y.0 deq enq x.violates)
-one_chosen_breach operations (fresh deq enq) (witness o lives) complete x y = absurd (y.0 deq enq x.violates)
-one_chosen_breach operations (repeat e f s) (fresh deq enq) complete x y = absurd (x.0 deq enq y.violates)
-one_chosen_breach operations (repeat e f s) (repeat e' f' s') complete x y = one_repeat operations e e' f f' s s' complete x.1 y.1
-one_chosen_breach operations (repeat e f s) (order a b d c) complete x y = absurd (y.1 e f s x.1.violates)
-one_chosen_breach operations (repeat e f s) (witness o lives) complete x y = absurd (y.1 e f s x.1.violates)
-one_chosen_breach operations (order a b d c) (fresh deq enq) complete x y = absurd (x.0 deq enq y.violates)
-one_chosen_breach operations (order a b d c) (repeat e f s) complete x y = absurd (x.1 e f s y.1.violates)
-one_chosen_breach operations (order a b d c) (order a' b' d' c') complete x y = one_order operations a b d a' b' d' c c' complete x.2 y.2
-one_chosen_breach operations (order a b d c) (witness o lives) complete x y = absurd (y.2 a b d c x.2.violates)
-one_chosen_breach operations (witness o lives) (fresh deq enq) complete x y = absurd (x.0 deq enq y.violates)
-one_chosen_breach operations (witness o lives) (repeat e f s) complete x y = absurd (x.1 e f s y.1.violates)
-one_chosen_breach operations (witness o lives) (order a b d c) complete x y = absurd (x.2 a b d c y.2.violates)
-one_chosen_breach operations (witness o lives) (witness o' lives') complete x y =
+pub one_chosen_violation : (operations : List Operation) (x y : FullViolation) → AreComplete operations → IsChosenFullViolation operations x
+    → IsChosenFullViolation operations y → x ≡ y
+one_chosen_violation operations (fresh deq enq) (fresh deq' enq') complete x y = one_fresh operations deq deq' enq enq' complete x y
+one_chosen_violation operations (fresh deq enq) (repeat e f s) complete x y = absurd (y.0 deq enq x.violates)
+one_chosen_violation operations (fresh deq enq) (order a b d c) complete x y = absurd (y.0 deq enq x.violates)
+one_chosen_violation operations (fresh deq enq) (witness o lives) complete x y = absurd (y.0 deq enq x.violates)
+one_chosen_violation operations (repeat e f s) (fresh deq enq) complete x y = absurd (x.0 deq enq y.violates)
+one_chosen_violation operations (repeat e f s) (repeat e' f' s') complete x y = one_repeat operations e e' f f' s s' complete x.1 y.1
+one_chosen_violation operations (repeat e f s) (order a b d c) complete x y = absurd (y.1 e f s x.1.violates)
+one_chosen_violation operations (repeat e f s) (witness o lives) complete x y = absurd (y.1 e f s x.1.violates)
+one_chosen_violation operations (order a b d c) (fresh deq enq) complete x y = absurd (x.0 deq enq y.violates)
+one_chosen_violation operations (order a b d c) (repeat e f s) complete x y = absurd (x.1 e f s y.1.violates)
+one_chosen_violation operations (order a b d c) (order a' b' d' c') complete x y = one_order operations a b d a' b' d' c c' complete x.2 y.2
+one_chosen_violation operations (order a b d c) (witness o lives) complete x y = absurd (y.2 a b d c x.2.violates)
+one_chosen_violation operations (witness o lives) (fresh deq enq) complete x y = absurd (x.0 deq enq y.violates)
+one_chosen_violation operations (witness o lives) (repeat e f s) complete x y = absurd (x.1 e f s y.1.violates)
+one_chosen_violation operations (witness o lives) (order a b d c) complete x y = absurd (x.2 a b d c y.2.violates)
+one_chosen_violation operations (witness o lives) (witness o' lives') complete x y =
     one_witness operations o o' lives lives' (are_clear operations complete x.0 x.1) x.3 y.3

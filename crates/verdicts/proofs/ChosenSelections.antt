@@ -12,8 +12,8 @@ use Rattle.value_match.specs.declared.violation.Source.TheVariants as source
 use Rattle.value_match.specs.declared.violation.Violation.{Violation}
 use Rattle.value_match.specs.declared.violation.Violation.TheVariants as violation
 use Rattle.value_match.specs.Lives.{IsLife, IsCovered, IsMaybeAt, dequeue_call, dequeue_of, enqueue_of}
-use Rattle.value_match.specs.Violations.{Breach, fresh, repeat, order, witness, IsBreachOf, IsClear, lines_of}
-use Rattle.value_match.specs.Choice.{IsChosenBreach, IsChosenCoverFrom}
+use Rattle.value_match.specs.Violations.{FullViolation, fresh, repeat, order, witness, IsViolationOf, IsClear, lines_of}
+use Rattle.value_match.specs.Choice.{IsChosenFullViolation, IsChosenCoverFrom}
 use Rattle.value_match.specs.Outcome.{IsSource, Names, NamesCover, IsChosenViolation}
 use Rattle.value_match.proofs.Lists.{one_deeper}
 use Rattle.empty_witness.proofs.Covers.{violation_covers, chosen_cover_is_shortest}
@@ -22,7 +22,7 @@ use Rattle.verdicts.proofs.CoverGaps.{chosen_are_lives}
 use Rattle.verdicts.proofs.SameLists.{one_beside}
 use Rattle.verdicts.proofs.KeptTickets.{selected_are_complete}
 use Rattle.verdicts.proofs.NamedLines.{SelectsLines, lines_are_selected}
-use Rattle.verdicts.proofs.Selections.{breach_in_whole, did_in_whole, life_in_whole, life_in_selected, line_of_life}
+use Rattle.verdicts.proofs.Selections.{violation_in_whole, did_in_whole, life_in_whole, life_in_selected, line_of_life}
 
 -- places name one violation
 one_maybe_at : (operations : List Operation) (place : Option ℕ) (x y : Option Operation) → IsMaybeAt operations place x → IsMaybeAt operations place y → x ≡ y
@@ -50,7 +50,7 @@ one_cover operations = one_beside (λ step life. IsSource operations step.source
         λ i. record { enqueue = enqueues i; dequeue = dequeues i }
 
 -- places name one violation
-pub names_one : (operations : List Operation) (named : Violation) (x y : Breach) → Names operations named x → Names operations named y → x ≡ y
+pub names_one : (operations : List Operation) (named : Violation) (x y : FullViolation) → Names operations named x → Names operations named y → x ≡ y
 names_one operations (violation.Fresh deq enq) (fresh d e) (fresh d' e') names_x names_y =
     let deqs = one_at operations deq d d' names_x.0 names_y.0 in let enqs = one_maybe_at operations enq e e' names_x.1 names_y.1 in cc
 names_one operations (violation.Fresh deq enq) (fresh d e) _ names_x names_y = absurd names_y
@@ -79,8 +79,8 @@ module _ (operations : List Operation) (complete : AreComplete operations) (valu
   abbrev small : List Operation
   small = filter (selects values calls) operations
 
-  in_whole : (breach : Breach) → IsBreachOf small breach → IsBreachOf operations breach
-  in_whole breach is = breach_in_whole operations values calls breach is
+  in_whole : (full : FullViolation) → IsViolationOf small full → IsViolationOf operations full
+  in_whole full is = violation_in_whole operations values calls full is
 
   covered_in_whole : (o : Operation) → IsCovered small o → IsCovered operations o
   covered_in_whole o covered c window = let z = covered c window in (z.0, life_in_whole operations values calls z.0 z.1, z.2)
@@ -112,8 +112,8 @@ module _ (operations : List Operation) (complete : AreComplete operations) (valu
   }
 
   -- the chosen violation is the chosen one of the selection by its lines
-  pub stays_chosen : (breach : Breach) → IsChosenBreach operations breach → SelectsLines (lines_of breach) values calls → IsBreachOf small breach
-      → IsChosenBreach small breach
+  pub stays_chosen : (full : FullViolation) → IsChosenFullViolation operations full → SelectsLines (lines_of full) values calls → IsViolationOf small full
+      → IsChosenFullViolation small full
   stays_chosen (fresh deq enq) chosen named is = record { violates = is; first = λ deq' enq' is'. chosen.first deq' enq' (in_whole (fresh deq' enq') is') }
   stays_chosen (repeat enq first second) chosen named is = (
     λ deq' enq' is'. chosen.0 deq' enq' (in_whole (fresh deq' enq') is'),
@@ -142,7 +142,7 @@ module _ (operations : List Operation) (complete : AreComplete operations) (valu
     },
   )
 
-shortest : (operations : List Operation) (breach : Breach) → AreComplete operations → IsChosenBreach operations breach → IsShortestCover operations breach
+shortest : (operations : List Operation) (full : FullViolation) → AreComplete operations → IsChosenFullViolation operations full → IsShortestCover operations full
 shortest operations (fresh deq enq) complete chosen = tt
 shortest operations (repeat enq first second) complete chosen = tt
 shortest operations (order enq_a enq_b deq_b deq_a) complete chosen = tt
@@ -152,6 +152,6 @@ shortest operations (witness empty cover) complete chosen =
 
 -- the chosen violation has a shortest cover
 pub has_shortest_cover : (operations : List Operation) (named : Violation) → AreComplete operations → IsChosenViolation operations named
-    → (breach : Breach) → Names operations named breach → IsShortestCover operations breach
-has_shortest_cover operations named complete chosen breach names =
-    subst (IsShortestCover operations) (names_one operations named chosen.0 breach chosen.1 names) (shortest operations chosen.0 complete chosen.2)
+    → (full : FullViolation) → Names operations named full → IsShortestCover operations full
+has_shortest_cover operations named complete chosen full names =
+    subst (IsShortestCover operations) (names_one operations named chosen.0 full chosen.1 names) (shortest operations chosen.0 complete chosen.2)

@@ -7,7 +7,7 @@ use Rattle.history_merge.specs.declared.operation.Operation.{Operation}
 use Rattle.history_merge.specs.declared.operation.OpKind.TheVariants.{Empty}
 use Rattle.history_merge.specs.Operations.{Did, Precedes}
 use Rattle.value_match.specs.Lives.{IsLife}
-use Rattle.value_match.specs.Violations.{Breach, fresh, repeat, order, witness, lines_of}
+use Rattle.value_match.specs.Violations.{FullViolation, fresh, repeat, order, witness, lines_of}
 use Rattle.value_match.specs.Violations.{IsNeverEnqueued, IsEnqueuedTooLate, IsRepeatViolation, IsOrderViolation}
 use Rattle.verdicts.specs.declared.verifying.ViolationKind.TheVariants.{VFresh, VRepeat, VOrd, VWit}
 use Rattle.verdicts.specs.declared.verifying.ClaimLine.{ClaimLine}
@@ -15,8 +15,8 @@ use Rattle.verdicts.specs.declared.verifying.ViolationKind.{ViolationKind}
 use Rattle.verdicts.specs.declared.lookup.Filled.{Filled}
 use Rattle.verdicts.specs.Claims.{ShowsViolation, StandFor, kind_of, stands_for}
 use Rattle.verdicts.specs.Inner.Claims.{ShowsKind, StandForCover, StandForLife, ShowsCover, all_of}
-use Rattle.verdicts.proofs.ClaimedBreaches.{through, one_line_fresh, two_lines_fresh, three_lines_repeat, three_lines_order, four_lines_order}
-use Rattle.verdicts.proofs.ClaimedBreaches.{lines_of_witness_at}
+use Rattle.verdicts.proofs.ClaimedViolations.{through, one_line_fresh, two_lines_fresh, three_lines_repeat, three_lines_order, four_lines_order}
+use Rattle.verdicts.proofs.ClaimedViolations.{lines_of_witness_at}
 use Rattle.verdicts.proofs.ClaimedCovers.{none_shown, shown_by_one, shown_by_two, shown_by_more}
 
 -- lists of operations are one where their somes are
@@ -154,7 +154,7 @@ module _ (f : Filled) where
       long' : 5 ≤ length shows.0
       long' = let same = as_many lines shows.0 shows.1 in let rest : length (drop 3 lines) ≡ length lines - 3 = length-drop 3 lines in omega arith
 
-      few : (breach : Breach) → kind_of breach ≡ VOrd → length (lines_of breach) ≡ length shows.0 → ⊥
+      few : (full : FullViolation) → kind_of full ≡ VOrd → length (lines_of full) ≡ length shows.0 → ⊥
       few (fresh o e) kind many = cc
       few (repeat e a b) kind many = cc
       few (order a b o None) kind many = let l = long' in omega arith

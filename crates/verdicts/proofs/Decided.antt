@@ -22,10 +22,10 @@ use Rattle.verdicts.specs.declared.shown.LinePlace.TheVariants as place
 use Rattle.verdicts.specs.declared.verdict.Verdict.TheVariants.{Yes, No}
 use Rattle.verdicts.specs.Claiming.{IsPlaceWithin}
 use Rattle.verdicts.specs.Decided.{IsDecidedFrom}
-use Rattle.verdicts.specs.Shown.{places_of}
+use Rattle.verdicts.specs.Shown.{violation_places}
 use Rattle.verdicts.specs.Verdicts.{IsChosenFrom}
-use Rattle.verdicts.proofs.Excludes.{breach_excludes_order}
-use Rattle.verdicts.proofs.Chosen.{chosen_is_breach}
+use Rattle.verdicts.proofs.Excludes.{violation_excludes_order}
+use Rattle.verdicts.proofs.Chosen.{chosen_is_violation}
 use Rattle.verdicts.proofs.NamedPlaces.{all_within, each_shown, in_range}
 
 -- a chosen violation decides
@@ -33,12 +33,12 @@ pub no_is_decided : (initial : List ℕ) (operations : List Operation) (violatio
     → IsChosenFrom initial operations violation → IsDecidedFrom initial operations (No violation)
 no_is_decided initial operations violation complete chosen =
     let all = filled initial operations in
-    let breach = chosen_is_breach all chosen.0 complete chosen.2 in
+    let full = chosen_is_violation all chosen.0 complete chosen.2 in
     record {
       chosen = chosen;
-      evidence = (chosen.0, chosen.1, breach);
-      exact = λ exists. breach_excludes_order all chosen.0 complete breach ((linearizable_from_exactly initial operations).0 exists);
-      places = all_within initial operations (places_of violation) (lines_of chosen.0) (each_shown initial operations violation chosen.0 chosen.1);
+      evidence = (chosen.0, chosen.1, full);
+      exact = λ exists. violation_excludes_order all chosen.0 complete full ((linearizable_from_exactly initial operations).0 exists);
+      places = all_within initial operations (violation_places violation) (lines_of chosen.0) (each_shown initial operations violation chosen.0 chosen.1);
     }
 
 -- places of operations

@@ -2,12 +2,12 @@
 use Rattle.verdicts.specs.Laws.{LinearizableExactly}
 use Rattle.value_match.specs.Violations.{fresh, repeat, order, witness}
 use Rattle.verdicts.proofs.Linearizable.{linearizable_without_violations}
-use Rattle.verdicts.proofs.Excludes.{breach_excludes_order}
+use Rattle.verdicts.proofs.Excludes.{violation_excludes_order}
 
 -- a complete history is linearizable if and only if it has no violation
 pub linearizable_exactly : LinearizableExactly
 linearizable_exactly operations complete = (
-  λ linear breach violation. breach_excludes_order operations breach complete violation linear,
+  λ linear full violation. violation_excludes_order operations full complete violation linear,
   λ none. linearizable_without_violations operations
       (record {
         complete = complete;

@@ -17,9 +17,9 @@ use Rattle.history_merge.proofs.Places.{count, count-append, count_here, count-l
 use Rattle.history_merge.proofs.Distinct.{place_of as listed_place, contains_at, pairs_at}
 use Rattle.history_merge.proofs.Completeness.{called_once, returns_after_call, calls-IsPermutation}
 use Rattle.value_match.specs.declared.life.Life.{Life}
-use Rattle.value_match.specs.Violations.{Breach, fresh, repeat, order, witness, IsBreachOf, IsNeverEnqueued, IsEnqueuedTooLate, IsRepeatViolation}
+use Rattle.value_match.specs.Violations.{FullViolation, fresh, repeat, order, witness, IsViolationOf, IsNeverEnqueued, IsEnqueuedTooLate, IsRepeatViolation}
 use Rattle.value_match.specs.Violations.{IsOrderViolation, CoversFrom}
-use Rattle.verdicts.specs.Laws.{BreachExcludesOrder}
+use Rattle.verdicts.specs.Laws.{ViolationExcludesOrder}
 use Rattle.value_match.specs.Lives.{dequeue_of, enqueue_of}
 use Rattle.linearizer.proofs.EachPosition.{some_injective}
 
@@ -279,15 +279,15 @@ module _ (operations listed : List Operation) (complete : AreComplete operations
           let same = dequeue_has_one_place i there.0 covers.0.0 o d at_i there.1 is_i did.1 in
           more there.0 d there.1 (omega arith) further
 
-  excludes_breach : (breach : Breach) → IsBreachOf operations breach → ⊥
-  excludes_breach (fresh deq None) violation = excludes_never deq violation
-  excludes_breach (fresh deq (Some enq)) violation = excludes_late deq enq violation
-  excludes_breach (repeat enq first second) violation = excludes_repeat enq first second violation
-  excludes_breach (order enq_a enq_b deq_b deq_a) violation = excludes_order enq_a enq_b deq_b deq_a violation
-  excludes_breach (witness empty cover) violation =
+  excludes_violation : (full : FullViolation) → IsViolationOf operations full → ⊥
+  excludes_violation (fresh deq None) violation = excludes_never deq violation
+  excludes_violation (fresh deq (Some enq)) violation = excludes_late deq enq violation
+  excludes_violation (repeat enq first second) violation = excludes_repeat enq first second violation
+  excludes_violation (order enq_a enq_b deq_b deq_a) violation = excludes_order enq_a enq_b deq_b deq_a violation
+  excludes_violation (witness empty cover) violation =
       let place = place_of empty violation.answers_empty.0 in
       excludes_cover place.0 empty place.1 violation.answers_empty.1 cover place.0 empty place.1 (omega arith) violation.covers
 
 -- a violation excludes each linearization
-pub breach_excludes_order : BreachExcludesOrder
-breach_excludes_order operations breach complete violation linear = excludes_breach operations linear.0 complete linear.1 breach violation
+pub violation_excludes_order : ViolationExcludesOrder
+violation_excludes_order operations full complete violation linear = excludes_violation operations linear.0 complete linear.1 full violation

@@ -27,8 +27,8 @@ use Rattle.history_merge.proofs.Filled.{filled_is_complete, filled_operations}
 use Rattle.verdicts.specs.Laws.{VerdictHasFewLines}
 use Rattle.value_match.specs.declared.life.Life.{Life}
 use Rattle.value_match.specs.Lives.{IsLife, IsCovered, dequeue_call, call_or_never, dequeue_of, enqueue_of, operations_of_life}
-use Rattle.value_match.specs.Violations.{Breach, fresh, repeat, order, witness, IsClear, lines_of}
-use Rattle.value_match.specs.Choice.{IsChosenBreach, IsChosenCoverFrom}
+use Rattle.value_match.specs.Violations.{FullViolation, fresh, repeat, order, witness, IsClear, lines_of}
+use Rattle.value_match.specs.Choice.{IsChosenFullViolation, IsChosenCoverFrom}
 use Rattle.value_match.proofs.FilledLines.{filling_place}
 use Rattle.value_match.proofs.Lists.{one_deeper, mapped_to, passed_filter}
 use Rattle.value_match.proofs.Lives.{one_life_of_enqueue}
@@ -41,8 +41,8 @@ use Rattle.verdicts.specs.declared.verifying.ClaimLine.{ClaimLine}
 use Rattle.verdicts.specs.declared.verifying.ClaimLine.TheVariants as line
 use Rattle.verdicts.specs.declared.verdict.Verdict.{Verdict}
 use Rattle.verdicts.specs.declared.verdict.Verdict.TheVariants.{Yes, No}
-use Rattle.verdicts.specs.Claiming.{is_operation, line_at, operations_named, places_of}
-use Rattle.verdicts.specs.Shown.{places_of as places_of_violation}
+use Rattle.verdicts.specs.Claiming.{is_operation, line_at, operations_named, verdict_places}
+use Rattle.verdicts.specs.Shown.{violation_places}
 use Rattle.verdicts.specs.Verdicts.{IsVerdictFrom}
 use Rattle.verdicts.proofs.CoverGaps.{IsCalledInside, chosen_are_lives, handover, all_stay}
 use Rattle.value_match.proofs.FilledOperations.{length_filled, length_filling}
@@ -251,7 +251,7 @@ two_events_each events complete = few_apart events (operations_of events) comple
 
 module _ (events : List Event) (complete : IsCompleteUpTo MAX_CLOCK events) where
   -- the lines of an empty-witness violation are operations of the history, each once
-  pub witness_apart : (empty : Operation) (cover : List Life) → IsChosenBreach (operations_of events) (witness empty cover)
+  pub witness_apart : (empty : Operation) (cover : List Life) → IsChosenFullViolation (operations_of events) (witness empty cover)
       → ((o : Operation) → Contains (lines_of (witness empty cover)) o → Contains (operations_of events) o) × Apart (lines_of (witness empty cover))
   witness_apart empty cover chosen =
       let operations = operations_of events in
@@ -270,14 +270,14 @@ module _ (events : List Event) (complete : IsCompleteUpTo MAX_CLOCK events) wher
       )
 
 module _ (events : List Event) (complete : IsCompleteUpTo MAX_CLOCK events) (most : ℕ) (some : 4 ≤ most) (few : length events ≤ most + most) where
-  witness_lines : (empty : Operation) (cover : List Life) → IsChosenBreach (operations_of events) (witness empty cover)
+  witness_lines : (empty : Operation) (cover : List Life) → IsChosenFullViolation (operations_of events) (witness empty cover)
       → length (lines_of (witness empty cover)) + length (lines_of (witness empty cover)) ≤ length events
   witness_lines empty cover chosen =
       let lines = witness_apart events complete empty cover chosen in
       few_apart events (lines_of (witness empty cover)) complete lines.0 lines.1
 
   -- a chosen violation has few lines
-  pub few_chosen : (breach : Breach) → IsChosenBreach (operations_of events) breach → length (lines_of breach) ≤ most
+  pub few_chosen : (full : FullViolation) → IsChosenFullViolation (operations_of events) full → length (lines_of full) ≤ most
   few_chosen (fresh deq None) chosen = omega arith
   few_chosen (fresh deq (Some enq)) chosen = omega arith
   few_chosen (repeat enq first second) chosen = omega arith
@@ -425,8 +425,8 @@ module _ (initial : List ℕ) (events : List Event) (whole : IsCompleteFrom init
           absurd (omega (arith, call, within, late))
 
   -- a chosen violation shows few operations of the history
-  few_own_shown : (breach : Breach) → IsChosenBreach (operations_of (filled_events initial events)) breach
-      → length (filter (is_own n) (lines_of breach)) ≤ MAX_OPERATIONS
+  few_own_shown : (full : FullViolation) → IsChosenFullViolation (operations_of (filled_events initial events)) full
+      → length (filter (is_own n) (lines_of full)) ≤ MAX_OPERATIONS
   few_own_shown (fresh deq None) chosen = let few = shorter (is_own n) (lines_of (fresh deq None)) in omega arith
   few_own_shown (fresh deq (Some enq)) chosen = let few = shorter (is_own n) (lines_of (fresh deq (Some enq))) in omega arith
   few_own_shown (repeat enq first second) chosen = let few = shorter (is_own n) (lines_of (repeat enq first second)) in omega arith
@@ -453,7 +453,7 @@ verdict_has_few_lines initial events verdict whole few_initial few_events chosen
     in_filled listed = length_filled initial listed
 
     by_verdict : (verdict : Verdict) → IsVerdictFrom initial (operations_of events) verdict
-        → (length (operations_named verdict) ≤ MAX_OPERATIONS) × (length (places_of verdict) ≤ most)
+        → (length (operations_named verdict) ≤ MAX_OPERATIONS) × (length (verdict_places verdict) ≤ most)
     by_verdict (Yes places) is =
         let shorter_order = few_in_order (filled_events initial events) (filled_is_complete initial events whole few_initial) most (omega arith) few
         (filled initial is.0)
@@ -464,11 +464,11 @@ verdict_has_few_lines initial events verdict whole few_initial few_events chosen
         let named = shorter is_operation (map (λ p. place.Op p) places) in
         (omega (arith, named, shown, many, long, shorter_order), omega arith)
     by_verdict (No violation) is =
-        let chosen_there = subst (λ os. IsChosenBreach os is.0) (sym (filled_operations initial events)) is.2 in
+        let chosen_there = subst (λ os. IsChosenFullViolation os is.0) (sym (filled_operations initial events)) is.2 in
         let lines = few_chosen (filled_events initial events) (filled_is_complete initial events whole few_initial) most (omega arith) few is.0
         chosen_there in
         let shown = each_shown initial (operations_of events) violation is.0 is.1 in
-        let many = zip_lengths (IsShownAt initial (operations_of events)) (places_of_violation violation) (lines_of is.0) shown in
-        let named = counted initial (operations_of events) (places_of_violation violation) (lines_of is.0) shown in
+        let many = zip_lengths (IsShownAt initial (operations_of events)) (violation_places violation) (lines_of is.0) shown in
+        let named = counted initial (operations_of events) (violation_places violation) (lines_of is.0) shown in
         let own = few_own_shown initial events whole few_initial few_events is.0 chosen_there in
         (omega (arith, named, own), omega (arith, many, lines))

@@ -2,7 +2,7 @@
 -- Excludes: beside a violation no order is legal. Linearizable, Exactly: without one there is a linearization.
 -- Chosen, Decided, OneVerdict: the chosen violation or order of a history decides, and is the only one.
 -- NoneTold: with no initial values the answer is what is found.
--- Lookups, ClaimedBreaches, ClaimedCovers, ClaimedOrders: when the lines of a claim are evidence.
+-- Lookups, ClaimedViolations, ClaimedCovers, ClaimedOrders: when the lines of a claim are evidence.
 -- NamedLines, NamedPlaces, TrueClaims, FewLines: what a verdict claims, and that this is true.
 -- SameLists, CollectedSets, Selections, ChosenSelections, CoverGaps: what stays of the violations in a selection of the operations.
 -- Minimal: nothing can be left out of the selection by the violation's lines.
@@ -19,7 +19,7 @@ pub mod Chosen
 pub mod Decided
 pub mod Lookups
 pub mod ClaimedLines
-pub mod ClaimedBreaches
+pub mod ClaimedViolations
 pub mod ClaimedCovers
 pub mod ClaimedOrders
 pub mod SameLists

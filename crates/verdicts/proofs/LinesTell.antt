@@ -7,7 +7,7 @@ use Rattle.value_match.specs.declared.life.Life.{Life}
 use Rattle.value_match.specs.Lives.{dequeue_of, enqueue_of, operations_of_life}
 use Rattle.value_match.specs.Violations.{fresh, repeat, order, witness}
 use Rattle.value_match.proofs.CoverLives.{AreLives, covers_are_lives}
-use Rattle.verdicts.specs.Laws.{LinesTellBreach}
+use Rattle.verdicts.specs.Laws.{LinesTellViolation}
 
 -- no life begins with a dequeue
 no_dequeue_first : (d : Operation) (rest : List Operation) (cover : List Life) (v : ℕ) → d.kind ≡ Deq v → AreLives cover
@@ -46,32 +46,32 @@ one_maybe (Some d) None same = cc
 one_maybe (Some d) (Some d') same = cc
 
 -- two violations of one kind with the same lines are one
-pub lines_tell_breach : LinesTellBreach
-lines_tell_breach operations others (fresh deq enq) (fresh deq' enq') is is' kinds lines =
+pub lines_tell_violation : LinesTellViolation
+lines_tell_violation operations others (fresh deq enq) (fresh deq' enq') is is' kinds lines =
     let one : deq ≡ deq' = cc in let later : option_to_list enq ≡ option_to_list enq' = cc in let enqs = one_maybe enq enq' later in cc
-lines_tell_breach operations others (repeat enq first second) (repeat enq' first' second') is is' kinds lines = cc
-lines_tell_breach operations others (order enq_a enq_b deq_b deq_a) (order enq_a' enq_b' deq_b' deq_a') is is' kinds lines =
+lines_tell_violation operations others (repeat enq first second) (repeat enq' first' second') is is' kinds lines = cc
+lines_tell_violation operations others (order enq_a enq_b deq_b deq_a) (order enq_a' enq_b' deq_b' deq_a') is is' kinds lines =
     let a : enq_a ≡ enq_a' = cc in
     let b : enq_b ≡ enq_b' = cc in
     let d : deq_b ≡ deq_b' = cc in
     let later : option_to_list deq_a ≡ option_to_list deq_a' = cc in
     let last = one_maybe deq_a deq_a' later in
     cc
-lines_tell_breach operations others (witness empty cover) (witness empty' cover') is is' kinds lines =
+lines_tell_violation operations others (witness empty cover) (witness empty' cover') is is' kinds lines =
     let one : empty ≡ empty' = cc in
     let later : flat_map operations_of_life cover ≡ flat_map operations_of_life cover' = cc in
     let covers = one_cover cover cover' (covers_are_lives operations empty empty cover is.covers)
     (covers_are_lives others empty' empty' cover' is'.covers) later in
     cc
-lines_tell_breach operations others (fresh deq enq) (repeat enq' first' second') is is' kinds lines = cc
-lines_tell_breach operations others (fresh deq enq) (order enq_a' enq_b' deq_b' deq_a') is is' kinds lines = cc
-lines_tell_breach operations others (fresh deq enq) (witness empty' cover') is is' kinds lines = cc
-lines_tell_breach operations others (repeat enq first second) (fresh deq' enq') is is' kinds lines = cc
-lines_tell_breach operations others (repeat enq first second) (order enq_a' enq_b' deq_b' deq_a') is is' kinds lines = cc
-lines_tell_breach operations others (repeat enq first second) (witness empty' cover') is is' kinds lines = cc
-lines_tell_breach operations others (order enq_a enq_b deq_b deq_a) (fresh deq' enq') is is' kinds lines = cc
-lines_tell_breach operations others (order enq_a enq_b deq_b deq_a) (repeat enq' first' second') is is' kinds lines = cc
-lines_tell_breach operations others (order enq_a enq_b deq_b deq_a) (witness empty' cover') is is' kinds lines = cc
-lines_tell_breach operations others (witness empty cover) (fresh deq' enq') is is' kinds lines = cc
-lines_tell_breach operations others (witness empty cover) (repeat enq' first' second') is is' kinds lines = cc
-lines_tell_breach operations others (witness empty cover) (order enq_a' enq_b' deq_b' deq_a') is is' kinds lines = cc
+lines_tell_violation operations others (fresh deq enq) (repeat enq' first' second') is is' kinds lines = cc
+lines_tell_violation operations others (fresh deq enq) (order enq_a' enq_b' deq_b' deq_a') is is' kinds lines = cc
+lines_tell_violation operations others (fresh deq enq) (witness empty' cover') is is' kinds lines = cc
+lines_tell_violation operations others (repeat enq first second) (fresh deq' enq') is is' kinds lines = cc
+lines_tell_violation operations others (repeat enq first second) (order enq_a' enq_b' deq_b' deq_a') is is' kinds lines = cc
+lines_tell_violation operations others (repeat enq first second) (witness empty' cover') is is' kinds lines = cc
+lines_tell_violation operations others (order enq_a enq_b deq_b deq_a) (fresh deq' enq') is is' kinds lines = cc
+lines_tell_violation operations others (order enq_a enq_b deq_b deq_a) (repeat enq' first' second') is is' kinds lines = cc
+lines_tell_violation operations others (order enq_a enq_b deq_b deq_a) (witness empty' cover') is is' kinds lines = cc
+lines_tell_violation operations others (witness empty cover) (fresh deq' enq') is is' kinds lines = cc
+lines_tell_violation operations others (witness empty cover) (repeat enq' first' second') is is' kinds lines = cc
+lines_tell_violation operations others (witness empty cover) (order enq_a' enq_b' deq_b' deq_a') is is' kinds lines = cc

@@ -9,20 +9,20 @@ use Rattle.history_merge.specs.Legal.{IsLinearizable}
 use Rattle.history_merge.proofs.Distinct.{contains_cons, call_before_return, same_enqueue}
 use Rattle.value_match.specs.declared.life.Life.{Life}
 use Rattle.value_match.specs.Lives.{IsCovered, Covers, enqueue_of, operations_of_life}
-use Rattle.value_match.specs.Violations.{Breach, fresh, repeat, order, witness, IsBreachOf, IsOrderViolation, IsWitnessViolation, IsClear, lines_of}
-use Rattle.value_match.specs.Choice.{IsChosenBreach, IsChosenWitness}
+use Rattle.value_match.specs.Violations.{FullViolation, fresh, repeat, order, witness, IsViolationOf, IsOrderViolation, IsWitnessViolation, IsClear, lines_of}
+use Rattle.value_match.specs.Choice.{IsChosenFullViolation, IsChosenWitness}
 use Rattle.value_match.proofs.Lists.{one_deeper, passed_filter}
 use Rattle.value_match.proofs.Lives.{one_life_of_enqueue}
 use Rattle.empty_witness.proofs.Covers.{violation_covers}
 use Rattle.verdicts.specs.Selection.{value_of, selects}
-use Rattle.verdicts.proofs.Chosen.{chosen_is_breach}
+use Rattle.verdicts.proofs.Chosen.{chosen_is_violation}
 use Rattle.verdicts.proofs.CoverGaps.{gap_without, chosen_are_lives}
 use Rattle.verdicts.proofs.Exactly.{linearizable_exactly}
-use Rattle.verdicts.proofs.Excludes.{breach_excludes_order}
+use Rattle.verdicts.proofs.Excludes.{violation_excludes_order}
 use Rattle.verdicts.proofs.KeptTickets.{selected_are_complete}
 use Rattle.verdicts.proofs.NamedLines.{HasValue, IsOpOf, IsOpOfTwo, IsOpOfLife, fresh_lines, repeat_lines, order_lines, cover_lines, selects_as_value}
 use Rattle.verdicts.proofs.NamedLines.{SelectsLines, lines_are_selected, selected_for}
-use Rattle.verdicts.proofs.Selections.{breach_in_whole, breach_in_selected, life_in_whole}
+use Rattle.verdicts.proofs.Selections.{violation_in_whole, violation_in_selected, life_in_whole}
 
 -- no selection but the whole of these operations fails to be linearizable
 abbrev pub AreMinimal : List Operation → Type 0
@@ -52,7 +52,7 @@ of_same_life : (z x : Life) (v : ℕ) → z ≡ x → (enqueue_of x).kind ≡ En
 of_same_life z x v same is = ap (λ life. value_of (enqueue_of life).kind) same ∙ ap value_of is
 
 -- a violation is shown by some operation
-some_operation : (operations : List Operation) (breach : Breach) → IsBreachOf operations breach → (o : Operation) × Contains operations o
+some_operation : (operations : List Operation) (full : FullViolation) → IsViolationOf operations full → (o : Operation) × Contains operations o
 some_operation operations (fresh deq None) is = (deq, is.dequeues.0)
 some_operation operations (fresh deq (Some enq)) is = (deq, is.dequeues.0)
 some_operation operations (repeat enq first second) is = (enq, is.enqueues.0)
@@ -79,8 +79,8 @@ module _ (operations : List Operation) (complete : AreComplete operations) (valu
   in_small : (o : Operation) → Contains smaller o → Contains small o × (selects values' calls' o ≡ true)
   in_small o among = passed_filter (selects values' calls') small o among
 
-  in_whole : (breach : Breach) → IsBreachOf smaller breach → IsBreachOf operations breach
-  in_whole breach is = breach_in_whole operations values calls breach (breach_in_whole small values' calls' breach is)
+  in_whole : (full : FullViolation) → IsViolationOf smaller full → IsViolationOf operations full
+  in_whole full is = violation_in_whole operations values calls full (violation_in_whole small values' calls' full is)
 
   -- an operation that is left out, and with it all of its value
   module _ (missing : Operation) (was : Contains small missing) (left_out : selects values' calls' missing ≡ false) where
@@ -93,9 +93,9 @@ module _ (operations : List Operation) (complete : AreComplete operations) (valu
 
     module _ (lines : List Operation) (named : SelectsLines lines values calls) where
       -- where all lines are of one value, nothing is left
-      nothing_left : (v : ℕ) → ((l : Operation) → Contains lines l → IsOpOf operations v l) → (breach : Breach) → IsBreachOf smaller breach → ⊥
-      nothing_left v of_value breach is =
-          let some = some_operation smaller breach is in
+      nothing_left : (v : ℕ) → ((l : Operation) → Contains lines l → IsOpOf operations v l) → (full : FullViolation) → IsViolationOf smaller full → ⊥
+      nothing_left v of_value full is =
+          let some = some_operation smaller full is in
           none_of_its_value some.0 v (has_value missing was) (has_value some.0 (in_small some.0 some.1).0) some.1
         where
           has_value : (o : Operation) → Contains small o → HasValue o v
@@ -209,8 +209,8 @@ module _ (operations : List Operation) (complete : AreComplete operations) (valu
               cc
 
     -- so what is left has no violation
-    none_is_left : (breach : Breach) → IsChosenBreach operations breach → SelectsLines (lines_of breach) values calls → (other : Breach)
-        → IsBreachOf smaller other → ⊥
+    none_is_left : (full : FullViolation) → IsChosenFullViolation operations full → SelectsLines (lines_of full) values calls → (other : FullViolation)
+        → IsViolationOf smaller other → ⊥
     none_is_left (fresh deq enq) chosen named other is = let of_value = fresh_lines operations deq enq chosen.violates in
         nothing_left (lines_of (fresh deq enq)) named of_value.0 of_value.1 other is
     none_is_left (repeat enq first second) chosen named other is =
@@ -220,7 +220,7 @@ module _ (operations : List Operation) (complete : AreComplete operations) (valu
         of_two : (l : Operation) → Contains (lines_of (order enq_a enq_b deq_b deq_a)) l → IsOpOfTwo operations chosen.2.violates.a chosen.2.violates.b l
         of_two = order_lines operations enq_a enq_b deq_b deq_a chosen.2.violates
 
-        by_kind : (other : Breach) → IsBreachOf smaller other → ⊥
+        by_kind : (other : FullViolation) → IsViolationOf smaller other → ⊥
         by_kind (fresh deq' enq') is' = chosen.0 deq' enq' (in_whole (fresh deq' enq') is')
         by_kind (repeat enq' first' second') is' = chosen.1 enq' first' second' (in_whole (repeat enq' first' second') is')
         by_kind (order enq_a' enq_b' deq_b' deq_a') is' =
@@ -229,32 +229,32 @@ module _ (operations : List Operation) (complete : AreComplete operations) (valu
             no_empty_answer (lines_of (order enq_a enq_b deq_b deq_a)) named chosen.2.violates.a chosen.2.violates.b of_two empty' is'.answers_empty
     none_is_left (witness empty cover) chosen named other is = by_kind other is
       where
-        by_kind : (other : Breach) → IsBreachOf smaller other → ⊥
+        by_kind : (other : FullViolation) → IsViolationOf smaller other → ⊥
         by_kind (fresh deq' enq') is' = chosen.0 deq' enq' (in_whole (fresh deq' enq') is')
         by_kind (repeat enq' first' second') is' = chosen.1 enq' first' second' (in_whole (repeat enq' first' second') is')
         by_kind (order enq_a' enq_b' deq_b' deq_a') is' = chosen.2 enq_a' enq_b' deq_b' deq_a' (in_whole (order enq_a' enq_b' deq_b' deq_a') is')
         by_kind (witness empty' cover') is' =
             no_cover empty cover (record { complete = complete; no_fresh = chosen.0; no_repeat = chosen.1 }) chosen.3 named empty' cover' is'
 
-    smaller_is_linearizable : (breach : Breach) → IsChosenBreach operations breach → SelectsLines (lines_of breach) values calls → IsLinearizable smaller
-    smaller_is_linearizable breach chosen named =
+    smaller_is_linearizable : (full : FullViolation) → IsChosenFullViolation operations full → SelectsLines (lines_of full) values calls → IsLinearizable smaller
+    smaller_is_linearizable full chosen named =
         (linearizable_exactly smaller (selected_are_complete (selects values' calls') small
-        (selected_are_complete (selects values calls) operations complete))).1 (none_is_left breach chosen named)
+        (selected_are_complete (selects values calls) operations complete))).1 (none_is_left full chosen named)
 
-module _ (operations : List Operation) (complete : AreComplete operations) (breach : Breach) (chosen : IsChosenBreach operations breach)
-    (values calls : ℕ → Bool) (named : SelectsLines (lines_of breach) values calls) where
+module _ (operations : List Operation) (complete : AreComplete operations) (full : FullViolation) (chosen : IsChosenFullViolation operations full)
+    (values calls : ℕ → Bool) (named : SelectsLines (lines_of full) values calls) where
   -- the chosen violation is one of the selection by its lines
-  pub stays_violation : IsBreachOf (filter (selects values calls) operations) breach
-  stays_violation = breach_in_selected operations values calls breach (chosen_is_breach operations breach complete chosen)
-      (lines_are_selected (lines_of breach) values calls named)
+  pub stays_violation : IsViolationOf (filter (selects values calls) operations) full
+  stays_violation = violation_in_selected operations values calls full (chosen_is_violation operations full complete chosen)
+      (lines_are_selected (lines_of full) values calls named)
 
   -- from the selected operations nothing can be left out
   pub selection_is_minimal : AreMinimal (filter (selects values calls) operations)
   selection_is_minimal = (
-    λ linear. breach_excludes_order (filter (selects values calls) operations) breach
+    λ linear. violation_excludes_order (filter (selects values calls) operations) full
         (selected_are_complete (selects values calls) operations complete) stays_violation linear,
     λ values' calls' differs. elim (all_or_one (selects values' calls') (filter (selects values calls) operations)) [
       | inl all ↦ absurd (differs all)
-      | inr one ↦ smaller_is_linearizable operations complete values calls values' calls' one.0 one.1 one.2 breach chosen named
+      | inr one ↦ smaller_is_linearizable operations complete values calls values' calls' one.0 one.1 one.2 full chosen named
     ],
   )

@@ -10,8 +10,8 @@ use Rattle.history_merge.specs.Complete.{AreComplete}
 use Rattle.history_merge.proofs.Distinct.{contains_cons, not_in_none, same_call}
 use Rattle.value_match.specs.declared.life.Life.{Life}
 use Rattle.value_match.specs.Lives.{IsLife, dequeue_of, enqueue_of, operations_of_life}
-use Rattle.value_match.specs.Violations.{Breach, fresh, repeat, order, witness, IsFreshViolation, IsRepeatViolation, IsOrderViolation, IsBreachOf, lines_of}
-use Rattle.value_match.specs.Choice.{IsChosenBreach}
+use Rattle.value_match.specs.Violations.{FullViolation, fresh, repeat, order, witness, IsFreshViolation, IsRepeatViolation, IsOrderViolation, IsViolationOf, lines_of}
+use Rattle.value_match.specs.Choice.{IsChosenFullViolation}
 use Rattle.value_match.proofs.Lists.{kept, keeps, mapped_from, mapped_to, passed_filter}
 use Rattle.linearizer.proofs.NoneTwice.{from_flat_map}
 use Rattle.verdicts.specs.Selection.{value_of, selects}
@@ -114,8 +114,8 @@ cover_lines operations cover lives o at =
         (op_of operations (enqueue_of life) (Enq is.0) is.0 is.1 refl) (dequeue is.0 (dequeue_of life) is.2) o at'
 
 -- the lines of a chosen violation are operations
-pub lines_are_operations : (operations : List Operation) (breach : Breach) → IsBreachOf operations breach → IsChosenBreach operations breach
-    → (o : Operation) → Contains (lines_of breach) o → Contains operations o
+pub lines_are_operations : (operations : List Operation) (full : FullViolation) → IsViolationOf operations full → IsChosenFullViolation operations full
+    → (o : Operation) → Contains (lines_of full) o → Contains operations o
 lines_are_operations operations (fresh deq enq) is chosen o at = ((fresh_lines operations deq enq is).1 o at).0
 lines_are_operations operations (repeat enq first second) is chosen o at = (repeat_lines operations enq first second is o at).0
 lines_are_operations operations (order enq_a enq_b deq_b deq_a) is chosen o at =

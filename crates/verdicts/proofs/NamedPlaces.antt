@@ -19,7 +19,7 @@ use Rattle.value_match.specs.declared.violation.Violation.{Violation}
 use Rattle.value_match.specs.declared.violation.Violation.TheVariants as violation
 use Rattle.value_match.specs.Lives.{IsMaybeAt, dequeue_of, enqueue_of, operations_of_life}
 use Rattle.value_match.specs.Outcome.{IsSource, Names, NamesCover}
-use Rattle.value_match.specs.Violations.{Breach, fresh, repeat, order, witness, lines_of}
+use Rattle.value_match.specs.Violations.{FullViolation, fresh, repeat, order, witness, lines_of}
 use Rattle.value_match.proofs.Lists.{mapped_to}
 use Rattle.verdicts.specs.declared.shown.LinePlace.{LinePlace}
 use Rattle.verdicts.specs.declared.shown.LinePlace.TheVariants.{Op, Initial}
@@ -27,7 +27,7 @@ use Rattle.verdicts.specs.declared.verifying.ClaimLine.{ClaimLine}
 use Rattle.verdicts.specs.declared.verifying.ClaimLine.TheVariants as line
 use Rattle.verdicts.specs.Claiming.{IsPlaceWithin, line_at, lines_at, lines_of_history}
 use Rattle.value_match.specs.Filling.{behind, filled_source, filled_step, filled_violation}
-use Rattle.verdicts.specs.Shown.{maybe_place, place_of_source, places_of, places_of_step}
+use Rattle.verdicts.specs.Shown.{maybe_place, place_of_source, violation_places, places_of_step}
 use Rattle.value_match.proofs.FilledLines.{filled_at}
 use Rattle.verdicts.proofs.ShownLines.{accepted_value, early_line, later_line, line_of}
 
@@ -115,7 +115,7 @@ module _ (initial : List ℕ) (operations : List Operation) where
   )
 
   -- the places of a violation are those of its operations' lines, one by one
-  pub each_shown : (named : Violation) (breach : Breach) → Names all (filled_violation k named) breach → AllZip IsShownAt (places_of named) (lines_of breach)
+  pub each_shown : (named : Violation) (full : FullViolation) → Names all (filled_violation k named) full → AllZip IsShownAt (violation_places named) (lines_of full)
   each_shown (violation.Fresh deq enq) (fresh d e) names = (shown_at deq d names.0, maybe_shown enq e names.1)
   each_shown (violation.Fresh deq enq) (repeat e d f) names = absurd names
   each_shown (violation.Fresh deq enq) (order a b d e) names = absurd names

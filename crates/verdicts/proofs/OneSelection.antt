@@ -10,7 +10,7 @@ use Rattle.history_merge.specs.Legal.{IsLinearizable}
 use Rattle.history_merge.specs.Operations.{operations_of}
 use Rattle.history_merge.proofs.Filled.{linearizable_from_exactly}
 use Rattle.value_match.specs.declared.violation.Violation.{Violation}
-use Rattle.value_match.specs.Violations.{Breach, IsBreachOf, lines_of}
+use Rattle.value_match.specs.Violations.{FullViolation, IsViolationOf, lines_of}
 use Rattle.value_match.proofs.Lists.{mapped_from, mapped_to, passed_filter}
 use Rattle.verdicts.specs.declared.verifying.ClaimLine.{ClaimLine}
 use Rattle.verdicts.specs.declared.verifying.ClaimLine.TheVariants.{Op, Initial}
@@ -19,17 +19,17 @@ use Rattle.verdicts.specs.declared.verifying.Claimed.TheVariants as claimed
 use Rattle.verdicts.specs.declared.verifying.ViolationKind.{ViolationKind}
 use Rattle.verdicts.specs.Claiming.{lines_of_history}
 use Rattle.verdicts.specs.Selection.{AreLinearizable, Contents, IsMinimal, KeepsViolation, StaysChosen, contents_of, select, selects, violation_lines}
-use Rattle.verdicts.specs.Shown.{places_of}
+use Rattle.verdicts.specs.Shown.{violation_places}
 use Rattle.verdicts.specs.Verdicts.{filled_of}
-use Rattle.verdicts.proofs.Chosen.{chosen_is_breach}
-use Rattle.verdicts.proofs.Excludes.{breach_excludes_order}
+use Rattle.verdicts.proofs.Chosen.{chosen_is_violation}
+use Rattle.verdicts.proofs.Excludes.{violation_excludes_order}
 use Rattle.verdicts.proofs.FilledSelections.{lifted, lifted_rises}
 use Rattle.verdicts.proofs.KeptTickets.{selected_are_complete}
 use Rattle.verdicts.proofs.Minimal.{all_or_one}
 use Rattle.verdicts.proofs.NamedLines.{lines_are_operations}
 use Rattle.verdicts.proofs.NamedPlaces.{each_shown, shown_lines}
 use Rattle.verdicts.proofs.Retiming.{linearizable_there}
-use Rattle.verdicts.proofs.Selections.{breach_in_selected}
+use Rattle.verdicts.proofs.Selections.{violation_in_selected}
 use Rattle.verdicts.proofs.ShownLines.{accepted_value, early_line, late_line, line_of}
 use Rattle.verdicts.proofs.ShrunkHistories.{IsWhole, calls_behind, enqueued_in_filling, filled_is_whole, selection_filled}
 
@@ -95,8 +95,8 @@ module _ (whole x : HistoryView) (violation : Violation) (is_x : IsWhole x) (sta
   abbrev n : ℕ
   n = 2 * length x.initial
 
-  abbrev breach : Breach
-  breach = stays.1.0
+  abbrev full : FullViolation
+  full = stays.1.0
 
   -- the lines of the other selection
   abbrev selected_lines : List ClaimLine
@@ -111,18 +111,18 @@ module _ (whole x : HistoryView) (violation : Violation) (is_x : IsWhole x) (sta
   complete : AreComplete (filled_of x)
   complete = filled_is_whole x is_x
 
-  is_breach : IsBreachOf (filled_of x) breach
-  is_breach = chosen_is_breach (filled_of x) breach complete stays.1.2
+  is_violation : IsViolationOf (filled_of x) full
+  is_violation = chosen_is_violation (filled_of x) full complete stays.1.2
 
-  same_lines : violation_lines whole violation ≡ map (line_of n) (lines_of breach)
+  same_lines : violation_lines whole violation ≡ map (line_of n) (lines_of full)
   same_lines = sym (one_list_of_lines _ _ (violation_lines x stays.0) (violation_lines whole violation) stays.2)
-      ∙ shown_lines x.initial (operations_of x.events) (places_of stays.0) (lines_of breach)
-      (each_shown x.initial (operations_of x.events) stays.0 breach stays.1.1)
+      ∙ shown_lines x.initial (operations_of x.events) (violation_places stays.0) (lines_of full)
+      (each_shown x.initial (operations_of x.events) stays.0 full stays.1.1)
 
-  line_passes : (o : Operation) → Contains (lines_of breach) o → passes o ≡ true
+  line_passes : (o : Operation) → Contains (lines_of full) o → passes o ≡ true
   line_passes o among = elim (cases_lt o.call n) [
     | inl early ↦
-        let found = enqueued_in_filling x o (lines_are_operations (filled_of x) breach is_breach stays.1.2 o among) early in
+        let found = enqueued_in_filling x o (lines_are_operations (filled_of x) full is_violation stays.1.2 o among) early in
         let line = early_line n o early ∙ ap (λ k. Initial (accepted_value k)) found.1 in
         let passed = value_passes values empties whole.initial (operations_of whole.events) found.0
         (subst (Contains selected_lines) line here) in
@@ -131,14 +131,14 @@ module _ (whole x : HistoryView) (violation : Violation) (is_x : IsWhole x) (sta
   ]
     where
       here : Contains selected_lines (line_of n o)
-      here = kept (line_of n o) (subst (λ ls. Contains ls (line_of n o)) (sym same_lines) (mapped_to (line_of n) (lines_of breach) o among))
+      here = kept (line_of n o) (subst (λ ls. Contains ls (line_of n o)) (sym same_lines) (mapped_to (line_of n) (lines_of full) o among))
 
   not_linearizable : AreLinearizable part → ⊥
   not_linearizable linear =
       let filled_linear = (linearizable_from_exactly part.initial part.operations).0 linear in
       let moved = linearizable_there (lifted values x.initial) (lifted_rises values x.initial) (filled part.initial part.operations) filled_linear in
-      breach_excludes_order (filter passes (filled_of x)) breach (selected_are_complete passes (filled_of x) complete)
-      (breach_in_selected (filled_of x) values (calls_behind (contents_of x) empties) breach is_breach line_passes)
+      violation_excludes_order (filter passes (filled_of x)) full (selected_are_complete passes (filled_of x) complete)
+      (violation_in_selected (filled_of x) values (calls_behind (contents_of x) empties) full is_violation line_passes)
       (subst IsLinearizable (sym (selection_filled (contents_of x) values empties)) moved)
 
   none_differs : part ≢ contents_of x → ⊥

@@ -28,7 +28,7 @@ use Rattle.value_match.specs.declared.violation.Violation.TheVariants as violati
 use Rattle.value_match.specs.Lives.{IsMaybeAt, IsLeastFreeGap, IsCovered, is_empty_answer, dequeue_of, enqueue_of}
 use Rattle.value_match.specs.Choice.{IsChosenCover}
 use Rattle.value_match.specs.Outcome.{IsSource, Names, NamesChosenFresh, NamesChosenRepeat, NamesCover, IsMatchedFrom, IsChosenViolation}
-use Rattle.value_match.specs.Violations.{Breach, fresh, repeat, order, witness, IsBreachOf, IsClear}
+use Rattle.value_match.specs.Violations.{FullViolation, fresh, repeat, order, witness, IsViolationOf, IsClear}
 use Rattle.value_match.proofs.Lists.{passes_filter}
 use Rattle.order_violation.specs.declared.pair.OrderPair.{OrderPair}
 use Rattle.order_violation.specs.Pairs.{IsOrderAnswer, filled_pair}
@@ -43,9 +43,9 @@ use Rattle.verdicts.specs.declared.verdict.Verdict.TheVariants.{Yes, No}
 use Rattle.value_match.specs.Filling.{behind, filled_gap, filled_step, filled_violation}
 use Rattle.verdicts.specs.Verdicts.{IsChosenFrom}
 use Rattle.verdicts.specs.Laws.{VerdictIsOne, MatchedIsOne, PairIsOne, GapIsOne, WitnessIsOne}
-use Rattle.verdicts.proofs.Chosen.{one_chosen_breach, one_order, one_cover, one_witness}
+use Rattle.verdicts.proofs.Chosen.{one_chosen_violation, one_order, one_cover, one_witness}
 use Rattle.verdicts.proofs.SameLists.{one_beside}
-use Rattle.verdicts.proofs.Excludes.{breach_excludes_order}
+use Rattle.verdicts.proofs.Excludes.{violation_excludes_order}
 use Rattle.value_match.proofs.Unfilled.{one_when_filled}
 
 -- an operation stands at one place
@@ -113,8 +113,8 @@ one_named_cover operations (p ∷ ps) (q ∷ qs) (life ∷ lives) complete names
     (one_named_cover operations ps qs lives complete names_p.1 names_q.1)
 
 -- the operations of a violation are named by one list of places
-one_named : (operations : List Operation) (x y : Violation) (breach : Breach) → AreComplete operations → Names operations x breach
-    → Names operations y breach → x ≡ y
+one_named : (operations : List Operation) (x y : Violation) (full : FullViolation) → AreComplete operations → Names operations x full
+    → Names operations y full → x ≡ y
 one_named operations (violation.Fresh d e) (violation.Fresh d' e') (fresh deq enq) complete at at' =
     ap₂ (λ (p : ℕ) (q : Option ℕ). violation.Fresh p q) (one_place_at operations d d' deq complete at.0 at'.0)
     (maybe_one_place operations e e' enq complete at.1 at'.1)
@@ -142,7 +142,7 @@ one_named operations (violation.Witness o cover) y (witness empty lives) complet
 one_named operations (violation.Witness o cover) y _ complete at at' = absurd at
 
 -- so are those of two violations that are one
-one_violation : (operations : List Operation) (x y : Violation) (b c : Breach) → AreComplete operations → b ≡ c → Names operations x b
+one_violation : (operations : List Operation) (x y : Violation) (b c : FullViolation) → AreComplete operations → b ≡ c → Names operations x b
     → Names operations y c → x ≡ y
 one_violation operations x y b c complete same at at' = one_named operations x y c complete (subst (Names operations x) same at) at'
 
@@ -150,7 +150,7 @@ one_violation operations x y b c complete same at at' = one_named operations x y
 pub chosen_violation_is_one : (operations : List Operation) (x y : Violation) → AreComplete operations → IsChosenViolation operations x
     → IsChosenViolation operations y → x ≡ y
 chosen_violation_is_one operations x y complete chosen_x chosen_y =
-    one_violation operations x y chosen_x.0 chosen_y.0 complete (one_chosen_breach operations chosen_x.0 chosen_y.0 complete chosen_x.2 chosen_y.2)
+    one_violation operations x y chosen_x.0 chosen_y.0 complete (one_chosen_violation operations chosen_x.0 chosen_y.0 complete chosen_x.2 chosen_y.2)
     chosen_x.1 chosen_y.1
 
 -- what stands behind the same enqueues is the same
@@ -173,7 +173,7 @@ verdict_is_one initial events (Yes ps) (Yes qs) complete few x exact_x y exact_y
     let all = filled initial operations in
     let all_complete = filled_are_complete initial events complete few in
     let linear = (linearizable_from_exactly initial operations).0 exact_x in
-    let none = λ (b : Breach) (violates : IsBreachOf all b). breach_excludes_order all b all_complete violates linear in
+    let none = λ (b : FullViolation) (violates : IsViolationOf all b). violation_excludes_order all b all_complete violates linear in
     let clear : IsClear all = record {
       complete = all_complete;
       no_fresh = λ deq enq. none (fresh deq enq);
@@ -215,15 +215,15 @@ matched_is_one initial operations = one
     one (matched.Fresh v) (matched.Repeat w) complete x y = absurd (y.4.0 x.0 x.1 x.3.violates)
     one (matched.Repeat v) (matched.Fresh w) complete x y = absurd (x.4.0 y.0 y.1 y.3.violates)
     one (matched.Fresh v) (matched.Fresh w) complete x y =
-        let b : Breach = fresh x.0 x.1 in
-        let c : Breach = fresh y.0 y.1 in
+        let b : FullViolation = fresh x.0 x.1 in
+        let c : FullViolation = fresh y.0 y.1 in
         ap (λ named. matched.Fresh named) (one_when_filled k v w
-        (one_violation all (filled_violation k v) (filled_violation k w) b c complete (one_chosen_breach all b c complete x.3 y.3) x.2 y.2))
+        (one_violation all (filled_violation k v) (filled_violation k w) b c complete (one_chosen_violation all b c complete x.3 y.3) x.2 y.2))
     one (matched.Repeat v) (matched.Repeat w) complete x y =
-        let b : Breach = repeat x.0 x.1 x.2 in
-        let c : Breach = repeat y.0 y.1 y.2 in
+        let b : FullViolation = repeat x.0 x.1 x.2 in
+        let c : FullViolation = repeat y.0 y.1 y.2 in
         ap (λ named. matched.Repeat named) (one_when_filled k v w
-        (one_violation all (filled_violation k v) (filled_violation k w) b c complete (one_chosen_breach all b c complete x.4 y.4) x.3 y.3))
+        (one_violation all (filled_violation k v) (filled_violation k w) b c complete (one_chosen_violation all b c complete x.4 y.4) x.3 y.3))
 
 -- the pair that an order violation names
 abbrev pair_of : Violation → OrderPair
@@ -257,10 +257,10 @@ pair_is_one initial operations x y complete at_x at_y =
     one None (Some q) x y = absurd (x y.enq_a y.enq_b y.deq_b y.deq_a y.is_chosen.violates)
     one (Some p) None x y = absurd (y x.enq_a x.enq_b x.deq_b x.deq_a x.is_chosen.violates)
     one (Some p) (Some q) x y =
-        let b : Breach = order x.enq_a x.enq_b x.deq_b x.deq_a in
-        let c : Breach = order y.enq_a y.enq_b y.deq_b y.deq_a in
-        let breaches : b ≡ c = one_order all x.enq_a x.enq_b x.deq_b y.enq_a y.enq_b y.deq_b x.deq_a y.deq_a complete x.is_chosen y.is_chosen in
-        let violations = one_violation all (violation_of p) (violation_of q) b c complete breaches (x.at_a, x.at_b, x.dequeued_b, x.dequeued_a)
+        let b : FullViolation = order x.enq_a x.enq_b x.deq_b x.deq_a in
+        let c : FullViolation = order y.enq_a y.enq_b y.deq_b y.deq_a in
+        let violations : b ≡ c = one_order all x.enq_a x.enq_b x.deq_b y.enq_a y.enq_b y.deq_b x.deq_a y.deq_a complete x.is_chosen y.is_chosen in
+        let violations = one_violation all (violation_of p) (violation_of q) b c complete violations (x.at_a, x.at_b, x.dequeued_b, x.dequeued_a)
         (y.at_a, y.at_b, y.dequeued_b, y.dequeued_a) in
         ap (λ pair. Some pair) (ap pair_of violations)
 
@@ -346,12 +346,12 @@ one_answer operations (found.Gaps cs) (found.Gaps ds) clear x y =
 one_answer operations (found.Gaps cs) (found.Covered place cover) clear x y = absurd (none_covered operations cs y.0 x y.4.answers_empty y.4.is_covered)
 one_answer operations (found.Covered place cover) (found.Gaps cs) clear x y = absurd (none_covered operations cs x.0 y x.4.answers_empty x.4.is_covered)
 one_answer operations (found.Covered p steps) (found.Covered q steps') clear x y =
-    let b : Breach = witness x.0 x.1 in
-    let c : Breach = witness y.0 y.1 in
-    let breaches : b ≡ c = one_witness operations x.0 y.0 x.1 y.1 clear x.4 y.4 in
+    let b : FullViolation = witness x.0 x.1 in
+    let c : FullViolation = witness y.0 y.1 in
+    let violations : b ≡ c = one_witness operations x.0 y.0 x.1 y.1 clear x.4 y.4 in
     let v : Violation = violation.Witness p steps in
     let w : Violation = violation.Witness q steps' in
-    let violations = one_violation operations v w b c clear.complete breaches (x.2, x.3) (y.2, y.3) in
+    let violations = one_violation operations v w b c clear.complete violations (x.2, x.3) (y.2, y.3) in
     covered violations
   where
     covered : violation.Witness p steps ≡ violation.Witness q steps' → found.Covered p steps ≡ found.Covered q steps'

@@ -16,14 +16,14 @@ use Rattle.history_merge.proofs.Later.{legal_moved, map_map}
 use Rattle.value_match.specs.declared.life.Life.{Life}
 use Rattle.value_match.specs.declared.life.TheConstants.{NEVER}
 use Rattle.value_match.specs.Lives.{IsCovered, IsLife, call_or_never, dequeue_call, dequeue_of, enqueue_of, enqueue_return}
-use Rattle.value_match.specs.Violations.{Breach, fresh, repeat, order, witness, IsBreachOf, IsFreshViolation}
+use Rattle.value_match.specs.Violations.{FullViolation, fresh, repeat, order, witness, IsViolationOf, IsFreshViolation}
 use Rattle.value_match.specs.Violations.{IsOrderViolation, NoFreshViolation, NoOrderViolation, NoRepeatViolation}
-use Rattle.value_match.specs.Choice.{IsChosenBreach, IsChosenCoverFrom, StaysAtLeast}
+use Rattle.value_match.specs.Choice.{IsChosenFullViolation, IsChosenCoverFrom, StaysAtLeast}
 use Rattle.value_match.proofs.Lists.{mapped_from, mapped_to, one_deeper}
-use Rattle.verdicts.proofs.Carried.{breach_carried, breach_itself, itself, life_carried, life_itself, mapped_breach, mapped_life}
+use Rattle.verdicts.proofs.Carried.{violation_carried, violation_itself, itself, life_carried, life_itself, mapped_violation, mapped_life}
 use Rattle.verdicts.proofs.CoverGaps.{chosen_are_lives}
 use Rattle.verdicts.proofs.Exactly.{linearizable_exactly}
-use Rattle.verdicts.proofs.Excludes.{breach_excludes_order}
+use Rattle.verdicts.proofs.Excludes.{violation_excludes_order}
 use Rattle.value_match.proofs.FilledLines.{same_operation}
 
 -- the same operation at other tickets
@@ -35,8 +35,8 @@ abbrev pub retimed_life : (ℕ → ℕ) → Life → Life
 retimed_life h = mapped_life (retimed h)
 
 -- those of a violation
-abbrev pub retimed_breach : (ℕ → ℕ) → Breach → Breach
-retimed_breach h = mapped_breach (retimed h)
+abbrev pub retimed_violation : (ℕ → ℕ) → FullViolation → FullViolation
+retimed_violation h = mapped_violation (retimed h)
 
 -- later tickets stay later
 abbrev pub Rises : (ℕ → ℕ) → Type 0
@@ -150,24 +150,24 @@ module _ (h : ℕ → ℕ) (rises : Rises h) where
     -- ---- violations
 
     -- a violation is one at the other tickets
-    pub breach_there : (breach : Breach) → IsBreachOf xs breach → IsBreachOf ys (retimed_breach h breach)
-    breach_there breach is = breach_carried xs ys itself (retimed h) did_there none_there (λ x y. rises x.ret y.call) (λ x y. rises x.ret y.ret) breach
-        (subst (IsBreachOf xs) (sym (breach_itself breach)) is)
+    pub violation_there : (full : FullViolation) → IsViolationOf xs full → IsViolationOf ys (retimed_violation h full)
+    violation_there full is = violation_carried xs ys itself (retimed h) did_there none_there (λ x y. rises x.ret y.call) (λ x y. rises x.ret y.ret) full
+        (subst (IsViolationOf xs) (sym (violation_itself full)) is)
 
     -- and was one before
-    breach_back : (breach : Breach) → IsBreachOf ys (retimed_breach h breach) → IsBreachOf xs breach
-    breach_back breach is = subst (IsBreachOf xs) (breach_itself breach)
-        (breach_carried ys xs (retimed h) itself did_back none_back (λ x y. below_back x.ret y.call) (λ x y. below_back x.ret y.ret) breach is)
+    full_violation_back : (full : FullViolation) → IsViolationOf ys (retimed_violation h full) → IsViolationOf xs full
+    full_violation_back full is = subst (IsViolationOf xs) (violation_itself full)
+        (violation_carried ys xs (retimed h) itself did_back none_back (λ x y. below_back x.ret y.call) (λ x y. below_back x.ret y.ret) full is)
 
     no_fresh_back : NoFreshViolation ys → NoFreshViolation xs
-    no_fresh_back none deq enq is = none (retimed h deq) (option_map (retimed h) enq) (breach_there (fresh deq enq) is)
+    no_fresh_back none deq enq is = none (retimed h deq) (option_map (retimed h) enq) (violation_there (fresh deq enq) is)
 
     no_repeat_back : NoRepeatViolation ys → NoRepeatViolation xs
-    no_repeat_back none enq first second is = none (retimed h enq) (retimed h first) (retimed h second) (breach_there (repeat enq first second) is)
+    no_repeat_back none enq first second is = none (retimed h enq) (retimed h first) (retimed h second) (violation_there (repeat enq first second) is)
 
     no_order_back : NoOrderViolation ys → NoOrderViolation xs
     no_order_back none enq_a enq_b deq_b deq_a is = none (retimed h enq_a) (retimed h enq_b) (retimed h deq_b) (option_map (retimed h) deq_a)
-        (breach_there (order enq_a enq_b deq_b deq_a) is)
+        (violation_there (order enq_a enq_b deq_b deq_a) is)
 
     -- ---- legal orders
 
@@ -180,7 +180,7 @@ module _ (h : ℕ → ℕ) (rises : Rises h) where
 
     pub linearizable_back : AreComplete xs → AreComplete ys → IsLinearizable ys → IsLinearizable xs
     linearizable_back complete complete' found =
-        (linearizable_exactly xs complete).1 (λ breach is. breach_excludes_order ys (retimed_breach h breach) complete' (breach_there breach is) found)
+        (linearizable_exactly xs complete).1 (λ full is. violation_excludes_order ys (retimed_violation h full) complete' (violation_there full is) found)
 
     -- ---- the choice
 
@@ -333,17 +333,17 @@ module _ (h : ℕ → ℕ) (rises : Rises h) where
       -- ---- violations that are chosen
 
       -- where the violation at the other tickets is the chosen one, it was the chosen one before
-      pub chosen_back : (breach : Breach) → IsChosenBreach ys (retimed_breach h breach) → IsChosenBreach xs breach
+      pub chosen_back : (full : FullViolation) → IsChosenFullViolation ys (retimed_violation h full) → IsChosenFullViolation xs full
       chosen_back (fresh deq enq) chosen = record {
-        violates = breach_back (fresh deq enq) chosen.violates;
-        first = λ deq' enq' is. at_most_back deq.ret deq'.ret (chosen.first (retimed h deq') (option_map (retimed h) enq') (breach_there (fresh deq' enq') is));
+        violates = full_violation_back (fresh deq enq) chosen.violates;
+        first = λ deq' enq' is. at_most_back deq.ret deq'.ret (chosen.first (retimed h deq') (option_map (retimed h) enq') (violation_there (fresh deq' enq') is));
       }
       chosen_back (repeat enq first second) chosen = (
         no_fresh_back chosen.0,
         record {
-          violates = breach_back (repeat enq first second) chosen.1.violates;
+          violates = full_violation_back (repeat enq first second) chosen.1.violates;
           soonest = λ enq' first' second' is. at_most_back second.ret second'.ret
-              (chosen.1.soonest (retimed h enq') (retimed h first') (retimed h second') (breach_there (repeat enq' first' second') is));
+              (chosen.1.soonest (retimed h enq') (retimed h first') (retimed h second') (violation_there (repeat enq' first' second') is));
         },
       )
       chosen_back (order enq_a enq_b deq_b deq_a) chosen = (
@@ -353,15 +353,15 @@ module _ (h : ℕ → ℕ) (rises : Rises h) where
           violates = is;
           first = λ enq_a' enq_b' deq_b' deq_a' is'. at_most_back deq_b.ret deq_b'.ret
               (chosen.2.first (retimed h enq_a') (retimed h enq_b') (retimed h deq_b') (option_map (retimed h) deq_a')
-              (breach_there (order enq_a' enq_b' deq_b' deq_a') is'));
+              (violation_there (order enq_a' enq_b' deq_b' deq_a') is'));
           longest = λ enq_a' deq_a' is'. stays_back (record { enqueue = enq_a; dequeue = deq_a }) (record { enqueue = enq_a'; dequeue = deq_a' })
               (later_among deq_b is.a deq_a is.dequeued_later) (later_among deq_b is'.a deq_a' is'.dequeued_later)
-              (chosen.2.longest (retimed h enq_a') (option_map (retimed h) deq_a') (breach_there (order enq_a' enq_b deq_b deq_a') is'));
+              (chosen.2.longest (retimed h enq_a') (option_map (retimed h) deq_a') (violation_there (order enq_a' enq_b deq_b deq_a') is'));
         },
       )
         where
           is : IsOrderViolation xs enq_a enq_b deq_b deq_a
-          is = breach_back (order enq_a enq_b deq_b deq_a) chosen.2.violates
+          is = full_violation_back (order enq_a enq_b deq_b deq_a) chosen.2.violates
       chosen_back (witness empty cover) chosen = (
         no_fresh_back chosen.0,
         no_repeat_back chosen.1,
@@ -396,24 +396,24 @@ module _ (h : ℕ → ℕ) (rises : Rises h) where
       maybe_later deq_b v (Some d) did = let found = mapped_from (retimed h) xs d did.0.0 in (Some found.0, ap (λ o. Some o) found.2)
 
       -- each chosen violation at the other tickets was one before
-      pub breach_from : (breach : Breach) → IsChosenBreach ys breach → (x : Breach) × (retimed_breach h x ≡ breach)
-      breach_from (fresh deq enq) chosen =
+      pub violation_from : (full : FullViolation) → IsChosenFullViolation ys full → (x : FullViolation) × (retimed_violation h x ≡ full)
+      violation_from (fresh deq enq) chosen =
           let d = mapped_from (retimed h) xs deq (fresh_dequeue deq enq chosen.violates) in
           let e = maybe_enqueue deq enq chosen.violates in
           (fresh d.0 e.0, λ i. fresh (d.2 i) (e.1 i))
-      breach_from (repeat enq first second) chosen =
+      violation_from (repeat enq first second) chosen =
           let e = mapped_from (retimed h) xs enq chosen.1.violates.enqueues.0 in
           let d = mapped_from (retimed h) xs first chosen.1.violates.dequeues.0 in
           let f = mapped_from (retimed h) xs second chosen.1.violates.dequeues_again.0 in
           (repeat e.0 d.0 f.0, λ i. repeat (e.2 i) (d.2 i) (f.2 i))
-      breach_from (order enq_a enq_b deq_b deq_a) chosen =
+      violation_from (order enq_a enq_b deq_b deq_a) chosen =
           let is = chosen.2.violates in
           let a = mapped_from (retimed h) xs enq_a is.enqueues_a.0 in
           let b = mapped_from (retimed h) xs enq_b is.enqueues_b.0 in
           let d = mapped_from (retimed h) xs deq_b is.dequeues_b.0 in
           let e = maybe_later deq_b is.a deq_a is.dequeued_later in
           (order a.0 b.0 d.0 e.0, λ i. order (a.2 i) (b.2 i) (d.2 i) (e.1 i))
-      breach_from (witness empty cover) chosen =
+      violation_from (witness empty cover) chosen =
           let o = mapped_from (retimed h) xs empty chosen.3.answers_empty.0 in
           let lives = lives_from cover (λ life among. chosen_are_lives ys empty cover empty.call life chosen.3.cover_is_chosen among) in
           (witness o.0 lives.0, λ i. witness (o.2 i) (lives.1 i))

@@ -8,7 +8,7 @@ use Rattle.history_merge.specs.declared.operation.OpKind.TheVariants.{Enq, Deq, 
 use Rattle.history_merge.specs.Operations.{Did, NoneDid, Precedes}
 use Rattle.value_match.specs.declared.life.Life.{Life}
 use Rattle.value_match.specs.Lives.{IsLife, dequeue_of, enqueue_of, operations_of_life}
-use Rattle.value_match.specs.Violations.{Breach, fresh, repeat, order, witness, IsBreachOf, IsNeverEnqueued, IsEnqueuedTooLate, CoversFrom, lines_of}
+use Rattle.value_match.specs.Violations.{FullViolation, fresh, repeat, order, witness, IsViolationOf, IsNeverEnqueued, IsEnqueuedTooLate, CoversFrom, lines_of}
 use Rattle.value_match.proofs.Lists.{passes_filter, passed_filter, one_deeper}
 use Rattle.linearizer.proofs.NoneTwice.{into_flat_map}
 use Rattle.verdicts.specs.Selection.{value_of, selects}
@@ -120,17 +120,17 @@ module _ (operations : List Operation) (values empties : ℕ → Bool) where
       by_call (inr late) = inr (did_in_whole enq (Enq is.value) late.0, late.1)
 
   -- a violation of the selection is one of the whole
-  pub breach_in_whole : (breach : Breach) → IsBreachOf selected breach → IsBreachOf operations breach
-  breach_in_whole (fresh deq None) is = never_in_whole deq is
-  breach_in_whole (fresh deq (Some enq)) is = late_in_whole deq enq is
-  breach_in_whole (repeat enq first second) is = record {
+  pub violation_in_whole : (full : FullViolation) → IsViolationOf selected full → IsViolationOf operations full
+  violation_in_whole (fresh deq None) is = never_in_whole deq is
+  violation_in_whole (fresh deq (Some enq)) is = late_in_whole deq enq is
+  violation_in_whole (repeat enq first second) is = record {
     value = is.value;
     enqueues = did_in_whole enq (Enq is.value) is.enqueues;
     dequeues = did_in_whole first (Deq is.value) is.dequeues;
     dequeues_again = did_in_whole second (Deq is.value) is.dequeues_again;
     in_order = is.in_order;
   }
-  breach_in_whole (order enq_a enq_b deq_b deq_a) is = record {
+  violation_in_whole (order enq_a enq_b deq_b deq_a) is = record {
     a = is.a;
     b = is.b;
     enqueues_a = did_in_whole enq_a (Enq is.a) is.enqueues_a;
@@ -144,22 +144,22 @@ module _ (operations : List Operation) (values empties : ℕ → Bool) where
           → MatchOption d (NoneDid operations (Deq is.a)) (λ d. Did operations d (Deq is.a) × Precedes deq_b d)
       later None none = none_did_in_whole is.a (Deq is.a) (value_is_selected enq_a is.a (Enq is.a) is.enqueues_a refl) refl none
       later (Some d) did = (did_in_whole d (Deq is.a) did.0, did.1)
-  breach_in_whole (witness empty cover) is = record {
+  violation_in_whole (witness empty cover) is = record {
     answers_empty = did_in_whole empty Empty is.answers_empty;
     covers =
         cover_in_whole empty empty cover is.covers;
   }
 
   -- a violation whose operations are selected is one of the selection
-  pub breach_in_selected : (breach : Breach) → IsBreachOf operations breach
-      → ((o : Operation) → Contains (lines_of breach) o → selects values empties o ≡ true) → IsBreachOf selected breach
-  breach_in_selected (fresh deq None) is each = record {
+  pub violation_in_selected : (full : FullViolation) → IsViolationOf operations full
+      → ((o : Operation) → Contains (lines_of full) o → selects values empties o ≡ true) → IsViolationOf selected full
+  violation_in_selected (fresh deq None) is each = record {
     value = is.value;
     dequeues = did_in_selected deq (Deq is.value) is.dequeues (each deq (first_line deq []));
     not_accepted = none_did_in_selected (Enq is.value) is.not_accepted;
     not_refused = none_did_in_selected (Not is.value) is.not_refused;
   }
-  breach_in_selected (fresh deq (Some enq)) is each = record {
+  violation_in_selected (fresh deq (Some enq)) is each = record {
     value = is.value;
     dequeues = did_in_selected deq (Deq is.value) is.dequeues (each deq (first_line deq (enq ∷ [])));
     enqueues = by_call is.enqueues;
@@ -172,14 +172,14 @@ module _ (operations : List Operation) (values empties : ℕ → Bool) where
           → Did selected enq (Not is.value) ⊎ (Did selected enq (Enq is.value) × Precedes deq enq)
       by_call (inl refused) = inl (did_in_selected enq (Not is.value) refused selects_it)
       by_call (inr late) = inr (did_in_selected enq (Enq is.value) late.0 selects_it, late.1)
-  breach_in_selected (repeat enq first second) is each = record {
+  violation_in_selected (repeat enq first second) is each = record {
     value = is.value;
     enqueues = did_in_selected enq (Enq is.value) is.enqueues (each enq (zero, omega arith, refl));
     dequeues = did_in_selected first (Deq is.value) is.dequeues (each first (1, omega arith, refl));
     dequeues_again = did_in_selected second (Deq is.value) is.dequeues_again (each second (2, omega arith, refl));
     in_order = is.in_order;
   }
-  breach_in_selected (order enq_a enq_b deq_b deq_a) is each = record {
+  violation_in_selected (order enq_a enq_b deq_b deq_a) is each = record {
     a = is.a;
     b = is.b;
     enqueues_a = did_in_selected enq_a (Enq is.a) is.enqueues_a (each enq_a (zero, omega arith, refl));
@@ -196,7 +196,7 @@ module _ (operations : List Operation) (values empties : ℕ → Bool) where
           → MatchOption d (NoneDid selected (Deq is.a)) (λ d. Did selected d (Deq is.a) × Precedes deq_b d)
       later None none = none_did_in_selected (Deq is.a) none
       later (Some d) did = (did_in_selected d (Deq is.a) did.0 (selects_by_value d is.a (Deq is.a) did.0.1 refl ∙ value_a), did.1)
-  breach_in_selected (witness empty cover) is each = record {
+  violation_in_selected (witness empty cover) is each = record {
     answers_empty = did_in_selected empty Empty is.answers_empty (each empty (zero, omega arith, refl));
     covers = cover_in_selected empty empty cover is.covers (λ life among. each (enqueue_of life) (line_of_life empty cover life among));
   }

@@ -19,8 +19,8 @@ use Rattle.history_merge.proofs.Distinct.{call_before_return, place_of}
 use Rattle.history_merge.proofs.Filled.{filled_are_complete, linearizable_from_exactly}
 use Rattle.value_match.specs.declared.violation.Violation.{Violation}
 use Rattle.value_match.specs.Outcome.{Names}
-use Rattle.value_match.specs.Violations.{Breach, lines_of}
-use Rattle.value_match.specs.Choice.{IsChosenBreach}
+use Rattle.value_match.specs.Violations.{FullViolation, lines_of}
+use Rattle.value_match.specs.Choice.{IsChosenFullViolation}
 use Rattle.value_match.proofs.Lists.{kept, keeps, mapped_from, mapped_to, one_deeper, passed_filter}
 use Rattle.verdicts.specs.declared.verifying.ClaimLine.{ClaimLine}
 use Rattle.verdicts.specs.declared.verifying.Claimed.TheVariants as claimed
@@ -29,10 +29,10 @@ use Rattle.verdicts.specs.Claims.{kind_of}
 use Rattle.verdicts.specs.Claiming.{line_at}
 use Rattle.verdicts.specs.Selection.{AreLinearizable, ArePartOf, Contents, IsMinimal, KeepsViolation, StaysChosen, contents_of, select, selects, value_of}
 use Rattle.verdicts.specs.Selection.{violation_lines}
-use Rattle.verdicts.specs.Shown.{places_of}
+use Rattle.verdicts.specs.Shown.{violation_places}
 use Rattle.verdicts.specs.Verdicts.{filled_of, IsChosenFrom}
 use Rattle.verdicts.specs.Inner.Selecting.{SelectsNamed, call_in, holds_ticket, value_in}
-use Rattle.verdicts.proofs.Chosen.{chosen_is_breach}
+use Rattle.verdicts.proofs.Chosen.{chosen_is_violation}
 use Rattle.verdicts.proofs.ChosenSelections.{stays_chosen}
 use Rattle.value_match.proofs.FilledLines.{filling_place, filling_stands}
 use Rattle.verdicts.proofs.FilledSelections.{lifted, lifted_late, lifted_rises, selected_behind, selected_of_filled}
@@ -40,7 +40,7 @@ use Rattle.verdicts.proofs.KeptTickets.{selected_are_complete}
 use Rattle.verdicts.proofs.Minimal.{AreMinimal, all_or_one, selection_is_minimal, stays_violation}
 use Rattle.verdicts.proofs.NamedLines.{SelectsLines, lines_are_operations, selects_as_call, selects_as_value}
 use Rattle.verdicts.proofs.NamedPlaces.{each_shown, line_there, shown_lines}
-use Rattle.verdicts.proofs.Retiming.{breach_from, chosen_back, linearizable_back, retimed, retimed_breach, same_back}
+use Rattle.verdicts.proofs.Retiming.{violation_from, chosen_back, linearizable_back, retimed, retimed_violation, same_back}
 use Rattle.verdicts.proofs.ShownLines.{call_of_line, line_of, line_of_call, same_line, value_of_line}
 use Rattle.verdicts.proofs.ShrunkEvents.{kept_filled_are_complete, kept_is_complete_from, no_longer, operations_kept}
 use Rattle.verdicts.proofs.TrueClaims.{same_kind_from}
@@ -172,8 +172,8 @@ module _ (whole : HistoryView) (violation : Violation) (is_whole : IsWhole whole
   abbrev n : ℕ
   n = 2 * length whole.initial
 
-  abbrev breach : Breach
-  breach = chosen.0
+  abbrev full : FullViolation
+  full = chosen.0
 
   complete : AreComplete (filled_of whole)
   complete = filled_is_whole whole is_whole
@@ -181,48 +181,48 @@ module _ (whole : HistoryView) (violation : Violation) (is_whole : IsWhole whole
   complete' : AreComplete (filled_of small)
   complete' = filled_is_whole small is_small
 
-  in_whole : (o : Operation) → Contains (lines_of breach) o → Contains (filled_of whole) o
-  in_whole = lines_are_operations (filled_of whole) breach (chosen_is_breach (filled_of whole) breach complete chosen.2) chosen.2
+  in_whole : (o : Operation) → Contains (lines_of full) o → Contains (filled_of whole) o
+  in_whole = lines_are_operations (filled_of whole) full (chosen_is_violation (filled_of whole) full complete chosen.2) chosen.2
 
   -- ---- the lines of the violation
 
-  lines_shown : violation_lines whole violation ≡ map (line_of n) (lines_of breach)
-  lines_shown = shown_lines whole.initial (operations_of whole.events) (places_of violation) (lines_of breach)
-      (each_shown whole.initial (operations_of whole.events) violation breach chosen.1)
+  lines_shown : violation_lines whole violation ≡ map (line_of n) (lines_of full)
+  lines_shown = shown_lines whole.initial (operations_of whole.events) (violation_places violation) (lines_of full)
+      (each_shown whole.initial (operations_of whole.events) violation full chosen.1)
 
-  line_shown : (o : Operation) → Contains (lines_of breach) o → Contains (violation_lines whole violation) (line_of n o)
-  line_shown o among = subst (λ ls. Contains ls (line_of n o)) (sym lines_shown) (mapped_to (line_of n) (lines_of breach) o among)
+  line_shown : (o : Operation) → Contains (lines_of full) o → Contains (violation_lines whole violation) (line_of n o)
+  line_shown o among = subst (λ ls. Contains ls (line_of n o)) (sym lines_shown) (mapped_to (line_of n) (lines_of full) o among)
 
-  shown_for : (line : ClaimLine) → Contains (violation_lines whole violation) line → (o : Operation) × Contains (lines_of breach) o × (line_of n o ≡ line)
-  shown_for line among = mapped_from (line_of n) (lines_of breach) line (subst (λ ls. Contains ls line) lines_shown among)
+  shown_for : (line : ClaimLine) → Contains (violation_lines whole violation) line → (o : Operation) × Contains (lines_of full) o × (line_of n o ≡ line)
+  shown_for line among = mapped_from (line_of n) (lines_of full) line (subst (λ ls. Contains ls line) lines_shown among)
 
-  value_shown : (o : Operation) → Contains (lines_of breach) o → value_in (line_of n o) ≡ value_of o.kind
+  value_shown : (o : Operation) → Contains (lines_of full) o → value_in (line_of n o) ≡ value_of o.kind
   value_shown o among = value_of_line n o (enqueued_in_filling whole o (in_whole o among))
 
-  values_named : (v : ℕ) → IsTrue (values v) ↔ Contains (filter_map (λ o. value_of o.kind) (lines_of breach)) v
+  values_named : (v : ℕ) → IsTrue (values v) ↔ Contains (filter_map (λ o. value_of o.kind) (lines_of full)) v
   values_named v = (
     λ is.
         let found = kept value_in (violation_lines whole violation) v ((named.values_named v).0 is) in
         let o = shown_for found.0 found.1 in
-        keeps (λ o. value_of o.kind) (lines_of breach) o.0 v o.1 (sym (value_shown o.0 o.1) ∙ ap value_in o.2 ∙ found.2),
+        keeps (λ o. value_of o.kind) (lines_of full) o.0 v o.1 (sym (value_shown o.0 o.1) ∙ ap value_in o.2 ∙ found.2),
     λ at.
-        let found = kept (λ (o : Operation). value_of o.kind) (lines_of breach) v at in
+        let found = kept (λ (o : Operation). value_of o.kind) (lines_of full) v at in
         (named.values_named v).1 (keeps value_in (violation_lines whole violation) (line_of n found.0) v (line_shown found.0 found.1)
         (value_shown found.0 found.1 ∙ found.2)),
   )
 
-  calls_named : (call : ℕ) → calls call ≡ calls_at (lines_of breach) (call + n)
-  calls_named call = same_tests (calls call) (calls_at (lines_of breach) (call + n)) there back
+  calls_named : (call : ℕ) → calls call ≡ calls_at (lines_of full) (call + n)
+  calls_named call = same_tests (calls call) (calls_at (lines_of full) (call + n)) there back
     where
-      there : calls call ≡ true → calls_at (lines_of breach) (call + n) ≡ true
+      there : calls call ≡ true → calls_at (lines_of full) (call + n) ≡ true
       there is =
           let found = kept call_in (violation_lines whole violation) call ((named.calls_named call).0 is) in
           let o = shown_for found.0 found.1 in
-          calls_at_call (lines_of breach) o.0 (call + n) o.1 (call_of_line n o.0 call (ap call_in o.2 ∙ found.2))
+          calls_at_call (lines_of full) o.0 (call + n) o.1 (call_of_line n o.0 call (ap call_in o.2 ∙ found.2))
 
-      back : calls_at (lines_of breach) (call + n) ≡ true → calls call ≡ true
+      back : calls_at (lines_of full) (call + n) ≡ true → calls call ≡ true
       back is =
-          let found = called_at (lines_of breach) (call + n) is in
+          let found = called_at (lines_of full) (call + n) is in
           (named.calls_named call).1 (keeps call_in (violation_lines whole violation) (line_of n found.0) call (line_shown found.0 found.1)
           (line_of_call n found.0 call found.2))
 
@@ -231,62 +231,62 @@ module _ (whole : HistoryView) (violation : Violation) (is_whole : IsWhole whole
   abbrev h : ℕ → ℕ
   h = lifted values whole.initial
 
-  by_lines : SelectsLines (lines_of breach) values (calls_at (lines_of breach))
-  by_lines = record { values_named = values_named; calls_named = calls_are_named (lines_of breach) }
+  by_lines : SelectsLines (lines_of full) values (calls_at (lines_of full))
+  by_lines = record { values_named = values_named; calls_named = calls_are_named (lines_of full) }
 
   abbrev by_lines_of : List Operation
-  by_lines_of = filter (selects values (calls_at (lines_of breach))) (filled_of whole)
+  by_lines_of = filter (selects values (calls_at (lines_of full))) (filled_of whole)
 
-  small_behind : operations_of small.events ≡ selected_behind values (calls_at (lines_of breach)) whole.initial (operations_of whole.events)
-  small_behind = selected.operations ∙ filter_agree (selects values calls) (selects values (λ call. calls_at (lines_of breach) (call + n)))
+  small_behind : operations_of small.events ≡ selected_behind values (calls_at (lines_of full)) whole.initial (operations_of whole.events)
+  small_behind = selected.operations ∙ filter_agree (selects values calls) (selects values (λ call. calls_at (lines_of full) (call + n)))
       (λ o. ap (option_map_or values (value_of o.kind)) (calls_named o.call)) (operations_of whole.events)
 
   moved : by_lines_of ≡ map (retimed h) (filled_of small)
-  moved = selected_of_filled values (calls_at (lines_of breach)) whole.initial (operations_of whole.events)
+  moved = selected_of_filled values (calls_at (lines_of full)) whole.initial (operations_of whole.events)
       ∙ ap (map (retimed h)) (sym (λ i. filled (selected.initial i) (small_behind i)))
 
   rises : (a b : ℕ) → a < b → h a < h b
   rises = lifted_rises values whole.initial
 
   moved_complete : AreComplete (map (retimed h) (filled_of small))
-  moved_complete = subst AreComplete moved (selected_are_complete (selects values (calls_at (lines_of breach))) (filled_of whole) complete)
+  moved_complete = subst AreComplete moved (selected_are_complete (selects values (calls_at (lines_of full))) (filled_of whole) complete)
 
-  moved_chosen : IsChosenBreach (map (retimed h) (filled_of small)) breach
-  moved_chosen = subst (λ os. IsChosenBreach os breach) moved
-      (stays_chosen (filled_of whole) complete values (calls_at (lines_of breach)) breach chosen.2 by_lines
-      (stays_violation (filled_of whole) complete breach chosen.2 values (calls_at (lines_of breach)) by_lines))
+  moved_chosen : IsChosenFullViolation (map (retimed h) (filled_of small)) full
+  moved_chosen = subst (λ os. IsChosenFullViolation os full) moved
+      (stays_chosen (filled_of whole) complete values (calls_at (lines_of full)) full chosen.2 by_lines
+      (stays_violation (filled_of whole) complete full chosen.2 values (calls_at (lines_of full)) by_lines))
 
-  before : (x : Breach) × (retimed_breach h x ≡ breach)
-  before = breach_from h rises (filled_of small) complete' moved_complete breach moved_chosen
+  before : (x : FullViolation) × (retimed_violation h x ≡ full)
+  before = violation_from h rises (filled_of small) complete' moved_complete full moved_chosen
 
-  abbrev small_breach : Breach
-  small_breach = before.0
+  abbrev small_full : FullViolation
+  small_full = before.0
 
-  small_chosen : IsChosenBreach (filled_of small) small_breach
-  small_chosen = chosen_back h rises (filled_of small) complete' moved_complete small_breach
-      (subst (IsChosenBreach (map (retimed h) (filled_of small))) (sym before.1) moved_chosen)
+  small_chosen : IsChosenFullViolation (filled_of small) small_full
+  small_chosen = chosen_back h rises (filled_of small) complete' moved_complete small_full
+      (subst (IsChosenFullViolation (map (retimed h) (filled_of small))) (sym before.1) moved_chosen)
 
-  small_lines : map (retimed h) (lines_of small_breach) ≡ lines_of breach
-  small_lines = sym (retimed_lines h small_breach) ∙ ap lines_of before.1
+  small_lines : map (retimed h) (lines_of small_full) ≡ lines_of full
+  small_lines = sym (retimed_lines h small_full) ∙ ap lines_of before.1
 
-  in_small : (o : Operation) → Contains (lines_of small_breach) o → Contains (filled_of small) o
-  in_small = lines_are_operations (filled_of small) small_breach (chosen_is_breach (filled_of small) small_breach complete' small_chosen) small_chosen
+  in_small : (o : Operation) → Contains (lines_of small_full) o → Contains (filled_of small) o
+  in_small = lines_are_operations (filled_of small) small_full (chosen_is_violation (filled_of small) small_full complete' small_chosen) small_chosen
 
   -- ---- its claim
 
-  small_named : (found : Violation) × Names (filled_of small) (filled_violation (length small.initial) found) small_breach
+  small_named : (found : Violation) × Names (filled_of small) (filled_violation (length small.initial) found) small_full
   small_named =
-      let found = violation_at (filled_of small) small_breach in_small in
-      let is = chosen_is_breach (filled_of small) small_breach complete' small_chosen in
-      let back = violation_back small.initial (operations_of small.events) found.0 small_breach found.1 is in
-      (unfilled_violation (length small.initial) found.0, subst (λ v. Names (filled_of small) v small_breach) (sym back) found.1)
+      let found = violation_at (filled_of small) small_full in_small in
+      let is = chosen_is_violation (filled_of small) small_full complete' small_chosen in
+      let back = violation_back small.initial (operations_of small.events) found.0 small_full found.1 is in
+      (unfilled_violation (length small.initial) found.0, subst (λ v. Names (filled_of small) v small_full) (sym back) found.1)
 
   same_lines : violation_lines small small_named.0 ≡ violation_lines whole violation
   same_lines =
-      shown_lines small.initial (operations_of small.events) (places_of small_named.0) (lines_of small_breach)
-      (each_shown small.initial (operations_of small.events) small_named.0 small_breach small_named.1)
-      ∙ sym (map_agree_among (λ o. line_of n (retimed h o)) (line_of (2 * length small.initial)) (lines_of small_breach) one_line)
-      ∙ sym (mapped (lines_of small_breach)) ∙ ap (map (line_of n)) small_lines ∙ sym lines_shown
+      shown_lines small.initial (operations_of small.events) (violation_places small_named.0) (lines_of small_full)
+      (each_shown small.initial (operations_of small.events) small_named.0 small_full small_named.1)
+      ∙ sym (map_agree_among (λ o. line_of n (retimed h o)) (line_of (2 * length small.initial)) (lines_of small_full) one_line)
+      ∙ sym (mapped (lines_of small_full)) ∙ ap (map (line_of n)) small_lines ∙ sym lines_shown
     where
       mapped : (os : List Operation) → map (line_of n) (map (retimed h) os) ≡ map (λ o. line_of n (retimed h o)) os
       mapped [] = refl
@@ -295,7 +295,7 @@ module _ (whole : HistoryView) (violation : Violation) (is_whole : IsWhole whole
       behind : (t : ℕ) → h (t + 2 * length small.initial) ≡ t + n
       behind t = ap (λ (vs : List ℕ). h (t + 2 * length vs)) selected.initial ∙ lifted_late values whole.initial t
 
-      one_line : (o : Operation) → Contains (lines_of small_breach) o → line_of n (retimed h o) ≡ line_of (2 * length small.initial) o
+      one_line : (o : Operation) → Contains (lines_of small_full) o → line_of n (retimed h o) ≡ line_of (2 * length small.initial) o
       one_line o among =
           let called = call_before_return (filled_of small) o complete' (in_small o among) in
           same_line h (2 * length small.initial) n o rises behind (omega arith)
@@ -304,10 +304,10 @@ module _ (whole : HistoryView) (violation : Violation) (is_whole : IsWhole whole
   pub stays : StaysChosen whole violation small
   stays = (
     small_named.0,
-    (small_breach, small_named.1, small_chosen),
+    (small_full, small_named.1, small_chosen),
     λ i. claimed.No
-        ((same_kind_from small.initial (operations_of small.events) small_named.0 small_breach small_named.1 ∙ sym (retimed_kind h small_breach)
-        ∙ ap kind_of before.1 ∙ sym (same_kind_from whole.initial (operations_of whole.events) violation breach chosen.1)) i)
+        ((same_kind_from small.initial (operations_of small.events) small_named.0 small_full small_named.1 ∙ sym (retimed_kind h small_full)
+        ∙ ap kind_of before.1 ∙ sym (same_kind_from whole.initial (operations_of whole.events) violation full chosen.1)) i)
         (same_lines i),
   )
 
@@ -316,56 +316,56 @@ module _ (whole : HistoryView) (violation : Violation) (is_whole : IsWhole whole
   keeps_violation = (
     (values, calls, λ i. record { initial = selected.initial i; operations = selected.operations i }),
     λ line among.
-        let found = kept (line_at small.initial (operations_of small.events)) (places_of small_named.0) line
+        let found = kept (line_at small.initial (operations_of small.events)) (violation_places small_named.0) line
         (subst (λ ls. Contains ls line) (sym same_lines) among) in
         line_there small.initial (operations_of small.events) found.0 line found.2,
   )
 
   -- ---- nothing can be left out
 
-  calls_shown : (o : Operation) → Contains (lines_of small_breach) o → calls_at (lines_of breach) (h o.call) ≡ true
-  calls_shown o among = calls_at_call (lines_of breach) (retimed h o) (h o.call)
-      (subst (λ os. Contains os (retimed h o)) small_lines (mapped_to (retimed h) (lines_of small_breach) o among)) refl
+  calls_shown : (o : Operation) → Contains (lines_of small_full) o → calls_at (lines_of full) (h o.call) ≡ true
+  calls_shown o among = calls_at_call (lines_of full) (retimed h o) (h o.call)
+      (subst (λ os. Contains os (retimed h o)) small_lines (mapped_to (retimed h) (lines_of small_full) o among)) refl
 
-  line_before : (l : Operation) → Contains (lines_of breach) l → (o : Operation) × Contains (lines_of small_breach) o × (retimed h o ≡ l)
-  line_before l among = mapped_from (retimed h) (lines_of small_breach) l (subst (λ os. Contains os l) (sym small_lines) among)
+  line_before : (l : Operation) → Contains (lines_of full) l → (o : Operation) × Contains (lines_of small_full) o × (retimed h o ≡ l)
+  line_before l among = mapped_from (retimed h) (lines_of small_full) l (subst (λ os. Contains os l) (sym small_lines) among)
 
-  by_small_lines : SelectsLines (lines_of small_breach) values (calls_at (lines_of small_breach))
+  by_small_lines : SelectsLines (lines_of small_full) values (calls_at (lines_of small_full))
   by_small_lines = record {
     values_named = λ v. (
       λ is.
-          let found = kept (λ (o : Operation). value_of o.kind) (lines_of breach) v ((values_named v).0 is) in
+          let found = kept (λ (o : Operation). value_of o.kind) (lines_of full) v ((values_named v).0 is) in
           let o = line_before found.0 found.1 in
-          keeps (λ (o : Operation). value_of o.kind) (lines_of small_breach) o.0 v o.1 (ap (λ (x : Operation). value_of x.kind) o.2 ∙ found.2),
+          keeps (λ (o : Operation). value_of o.kind) (lines_of small_full) o.0 v o.1 (ap (λ (x : Operation). value_of x.kind) o.2 ∙ found.2),
       λ at.
-          let found = kept (λ (o : Operation). value_of o.kind) (lines_of small_breach) v at in
-          (values_named v).1 (keeps (λ (o : Operation). value_of o.kind) (lines_of breach) (retimed h found.0) v
-          (subst (λ os. Contains os (retimed h found.0)) small_lines (mapped_to (retimed h) (lines_of small_breach) found.0 found.1)) found.2),
+          let found = kept (λ (o : Operation). value_of o.kind) (lines_of small_full) v at in
+          (values_named v).1 (keeps (λ (o : Operation). value_of o.kind) (lines_of full) (retimed h found.0) v
+          (subst (λ os. Contains os (retimed h found.0)) small_lines (mapped_to (retimed h) (lines_of small_full) found.0 found.1)) found.2),
     );
-    calls_named = calls_are_named (lines_of small_breach);
+    calls_named = calls_are_named (lines_of small_full);
   }
 
-  all_selected : (o : Operation) → Contains (filled_of small) o → selects values (calls_at (lines_of small_breach)) o ≡ true
+  all_selected : (o : Operation) → Contains (filled_of small) o → selects values (calls_at (lines_of small_full)) o ≡ true
   all_selected o among = by_value (value_of o.kind) refl
     where
-      passed : selects values (calls_at (lines_of breach)) (retimed h o) ≡ true
-      passed = (passed_filter (selects values (calls_at (lines_of breach))) (filled_of whole) (retimed h o)
+      passed : selects values (calls_at (lines_of full)) (retimed h o) ≡ true
+      passed = (passed_filter (selects values (calls_at (lines_of full))) (filled_of whole) (retimed h o)
           (subst (λ os. Contains os (retimed h o)) (sym moved) (mapped_to (retimed h) (filled_of small) o among))).1
 
-      by_value : (w : Option ℕ) → value_of o.kind ≡ w → selects values (calls_at (lines_of small_breach)) o ≡ true
-      by_value (Some v) is = selects_as_value values (calls_at (lines_of small_breach)) o v is
-          ∙ sym (selects_as_value values (calls_at (lines_of breach)) (retimed h o) v is) ∙ passed
+      by_value : (w : Option ℕ) → value_of o.kind ≡ w → selects values (calls_at (lines_of small_full)) o ≡ true
+      by_value (Some v) is = selects_as_value values (calls_at (lines_of small_full)) o v is
+          ∙ sym (selects_as_value values (calls_at (lines_of full)) (retimed h o) v is) ∙ passed
       by_value None is =
-          let called : calls_at (lines_of breach) (h o.call) ≡ true = sym (selects_as_call values (calls_at (lines_of breach)) (retimed h o) is) ∙ passed in
-          let found = called_at (lines_of breach) (h o.call) called in
+          let called : calls_at (lines_of full) (h o.call) ≡ true = sym (selects_as_call values (calls_at (lines_of full)) (retimed h o) is) ∙ passed in
+          let found = called_at (lines_of full) (h o.call) called in
           let line = line_before found.0 found.1 in
           let same = same_back h rises line.0.call o.call (ap (λ (x : Operation). x.call) line.2 ∙ found.2) in
-          selects_as_call values (calls_at (lines_of small_breach)) o is ∙ calls_at_call (lines_of small_breach) line.0 o.call line.1 same
+          selects_as_call values (calls_at (lines_of small_full)) o is ∙ calls_at_call (lines_of small_full) line.0 o.call line.1 same
 
   filled_is_minimal : AreMinimal (filled_of small)
-  filled_is_minimal = elim (all_or_one (selects values (calls_at (lines_of small_breach))) (filled_of small)) [
+  filled_is_minimal = elim (all_or_one (selects values (calls_at (lines_of small_full))) (filled_of small)) [
     | inl all ↦ subst AreMinimal all
-        (selection_is_minimal (filled_of small) complete' small_breach small_chosen values (calls_at (lines_of small_breach)) by_small_lines)
+        (selection_is_minimal (filled_of small) complete' small_full small_chosen values (calls_at (lines_of small_full)) by_small_lines)
     | inr one ↦ let clash : true ≡ false = sym (all_selected one.0 one.1) ∙ one.2 in cc
   ]
 

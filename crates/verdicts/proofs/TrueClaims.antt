@@ -19,14 +19,14 @@ use Rattle.history_merge.proofs.Distinct.{contains_at, operation_within, pairs_a
 use Rattle.value_match.specs.declared.violation.Violation.{Violation}
 use Rattle.value_match.specs.declared.violation.Violation.TheVariants.{Fresh, Repeat, Order, Witness}
 use Rattle.value_match.specs.Outcome.{Names}
-use Rattle.value_match.specs.Violations.{Breach, fresh, repeat, order, witness, lines_of}
+use Rattle.value_match.specs.Violations.{FullViolation, fresh, repeat, order, witness, lines_of}
 use Rattle.verdicts.specs.declared.verifying.ClaimLine.TheVariants.{Initial}
 use Rattle.verdicts.specs.declared.verdict.Verdict.TheVariants as found
 use Rattle.value_match.specs.Filling.{filling_at}
 use Rattle.verdicts.specs.Claims.{kind_of, stands_for}
 use Rattle.verdicts.specs.Claiming.{operations_at, violation_kind}
 use Rattle.verdicts.specs.Laws.{EvidenceIsTrueClaim}
-use Rattle.verdicts.specs.Shown.{places_of as places_of_violation}
+use Rattle.verdicts.specs.Shown.{violation_places}
 use Rattle.value_match.proofs.FilledLines.{filled_at}
 use Rattle.verdicts.proofs.NamedPlaces.{IsShownAt, each_shown, shown_lines}
 use Rattle.value_match.specs.Filling.{filled_violation}
@@ -35,8 +35,8 @@ use Rattle.verdicts.proofs.ShownLines.{accepted_value, early_line, later_line, l
 use Rattle.value_match.proofs.Lists.{one_deeper}
 
 -- a violation and the operations that it names are of one kind
-pub same_kind : (operations : List Operation) (violation : Violation) (breach : Breach) → Names operations violation breach
-    → violation_kind violation ≡ kind_of breach
+pub same_kind : (operations : List Operation) (violation : Violation) (full : FullViolation) → Names operations violation full
+    → violation_kind violation ≡ kind_of full
 same_kind operations (Fresh deq enq) (fresh d e) names = refl
 same_kind operations (Fresh deq enq) _ names = absurd names
 same_kind operations (Repeat enq first second) (repeat e d d') names = refl
@@ -47,10 +47,10 @@ same_kind operations (Witness empty cover) (witness o lives) names = refl
 same_kind operations (Witness empty cover) _ names = absurd names
 
 -- so are a violation of a history and those of the filled history
-pub same_kind_from : (initial : List ℕ) (operations : List Operation) (violation : Violation) (breach : Breach)
-    → Names (filled initial operations) (filled_violation (length initial) violation) breach → violation_kind violation ≡ kind_of breach
-same_kind_from initial operations violation breach names =
-    kind_filled violation ∙ same_kind (filled initial operations) (filled_violation (length initial) violation) breach names
+pub same_kind_from : (initial : List ℕ) (operations : List Operation) (violation : Violation) (full : FullViolation)
+    → Names (filled initial operations) (filled_violation (length initial) violation) full → violation_kind violation ≡ kind_of full
+same_kind_from initial operations violation full names =
+    kind_filled violation ∙ same_kind (filled initial operations) (filled_violation (length initial) violation) full names
   where
     kind_filled : (violation : Violation) → violation_kind violation ≡ violation_kind (filled_violation (length initial) violation)
     kind_filled (Fresh deq enq) = refl
@@ -142,7 +142,7 @@ evidence_is_true initial events (found.No violation) whole few is =
     let operations = operations_of events in
     let each = each_shown initial operations violation is.0 is.1 in (
       lines_of is.0,
-      ap (map (stands_for initial)) (shown_lines initial operations (places_of_violation violation) (lines_of is.0) each)
-          ∙ lines_stand initial events whole (lines_of is.0) (shown_among initial operations (places_of_violation violation) (lines_of is.0) each),
+      ap (map (stands_for initial)) (shown_lines initial operations (violation_places violation) (lines_of is.0) each)
+          ∙ lines_stand initial events whole (lines_of is.0) (shown_among initial operations (violation_places violation) (lines_of is.0) each),
       (is.0, sym (same_kind_from initial operations violation is.0 is.1), refl, is.2),
     )

@@ -12,10 +12,10 @@ use Rattle.value_match.specs.declared.violation.Violation.{Violation}
 use Rattle.value_match.specs.declared.violation.Violation.TheVariants as violation
 use Rattle.value_match.specs.Lives.{IsMaybeAt, dequeue_of, enqueue_of, operations_of_life}
 use Rattle.value_match.specs.Outcome.{Names, NamesCover}
-use Rattle.value_match.specs.Violations.{Breach, fresh, repeat, order, witness, lines_of}
+use Rattle.value_match.specs.Violations.{FullViolation, fresh, repeat, order, witness, lines_of}
 use Rattle.value_match.proofs.Lists.{one_deeper}
 use Rattle.verdicts.specs.Claims.{kind_of}
-use Rattle.verdicts.proofs.Retiming.{retimed, retimed_breach, retimed_life}
+use Rattle.verdicts.proofs.Retiming.{retimed, retimed_violation, retimed_life}
 
 -- ---- places
 
@@ -39,7 +39,7 @@ module _ (operations : List Operation) where
       (record { source = source.Enq enqueue.0; dequeue = dequeue.0 } ∷ rest.0, ((enqueue.1, dequeue.1), rest.1))
 
   -- a violation whose lines are operations has places
-  pub violation_at : (breach : Breach) → AreAmong (lines_of breach) → (found : Violation) × Names operations found breach
+  pub violation_at : (full : FullViolation) → AreAmong (lines_of full) → (found : Violation) × Names operations found full
   violation_at (fresh deq enq) among =
       let d = place_of operations deq (among deq (zero, omega arith, refl)) in
       let e = maybe_at enq (λ o at. among o (one_deeper deq (option_to_list enq) o at)) in
@@ -76,14 +76,14 @@ module _ (h : ℕ → ℕ) where
       ∙ sym (map-append (retimed h) (operations_of_life life) (flat_map operations_of_life cover))
 
   -- the lines of a violation at other tickets are its lines there
-  pub retimed_lines : (breach : Breach) → lines_of (retimed_breach h breach) ≡ map (retimed h) (lines_of breach)
+  pub retimed_lines : (full : FullViolation) → lines_of (retimed_violation h full) ≡ map (retimed h) (lines_of full)
   retimed_lines (fresh deq enq) = ap (λ os. retimed h deq ∷ os) (maybe_line enq)
   retimed_lines (repeat enq first second) = refl
   retimed_lines (order enq_a enq_b deq_b deq_a) = ap (λ os. retimed h enq_a ∷ retimed h enq_b ∷ retimed h deq_b ∷ os) (maybe_line deq_a)
   retimed_lines (witness empty cover) = ap (λ os. retimed h empty ∷ os) (cover_lines cover)
 
   -- and its kind is the same
-  pub retimed_kind : (breach : Breach) → kind_of (retimed_breach h breach) ≡ kind_of breach
+  pub retimed_kind : (full : FullViolation) → kind_of (retimed_violation h full) ≡ kind_of full
   retimed_kind (fresh deq enq) = refl
   retimed_kind (repeat enq first second) = refl
   retimed_kind (order enq_a enq_b deq_b deq_a) = refl

@@ -13,12 +13,12 @@ use Rattle.verdicts.specs.declared.verifying.ViolationKind.{ViolationKind}
 use Rattle.verdicts.specs.declared.verifying.ViolationKind.TheVariants.{VFresh, VRepeat, VOrd, VWit}
 use Rattle.verdicts.specs.declared.verdict.Verdict.{Verdict}
 use Rattle.verdicts.specs.declared.verdict.Verdict.TheVariants.{Yes, No}
-use Rattle.verdicts.specs.Shown.{places_of as places_of_violation}
+use Rattle.verdicts.specs.Shown.{violation_places}
 
 -- the places of a verdict's operations and initial values, in the order in which they are shown
-abbrev pub places_of : Verdict → List LinePlace
-places_of (Yes places) = map place.Op places
-places_of (No violation) = places_of_violation violation
+abbrev pub verdict_places : Verdict → List LinePlace
+verdict_places (Yes places) = map place.Op places
+verdict_places (No violation) = violation_places violation
 
 -- the place is that of an operation
 abbrev pub is_operation : LinePlace → Bool
@@ -27,7 +27,7 @@ is_operation (place.Initial p) = false
 
 -- the places of the operations that a verdict names
 abbrev pub operations_named : Verdict → List LinePlace
-operations_named verdict = filter is_operation (places_of verdict)
+operations_named verdict = filter is_operation (verdict_places verdict)
 
 -- the place is that of an operation, or of an initial value
 abbrev pub IsPlaceWithin : List ℕ → List Operation → LinePlace → Type 0
@@ -36,7 +36,7 @@ IsPlaceWithin initial operations (place.Initial p) = p < length initial
 
 -- the places of the verdict are those of operations and initial values of the history
 abbrev pub IsWithin : List ℕ → List Operation → Verdict → Type 0
-IsWithin initial operations verdict = All (IsPlaceWithin initial operations) (places_of verdict)
+IsWithin initial operations verdict = All (IsPlaceWithin initial operations) (verdict_places verdict)
 
 -- the kind of a violation that names places
 abbrev pub violation_kind : Violation → ViolationKind
@@ -65,4 +65,4 @@ operations_at operations places = filter_map (slice_get operations) places
 -- what a verdict on a history claims: a `YES` the operations at its places, a `NO` the lines at its places
 abbrev pub claim_of : List ℕ → List Operation → Verdict → Claimed
 claim_of initial operations (Yes places) = claimed.Yes (operations_at operations places)
-claim_of initial operations (No violation) = claimed.No (violation_kind violation) (lines_at initial operations (places_of_violation violation))
+claim_of initial operations (No violation) = claimed.No (violation_kind violation) (lines_at initial operations (violation_places violation))

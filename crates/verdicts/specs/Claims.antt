@@ -5,7 +5,7 @@ use Rattle.history_merge.specs.declared.operation.Operation.{Operation}
 use Rattle.history_merge.specs.Initial.{filled, later_by}
 use Rattle.history_merge.specs.Legal.{IsLegalOrderFrom}
 use Rattle.value_match.specs.Filling.{filling_at}
-use Rattle.value_match.specs.Violations.{Breach, fresh, repeat, order, witness, IsBreachOf, lines_of}
+use Rattle.value_match.specs.Violations.{FullViolation, fresh, repeat, order, witness, IsViolationOf, lines_of}
 use Rattle.verdicts.specs.declared.verifying.ClaimLine.{ClaimLine}
 use Rattle.verdicts.specs.declared.verifying.ClaimLine.TheVariants.{Op, Initial}
 use Rattle.verdicts.specs.declared.verifying.Claimed.{Claimed}
@@ -14,7 +14,7 @@ use Rattle.verdicts.specs.declared.verifying.ViolationKind.{ViolationKind}
 use Rattle.verdicts.specs.declared.verifying.ViolationKind.TheVariants.{VFresh, VRepeat, VOrd, VWit}
 
 -- the kind of a violation
-abbrev pub kind_of : Breach → ViolationKind
+abbrev pub kind_of : FullViolation → ViolationKind
 kind_of (fresh deq enq) = VFresh
 kind_of (repeat enq first second) = VRepeat
 kind_of (order enq_a enq_b deq_b deq_a) = VOrd
@@ -22,7 +22,7 @@ kind_of (witness empty cover) = VWit
 
 -- the operations are those of a violation of this kind
 abbrev pub ShowsViolation : List Operation → ViolationKind → List Operation → Type 0
-ShowsViolation operations kind shown = (breach : Breach) × (kind_of breach ≡ kind) × (lines_of breach ≡ shown) × IsBreachOf operations breach
+ShowsViolation operations kind shown = (full : FullViolation) × (kind_of full ≡ kind) × (lines_of full ≡ shown) × IsViolationOf operations full
 
 -- in the filled history, the enqueue of this value where it is an initial one
 abbrev pub filling_of : List ℕ → ℕ → Option Operation

@@ -9,12 +9,12 @@ use Rattle.history_merge.specs.Legal.{IsLinearizableFrom}
 use Rattle.history_merge.specs.Operations.{operations_of}
 use Rattle.value_match.specs.declared.life.Life.{Life}
 use Rattle.value_match.specs.declared.violation.Violation.{Violation}
-use Rattle.value_match.specs.Violations.{Breach, witness, IsWitnessViolation}
+use Rattle.value_match.specs.Violations.{FullViolation, witness, IsWitnessViolation}
 use Rattle.value_match.specs.Outcome.{Names}
 use Rattle.verdicts.specs.declared.verdict.Verdict.TheVariants.{No}
 use Rattle.verdicts.specs.declared.verifying.ClaimLine.{ClaimLine}
 use Rattle.verdicts.specs.Claiming.{claim_of, lines_at, lines_of_history}
-use Rattle.verdicts.specs.Shown.{places_of}
+use Rattle.verdicts.specs.Shown.{violation_places}
 use Rattle.value_match.specs.Filling.{filled_violation}
 use Rattle.verdicts.specs.Verdicts.{IsChosenFrom, filled_of}
 
@@ -56,7 +56,7 @@ IsMinimal whole = ¬ (AreLinearizable whole) × ((selected : Contents) → IsVal
 
 -- the lines of a violation of a history
 abbrev pub violation_lines : HistoryView → Violation → List ClaimLine
-violation_lines history violation = lines_at history.initial (operations_of history.events) (places_of violation)
+violation_lines history violation = lines_at history.initial (operations_of history.events) (violation_places violation)
 
 -- a selection that keeps each line of the violation
 abbrev pub KeepsViolation : HistoryView → Violation → HistoryView → Type 0
@@ -73,11 +73,11 @@ abbrev pub ArePartOf : {X : Type 0} → List X → List X → Type 0
 ArePartOf {X} whole part = (keeps : X → Bool) × (part ≡ filter keeps whole)
 
 -- no cover of the same empty answer has fewer values
-abbrev pub IsShortestCover : List Operation → Breach → Type 0
+abbrev pub IsShortestCover : List Operation → FullViolation → Type 0
 IsShortestCover operations (witness empty cover) = (other : List Life) → IsWitnessViolation operations empty other → length cover ≤ length other
 IsShortestCover operations _ = ⊤
 
 -- the same of the violation that the places name
 abbrev pub HasShortestCover : HistoryView → Violation → Type 0
-HasShortestCover history violation = (breach : Breach) → Names (filled_of history) (filled_violation (length history.initial) violation) breach
-    → IsShortestCover (filled_of history) breach
+HasShortestCover history violation = (full : FullViolation) → Names (filled_of history) (filled_violation (length history.initial) violation) full
+    → IsShortestCover (filled_of history) full

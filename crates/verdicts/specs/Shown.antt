@@ -22,8 +22,8 @@ abbrev pub places_of_step : CoverStep → List LinePlace
 places_of_step step = place_of_source step.source ∷ maybe_place step.dequeue
 
 -- the places that a violation names, in the order in which they are shown
-abbrev pub places_of : Violation → List LinePlace
-places_of (Fresh deq enq) = Op deq ∷ maybe_place enq
-places_of (Repeat enq first second) = place_of_source enq ∷ Op first ∷ Op second ∷ []
-places_of (Order enq_a enq_b deq_b deq_a) = place_of_source enq_a ∷ place_of_source enq_b ∷ Op deq_b ∷ maybe_place deq_a
-places_of (Witness empty cover) = Op empty ∷ flat_map places_of_step cover
+abbrev pub violation_places : Violation → List LinePlace
+violation_places (Fresh deq enq) = Op deq ∷ maybe_place enq
+violation_places (Repeat enq first second) = place_of_source enq ∷ Op first ∷ Op second ∷ []
+violation_places (Order enq_a enq_b deq_b deq_a) = place_of_source enq_a ∷ place_of_source enq_b ∷ Op deq_b ∷ maybe_place deq_a
+violation_places (Witness empty cover) = Op empty ∷ flat_map places_of_step cover

@@ -5,7 +5,7 @@ use Rattle.history_merge.specs.Legal.{IsLegalOrderFrom, IsLinearizableFrom, AreP
 use Rattle.history_merge.specs.Initial.{HistoryView, filled}
 use Rattle.history_merge.specs.Operations.{operations_of}
 use Rattle.value_match.specs.declared.violation.Violation.{Violation}
-use Rattle.value_match.specs.Violations.{Breach, IsBreachOf}
+use Rattle.value_match.specs.Violations.{FullViolation, IsViolationOf}
 use Rattle.value_match.specs.Outcome.{Names, IsChosenViolation}
 use Rattle.linearizer.specs.Order.{IsChosenOrder}
 use Rattle.verdicts.specs.declared.verdict.Verdict.{Verdict}
@@ -27,7 +27,7 @@ IsVerdictFrom initial operations (No violation) = IsChosenFrom initial operation
 abbrev pub IsEvidenceFrom : List ℕ → List Operation → Verdict → Type 0
 IsEvidenceFrom initial operations (Yes places) = (order : List Operation) × ArePlacesOf operations places order × IsLegalOrderFrom initial operations order
 IsEvidenceFrom initial operations (No violation) =
-    (breach : Breach) × Names (filled initial operations) (filled_violation (length initial) violation) breach × IsBreachOf (filled initial operations) breach
+    (full : FullViolation) × Names (filled initial operations) (filled_violation (length initial) violation) full × IsViolationOf (filled initial operations) full
 
 -- `YES` if a linearization exists for a queue that holds these values first, `NO` if none does
 abbrev pub IsExactFrom : List ℕ → List Operation → Verdict → Type 0

@@ -3,7 +3,7 @@ ghost use Rattle.history_merge.specs.Operations.{operations_of};
 ghost use Rattle.verdicts.specs.Claiming.{IsWithin, claim_of, lines_at, operations_at, violation_kind};
 ghost use Rattle.verdicts.specs.Selection.{violation_lines};
 
-use crate::shown::{LinePlace, places_of};
+use crate::shown::{LinePlace, violation_places};
 use crate::verdict::Verdict;
 use crate::verifying::{ClaimLine, ClaimLines, Claimed, Lines, ViolationKind};
 use history_merge::{History, OpId, Operation};
@@ -60,7 +60,7 @@ pub fn violation_lines(
 ) -> Result<Vec<ClaimLine>, AllocError>
     ensures { IfOk result (λ lines. lines.items ≡ violation_lines history.now violation.now) }
 {
-    let places = places_of(alloc, violation)?;
+    let places = violation_places(alloc, violation)?;
     lines_at(
         alloc,
         history.initial(),

@@ -1,8 +1,8 @@
 //! Whether a history is linearizable, with evidence for the answer, and the history of a violation alone.
 #![tactic(auto)]
 
-mod claimed_breach;
 mod claimed_order;
+mod claimed_violation;
 mod claiming;
 mod decision;
 mod laws;

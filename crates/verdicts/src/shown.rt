@@ -1,6 +1,6 @@
 ghost use Rattle.std.specs.Prelude.{◌≡◌, ◌++◌, IfOk, OnOk, flat_map};
 ghost use Rattle.verdicts.specs.Claiming.{line_at};
-ghost use Rattle.verdicts.specs.Shown.{maybe_place, places_of, places_of_step};
+ghost use Rattle.verdicts.specs.Shown.{maybe_place, violation_places, places_of_step};
 
 use crate::verifying::ClaimLine;
 use history_merge::{OpId, Operation};
@@ -43,8 +43,8 @@ impl LinePlace {
 }
 
 /// The places that a violation names, in the order in which they are shown.
-pub fn places_of(alloc: Global, violation: &Violation) -> Result<Vec<LinePlace>, AllocError>
-    ensures { IfOk result (λ places. places.items ≡ places_of violation.now) }
+pub fn violation_places(alloc: Global, violation: &Violation) -> Result<Vec<LinePlace>, AllocError>
+    ensures { IfOk result (λ places. places.items ≡ violation_places violation.now) }
 {
     let mut places = Vec::new(alloc);
     match violation {

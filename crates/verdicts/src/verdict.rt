@@ -1,9 +1,9 @@
-use event_records::Listed;
+use event_records::OwnedSlice;
 use history_merge::OpId;
 use value_match::Violation;
 
 /// Operations in an order, seen as the list of their places among the operations of the history, from 0.
-pub type Order = Listed<OpId>;
+pub type Order = OwnedSlice<OpId>;
 
 /// Whether a history is linearizable, with evidence.
 #[derive(Debug, Drop)]

@@ -3,15 +3,15 @@ ghost use Rattle.history_merge.specs.Operations.{operations_of};
 ghost use Rattle.verdicts.specs.declared.verifying.ClaimLine.{ClaimLine};
 ghost use Rattle.verdicts.specs.Claims.{IsTrueClaim};
 
-use crate::claimed_breach::shows_violation;
 use crate::claimed_order::is_legal_order;
+use crate::claimed_violation::shows_violation;
 use crate::lookup::Filled;
-use event_records::Listed;
+use event_records::OwnedSlice;
 use history_merge::{History, Operation};
 use std::alloc::{AllocError, Global};
 
 /// The operations of a `YES` as it lists them, seen as a list. Any operations may stand in it.
-pub type Lines = Listed<Operation>;
+pub type Lines = OwnedSlice<Operation>;
 
 /// What a line of a `NO` shows.
 #[derive(Clone, Copy, Debug, PartialEq, Eq)]
@@ -23,7 +23,7 @@ pub enum ClaimLine {
 }
 
 /// The lines of a `NO`, seen as a list. Any lines may stand in it.
-pub type ClaimLines = Listed<ClaimLine>;
+pub type ClaimLines = OwnedSlice<ClaimLine>;
 
 /// The kinds of violation, by the names that verdicts print.
 #[derive(Clone, Copy, Debug, PartialEq, Eq)]

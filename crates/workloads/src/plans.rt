@@ -3,11 +3,11 @@ ghost use Rattle.std.specs.Prelude.{◌≡◌, ◌+◌, ◌^◌, ◌<◌, ◌≤
 ghost use Rattle.event_records.specs.declared.limits.TheConstants.{MAX_OPERATIONS};
 ghost use Rattle.workloads.specs.Plans.{AreShort, IsPlan};
 
-use event_records::{Kind, Listed, MAX_OPERATIONS, MAX_THREAD_OPERATIONS, MAX_WORKERS};
+use event_records::{Kind, MAX_OPERATIONS, MAX_THREAD_OPERATIONS, MAX_WORKERS, OwnedSlice};
 use std::marker::Model;
 
 /// The operations of one worker, in order, seen as the list of their kinds.
-pub type Row = Listed<Kind>;
+pub type Row = OwnedSlice<Kind>;
 
 /// One row for each worker, row 0 that of worker 0, within the limits of a run: 1 to 32 workers, at most 100,000
 /// operations of one worker, and at most 1,000,000 of all together.

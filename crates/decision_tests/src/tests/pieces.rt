@@ -17,14 +17,14 @@ use std::thread::Threads;
 use value_match::Matching;
 
 /// What the two searches find: the places of the pair, if there is one, and the windows.
-type Found = (Option<Vec<usize>>, Windows);
+type PairAndWindows = (Option<Vec<usize>>, Windows);
 
 /// The places that the two answers name.
-fn places_of(
+fn pair_and_windows(
     alloc: Global,
     pair: Option<OrderPair>,
     answer: &WitnessAnswer,
-) -> Result<Found, AllocError> {
+) -> Result<PairAndWindows, AllocError> {
     Ok((
         places_of_pair(alloc, pair)?,
         places_of_witness(alloc, answer)?,
@@ -37,10 +37,10 @@ fn found_in_pieces<R: Threads + Sync>(
     alloc: Global,
     matching: &Matching,
     pieces: usize,
-) -> Result<Found, AllocError> {
+) -> Result<PairAndWindows, AllocError> {
     let pair = order_in_pieces(rt, alloc, matching, pieces)?;
     let answer = witness_in_pieces(rt, alloc, matching, pieces)?;
-    places_of(alloc, pair, &answer)
+    pair_and_windows(alloc, pair, &answer)
 }
 
 /// What the searches find of these operations, cut into pieces.
@@ -48,7 +48,7 @@ fn found_of<R: AllocGlobal + Threads + Sync>(
     rt: &R,
     operations: &[Operation],
     pieces: usize,
-) -> Result<Found, Fail> {
+) -> Result<PairAndWindows, Fail> {
     let alloc = rt.alloc();
     let history = history_of(alloc, operations)?;
     let matching = matching_of(alloc, &history)?;
@@ -60,7 +60,7 @@ fn expected(
     alloc: Global,
     pair: Option<&[usize]>,
     windows: Result<&[u64], &[usize]>,
-) -> Result<Found, AllocError> {
+) -> Result<PairAndWindows, AllocError> {
     let pair = match pair {
         None => None,
         Some(places) => Some(places.to_vec(alloc)?),
@@ -131,12 +131,12 @@ fn found_par<R: Threads + Sync>(
     alloc: Global,
     matching: &Matching,
     pieces: usize,
-) -> Result<Found, AllocError>
+) -> Result<PairAndWindows, AllocError>
     requires { (1 ≤ pieces) × (pieces ≤ 64) }
 {
     let pair = find_order_par(rt, alloc, matching, pieces)?;
     let answer = find_witness_par(rt, alloc, matching, pieces)?;
-    places_of(alloc, pair, &answer)
+    pair_and_windows(alloc, pair, &answer)
 }
 
 /// Searches these operations in pieces.
@@ -144,7 +144,7 @@ fn found_par_of<R: AllocGlobal + Threads + Sync>(
     rt: &R,
     operations: &[Operation],
     pieces: usize,
-) -> Result<Found, Fail>
+) -> Result<PairAndWindows, Fail>
     requires { (1 ≤ pieces) × (pieces ≤ 64) }
 {
     let history = history_of(rt.alloc(), operations)?;
@@ -153,7 +153,7 @@ fn found_par_of<R: AllocGlobal + Threads + Sync>(
 }
 
 /// What the searches find of the rounds in one piece. It is the same in 64 pieces, and if they choose whether to cut.
-fn found_of_rounds<R>(rt: &R, staying: u64) -> Result<Found, Fail>
+fn searched_rounds<R>(rt: &R, staying: u64) -> Result<PairAndWindows, Fail>
 where
     R: Abort + AllocGlobal + Threads + Sync,
 {
@@ -167,7 +167,7 @@ where
 
 #[test]
 fn finds_the_same_in_any_pieces(rt: HostRuntime) -> Result<(), Fail> {
-    let (pair, answer) = found_of_rounds(&rt, 5000)?;
+    let (pair, answer) = searched_rounds(&rt, 5000)?;
     assert!(rt; pair.is_none());
     assert_eq!(rt; answer.as_ref().map_or(0, |gaps| gaps.len()), 5000);
     Ok(())
@@ -176,6 +176,6 @@ fn finds_the_same_in_any_pieces(rt: HostRuntime) -> Result<(), Fail> {
 #[test]
 fn finds_one_value_in_any_pieces(rt: HostRuntime) -> Result<(), Fail> {
     let one = expected(rt.alloc(), Some(&[9000, 9002, 9003]), Err(&[9001, 9000]))?;
-    assert_eq!(rt; found_of_rounds(&rt, 3000)?, one);
+    assert_eq!(rt; searched_rounds(&rt, 3000)?, one);
     Ok(())
 }

@@ -15,7 +15,7 @@ type Window = Result<u64, Vec<usize>>;
 
 /// What the searches find: the places of the pair, if there is one, all windows, and the first window, if there is one.
 #[derive(Drop)]
-struct Found {
+struct Searched {
     pair: Option<Vec<usize>>,
     windows: Windows,
     first: Option<Window>,
@@ -42,11 +42,11 @@ fn first_window(alloc: Global, matching: &Matching) -> Result<Option<Window>, Al
 }
 
 /// What the searches find of a matching.
-fn found_in(rt: &impl AllocGlobal, matching: &Matching) -> Result<Found, AllocError> {
+fn search(rt: &impl AllocGlobal, matching: &Matching) -> Result<Searched, AllocError> {
     let alloc = rt.alloc();
     let pair = find_order(alloc, matching)?;
     let answer = find_witness(alloc, matching)?;
-    Ok(Found {
+    Ok(Searched {
         pair: places_of_pair(alloc, pair)?,
         windows: places_of_witness(alloc, &answer)?,
         first: first_window(alloc, matching)?,
@@ -54,10 +54,10 @@ fn found_in(rt: &impl AllocGlobal, matching: &Matching) -> Result<Found, AllocEr
 }
 
 /// What the searches find of these operations.
-fn found_of(rt: &impl AllocGlobal, operations: &[Operation]) -> Result<Found, Fail> {
+fn search_in_all(rt: &impl AllocGlobal, operations: &[Operation]) -> Result<Searched, Fail> {
     let history = history_of(rt.alloc(), operations)?;
     let matching = matching_of(rt.alloc(), &history)?;
-    Ok(found_in(rt, &matching)?)
+    Ok(search(rt, &matching)?)
 }
 
 /// Whether this is what is found of a window.
@@ -70,7 +70,11 @@ fn is_window(window: &Window, expected: Result<u64, &[usize]>) -> bool {
 }
 
 /// Whether these places are found: of a pair, and of the first window.
-fn is_found(found: &Found, pair: Option<&[usize]>, first: Option<Result<u64, &[usize]>>) -> bool {
+fn is_found(
+    found: &Searched,
+    pair: Option<&[usize]>,
+    first: Option<Result<u64, &[usize]>>,
+) -> bool {
     let is_pair = match (&found.pair, pair) {
         (None, None) => true,
         (Some(places), Some(expected)) => places.as_slice() == expected,
@@ -95,23 +99,23 @@ fn are_windows(windows: &Windows, expected: Result<&[u64], &[usize]>) -> bool {
 
 #[test]
 fn finds_overtaken_values(rt: HostRuntime) -> Result<(), Fail> {
-    let none = found_of(&rt, &overlapping())?;
+    let none = search_in_all(&rt, &overlapping())?;
     assert!(rt; is_found(&none, None, None) && are_windows(&none.windows, Ok(&[])));
-    let pair = found_of(&rt, &overtaken())?;
+    let pair = search_in_all(&rt, &overtaken())?;
     assert!(rt; is_found(&pair, Some(&[0, 1, 2]), None) && are_windows(&pair.windows, Ok(&[])));
     Ok(())
 }
 
 #[test]
 fn finds_free_gaps(rt: HostRuntime) -> Result<(), Fail> {
-    let found = found_of(&rt, &once_empty())?;
+    let found = search_in_all(&rt, &once_empty())?;
     assert!(rt; is_found(&found, None, Some(Ok(4))) && are_windows(&found.windows, Ok(&[4])));
     Ok(())
 }
 
 #[test]
 fn finds_covers(rt: HostRuntime) -> Result<(), Fail> {
-    let found = found_of(&rt, &never_empty())?;
+    let found = search_in_all(&rt, &never_empty())?;
     assert!(rt; is_found(&found, None, Some(Err(&[0, 3, 2, 4]))));
     assert!(rt; are_windows(&found.windows, Err(&[1, 0, 3, 2, 4])));
     Ok(())

@@ -5,9 +5,6 @@ use Rattle.fifobench_c.proofs.Structs.{none_unknown, one_first, one_list}
 use Rattle.fifobench_c.proofs.Telling.{told_one}
 use Rattle.fifobench_c.proofs.fifobench_check_events.Goals as goal
 
-pub judge_gathered-requires : goal.judge_gathered-requires
-judge_gathered-requires c = let read = c.in-Ok.ensures.events in (from_none read.0, read.2)
-
 pub returns-in-Ok-clause-judged : goal.returns-in-Ok-clause-judged
 returns-in-Ok-clause-judged c = λ list are few.
     let read = c.in-Ok.ensures.events in

@@ -1,4 +1,4 @@
--- The enqueues, the dequeues and the idle operations, merged by their positions.
+-- The enqueues, the dequeues and the no-ops, merged by their positions.
 use Rattle.std.specs.Prelude.{◌≡◌, ℕ, ◌<◌, ◌≤◌, ◌⊎◌, ◌++◌, List, All, IsPermutation, IsSomeAnd, Option, Some, length, map, slice_get, take}
 use Rattle.history_merge.specs.declared.operation.Operation.{Operation}
 use Rattle.value_match.specs.declared.life.Life.{Life}
@@ -19,29 +19,29 @@ IsDequeueFrom lives j p = (n : ℕ) × (j ≤ n) × (n < length lives) × (p ≡
 abbrev pub IsValueFrom : List Life → ℕ → ℕ → Position → Type 0
 IsValueFrom lives i j p = IsEnqueueFrom lives i p ⊎ IsDequeueFrom lives j p
 
--- where the k-th of the idle operations or a later one stands
-abbrev pub IsIdleFrom : List Placed → ℕ → Position → Type 0
-IsIdleFrom idles k p = (n : ℕ) × (x : Placed) × (k ≤ n) × (slice_get idles n ≡ Some x) × (p ≡ position_of x.position)
+-- where the k-th of the no-ops or a later one stands
+abbrev pub IsNoopFrom : List Placed → ℕ → Position → Type 0
+IsNoopFrom noops k p = (n : ℕ) × (x : Placed) × (k ≤ n) × (slice_get noops n ≡ Some x) × (p ≡ position_of x.position)
 
 -- where one of the operations stands that are left
 abbrev pub IsAhead : List Life → List Placed → ℕ → ℕ → ℕ → Position → Type 0
-IsAhead lives idles i j k p = IsValueFrom lives i j p ⊎ IsIdleFrom idles k p
+IsAhead lives noops i j k p = IsValueFrom lives i j p ⊎ IsNoopFrom noops k p
 
 -- none of these positions stands before the limit; where there is no limit, there are none of them
 abbrev pub NoneBelow : (Position → Type 0) → Option Stored → Type 0
 NoneBelow Is limit = (p : Position) → Is p → IsSomeAnd limit (λ q. ¬ (StandsBefore p (position_of q)))
 
--- the places of the enqueues of the first i values, the dequeues of the first j and the first k idle operations, by rising
+-- the places of the enqueues of the first i values, the dequeues of the first j and the first k no-ops, by rising
 -- position; none of those that are left stands before one of these
-pub record IsMergedUpTo (operations : List Operation) (lives : List Life) (idles : List Placed) (i j left k : ℕ) (places : List ℕ) : Type 0 where
+pub record IsMergedUpTo (operations : List Operation) (lives : List Life) (noops : List Placed) (i j left k : ℕ) (places : List ℕ) : Type 0 where
   pub values : List Placed
   pub held : HoldsUpTo operations lives i j left values
   pub sorted : List Placed
-  pub each_once : IsPermutation (values ++ take k idles) sorted
+  pub each_once : IsPermutation (values ++ take k noops) sorted
   pub never_fall : NeverFall sorted
-  pub none_below : All (λ x. NoneBelow (IsAhead lives idles i j k) (Some x.position)) sorted
+  pub none_below : All (λ x. NoneBelow (IsAhead lives noops i j k) (Some x.position)) sorted
   pub places_are : places ≡ map (λ p. p.operation) sorted
 
--- the places of the operations of the values and of the idle ones, by rising position
+-- the places of the operations of the values and of the no-ops, by rising position
 abbrev pub IsMerge : List Operation → List Placed → List ℕ → Type 0
-IsMerge operations idles places = (values : List Placed) × HoldsValues operations values × AreByPosition (values ++ idles) places
+IsMerge operations noops places = (values : List Placed) × HoldsValues operations values × AreByPosition (values ++ noops) places

@@ -8,11 +8,11 @@ use Rattle.value_match.specs.declared.life.Life.{Life}
 use Rattle.value_match.specs.declared.life.MatchedValue.{MatchedValue}
 use Rattle.value_match.specs.Lives.{is_empty_answer, is_refused, lives_of, dequeue_of, enqueue_call, enqueue_of}
 use Rattle.linearizer.specs.declared.position.Class.{Class}
-use Rattle.linearizer.specs.declared.position.Class.TheVariants.{EarlierDequeue, Idle, Enqueue, OtherDequeue}
+use Rattle.linearizer.specs.declared.position.Class.TheVariants.{EarlierDequeue, Noop, Enqueue, OtherDequeue}
 use Rattle.linearizer.specs.declared.position.Position.{Position as Stored}
 use Rattle.linearizer.specs.declared.position.Placed.{Placed}
 use Rattle.linearizer.specs.Values.{IsValueOrder, enqueue_gap, greatest_leaves_from}
-use Rattle.linearizer.specs.Order.{Position, StandsBefore, IsPositionOf, earlier_dequeues, idle_answers, enqueues, other_dequeues}
+use Rattle.linearizer.specs.Order.{Position, StandsBefore, IsPositionOf, earlier_dequeues, noop_answers, enqueues, other_dequeues}
 
 -- the values without their places
 abbrev pub lives_in : List MatchedValue → List Life
@@ -48,7 +48,7 @@ FitUpTo lives n = (i : ℕ) (life : Life) → i < n → slice_get lives i ≡ So
 -- the class by its number
 abbrev pub class_number : Class → ℕ
 class_number EarlierDequeue = earlier_dequeues
-class_number Idle = idle_answers
+class_number Noop = noop_answers
 class_number Enqueue = enqueues
 class_number OtherDequeue = other_dequeues
 
@@ -95,11 +95,11 @@ abbrev pub NeverFall : List Placed → Type 0
 NeverFall placed = AllPairs (λ p q. ¬ (StandsBefore (position_of q.position) (position_of p.position))) placed
 
 -- the empty answers and the refused enqueues, each once and at its position whatever the order of the values, by rising position
-pub record HoldsIdles (operations : List Operation) (idles : List Placed) : Type 0 where
+pub record HoldsNoops (operations : List Operation) (noops : List Placed) : Type 0 where
   pub added : List Placed
   pub each_placed : (lives : List Life) → AllZip (IsPlaced operations lives) (filter is_empty_answer operations ++ filter is_refused operations) added
-  pub each_once : IsPermutation added idles
-  pub never_fall : NeverFall idles
+  pub each_once : IsPermutation added noops
+  pub never_fall : NeverFall noops
 
 -- the places of what was listed, by positions that never fall
 pub record AreByPosition (placed : List Placed) (places : List ℕ) : Type 0 where

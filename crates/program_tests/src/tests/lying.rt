@@ -6,13 +6,14 @@ use history_text::{Watched, write_verdict};
 use queue_interface::{Doubling, Entry, Inventing, Lifo, Losing, ScriptQueue, Shy, TestQueue};
 use std::alloc::Global;
 use std::process::Abort;
+use std::sync::Wait;
 use std::test::Fail;
 use std::thread::Threads;
 use verdicts::{Claimed, Verdict, ViolationKind, claim, decide, shrink, verify};
 use workloads::Plan;
 
 /// The history of a run of this plan.
-fn recorded<R: AllocGlobal + Threads + Sync>(
+fn recorded<R: AllocGlobal + Threads + Wait + Sync>(
     rt: &R,
     queue: &dyn TestQueue,
     plan: &str,
@@ -60,7 +61,7 @@ fn is_caught(alloc: Global, history: &History, kind: ViolationKind) -> Result<bo
 }
 
 /// Whether a run of this plan is caught, with this verdict.
-fn catches<R: AllocGlobal + Threads + Sync>(
+fn catches<R: AllocGlobal + Threads + Wait + Sync>(
     rt: &R,
     queue: &dyn TestQueue,
     plan: &str,
@@ -73,7 +74,7 @@ fn catches<R: AllocGlobal + Threads + Sync>(
 }
 
 /// Asserts that a run of this plan is caught, with this verdict.
-fn assert_caught<R: AllocGlobal + Threads + Sync + Abort>(
+fn assert_caught<R: AllocGlobal + Threads + Wait + Sync + Abort>(
     rt: &R,
     queue: &dyn TestQueue,
     plan: &str,

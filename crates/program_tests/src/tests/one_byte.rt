@@ -2,6 +2,7 @@
 use commands::{Terminals, run_over};
 use std::io;
 use std::io::{ErrorKind, Write};
+use std::sync::Wait;
 use std::test::Fail;
 use std::thread::Threads;
 
@@ -44,7 +45,7 @@ impl Write for Slow {
 }
 
 /// Whether a writer that takes this many bytes gets this prefix of the verdict, and the status says whether it is whole.
-fn is_front<R: AllocGlobal + Threads + Sync>(
+fn is_front<R: AllocGlobal + Threads + Wait + Sync>(
     rt: &R,
     words: &[String],
     most: usize,

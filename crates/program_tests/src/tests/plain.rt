@@ -1,6 +1,6 @@
 //! A judged history, a counted one and a run of a queue in this process, with ample memory.
 use super::answers;
-use commands::Shelved;
+use commands::NamedQueue;
 use history_text::MemorySource;
 use queue_interface::LockedQueue;
 use std::test::Fail;
@@ -53,8 +53,8 @@ fn a_history_is_judged_and_a_queue_is_run(rt: HostRuntime) -> Result<(), Fail> {
     assert!(rt; answers(&rt, &["fifobench", "check"], source, &[], VERDICT, 1)?);
     let name = "locked";
     let queue = Box::new(rt.alloc(), LockedQueue::new(rt.alloc(), rt))?;
-    let mut shelf: Vec<Shelved> = Vec::new(rt.alloc());
-    shelf.push(Shelved { name, queue })?;
+    let mut shelf: Vec<NamedQueue> = Vec::new(rt.alloc());
+    shelf.push(NamedQueue { name, queue })?;
     let nothing = MemorySource::new(b"");
     assert!(rt; answers(&rt, &ENQUEUING, nothing, &shelf, TWO_ENQUEUES, 0)?);
     Ok(())

@@ -6,13 +6,14 @@ use history_text::{MemorySource, Version, Watched, write_history};
 use queue_interface::{LockedQueue, TestQueue};
 use std::alloc::{AllocError, Global};
 use std::process::Abort;
+use std::sync::Wait;
 use std::test::Fail;
 use std::thread::Threads;
 use stress_run::{Recorded, RunFault};
 use workloads::Plan;
 
 /// What `check` writes of a recorded run of a queue that was empty first, and the status.
-fn checked<R: AllocGlobal + Threads + Sync>(
+fn checked<R: AllocGlobal + Threads + Wait + Sync>(
     rt: &R,
     recorded: &Recorded,
 ) -> Result<(Vec<u8>, u8), Fail>
@@ -27,7 +28,7 @@ fn checked<R: AllocGlobal + Threads + Sync>(
 }
 
 /// How many events a run of this plan had, what `check` writes of them, and the status.
-fn judged<R: AllocGlobal + Threads + Sync>(
+fn judged<R: AllocGlobal + Threads + Wait + Sync>(
     rt: &R,
     queue: &dyn TestQueue,
     plan: &str,
@@ -42,7 +43,7 @@ fn judged<R: AllocGlobal + Threads + Sync>(
 }
 
 /// Asserts what `check` writes of a run of this plan.
-fn assert_verdict<R: AllocGlobal + Threads + Sync + Abort>(
+fn assert_verdict<R: AllocGlobal + Threads + Wait + Sync + Abort>(
     rt: &R,
     queue: &dyn TestQueue,
     plan: &str,
@@ -113,7 +114,7 @@ fn a_sound_queue_over_small_rings_is_not_reported(rt: HostRuntime) -> Result<(),
 
 /// Whether a run of a sound queue ended as it may where some growth was refused: out of memory or with a lost close
 /// token, with a worker that stalled since no thread could be started, or with a record that gets `YES`.
-fn ends_well<R: AllocGlobal + Threads + Sync>(
+fn ends_well<R: AllocGlobal + Threads + Wait + Sync>(
     rt: &R,
     ended: Result<Recorded, RunFault>,
 ) -> Result<bool, Fail>

@@ -6,6 +6,7 @@ use history_text::{MemorySource, ReadFailed, TextSource, Watched};
 use std::io;
 use std::io::{ErrorKind, Write};
 use std::process::Abort;
+use std::sync::Wait;
 use std::sync::atomic::{AtomicUsize, Ordering};
 use std::test::Fail;
 use std::thread::Threads;
@@ -42,7 +43,7 @@ impl Write for Refusing {
 
 /// Asserts that each refused call, the flush among them, ends a run with status 3 and is the last call, and that a run
 /// without one flushes once, has this status, and makes this many calls.
-fn assert_refusals<'a, R: AllocGlobal + Threads + Sync + Abort>(
+fn assert_refusals<'a, R: AllocGlobal + Threads + Wait + Sync + Abort>(
     rt: &R,
     words: &'a [&'a str],
     input: &str,

@@ -18,6 +18,7 @@ pub record AreClosed (rest : PassView) (workers : List WorkerView) (tokens : Lis
   pub key : pass.key ≡ rest.key
   pub left : pass.left ≡ rest.left + sum_by (λ w. w.pass.left) workers
   pub drawn : IsPermutation (rest.drawn ++ flat_map (λ w. w.pass.drawn) workers) pass.drawn
+  pub noted : pass.noted ≡ rest.noted ++ flat_map (λ w. w.pass.noted) workers
 
 -- this fault stood before, or memory ran out, or it is one of these workers'
 abbrev pub Stands : Option RunFault → List WorkerView → RunFault → Type 0

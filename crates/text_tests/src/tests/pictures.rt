@@ -77,16 +77,18 @@ fn draws_the_greatest_numbers_whole(rt: HostRuntime) -> Result<(), Fail> {
     Ok(())
 }
 
-/// That picture as an SVG document, from its order on: lanes begin at 296, rows at 192, and the effect is in the
-/// second of three.
-const SVG: &str = "<text x=\"102\" y=\"184\" textLength=\"35\" class=\"dim\">order</text>\n\
-<text x=\"102\" y=\"226\" textLength=\"182\" class=\"label\">1 enq 18446744073709551615</text>\n\
-<g class=\"yes\"><title>thread 63: enq 18446744073709551615, tickets 999999999998 to 999999999999, number 1</title>\n\
+/// That picture as an SVG document, from its bar on: lanes begin at 296, rows at 192, and the effect is in the second of
+/// three.
+const SVG: &str =
+    "<g class=\"yes\"><title>thread 63: enq 18446744073709551615, tickets 999999999998 to 999999999999, number 1</title>\n\
 <rect x=\"299\" y=\"195\" width=\"203\" height=\"54\" rx=\"0\" class=\"enq\"></rect>\n\
 <text x=\"305\" y=\"216\" textLength=\"168\" class=\"label\">enq 18446744073709551615</text>\n\
+</g>\n\
+<text x=\"6\" y=\"206\" textLength=\"84\" class=\"dim\">999999999998</text>\n\
+<text x=\"102\" y=\"226\" textLength=\"182\" class=\"label\">1 enq 18446744073709551615</text>\n\
 <rect x=\"479\" y=\"214\" width=\"17\" height=\"16\" rx=\"8\" class=\"pill\"></rect>\n\
 <text x=\"484\" y=\"226\" textLength=\"7\" class=\"pick\">1</text>\n\
-</g>\n\
+<text x=\"6\" y=\"246\" textLength=\"84\" class=\"dim\">999999999999</text>\n\
 </svg>\n";
 
 #[test]

@@ -1,6 +1,6 @@
 ghost use Rattle.std.specs.Prelude.{◌≡◌, [], ◌∷◌, length, IfOk};
 ghost use Rattle.history_merge.specs.Operations.{operations_of};
-ghost use Rattle.history_text.specs.Verdicts.{IsWithin, places_of};
+ghost use Rattle.history_text.specs.Verdicts.{IsWithin, verdict_places};
 ghost use Rattle.verdicts.specs.declared.shown.LinePlace.TheVariants.{Op};
 
 use super::outcomes::{check_fronts, known};
@@ -109,7 +109,7 @@ fn written(alloc: Global, history: &History, verdict: &Verdict) -> Result<Vec<u8
 
 /// A `YES`: the second operation, the first, the third and the fourth.
 fn second_first(alloc: Global) -> Result<Verdict, AllocError>
-    ensures { IfOk result (λ v. places_of v ≡ Op 1 ∷ Op 0 ∷ Op 2 ∷ Op 3 ∷ []) }
+    ensures { IfOk result (λ v. verdict_places v ≡ Op 1 ∷ Op 0 ∷ Op 2 ∷ Op 3 ∷ []) }
 {
     let places = Vec::from_array(
         alloc,
@@ -120,7 +120,7 @@ fn second_first(alloc: Global) -> Result<Verdict, AllocError>
 
 /// A `NO`: the second operation found the queue empty, though two values covered it.
 fn covered_by_two(alloc: Global) -> Result<Verdict, AllocError>
-    ensures { IfOk result (λ v. places_of v ≡ Op 1 ∷ Op 0 ∷ Op 3 ∷ Op 2 ∷ Op 4 ∷ []) }
+    ensures { IfOk result (λ v. verdict_places v ≡ Op 1 ∷ Op 0 ∷ Op 3 ∷ Op 2 ∷ Op 4 ∷ []) }
 {
     let first = CoverStep {
         source: Source::Enq(OpId::new(0)),

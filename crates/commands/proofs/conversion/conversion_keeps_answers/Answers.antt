@@ -2,4 +2,10 @@ use Rattle.commands.proofs.Converting.{converted_is_same_history, converted_is_k
 use Rattle.commands.proofs.conversion.conversion_keeps_answers.Goals as goal
 
 pub returns : goal.returns
-returns c = record { same_history = converted_is_same_history; kept = converted_is_kept; checked = converted_is_checked; counted = converted_is_counted; verified = converted_is_verified }
+returns c = record {
+  same_history = converted_is_same_history;
+  kept = converted_is_kept;
+  checked = converted_is_checked;
+  counted = converted_is_counted;
+  verified = converted_is_verified;
+}

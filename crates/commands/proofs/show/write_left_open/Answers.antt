@@ -1,24 +1,13 @@
 use Rattle.std.proofs.Common.{codes}
-use Rattle.std.proofs.lemmas.Result.{on_err_weaker}
 use Rattle.text_lines.specs.Lines.{line}
-use Rattle.text_lines.proofs.Appending.{on_err, front_first}
+use Rattle.text_lines.proofs.Putting.{longer_front, refused_text, writes_then}
 use Rattle.commands.specs.Answers.{rejection_lines}
-use Rattle.commands.proofs.Fronts.{front_next}
-use Rattle.text_lines.proofs.Asking.{both_written, second_refused}
 use Rattle.commands.proofs.show.write_left_open.Goals as goal
 
-pub returns-in_err-write_rejections-clause-err : goal.returns-in_err-write_rejections-clause-err
-returns-in_err-write_rejections-clause-err g c =
-    let first = rw c.as_slice.ensures at c.in_err-write_rejections.ensures.err in
-    on_err c.from_residual.result _ (front_first _ _ (rejection_lines c.args.rejections.now) (line (codes "OPEN")) first)
+pub returns-in_err-write_rejections : goal.returns-in_err-write_rejections
+returns-in_err-write_rejections g c = refused_text _ _ _ _ c.from_residual.result _ _ _ c.from_residual.ensures.1
+    (longer_front _ _ _ (rejection_lines c.args.rejections.now) (line (codes "OPEN")) _ _ (rw c.as_slice.ensures at c.in_err-write_rejections.ensures))
 
-pub returns-clause-err : goal.returns-clause-err
-returns-clause-err g c =
-    let first = rw c.as_slice.ensures at c.in_ok-write_rejections.ensures.ok in
-    on_err_weaker c.write_piece.result (front_next _ _ _ (rejection_lines c.args.rejections.now) (line (codes "OPEN")) first) c.write_piece.ensures.err
-
-pub returns-clause-written : goal.returns-clause-written
-returns-clause-written g c = both_written g.W.TextSink.goes c.write_piece.result _ c.in_ok-write_rejections.ensures.written c.write_piece.ensures.written
-
-pub returns-clause-stopped : goal.returns-clause-stopped
-returns-clause-stopped g c = second_refused g.W.TextSink.goes c.write_piece.result _ c.in_ok-write_rejections.ensures.written c.write_piece.ensures.stopped
+pub returns : goal.returns
+returns g c = writes_then _ _ _ c.write_piece.result (rejection_lines c.args.rejections.now) (line (codes "OPEN")) _ _ _
+    (rw c.as_slice.ensures at c.in_ok-write_rejections.ensures) c.write_piece.ensures

@@ -4,4 +4,4 @@ use Rattle.drawing.specs.Terminal.{band_words}
 use Rattle.drawing.proofs.terminal.place_bands.Given as goal
 
 abbrev pub invariant-loop-i : goal.invariant-loop-i
-invariant-loop-i l = l.line.items ≡ with_words l.fn.line.items (band_words l.sheet.columns (take l.i l.sheet.bands.now) l.gap)
+invariant-loop-i l = l.line.items ≡ with_words l.fn.line.items (band_words l.sheet.columns (take l.i l.bands) l.gap)

@@ -1,7 +1,10 @@
 use Rattle.std.proofs.Common.{◌≡◌, take}
+use Rattle.drawing.specs.Inner.Words.{scene_in}
 use Rattle.drawing.specs.Words.{with_words}
 use Rattle.drawing.specs.Terminal.{lane_names}
 use Rattle.drawing.proofs.terminal.place_lane_names.Given as goal
 
-abbrev pub invariant-loop-lane : goal.invariant-loop-lane
-invariant-loop-lane l = l.line.items ≡ with_words l.fn.line.items (lane_names (take l.lane-index l.lanes))
+abbrev pub invariant-loop-thread : goal.invariant-loop-thread
+invariant-loop-thread l =
+    l.line.items ≡ with_words l.fn.line.items
+    (lane_names l.sheet.columns (scene_in l.sheet).threads (take l.thread-index l.threads))

@@ -1,8 +1,13 @@
-use Rattle.std.proofs.Common.{◌≡◌, take}
+use Rattle.std.proofs.Common.{◌≡◌, map, take}
+use Rattle.drawing.specs.Inner.Words.{scene_in}
+use Rattle.drawing.specs.Layout.{under_way}
 use Rattle.drawing.specs.Words.{with_words}
-use Rattle.drawing.specs.Terminal.{lane_words}
+use Rattle.drawing.specs.Terminal.{lane_sign, lane_column}
 use Rattle.drawing.proofs.terminal.place_lanes.Given as goal
 
-abbrev pub invariant-loop-lane : goal.invariant-loop-lane
-invariant-loop-lane l =
-    l.line.items ≡ with_words l.fn.line.items (lane_words l.sheet.operations.now l.shown (take l.lane-index l.sheet.lanes.now) l.ticket)
+abbrev pub invariant-loop-thread : goal.invariant-loop-thread
+invariant-loop-thread l =
+    l.line.items ≡ with_words l.fn.line.items (map (λ thread. record {
+      column = lane_column l.sheet.columns (scene_in l.sheet).threads thread;
+      bytes = lane_sign l.shown l.row (under_way (scene_in l.sheet).operations thread l.ticket);
+    }) (take l.thread-index l.threads))

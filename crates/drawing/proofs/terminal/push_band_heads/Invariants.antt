@@ -4,4 +4,4 @@ use Rattle.drawing.specs.Terminal.{head_line}
 use Rattle.drawing.proofs.terminal.push_band_heads.Given as goal
 
 abbrev pub invariant-loop-i : goal.invariant-loop-i
-invariant-loop-i l = l.text.items ≡ l.fn.text.items ++ flat_map (head_line l.sheet.columns) (enumerate_from 0 (take l.i l.sheet.bands.now))
+invariant-loop-i l = l.text.items ≡ l.fn.text.items ++ flat_map (head_line l.sheet.columns) (enumerate_from 0 (take l.i l.bands))

@@ -11,7 +11,7 @@ pub join_spans-requires-clause-hold_some : goal.join_spans-requires-clause-hold_
 join_spans-requires-clause-hold_some c =
     subst (All (λ stay. stay.start < stay.end)) (sym c.as_slice.ensures.value)
     (stays_hold_some c.values.result c.in_ok-stays.stays.items _ c.in_ok-stays.ensures
-    (IsPermutation-trans _ _ _ c.settle.ensures c.sort_unstable_by_key.ensures.permutation))
+    (IsPermutation-trans _ _ _ c.presort.ensures c.sort_unstable_by_key.ensures.permutation))
 
 pub join_spans-requires-clause-rise : goal.join_spans-requires-clause-rise
 join_spans-requires-clause-rise c =
@@ -21,7 +21,7 @@ join_spans-requires-clause-rise c =
 pub returns : goal.returns
 returns c =
     let moved = subst (IsPermutation c.in_ok-stays.stays.items) (sym c.as_slice.ensures.value)
-    (IsPermutation-trans _ _ _ c.settle.ensures c.sort_unstable_by_key.ensures.permutation) in
+    (IsPermutation-trans _ _ _ c.presort.ensures c.sort_unstable_by_key.ensures.permutation) in
     IfOk-weaker c.join_spans.result (λ spans. AreJoined c.as_slice.result.now spans.items) (λ spans. AreSpansOf c.args.matching.now spans.items)
     (λ spans joined. are_spans c.args.matching.now c.values.result c.values.ensures.clear c.values.ensures.values c.in_ok-stays.stays.items _
     spans.items c.in_ok-stays.ensures moved joined) c.join_spans.ensures

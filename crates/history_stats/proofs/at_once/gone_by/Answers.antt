@@ -6,13 +6,13 @@ use Rattle.history_stats.proofs.at_once.gone_by.Goals as goal
 
 pub loop-gone-preserved : goal.loop-gone-preserved
 loop-gone-preserved c =
-    at_least (c.args.ticket + 1) c.args.goes.now c.loop-gone.gone c.requires.goes c.loop-gone-test.true (omega arith)
+    at_least (c.args.ticket + 1) c.args.departures.now c.loop-gone.gone c.requires.departures c.loop-gone-test.true (omega arith)
 
-pub returns-else-goes-gone : goal.returns-else-goes-gone
-returns-else-goes-gone c = elim (cases_lt c.loop-gone.gone (count_before (c.args.ticket + 1) c.args.goes.now)) [
-  | inl few ↦ absurd (omega (arith, below_at (c.args.ticket + 1) c.args.goes.now c.loop-gone.gone c.requires.goes few))
+pub returns-else-departures-gone : goal.returns-else-departures-gone
+returns-else-departures-gone c = elim (cases_lt c.loop-gone.gone (count_before (c.args.ticket + 1) c.args.departures.now)) [
+  | inl few ↦ absurd (omega (arith, below_at (c.args.ticket + 1) c.args.departures.now c.loop-gone.gone c.requires.departures few))
   | inr all ↦ omega arith
 ]
 
 pub returns-after-loop-gone : goal.returns-after-loop-gone
-returns-after-loop-gone c = omega (arith, count_few (c.args.ticket + 1) c.args.goes.now)
+returns-after-loop-gone c = omega (arith, count_few (c.args.ticket + 1) c.args.departures.now)

@@ -9,7 +9,8 @@ use Rattle.history_stats.proofs.queued.add_enqueued.Goals as goal
 pub loop-operation-preserved : goal.loop-operation-preserved
 loop-operation-preserved c = record {
   stays = λ gap. stay_more gap (λ v. not (is_kept_before gap c.args.takes.now v)) c.args.operations.now c.loop-operation.operation-index _
-      c.loop-operation.goes.items c.add_one.new.goes.items c.loop-operation.comes.items c.add_one.new.comes.items c.args.goes.now.items c.args.comes.now.items c.loop-operation-test.true
+      c.loop-operation.departures.items c.add_one.new.departures.items c.loop-operation.arrivals.items c.add_one.new.arrivals.items
+      c.args.departures.now.items c.args.arrivals.now.items c.loop-operation-test.true
       (c.loop-operation.invariant.stays gap) (c.in_ok-add_one.ensures.stays gap);
   few = omega (arith, c.loop-operation.invariant.few, c.in_ok-add_one.ensures.few);
 }

@@ -6,6 +6,6 @@ use Rattle.history_stats.proofs.queued.add_enqueued.Given as goal
 abbrev pub invariant-loop-operation : goal.invariant-loop-operation
 invariant-loop-operation l = record {
   stays : (gap : ℕ) → count_by (λ v. not (is_kept_before gap l.takes v)) (values_put_before gap (take l.operation-index l.operations))
-      + count_before gap l.goes.items + count_before gap l.fn.comes.items ≡ count_before gap l.comes.items + count_before gap l.fn.goes.items;
-  few : vec_len l.comes ≤ vec_len l.fn.comes + l.operation-index;
+      + count_before gap l.departures.items + count_before gap l.fn.arrivals.items ≡ count_before gap l.arrivals.items + count_before gap l.fn.departures.items;
+  few : vec_len l.arrivals ≤ vec_len l.fn.arrivals + l.operation-index;
 }

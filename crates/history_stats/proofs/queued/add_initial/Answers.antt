@@ -8,8 +8,8 @@ pub loop-value-preserved : goal.loop-value-preserved
 loop-value-preserved c = λ gap.
     let gone = c.in_ok-add_go.ensures gap in
     let kept = c.ticket_for.ensures gap in
-    value_more (is_kept_before gap c.args.takes.now) c.args.values.now c.loop-value.value-index (count_before gap c.loop-value.goes.items) _
-    (count_before gap c.args.goes.now.items) 0 c.loop-value-test.true (c.loop-value.invariant gap) (rw (← kept) gone)
+    value_more (is_kept_before gap c.args.takes.now) c.args.values.now c.loop-value.value-index (count_before gap c.loop-value.departures.items) _
+    (count_before gap c.args.departures.now.items) 0 c.loop-value-test.true (c.loop-value.invariant gap) (rw (← kept) gone)
 
 pub returns : goal.returns
 returns c = λ gap.

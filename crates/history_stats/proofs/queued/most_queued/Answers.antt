@@ -4,7 +4,7 @@ use Rattle.history_stats.proofs.queued.most_queued.Goals as goal
 
 pub returns : goal.returns
 returns c =
-    let firsts = rw c.new-goes.ensures.items at c.in_ok-add_initial.ensures in
-    let puts = rw c.new-comes.ensures.items at c.in_ok-add_enqueued.ensures.stays in
-    most_queued_is c.args.initial.now c.args.operations.now (λ gap v. is_kept_before gap c.in_ok-takes.takes v) c.add_enqueued.new.comes.items
-    c.add_initial.new.goes.items c.add_enqueued.new.goes.items c.most_of.result c.in_ok-takes.ensures firsts puts c.most_of.ensures
+    let firsts = rw c.new-departures.ensures.items at c.in_ok-add_initial.ensures in
+    let puts = rw c.new-arrivals.ensures.items at c.in_ok-add_enqueued.ensures.stays in
+    most_queued_is c.args.initial.now c.args.operations.now (λ gap v. is_kept_before gap c.in_ok-takes.takes v) c.add_enqueued.new.arrivals.items
+    c.add_initial.new.departures.items c.add_enqueued.new.departures.items c.most_of.result c.in_ok-takes.ensures firsts puts c.most_of.ensures

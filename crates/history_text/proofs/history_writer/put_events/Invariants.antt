@@ -1,15 +1,13 @@
 use Rattle.std.proofs.Common.{◌≡◌, List, ◌++◌}
 use Rattle.std.specs.List.{flat_map, All}
 use Rattle.event_records.specs.declared.event.Event.{Event}
-use Rattle.text_lines.specs.Writing.{Puts, IsWritten}
+use Rattle.text_lines.specs.Writing.{TakesSome}
 use Rattle.history_text.specs.Histories.{event_line, HasValueInRange}
 use Rattle.history_text.proofs.history_writer.put_events.Given as goal
 
 abbrev pub invariant-loop-event : goal.invariant-loop-event
 invariant-loop-event g l = (seen : List Event) × record {
   all : seen ++ l.event-iterator ≡ l.fn.events;
-  put : Puts (g.W.TextSink.contents l.fn.writer) (g.W.TextSink.contents l.writer) l.fn.kept l.kept (flat_map event_line seen);
+  put : TakesSome g.W.TextSink.contents g.W.TextSink.has_refused g.W.TextSink.transition l.fn.kept l.kept (flat_map event_line seen) l.fn.writer l.writer;
   fits : All (λ e. HasValueInRange e.what) seen;
-  asked : IsWritten g.W.TextSink.goes l.fn.writer l.writer;
-  same : g.W.TextSink.has_refused l.writer ≡ g.W.TextSink.has_refused l.fn.writer;
 }

@@ -1,22 +1,8 @@
-use Rattle.std.proofs.Common.{Bool, ◌||◌, ap, ◌∙◌}
-use Rattle.std.specs.Prelude.{is_err}
-use Rattle.std.proofs.Math.Bool.{or-false}
-use Rattle.text_lines.proofs.Asking.{both_written, second_refused}
-use Rattle.history_text.proofs.Written.{all_out, front_out}
+use Rattle.text_lines.proofs.Putting.{goes_out, refused_text}
 use Rattle.history_text.proofs.history_writer.write_history.Goals as goal
 
-pub returns-clause-ok : goal.returns-clause-ok
-returns-clause-ok g c = all_out c.write_piece.result _ _ _ _ _ c.in_ok-put_text.ensures.ok (rw c.as_slice.ensures at c.write_piece.ensures.ok)
+pub returns-in_err-put_text-clause-text : goal.returns-in_err-put_text-clause-text
+returns-in_err-put_text-clause-text g c = refused_text _ _ _ _ c.from_residual.result _ _ _ c.from_residual.ensures.1 c.in_err-put_text.ensures.text
 
-pub returns-clause-err : goal.returns-clause-err
-returns-clause-err g c = front_out c.write_piece.result _ _ _ _ _ c.in_ok-put_text.ensures.ok (rw c.as_slice.ensures at c.write_piece.ensures.err)
-
-pub returns-clause-written : goal.returns-clause-written
-returns-clause-written g c = both_written g.W.TextSink.goes c.write_piece.result _ c.in_ok-put_text.ensures.written c.write_piece.ensures.written
-
-pub returns-clause-stopped : goal.returns-clause-stopped
-returns-clause-stopped g c = second_refused g.W.TextSink.goes c.write_piece.result _ c.in_ok-put_text.ensures.written c.write_piece.ensures.stopped
-
-pub returns-clause-refused : goal.returns-clause-refused
-returns-clause-refused g c =
-    c.write_piece.ensures.refused ∙ ap (λ (b : Bool). b || is_err c.write_piece.result) (c.in_ok-put_text.ensures.refused ∙ or-false _)
+pub returns-clause-text : goal.returns-clause-text
+returns-clause-text g c = goes_out _ _ _ c.write_piece.result _ _ _ _ _ c.in_ok-put_text.ensures.text (rw c.as_slice.ensures at c.write_piece.ensures)

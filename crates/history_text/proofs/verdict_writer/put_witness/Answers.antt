@@ -1,31 +1,15 @@
 use Rattle.std.proofs.Common.{[], ◌∷◌}
 use Rattle.history_text.specs.Inner.Verdicts.{line_text}
 use Rattle.std.specs.List.{flat_map}
-use Rattle.std.proofs.lemmas.Result.{on_ok_weaker, on_err_weaker}
 use Rattle.verdicts.specs.declared.shown.LinePlace.TheVariants as place
 use Rattle.history_text.specs.Verdicts.{places_of_step}
-use Rattle.text_lines.proofs.Appending.{on_err}
-use Rattle.history_text.proofs.Named.{first_stops, next_stops, both_put}
-use Rattle.text_lines.proofs.Asking.{both_written, second_refused}
+use Rattle.history_text.proofs.Named.{first_stops, others_then}
 use Rattle.history_text.proofs.verdict_writer.put_witness.Goals as goal
 
-pub returns-in_err-put_each-clause-err : goal.returns-in_err-put_each-clause-err
-returns-in_err-put_each-clause-err g c =
-    on_err c.from_residual.result _ (first_stops (line_text c.args.lines.now.initial.now c.args.lines.now.operations.now) (place.Op c.args.empty ∷ [])
-    (flat_map places_of_step c.args.cover.now) _ _ _ c.in_err-put_each.ensures.err)
+pub returns-in_err-put_each : goal.returns-in_err-put_each
+returns-in_err-put_each g c = first_stops _ _ _ (line_text c.args.lines.now.initial.now c.args.lines.now.operations.now) _ c.from_residual.result (place.Op c.args.empty ∷ [])
+    (flat_map places_of_step c.args.cover.now) _ _ _ _ c.from_residual.ensures.1 c.in_err-put_each.ensures.text
 
-pub returns-clause-ok : goal.returns-clause-ok
-returns-clause-ok g c =
-    on_ok_weaker c.put_cover.result (both_put (line_text c.args.lines.now.initial.now c.args.lines.now.operations.now) (place.Op c.args.empty ∷ [])
-    (flat_map places_of_step c.args.cover.now) _ _ _ _ _ _ c.in_ok-put_each.ensures.ok) c.put_cover.ensures.ok
-
-pub returns-clause-err : goal.returns-clause-err
-returns-clause-err g c =
-    on_err_weaker c.put_cover.result (next_stops (line_text c.args.lines.now.initial.now c.args.lines.now.operations.now) (place.Op c.args.empty ∷ [])
-    (flat_map places_of_step c.args.cover.now) _ _ _ _ _ c.in_ok-put_each.ensures.ok) c.put_cover.ensures.err
-
-pub returns-clause-written : goal.returns-clause-written
-returns-clause-written g c = both_written g.W.TextSink.goes c.put_cover.result _ c.in_ok-put_each.ensures.written c.put_cover.ensures.written
-
-pub returns-clause-stopped : goal.returns-clause-stopped
-returns-clause-stopped g c = second_refused g.W.TextSink.goes c.put_cover.result _ c.in_ok-put_each.ensures.written c.put_cover.ensures.stopped
+pub returns : goal.returns
+returns g c = others_then _ _ _ (line_text c.args.lines.now.initial.now c.args.lines.now.operations.now) c.put_cover.result (place.Op c.args.empty ∷ [])
+    (flat_map places_of_step c.args.cover.now) _ _ _ _ _ _ c.in_ok-put_each.ensures.text c.put_cover.ensures

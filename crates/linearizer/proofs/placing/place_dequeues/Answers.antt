@@ -9,7 +9,7 @@ use Rattle.linearizer.proofs.Merging.{below_limit, below_next, dequeue_added, ne
 use Rattle.linearizer.proofs.OrderedPlaces.{lives_long}
 use Rattle.linearizer.proofs.PlacedValues.{IsTurn, dequeue_stands, gap_within, left_more, turn_alone, turn_is, turn_with_dequeue}
 use Rattle.linearizer.proofs.placing.place_dequeues.Goals as goal
-use Rattle.linearizer.proofs.placing.place_dequeues.Goals.{After-max-left, in-Some+else-stands_after+in_ok-place_idles+in_ok-push, in_default}
+use Rattle.linearizer.proofs.placing.place_dequeues.Goals.{After-max-left, in-Some+else-stands_after+in_ok-place_noops+in_ok-push, in_default}
 
 pub bounds-gaps-rank : goal.bounds-gaps-rank
 bounds-gaps-rank c =
@@ -33,8 +33,8 @@ within c = slice_get_within _ _ _ (turn c).at
 
 -- the time from which all values up to this one can have left, where those before it are merged
 left_so_far : (c : After-max-left) (i : ℕ) → IsMergedUpTo c.args.matching.now
-    (lives_at c.args.matching.now c.args.order.now) c.args.idles.now i c.loop-so_far.so_far.dequeues c.loop-so_far.so_far.left
-    c.loop-so_far.so_far.idles c.loop-so_far.places.items
+    (lives_at c.args.matching.now c.args.order.now) c.args.noops.now i c.loop-so_far.so_far.dequeues c.loop-so_far.so_far.left
+    c.loop-so_far.so_far.noops c.loop-so_far.places.items
     → c.max-left.result ≡ greatest_leaves_from (take (c.loop-so_far.so_far.dequeues + 1) (lives_at c.args.matching.now c.args.order.now))
 left_so_far c i merged = left_more _ _ _ _ _ _ _ (turn c) (left_is c) i _ merged.held
 
@@ -53,18 +53,18 @@ loop-so_far-preserved c = λ i none before.
     let here = (goal.at.loop-so_far-preserved c).After-max-left in
     let merged = c.loop-so_far.invariant i none before in
     elim c.match-value.branch [
-      | in-Some+else-stands_after+in_ok-place_idles+in_ok-push w ↦
+      | in-Some+else-stands_after+in_ok-place_noops+in_ok-push w ↦
           let stands = dequeue_stands _ _ _ _ _ w.dequeue-dequeue.result (turn here).gap_is
           (left_so_far here i merged) w.max.ensures w.dequeue-dequeue.ensures.position in
           let enqueues = below_next _ c.args.before w.dequeue-dequeue.result none
           (stands_not_after c.args.before w.dequeue-dequeue.result w.stands_after.result w.stands_after.ensures w.if-stands_after.false) in
           let values = none_of_values _ i _ w.dequeue-dequeue.result (within here) stands enqueues in
-          let idles = w.in_ok-place_idles.ensures.adds _ _ i _ _ values merged in
+          let noops = w.in_ok-place_noops.ensures.adds _ _ i _ _ values merged in
           rw (w.so_far-is, w.places-is, w.in_ok-push.ensures.items)
-          (dequeue_added _ _ _ _ _ _ _ _ idles c.max-left.result w.dequeue-dequeue.result
-          (turn_with_dequeue _ _ _ _ _ _ _ (turn here) (left_is here) i _ idles.held _ _ _ w.in-Some.is w.max.ensures
+          (dequeue_added _ _ _ _ _ _ _ _ noops c.max-left.result w.dequeue-dequeue.result
+          (turn_with_dequeue _ _ _ _ _ _ _ (turn here) (left_is here) i _ noops.held _ _ _ w.in-Some.is w.max.ensures
           w.dequeue-dequeue.ensures.operation w.dequeue-dequeue.ensures.position)
-          (within here) stands enqueues w.in_ok-place_idles.ensures.up_to)
+          (within here) stands enqueues w.in_ok-place_noops.ensures.up_to)
       | in_default w ↦ rw (w.so_far-is, w.places-is) (passed _ _ _ _ _ _ _ _ merged c.max-left.result
           (turn_alone _ _ _ _ _ _ _ (turn here) (left_is here) i _ merged.held w.in_default.is))
     ]

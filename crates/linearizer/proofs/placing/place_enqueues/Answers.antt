@@ -14,7 +14,7 @@ bounds-gaps-rank c =
     (slice_get-get_or c.args.order.now c.loop-rank.rank 0 c.loop-rank-test.true)
 
 pub loop-rank-init : goal.loop-rank-init
-loop-rank-init c = rw c.requires.none (nothing_merged c.args.matching.now (lives_at c.args.matching.now c.args.order.now) c.args.idles.now)
+loop-rank-init c = rw c.requires.none (nothing_merged c.args.matching.now (lives_at c.args.matching.now c.args.order.now) c.args.noops.now)
 
 pub loop-rank-preserved : goal.loop-rank-preserved
 loop-rank-preserved c =
@@ -34,15 +34,15 @@ loop-rank-preserved c =
     let past = c.in_ok-place_dequeues.ensures.up_to i none c.loop-rank.invariant in
     let values : NoneBelow (IsValueFrom lives i c.place_dequeues.new.so_far.dequeues) (Some x.position) =
     (λ p is. elim is [ inl enqueue ↦ none p enqueue | inr dequeue ↦ past p dequeue ]) in
-    let merged = c.in_ok-place_idles.ensures.adds c.args.matching.now lives i _ _ values (c.in_ok-place_dequeues.ensures.adds i none c.loop-rank.invariant) in
+    let merged = c.in_ok-place_noops.ensures.adds c.args.matching.now lives i _ _ values (c.in_ok-place_dequeues.ensures.adds i none c.loop-rank.invariant) in
     rw c.in_ok-push.ensures.items
-    (enqueue_added c.args.matching.now lives c.args.idles.now i _ _ _ _ merged x
+    (enqueue_added c.args.matching.now lives c.args.noops.now i _ _ _ _ merged x
     (enqueue_more c.args.matching.now lives i c.get.result (get_or c.args.gaps.now i 0) turn _ _ merged.values x merged.held names
     c.enqueue-enqueue.ensures.position) within stands past
-    c.in_ok-place_idles.ensures.up_to)
+    c.in_ok-place_noops.ensures.up_to)
 
 pub returns : goal.returns
 returns c =
     let all : c.loop-rank.rank ≡ length c.args.order.now = omega (arith, c.loop-rank-test.false, c.loop-rank.auto.rank-end) in
-    subst (λ n. IsMergedUpTo c.args.matching.now (lives_at c.args.matching.now c.args.order.now) c.args.idles.now n c.loop-rank.so_far.dequeues
-    c.loop-rank.so_far.left c.loop-rank.so_far.idles c.loop-rank.places.items) all c.loop-rank.invariant
+    subst (λ n. IsMergedUpTo c.args.matching.now (lives_at c.args.matching.now c.args.order.now) c.args.noops.now n c.loop-rank.so_far.dequeues
+    c.loop-rank.so_far.left c.loop-rank.so_far.noops c.loop-rank.places.items) all c.loop-rank.invariant

@@ -17,5 +17,5 @@ pub returns : goal.returns
 returns c =
     sorted_by_time (time_at c.args.moment) c.args.values.now c.loop-place.place c.loop-place.entries.items c.sort_unstable_by_key.new.self.items
     c.loop-place.invariant (omega (arith, c.loop-place-test.false, c.len-place-end.ensures))
-    (IsPermutation-trans _ _ _ c.settle.ensures c.sort_unstable_by_key.ensures.permutation)
+    (IsPermutation-trans _ _ _ c.presort.ensures c.sort_unstable_by_key.ensures.permutation)
     (IsNonDecreasingBy-from_sort_by_key (λ timed. timed.time) _ c.sort_unstable_by_key.ensures.sorted (λ a r q k. search rules))

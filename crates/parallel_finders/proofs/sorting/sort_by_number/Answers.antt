@@ -6,14 +6,14 @@ use Rattle.parallel_finders.proofs.sorting.sort_by_number.Goals as goal
 
 pub returns-then-not-is_sorted_by_key-clause-permutation : goal.returns-then-not-is_sorted_by_key-clause-permutation
 returns-then-not-is_sorted_by_key-clause-permutation g c =
-    let settled = c.settle.new.elements in
+    let settled = c.presort.new.elements in
     let sorted = c.par_sort_unstable_by_key in
-    moved_twice c.args.items.now.items settled.items c.as_mut_slice.result.now sorted.new.s settled.len c.settle.ensures c.as_mut_slice.ensures.value
+    moved_twice c.args.items.now.items settled.items c.as_mut_slice.result.now sorted.new.s settled.len c.presort.ensures c.as_mut_slice.ensures.value
     (omega (arith, settled.ok.0)) sorted.ensures.len sorted.ensures.permutation
 
 pub returns-then-not-is_sorted_by_key-clause-rises : goal.returns-then-not-is_sorted_by_key-clause-rises
 returns-then-not-is_sorted_by_key-clause-rises g c = λ n computes.
-    let settled = c.settle.new.elements in
+    let settled = c.presort.new.elements in
     let sorted = c.par_sort_unstable_by_key in
     subst (IsNonDecreasingBy n) (sym (in_place settled.items c.as_mut_slice.result.now sorted.new.s settled.len
     c.as_mut_slice.ensures.value (omega (arith, settled.ok.0)) sorted.ensures.len))

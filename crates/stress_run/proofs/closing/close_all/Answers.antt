@@ -38,7 +38,7 @@ loop-worker-preserved c =
         i.4.1 ∙ ap (λ l. done ++ l) next ∙ sym (append_assoc done (w ∷ []) (into_iter_items c.next.new.self)),
         closing_more c.args.rest done w c.args.standing c.loop-worker.closing.tokens.items c.loop-worker.closing.pass c.loop-worker.closing.fault
             c.close_one-closing.result.tokens.items c.close_one-closing.result.pass c.close_one-closing.result.fault i.4.2
-            e.key e.standing e.stall e.stands e.running e.token e.left e.drawn,
+            e.key e.standing e.stall e.stands e.running e.token e.left e.drawn e.noted,
       ),
     )
 

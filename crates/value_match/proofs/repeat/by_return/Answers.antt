@@ -26,5 +26,5 @@ loop-place-preserved c =
 pub returns : goal.returns
 returns c =
     let sorted = c.sort_unstable_by_key.ensures in
-    by_return _ _ _ _ _ c.loop-place-test.false c.loop-place.invariant (IsPermutation-trans _ _ _ c.settle.ensures sorted.permutation)
+    by_return _ _ _ _ _ c.loop-place-test.false c.loop-place.invariant (IsPermutation-trans _ _ _ c.presort.ensures sorted.permutation)
     (IsNonDecreasingBy-from_sort_by_key (λ e. e.0) _ sorted.sorted (λ e r q k. search rules))

@@ -1,7 +1,7 @@
 use Rattle.std.proofs.Common.{rules}
 use Rattle.std.proofs.lemmas.List.Sorted.{IsNonDecreasingBy-from_sort_by_key, length_permutation}
 use Rattle.std.proofs.lemmas.Slice.Eq.{slice_eq-Decides}
-use Rattle.verdicts.proofs.ClaimedBreaches.{through}
+use Rattle.verdicts.proofs.ClaimedViolations.{through}
 use Rattle.verdicts.proofs.Lookups.{eq-Decides}
 use Rattle.verdicts.proofs.SameLists.{sorted_tells}
 use Rattle.verdicts.proofs.claimed_order.holds_each_once.Goals as goal

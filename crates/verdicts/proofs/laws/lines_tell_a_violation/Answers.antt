@@ -1,5 +1,5 @@
-use Rattle.verdicts.proofs.LinesTell.{lines_tell_breach}
+use Rattle.verdicts.proofs.LinesTell.{lines_tell_violation}
 use Rattle.verdicts.proofs.laws.lines_tell_a_violation.Goals as goal
 
 pub returns : goal.returns
-returns c = lines_tell_breach
+returns c = lines_tell_violation

@@ -1,6 +1,7 @@
-use Rattle.std.proofs.Common.{◌<◌, ap, sym, subst, ◌∙◌, refl, arith}
+use Rattle.std.proofs.Common.{Contains, List, ℕ, ◌<◌, ap, sym, subst, ◌∙◌, refl, arith}
 use Rattle.std.proofs.lemmas.Result.{IfOk-weaker, IfErr-weaker}
-use Rattle.stress_run.proofs.Once.{works_once, stalls_once, stalls_at_call, on_err}
+use Rattle.stress_run.proofs.Once.{drew_call, works_once, told_once, stalls_once, stalls_at_call, on_err}
+use Rattle.tickets.specs.Views.{DrawsOne, PassView}
 use Rattle.event_records.specs.Question.{NamerView, Question}
 use Rattle.event_records.specs.declared.event.Event.{Event}
 use Rattle.event_records.specs.declared.limits.TheConstants.{NAMES_OF_A_THREAD}
@@ -10,21 +11,40 @@ use Rattle.stress_run.proofs.worker.Worker.dequeue_once.Goals as goal
 
 pub returns-clause-works : goal.returns-clause-works
 returns-clause-works g c =
+    let again = subst (λ p. DrawsOne p c.stamp-returned.result.ticket c.stamp-returned.new.pass)
+    c.dequeue-got.ensures.pass c.stamp-returned.ensures.drawn in
     let asks = c.ask_deq-ask.ensures in
     let said = c.stamp-returned.ensures in
     IfOk-weaker c.record-2.result _ _ (λ x ended.
-    works_once Deq _ _ _ _ _ c.self.inside.namer _ c.draw.result _ _ c.ask_deq-ask.result.0 _ _ c.self.view_is (c.self.invariant.0, refl)
-    c.draw.ensures.drawn (asks.question, asks.noted, ap (λ x. x.asked) asks.counted) c.in_ok-record.ensures.sent c.self-2.view_is said.drawn
-    _ c.dequeue-got.result (c.draw.ensures.key ∙ sym c.requires.key) c.dequeue-got.ensures.0 c.dequeue-got.ensures.1 said.noted said.kind ended)
+    works_once Deq _ _ _ _ _ c.self.inside.namer _ c.draw.result _ _ c.ask_deq-ask.result.0 _ _ c.dequeue-got.new.pass.noted
+    c.self.view_is (c.self.invariant.0, refl)
+    c.draw.ensures.drawn (asks.question, asks.noted, ap (λ x. x.asked) asks.counted) c.in_ok-record.ensures.sent c.self-2.view_is again
+    _ c.dequeue-got.result (c.draw.ensures.key ∙ sym c.requires.key) c.dequeue-got.ensures.question c.dequeue-got.ensures.allowed said.noted said.kind ended)
+    c.record-2.ensures.sent
+
+pub returns-clause-told : goal.returns-clause-told
+returns-clause-told g c =
+    let again = subst (λ p. DrawsOne p c.stamp-returned.result.ticket c.stamp-returned.new.pass)
+    c.dequeue-got.ensures.pass c.stamp-returned.ensures.drawn in
+    let asks = c.ask_deq-ask.ensures in
+    let said = c.stamp-returned.ensures in
+    IfOk-weaker c.record-2.result _ _ (λ x ended.
+    told_once Deq _ _ _ _ _ c.self.inside.namer _ c.draw.result _ _ c.ask_deq-ask.result.0 _ _ c.dequeue-got.new.pass.noted
+    c.self.view_is (c.self.invariant.0, refl)
+    c.draw.ensures.drawn (asks.question, asks.noted, ap (λ x. x.asked) asks.counted) c.in_ok-record.ensures.sent c.self-2.view_is again
+    _ c.dequeue-got.result c.dequeue-got.ensures.question said.noted said.kind ended c.dequeue-got.ensures.noted)
     c.record-2.ensures.sent
 
 pub returns-clause-stalls : goal.returns-clause-stalls
 returns-clause-stalls g c =
+    let again = subst (λ p. DrawsOne p c.stamp-returned.result.ticket c.stamp-returned.new.pass)
+    c.dequeue-got.ensures.pass c.stamp-returned.ensures.drawn in
     let asks = c.ask_deq-ask.ensures in
     IfErr-weaker c.record-2.result _ _ (λ x ended.
-    stalls_once Deq _ _ _ _ _ c.self.inside.namer _ c.draw.result _ _ c.ask_deq-ask.result.0 _ c.stamp-returned.result c.self.view_is (c.self.invariant.0, refl)
+    stalls_once Deq _ _ _ _ _ c.self.inside.namer _ c.draw.result _ _ c.ask_deq-ask.result.0 _ c.stamp-returned.result c.dequeue-got.new.pass.noted
+    c.self.view_is (c.self.invariant.0, refl)
     c.draw.ensures.drawn (asks.question, asks.noted, ap (λ x. x.asked) asks.counted) c.in_ok-record.ensures.sent c.self-2.view_is
-    c.stamp-returned.ensures.drawn c.requires.running ended.1 ended.0)
+    again c.requires.running ended.1 ended.0)
     c.record-2.ensures.stopped
 
 pub draw-requires-clause-pass_key : goal.draw-requires-clause-pass_key
@@ -49,7 +69,15 @@ stamp-returned-requires-clause-some_left g c =
     let once = c.draw.ensures.drawn.left in
     let had = ap (λ (w : WorkerView). w.pass.left) c.self.view_is in
     let has = ap (λ (w : WorkerView). w.pass.left) (c.self-2.view_is ∙ c.in_ok-record.ensures.sent) in
-    omega (arith, c.requires.left, once, had, has)
+    let kept = ap (λ (p : PassView). p.left) c.dequeue-got.ensures.pass in
+    omega (arith, c.requires.left, once, had, has, kept)
+
+pub stamp-returned-requires-clause-drew : goal.stamp-returned-requires-clause-drew
+stamp-returned-requires-clause-drew g c =
+    let drawn = ap (λ (w : WorkerView). w.pass.drawn) (c.self-2.view_is ∙ c.in_ok-record.ensures.sent) ∙ c.draw.ensures.drawn.drawn in
+    let call = ap (λ (q : Question). q.call) c.ask_deq-ask.ensures.question in
+    subst (Contains c.dequeue-got.new.pass.drawn) (sym (ap (λ (q : Question). q.call) c.dequeue-got.ensures.question))
+    (subst (λ (l : List ℕ). Contains l c.ask_deq-ask.result.0.call) (sym (ap (λ (p : PassView). p.drawn) c.dequeue-got.ensures.pass)) (drew_call _ _ _ _ drawn call))
 
 pub invariant_of-self-2 : goal.invariant_of-self-2
 invariant_of-self-2 g c = c.self-2.invariant

@@ -14,7 +14,7 @@ loop-self-preserved g c =
       few = c.loop-self.invariant.few;
       bytes = some_passed_on _ _ _ _ c.loop-self.self-inside.kept c.loop-self.self-inside.at c.loop-self.invariant.bytes c.in_ok-count.count
           (drop-drop c.in_ok-count.count c.loop-self.self-inside.at c.loop-self.self-inside.kept) bytes;
-      asked = written_more g.S.TextSink.goes _ _ _ c.loop-self.invariant.asked
-          (took g.S.TextSink.goes c.in_ok-count.count _ _ _ (search rules) c.in_ok-count.ensures.asked);
+      asked = written_more g.S.TextSink.transition _ _ _ c.loop-self.invariant.asked
+          (took g.S.TextSink.transition c.in_ok-count.count _ _ _ (search rules) c.in_ok-count.ensures.asked);
       same = no_refusal _ _ _ c.in_ok-count.count _ c.in_ok-count.ensures.refused (search rules) c.loop-self.invariant.same;
     }

@@ -9,7 +9,7 @@ invariant-loop-self g l = record {
   few : length l.self-inside.kept ≤ 4096;
   bytes : Keeps (append_known (g.S.TextSink.contents l.fn.self.inner) l.fn.self.kept)
       (append_known (g.S.TextSink.contents l.self-inside.inner) (drop l.self-inside.at l.self-inside.kept));
-  asked : IsWritten g.S.TextSink.goes l.fn.self.inner l.self-inside.inner;
+  asked : IsWritten g.S.TextSink.transition l.fn.self.inner l.self-inside.inner;
   same : g.S.TextSink.has_refused l.self-inside.inner ≡ g.S.TextSink.has_refused l.fn.self.inner;
 }
 

@@ -9,19 +9,28 @@ use Rattle.tickets.proofs.pass.Pass.join.Goals as goal
 use Rattle.tickets.proofs.pass.Pass.join.Goals.{After-load}
 
 pub join_seat-requires : goal.join_seat-requires
-join_seat-requires c = (search rules, search rules, search rules, search rules, joins _ _ _ _ _)
+join_seat-requires c = (
+  search rules,
+  search rules,
+  search rules,
+  search rules,
+  joins _ _ _ _ _ (ap (λ m. m.0.log) c.into_parts-seat.ensures.seat)
+      (ap (λ m. m.0.log) c.into_parts-other_seat.ensures.seat),
+)
 
 pub load-requires : goal.load-requires
 load-requires c = (search rules, search rules, looks _ _ _ _)
 
 -- what the joined seat knows
-joined : (c : After-load) → c.load.new.seat.me.0 ≡ put_together (holding c.args.self.left c.args.self.drawn) (holding c.args.other.left c.args.other.drawn)
+joined : (c : After-load) → c.load.new.seat.me.0 ≡ put_together (holding c.args.self.left c.args.self.drawn c.args.self.noted)
+    (holding c.args.other.left c.args.other.drawn c.args.other.noted)
 joined c = ap (λ m. m.0) (c.load.ensures.2.1 ∙ c.join_seat.ensures.2)
     ∙ (λ i. put_together (c.into_parts-seat.ensures.seat i).0 (c.into_parts-other_seat.ensures.seat i).0)
 
 -- the shares together
 whole : (c : After-load) → whole_of c.load.new.seat.me.0 ≡ share_of c.args.self + share_of c.args.other
-whole c = ap whole_of (joined c) ∙ whole_of-put_together (holding c.args.self.left c.args.self.drawn) (holding c.args.other.left c.args.other.drawn)
+whole c = ap whole_of (joined c) ∙ whole_of-put_together (holding c.args.self.left c.args.self.drawn c.args.self.noted)
+    (holding c.args.other.left c.args.other.drawn c.args.other.noted)
 
 pub overflow_add-result : goal.overflow_add-result
 overflow_add-result c =
@@ -38,6 +47,7 @@ invariant_of-result c =
       omega arith,
       ap (λ m. m.1) (c.load.ensures.2.1 ∙ c.join_seat.ensures.2
           ∙ ap (λ m. (put_together m.0 c.into_parts-other_seat.result.0.me.0, m.1)) c.into_parts-seat.ensures.seat),
+      ap (λ (h : Holding). h.log) (joined c),
     )
 
 pub returns-clause-drawn : goal.returns-clause-drawn

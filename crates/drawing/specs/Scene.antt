@@ -1,0 +1,146 @@
+-- The scene of a picture, which characters and pixels draw alike: its rows from top to bottom, and its lanes side by side.
+use Rattle.std.specs.Prelude.{ℕ, ◌+◌, ◌==◌, ◌&&◌, ◌||◌, nat_lt, nat_eq, Bool, true, false, Option, Some, None, List, [], ◌∷◌, ◌++◌, count_by, codes}
+use Rattle.std.specs.List.{flat_map, enumerate_from}
+use Rattle.event_records.specs.declared.event.Event.{Event}
+use Rattle.history_merge.specs.Initial.{HistoryView}
+use Rattle.history_merge.specs.declared.operation.Operation.{Operation}
+use Rattle.history_merge.specs.declared.operation.OpKind.{OpKind}
+use Rattle.history_merge.specs.declared.operation.OpKind.TheVariants as kind
+use Rattle.history_merge.specs.Operations.{operations_of}
+use Rattle.verdicts.specs.declared.verifying.ClaimLine.{ClaimLine}
+use Rattle.verdicts.specs.declared.verifying.Claimed.{Claimed}
+use Rattle.verdicts.specs.declared.verifying.Claimed.TheVariants.{No}
+use Rattle.verdicts.specs.declared.verifying.ViolationKind.TheVariants.{VRepeat}
+use Rattle.drawing.specs.Claim.{order_of}
+use Rattle.drawing.specs.Layout.{threads_of, last_ticket, point, place_in, initial_place_in}
+use Rattle.drawing.specs.Bands.{bands_of}
+use Rattle.drawing.specs.declared.bands.Band.{Band}
+use Rattle.drawing.specs.declared.scene.Row.{Row}
+use Rattle.drawing.specs.declared.scene.Row.TheVariants.{Head, Initial, Ticket, Effect}
+use Rattle.drawing.specs.declared.sheet.Scene.{Scene}
+
+-- what a picture shows: what the queue holds first, the operations, the claim, the threads with events, bands and rows
+pub record SceneView : Type 0 where
+  pub initial : List ℕ
+  pub operations : List Operation
+  pub claimed : Claimed
+  pub threads : List ℕ
+  pub bands : List Band
+  pub rows : List Row
+  pub last_ticket : ℕ
+
+-- the scene that a value of the program stands for
+abbrev pub scene_on : Scene → SceneView
+scene_on scene = record {
+  initial = scene.initial.now;
+  operations = scene.operations.now;
+  claimed = scene.claimed.now;
+  threads = scene.threads.items;
+  bands = scene.bands.items;
+  rows = scene.rows.items;
+  last_ticket = scene.last_ticket;
+}
+
+-- ---- rows
+
+-- the row of an initial value, with its place
+abbrev pub initial_row : ℕ × ℕ → List Row
+initial_row (place, v) = Initial place v ∷ []
+
+-- the rows of the initial values under their head, the front one first; none where there are no values
+abbrev pub initial_rows : List ℕ → List Row
+initial_rows [] = []
+initial_rows (front ∷ others) = Head ∷ flat_map initial_row (enumerate_from 0 (front ∷ others))
+
+-- the row of an operation with this number in an order, if it takes effect where asked
+abbrev pub effect_row_if : Bool → Operation → ℕ → ℕ → List Row
+effect_row_if true o number point = Effect o number point ∷ []
+effect_row_if false o number point = []
+
+-- the row of operation i of an order, if it takes effect just after this ticket
+abbrev pub effect_if : List Operation → ℕ → ℕ × Operation → List Row
+effect_if order ticket (i, o) = effect_row_if (point order i == ticket) o (i + 1) (point order i)
+
+-- the rows of the operations that take effect just after this ticket
+unfoldable pub effect_rows : List Operation → ℕ → List Row
+effect_rows order ticket = flat_map (effect_if order ticket) (enumerate_from 0 order)
+
+-- the row of an event, and those of the effects after it
+abbrev pub event_rows : List Operation → Event → List Row
+event_rows order e = Ticket e.ticket ∷ effect_rows order e.ticket
+
+-- the rows of a history and what is claimed of it
+unfoldable pub rows_of : HistoryView → Claimed → List Row
+rows_of history claimed = initial_rows history.initial ++ flat_map (event_rows (order_of claimed)) history.events
+
+-- the scene of a history and what is claimed of it
+unfoldable pub scene_of : HistoryView → Claimed → SceneView
+scene_of history claimed = record {
+  initial = history.initial;
+  operations = operations_of history.events;
+  claimed = claimed;
+  threads = threads_of history.events;
+  bands = bands_of claimed;
+  rows = rows_of history claimed;
+  last_ticket = last_ticket history.events;
+}
+
+-- ---- where a row stands
+
+-- the time of a row: 0 of initial values, which were there before all tickets
+abbrev pub row_time : Row → ℕ
+row_time Head = 0
+row_time (Initial place v) = 0
+row_time (Ticket ticket) = ticket + 1
+row_time (Effect o number point) = point + 1
+
+-- its turn among the rows of that time
+abbrev pub row_turn : Row → ℕ
+row_turn Head = 0
+row_turn (Initial place v) = place + 1
+row_turn (Ticket ticket) = 0
+row_turn (Effect o number point) = number
+
+-- a row stands above another
+abbrev pub stands_above : Row → Row → Bool
+stands_above other row = nat_lt (row_time other) (row_time row) || (nat_eq (row_time other) (row_time row) && nat_lt (row_turn other) (row_turn row))
+
+-- the number of a row, from 0: how many stand above it
+unfoldable pub row_number : List Row → Row → ℕ
+row_number rows row = count_by (λ other. stands_above other row) rows
+
+-- how many lanes stand to the left of a thread's
+abbrev pub lanes_before : List ℕ → ℕ → ℕ
+lanes_before threads thread = count_by (λ lower. nat_lt lower thread) threads
+
+-- ---- values that were dequeued twice
+
+-- whether a value goes in or out
+abbrev pub way : OpKind → List ℕ
+way (kind.Enq v) = codes "in"
+way _ = codes "out"
+
+-- the word of an operation at this place of a claim
+abbrev pub way_at : OpKind → Option ℕ → List ℕ
+way_at kind None = []
+way_at kind (Some place) = way kind
+
+-- the word of an operation, where the lines have it
+abbrev pub way_of : List ClaimLine → Option Operation → List ℕ
+way_of lines None = []
+way_of lines (Some o) = way_at o.kind (place_in lines o)
+
+-- the word `in` or `out`, where its value was dequeued twice
+abbrev pub way_word : Claimed → Option Operation → List ℕ
+way_word (No VRepeat lines) called = way_of lines called
+way_word _ called = []
+
+-- the word of an initial value at this place of a claim
+abbrev pub in_at : Option ℕ → List ℕ
+in_at None = []
+in_at (Some place) = codes "in"
+
+-- the word `in`, where the value was dequeued twice
+abbrev pub initial_way : Claimed → ℕ → List ℕ
+initial_way (No VRepeat lines) v = in_at (initial_place_in lines v)
+initial_way _ v = []

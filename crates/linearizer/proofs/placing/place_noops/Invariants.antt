@@ -1,0 +1,13 @@
+use Rattle.std.proofs.Common.{ℕ, List, length, ◌-◌}
+use Rattle.history_merge.specs.declared.operation.Operation.{Operation}
+use Rattle.value_match.specs.declared.life.Life.{Life}
+use Rattle.linearizer.specs.Inner.Merging.{IsMergedUpTo, IsValueFrom, NoneBelow}
+use Rattle.linearizer.proofs.placing.place_noops.Given as goal
+
+abbrev pub invariant-loop-count : goal.invariant-loop-count
+invariant-loop-count l = (operations : List Operation) (lives : List Life) (i j left : ℕ) → NoneBelow (IsValueFrom lives i j) l.before
+    → IsMergedUpTo operations lives l.noops i j left l.initial.count l.initial.places.items
+    → IsMergedUpTo operations lives l.noops i j left l.count l.places.items
+
+abbrev pub decreases-loop-count : goal.decreases-loop-count
+decreases-loop-count l = length l.noops - l.count

@@ -1,0 +1,57 @@
+-- A list under a lock, which the log leaves of what was there at first.
+use Rattle.std.proofs.Common.{◌≡◌, ℕ, Bool, true, false, List, [], ◌∷◌, ◌++◌, Option, Some, None, refl, sym, ap, ◌∙◌, subst}
+use Rattle.std.specs.Prelude.{if◌then◌else◌, option_and_then, option_to_list, IsSome}
+use Rattle.std.proofs.lemmas.Bool.{eq-eqb}
+use Rattle.std.proofs.lemmas.List.{map-append}
+use Rattle.std.proofs.lemmas.Option.{same_Some}
+use Rattle.tickets.specs.declared.note.Effect.{Effect}
+use Rattle.tickets.specs.declared.note.Effect.TheVariants as effect
+use Rattle.tickets.specs.declared.note.Note.{Note}
+use Rattle.tickets.specs.Log.{note_at}
+use Rattle.history_merge.specs.declared.operation.OpKind.{OpKind}
+use Rattle.history_merge.specs.Queue.{accept, accept_all, IsAccepted}
+use Rattle.stress_run.specs.Noted.{kind_noted, kinds_noted}
+
+-- one operation more is accepted
+accept_more : (queue : List ℕ) (kinds : List OpKind) (k : OpKind) (s t : List ℕ) → accept_all queue kinds ≡ Some s → accept s k ≡ Some t
+    → accept_all queue (kinds ++ k ∷ []) ≡ Some t
+accept_more queue [] k s t e f = ap (λ (q : List ℕ). option_and_then (λ next. accept_all next []) (accept q k)) (same_Some queue s e)
+    ∙ ap (option_and_then (λ next. accept_all next [])) f
+accept_more queue (x ∷ kinds) k s t e f = by_first (λ q g. accept_more q kinds k s t g f) (accept queue x) e
+  where
+    by_first : ((q : List ℕ) → accept_all q kinds ≡ Some s → accept_all q (kinds ++ k ∷ []) ≡ Some t) → (o : Option (List ℕ)) →
+        option_and_then (λ next. accept_all next kinds) o ≡ Some s
+        → option_and_then (λ next. accept_all next (kinds ++ k ∷ [])) o ≡ Some t
+    by_first later None g = cc
+    by_first later (Some q) g = later q g
+
+-- a note more, of an operation that is accepted
+pub legal_more : (initial : List ℕ) (notes : List Note) (call : ℕ) (e : Effect) (look : ℕ) (s t : List ℕ)
+    → accept_all initial (kinds_noted notes) ≡ Some s → accept s (kind_noted e) ≡ Some t
+    → accept_all initial (kinds_noted (notes ++ note_at call e look ∷ [])) ≡ Some t
+legal_more initial notes call e look s t legal one =
+    ap (accept_all initial) (map-append (λ (n : Note). kind_noted n.effect) notes (note_at call e look ∷ []))
+    ∙ accept_more initial (kinds_noted notes) (kind_noted e) s t legal one
+
+-- a value that is put last is accepted
+pub put_accepts : (old new : List ℕ) (v : ℕ) (b : Bool) → new ≡ (if b then old ++ v ∷ [] else old) → b ≡ true
+    → accept old (kind_noted (effect.Enq v)) ≡ Some new
+put_accepts old new v b is taken = ap (λ (q : List ℕ). Some q) (sym (is ∙ ap (λ (c : Bool). if c then old ++ v ∷ [] else old) taken))
+
+-- one that is refused changes nothing
+pub refusal_accepts : (old new : List ℕ) (v : ℕ) (b : Bool) → new ≡ (if b then old ++ v ∷ [] else old) → b ≡ false
+    → accept old (kind_noted (effect.Not v)) ≡ Some new
+refusal_accepts old new v b is refused = ap (λ (q : List ℕ). Some q) (sym (is ∙ ap (λ (c : Bool). if c then old ++ v ∷ [] else old) refused))
+
+-- what is taken out first is accepted
+pub take_accepts : (old new : List ℕ) (v : ℕ) → old ≡ option_to_list (Some v) ++ new → accept old (kind_noted (effect.Deq v)) ≡ Some new
+take_accepts old new v is =
+    ap (λ (q : List ℕ). accept q (kind_noted (effect.Deq v))) is ∙ ap (λ (b : Bool). if b then Some new else None) (eq-eqb v v refl)
+
+-- nothing is taken out of an empty list
+pub none_accepts : (old new : List ℕ) → old ≡ [] → old ≡ option_to_list None ++ new → accept old (kind_noted effect.Empty) ≡ Some new
+none_accepts old new empty is = ap (λ (q : List ℕ). accept q (kind_noted effect.Empty)) empty ∙ ap (λ (q : List ℕ). Some q) (sym empty ∙ is)
+
+pub is_accepted : (initial : List ℕ) (notes : List Note) (s : List ℕ) → accept_all initial (kinds_noted notes) ≡ Some s
+    → IsAccepted initial (kinds_noted notes)
+is_accepted initial notes s legal = subst IsSome (sym legal) refl

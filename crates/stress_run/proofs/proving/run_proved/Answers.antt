@@ -1,0 +1,39 @@
+use Rattle.std.proofs.Common.{List, ℕ, IfOk, subst, ap, refl}
+use Rattle.std.proofs.lemmas.Result.{IfOk-weaker, IfErr-weaker}
+use Rattle.event_records.specs.declared.event.Event.{Event}
+use Rattle.history_merge.specs.Initial.{IsCompleteFrom}
+use Rattle.history_merge.specs.Legal.{IsLinearizableFrom}
+use Rattle.history_merge.specs.Merge.{IsMerged}
+use Rattle.history_merge.specs.Operations.{operations_of}
+use Rattle.recorder_core.specs.Replay.{Replays}
+use Rattle.stress_run.specs.Crew.{SizesView}
+use Rattle.stress_run.proofs.Preloads.{fault_from, names_no_value}
+use Rattle.stress_run.proofs.proving.run_proved.Goals as goal
+
+pub returns-clause-linearizable : goal.returns-clause-linearizable
+returns-clause-linearizable g c =
+    subst (λ (values : List ℕ). IfOk c.run_named.result (λ r. (merged : List Event) → IsMerged r.lists merged
+    → IsLinearizableFrom values (operations_of merged))) c.in_ok-held.ensures.items c.run_named.ensures.linearizable
+
+pub returns-clause-fits : goal.returns-clause-fits
+returns-clause-fits g c =
+    subst (λ (values : List ℕ). IfOk c.run_named.result (λ r. (merged : List Event) → IsMerged r.lists merged → IsCompleteFrom values merged))
+    c.in_ok-held.ensures.items c.run_named.ensures.fits
+
+pub returns-clause-replays : goal.returns-clause-replays
+returns-clause-replays g c =
+    let ring = ap (λ (s : SizesView). s.ring) c.in-Some.ensures.sizes in
+    IfOk-weaker c.run_named.result _ _ (λ r h.
+    subst (λ (n : ℕ). Replays n c.args.initial.now r.lists) ring
+    (subst (λ (values : List ℕ). Replays c.in-Some.sizes.ring values r.lists) c.in_ok-held.ensures.items h)) c.run_named.ensures.replays
+
+pub returns-clause-fault : goal.returns-clause-fault
+returns-clause-fault g c =
+    IfErr-weaker c.run_named.result _ _ (λ fault is. fault_from _ c.args.initial.now c.args.plan.now c.in-Some.sizes
+    (record { ring = c.args.ring; tries = c.args.tries }) fault c.in-Some.ensures.sizes (c.in-Some.ensures.limits.0 refl) is) c.run_named.ensures.fault
+
+pub returns-clause-preloads : goal.returns-clause-preloads
+returns-clause-preloads g c = λ place is. names_no_value _ c.args.plan.now _ c.run_named.result place is c.run_named.ensures.fault
+
+pub returns-clause-sizes : goal.returns-clause-sizes
+returns-clause-sizes g c = λ not_within. absurd (not_within (c.in-Some.ensures.limits.0 refl))

@@ -1,0 +1,58 @@
+// What a worker asks: a queue under test, or one that notes its answers in the log of the run.
+ghost use Rattle.std.specs.Prelude.{◌≡◌, Contains, Bool, true};
+ghost use Rattle.atomic_table.specs.Seated.{TableId};
+ghost use Rattle.event_records.specs.Question.{Question};
+ghost use Rattle.event_records.specs.declared.kind.Answer.{Answer};
+ghost use Rattle.stress_run.specs.Noted.{NotesOne};
+
+use event_records::{AnsweredDeq, AnsweredEnq, AskDeq, AskEnq};
+use queue_interface::TestQueue;
+use tickets::{Pass, Tickets};
+
+// A queue that workers ask. `may` is as of a `TestQueue`, `notes` whether each answer is noted by the asking pass, and
+// `of_word` of which ticket words its questions may be.
+pub(crate) trait Asked {
+    ghost may: { Self → Question → Answer → Type 0 };
+
+    ghost notes: { Self → Bool };
+
+    ghost of_word: { Self → TableId → Type 0 };
+
+    // Answers a question to enqueue, which this pass drew the call ticket of.
+    fn enqueue(&self, ask: AskEnq, pass: &mut Pass, tickets: &Tickets) -> AnsweredEnq
+        requires key { pass.old.key ≡ tickets.now.key }
+        requires drew { Contains pass.old.drawn ask.call }
+        requires word { of_word self.now tickets.now.key }
+        ensures question { result.question ≡ ask }
+        ensures allowed { may self.now ask result.answer }
+        ensures pass { pass.new ≡ record pass.old { noted = pass.new.noted } }
+        ensures noted { notes self.now ≡ true → NotesOne ask result.answer pass.old.noted pass.new.noted };
+
+    // Answers a question to dequeue.
+    fn dequeue(&self, ask: AskDeq, pass: &mut Pass, tickets: &Tickets) -> AnsweredDeq
+        requires key { pass.old.key ≡ tickets.now.key }
+        requires drew { Contains pass.old.drawn ask.call }
+        requires word { of_word self.now tickets.now.key }
+        ensures question { result.question ≡ ask }
+        ensures allowed { may self.now ask result.answer }
+        ensures pass { pass.new ≡ record pass.old { noted = pass.new.noted } }
+        ensures noted { notes self.now ≡ true → NotesOne ask result.answer pass.old.noted pass.new.noted };
+}
+
+impl<'a> Asked for &'a dyn TestQueue {
+    ghost use Rattle.std.specs.Prelude.{false, ⊤};
+
+    ghost may = { λ q. (TestQueue-dyn q.now).may q.now.1 };
+
+    ghost notes = { λ _. false };
+
+    ghost of_word = { λ _ _. ⊤ };
+
+    fn enqueue(&self, ask: AskEnq, _pass: &mut Pass, _tickets: &Tickets) -> AnsweredEnq {
+        TestQueue::enqueue(*self, ask)
+    }
+
+    fn dequeue(&self, ask: AskDeq, _pass: &mut Pass, _tickets: &Tickets) -> AnsweredDeq {
+        TestQueue::dequeue(*self, ask)
+    }
+}

@@ -1,0 +1,147 @@
+// The queue that is proved: a list under one lock, with the log of what was answered.
+ghost use Rattle.std.specs.Prelude.{◌≡◌, ◌++◌, ◌∷◌, [], ℕ, List, Contains, IfOk, IfErr, IfSome, IfNone, Some, map, if◌then◌else◌};
+ghost use Rattle.atomic_table.specs.Seated.{TableId};
+ghost use Rattle.event_records.specs.Question.{Question};
+ghost use Rattle.history_merge.specs.Queue.{accept_all, IsAccepted};
+ghost use Rattle.queue_interface.specs.Answers.{AnswersInKind};
+ghost use Rattle.stress_run.specs.Noted.{NotesOne, kinds_noted};
+
+use crate::asked::Asked;
+use event_records::{AnsweredDeq, AnsweredEnq, AskDeq, AskEnq};
+use queue_interface::{Fifo, ValueList};
+use std::alloc::Global;
+use std::marker::{Brand, PhantomData};
+use std::sync::{Mutex, Wait};
+use tickets::{Effect, Log, Pass, Tickets};
+
+// Which run a queue is of: its ticket word, and what the queue holds at first. Each run picks it.
+pub(crate) trait OfRun {
+    ghost word: { TableId };
+
+    ghost initial: { List ℕ };
+}
+
+impl OfRun for Brand {
+    ghost use Rattle.std.specs.Prelude.{[]};
+
+    ghost word = { record { words = 0; slots = 0; views_name = 0; atom = 0; block = 0; offset = 0; slot_names = [] } };
+
+    ghost initial = { [] };
+}
+
+// What lies under the lock: the values, which are what the log leaves of those at first.
+#[derive(Drop)]
+pub(crate) struct Desk<J: OfRun> {
+    list: Fifo,
+    log: Log,
+    of: PhantomData<J>,
+    ghost word: { log.key ≡ J.word },
+    ghost legal: { accept_all J.initial (kinds_noted log.notes) ≡ Some list },
+}
+
+impl<J: OfRun> Desk<J> {
+    ghost use Rattle.std.specs.Prelude.{◌≡◌, Contains};
+    ghost use Rattle.queue_interface.specs.Answers.{AnswersInKind};
+    ghost use Rattle.stress_run.specs.Noted.{NotesOne};
+
+    // Puts the value of the question into the list, if memory allows, and notes the answer.
+    fn enqueue(&mut self, ask: AskEnq, pass: &mut Pass, tickets: &Tickets) -> AnsweredEnq
+        requires key { (pass.old.key ≡ tickets.now.key) × (tickets.now.key ≡ J.word) }
+        requires drew { Contains pass.old.drawn ask.call }
+        ensures question { result.question ≡ ask }
+        ensures allowed { AnswersInKind ask result.answer }
+        ensures pass { pass.new ≡ record pass.old { noted = pass.new.noted } }
+        ensures noted { NotesOne ask result.answer pass.old.noted pass.new.noted }
+    {
+        let value = ask.value();
+        if self.list.put(value) {
+            pass.note(tickets, &mut self.log, ask.call(), Effect::Enq(value));
+            ask.taken()
+        } else {
+            pass.note(tickets, &mut self.log, ask.call(), Effect::Not(value));
+            ask.not_taken()
+        }
+    }
+
+    // Takes the first value out of the list, if there is one, and notes the answer.
+    fn dequeue(&mut self, ask: AskDeq, pass: &mut Pass, tickets: &Tickets) -> AnsweredDeq
+        requires key { (pass.old.key ≡ tickets.now.key) × (tickets.now.key ≡ J.word) }
+        requires drew { Contains pass.old.drawn ask.call }
+        ensures question { result.question ≡ ask }
+        ensures allowed { AnswersInKind ask result.answer }
+        ensures pass { pass.new ≡ record pass.old { noted = pass.new.noted } }
+        ensures noted { NotesOne ask result.answer pass.old.noted pass.new.noted }
+    {
+        match self.list.take() {
+            Some(value) => {
+                pass.note(tickets, &mut self.log, ask.call(), Effect::Deq(value));
+                ask.got(value)
+            }
+            None => {
+                pass.note(tickets, &mut self.log, ask.call(), Effect::Empty);
+                ask.empty()
+            }
+        }
+    }
+}
+
+// A queue of one run: no other thread has it.
+#[derive(Drop)]
+pub(crate) struct Session<'r, J: OfRun, R: Wait> {
+    rt: &'r R,
+    desk: Mutex<Desk<J>>,
+}
+
+impl<'r, J: OfRun, R: Wait> Session<'r, J, R> {
+    ghost use Rattle.std.specs.Prelude.{◌≡◌, [], Some};
+    ghost use Rattle.history_merge.specs.Queue.{IsAccepted};
+    ghost use Rattle.stress_run.specs.Noted.{kinds_noted};
+
+    // Makes the queue with these values, and an empty log.
+    pub(crate) fn new(rt: &'r R, list: Fifo, log: Log) -> Session<'r, J, R>
+        requires log { (log.key ≡ J.word) × (log.notes ≡ []) }
+        requires list { list ≡ J.initial }
+    {
+        Session {
+            rt,
+            desk: Mutex::new(Desk {
+                list,
+                log,
+                of: PhantomData,
+            }),
+        }
+    }
+
+    // Returns the log, which the queue accepts from what it held at first.
+    pub(crate) fn into_log(self) -> Log
+        ensures key { result.key ≡ J.word }
+        ensures accepted { IsAccepted J.initial (kinds_noted result.notes) }
+    {
+        let Session { rt: _, desk } = self;
+        let Desk {
+            list: _,
+            log,
+            of: _,
+        } = desk.into_inner();
+        log
+    }
+}
+
+impl<'r, J: OfRun + Send + Sync, R: Wait> Asked for Session<'r, J, R> {
+    ghost use Rattle.std.specs.Prelude.{◌≡◌, true};
+    ghost use Rattle.queue_interface.specs.Answers.{AnswersInKind};
+
+    ghost may = { λ _. AnswersInKind };
+
+    ghost notes = { λ _. true };
+
+    ghost of_word = { λ _ key. key ≡ J.word };
+
+    fn enqueue(&self, ask: AskEnq, pass: &mut Pass, tickets: &Tickets) -> AnsweredEnq {
+        self.desk.lock(self.rt).enqueue(ask, pass, tickets)
+    }
+
+    fn dequeue(&self, ask: AskDeq, pass: &mut Pass, tickets: &Tickets) -> AnsweredDeq {
+        self.desk.lock(self.rt).dequeue(ask, pass, tickets)
+    }
+}

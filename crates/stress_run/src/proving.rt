@@ -1,0 +1,113 @@
+// A run over a queue that is proved.
+ghost use Rattle.std.specs.Prelude.{◌≡◌, ◌≢◌, ℕ, ◌*◌, ◌⊎◌, List, [], Err, length, sum_by, IfOk, IfErr};
+ghost use Rattle.event_records.specs.declared.event.Event.{Event};
+ghost use Rattle.history_merge.specs.Initial.{IsCompleteFrom};
+ghost use Rattle.history_merge.specs.Legal.{IsLinearizableFrom};
+ghost use Rattle.history_merge.specs.Merge.{IsMerged};
+ghost use Rattle.history_merge.specs.Operations.{operations_of};
+ghost use Rattle.queue_interface.specs.Answers.{AnswersInKind};
+ghost use Rattle.recorder_core.specs.Initial.{AreInitialNames};
+ghost use Rattle.recorder_core.specs.Replay.{AreRecorded, Replays};
+ghost use Rattle.stress_run.specs.Failed.{IsFaultOfRun};
+ghost use Rattle.stress_run.specs.Faults.{IsWithinLimits};
+ghost use Rattle.stress_run.specs.Operations.{IsRun};
+ghost use Rattle.stress_run.specs.declared.faults.RunFault.TheVariants.{Limit, Memory, Preload};
+ghost use Rattle.tickets.specs.Views.{fresh_pass};
+
+use crate::faults::RunFault;
+use crate::making::Sizes;
+use crate::proved::{OfRun, Session};
+use crate::runs::{Recorded, run_on};
+use queue_interface::{Fifo, ValueList};
+use recorder_core::are_initial_names;
+use std::alloc::{AllocError, Global};
+use std::marker::Brand;
+use std::sync::Wait;
+use std::thread::Threads;
+use tickets::{Log, Pass, Tickets};
+use workloads::Plan;
+
+// Returns these values as a list.
+fn listed(alloc: Global, values: &[u64]) -> Result<Fifo, AllocError>
+    ensures { IfOk result (λ list. list ≡ values.now) }
+{
+    let mut list = Fifo::empty(alloc);
+    for value in values {
+        if !list.put(*value) {
+            return Err(AllocError);
+        }
+    }
+    Ok(list)
+}
+
+// Runs a plan on a queue of its own. The caller picks `J` for its run.
+fn run_named<J: OfRun + Send + Sync, R: Threads + Wait + Sync>(
+    rt: &R,
+    alloc: Global,
+    named: (Tickets, Pass, Log),
+    initial: Vec<u64>,
+    plan: &Plan,
+    sizes: Sizes,
+) -> Result<Recorded, RunFault>
+    requires sizes { IsWithinLimits sizes.ring sizes.tries }
+    requires names { AreInitialNames initial.items }
+    requires run { (named.0.key ≡ J.word) × (initial.items ≡ J.initial) }
+    requires budget { named.0.budget ≡ 2 * sum_by length plan.now }
+    requires pass { named.1 ≡ fresh_pass named.0.key (2 * sum_by length plan.now) }
+    requires log { named.2 ≡ record { key = named.0.key; notes = [] } }
+    ensures recorded { IfOk result (λ r. IsRun AnswersInKind plan.now r.lists r.total) }
+    ensures initial { IfOk result (λ r. r.initial ≡ initial.items) }
+    ensures lists { IfOk result (λ r. AreRecorded r.lists) }
+    ensures replays { IfOk result (λ r. Replays sizes.ring initial.items r.lists) }
+    ensures fits { IfOk result (λ r. (merged : List Event) → IsMerged r.lists merged → IsCompleteFrom initial.items merged) }
+    ensures linearizable { IfOk result (λ r. (merged : List Event) → IsMerged r.lists merged → IsLinearizableFrom initial.items (operations_of merged)) }
+    ensures fault { IfErr result (IsFaultOfRun AnswersInKind [] plan.now sizes) }
+{
+    let (tickets, pass, log) = named;
+    let list = listed(alloc, initial.as_slice())?;
+    let session: Session<'_, J, R> = Session::new(rt, list, log);
+    let (lists, pass) = run_on(rt, alloc, &session, &tickets, pass, plan, sizes)?;
+    let log = session.into_log();
+    let total = tickets.close_with_log(pass, log);
+    Ok(Recorded {
+        initial,
+        lists,
+        total,
+    })
+}
+
+/// Runs a plan on the proved queue, which is made for this run alone: a list under one lock, which holds these values
+/// at first. The recorded history is linearizable from them, whatever order the threads take.
+///
+/// Each answer is noted under the lock, at a look at the ticket word. The notes exist in proofs alone; each costs four
+/// loads of that word. Faults, waiting and memory are as of [`run_from`](crate::run_from), with the list's memory in
+/// place of the queue's; `Preload` never comes.
+pub fn run_proved<R: Threads + Wait + Sync>(
+    rt: &R,
+    alloc: Global,
+    initial: &[u64],
+    plan: &Plan,
+    ring: usize,
+    tries: u32,
+) -> Result<Recorded, RunFault>
+    ensures recorded { IfOk result (λ r. IsRun AnswersInKind plan.now r.lists r.total) }
+    ensures initial { IfOk result (λ r. r.initial ≡ initial.now) }
+    ensures lists { IfOk result (λ r. AreRecorded r.lists) }
+    ensures replays { IfOk result (λ r. Replays ring initial.now r.lists) }
+    ensures fits { IfOk result (λ r. (merged : List Event) → IsMerged r.lists merged → IsCompleteFrom initial.now merged) }
+    ensures linearizable { IfOk result (λ r. (merged : List Event) → IsMerged r.lists merged → IsLinearizableFrom initial.now (operations_of merged)) }
+    ensures sizes { ¬ IsWithinLimits ring tries → result ≡ Err Limit }
+    ensures names { ¬ AreInitialNames initial.now → (result ≡ Err Limit) ⊎ (result ≡ Err Memory) }
+    ensures preloads { (place : ℕ) → result ≢ Err (Preload place) }
+    ensures fault { IfErr result (IsFaultOfRun AnswersInKind initial.now plan.now (record { ring = ring; tries = tries })) }
+{
+    let Some(sizes) = Sizes::new(ring, tries) else {
+        return Err(RunFault::Limit);
+    };
+    if !are_initial_names(alloc, initial)? {
+        return Err(RunFault::Limit);
+    }
+    let held = Vec::from_slice(alloc, initial)?;
+    let named = Tickets::with_log(alloc, 2 * plan.operations())?;
+    run_named::<Brand, R>(rt, alloc, named, held, plan, sizes)
+}

@@ -1,0 +1,8 @@
+use Rattle.svg_picture.specs.Layout.{page_on}
+use Rattle.svg_picture.specs.Picture.{lane_names}
+use Rattle.svg_picture.proofs.Each.{each_step}
+use Rattle.svg_picture.proofs.lanes.push_threads.Goals as goal
+
+pub loop-thread-preserved : goal.loop-thread-preserved
+loop-thread-preserved c =
+    each_step (lane_names (page_on c.args.sheet.now)) _ _ _ _ _ _ c.loop-thread-test.true c.loop-thread.invariant c.in_ok-push_lane_names.ensures

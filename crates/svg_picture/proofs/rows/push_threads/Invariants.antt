@@ -1,9 +1,0 @@
-use Rattle.std.proofs.Common.{◌≡◌, ◌++◌, take}
-use Rattle.svg_picture.specs.Markup.{each, text_of}
-use Rattle.svg_picture.specs.Layout.{page_on}
-use Rattle.svg_picture.specs.Picture.{lane_names}
-use Rattle.svg_picture.proofs.rows.push_threads.Given as goal
-
-abbrev pub invariant-loop-thread : goal.invariant-loop-thread
-invariant-loop-thread l =
-    l.text.items ≡ l.fn.text.items ++ text_of (each (lane_names (page_on l.sheet)) (take l.thread-index l.sheet.threads.now))

@@ -1,0 +1,10 @@
+use Rattle.std.proofs.Common.{arith}
+use Rattle.std.proofs.lemmas.List.Sorted.{length_permutation}
+use Rattle.value_match.proofs.Lists.{moved_in_place}
+use Rattle.value_match.proofs.presorting.presort.Goals as goal
+
+pub returns : goal.returns
+returns g c =
+    moved_in_place c.args.elements.now.items c.as_mut_slice.result.now c.presort_slice.new.elements c.args.elements.now.len
+    c.as_mut_slice.ensures.value (omega (arith, c.args.elements.now.ok.0))
+    (length_permutation _ _ c.presort_slice.ensures) c.presort_slice.ensures

@@ -1,9 +1,0 @@
-use Rattle.std.proofs.Common.{◌↔◌, length}
-use Rattle.verdicts.specs.Inner.Claims.{StandForCover}
-use Rattle.verdicts.proofs.claimed_breach.shows_cover.Given as goal
-
-abbrev pub invariant-loop-rest : goal.invariant-loop-rest
-invariant-loop-rest l = StandForCover l.operations l.empty l.before l.rest ↔ StandForCover l.operations l.empty l.empty l.lines
-
-abbrev pub decreases-loop-rest : goal.decreases-loop-rest
-decreases-loop-rest l = length l.rest

@@ -1,0 +1,28 @@
+use Rattle.std.proofs.Common.{sym, ◌∙◌}
+use Rattle.std.proofs.lemmas.List.{take_rest}
+use Rattle.verdicts.proofs.ClaimedViolations.{through}
+use Rattle.verdicts.proofs.ClaimedLines.{five_lines_show_no_order, four_lines_order_are, three_lines_order_are}
+use Rattle.verdicts.proofs.claimed_violation.shows_order.Goals as goal
+
+pub returns-in-empty : goal.returns-in-empty
+returns-in-empty c =
+    let shown = c.in-Some-Some-Some in
+    let short = rw take_rest at c.in-empty.len_below in
+    through c.is_order.ensures
+    (three_lines_order_are c.args.operations.now c.args.lines.now _ shown.enq_a shown.enq_b shown.deq_b c.in-len3-up.len_at_least short
+    (sym c.shown_by.ensures ∙ shown.is-0) (sym c.shown_by-2.ensures ∙ shown.is-1) (sym c.shown_by-3.ensures ∙ shown.is-2))
+
+pub returns-in-Some : goal.returns-in-Some
+returns-in-Some c =
+    let shown = c.in-Some-Some-Some in
+    let more = rw take_rest at c.in-len1.len_at_least in
+    let short = rw take_rest at c.in-len1.len_below in
+    let last = rw take_rest at (sym c.shown_by-in-len1.ensures ∙ c.in-Some.is) in
+    through c.is_order-in-Some.ensures
+    (four_lines_order_are c.args.operations.now c.args.lines.now _ _ shown.enq_a shown.enq_b shown.deq_b c.in-Some.deq_a c.in-len3-up.len_at_least more short
+    (sym c.shown_by.ensures ∙ shown.is-0) (sym c.shown_by-2.ensures ∙ shown.is-1) (sym c.shown_by-3.ensures ∙ shown.is-2) last)
+
+pub returns-in_default-rest : goal.returns-in_default-rest
+returns-in_default-rest c =
+    let long = rw take_rest at c.in_default-rest.len_at_least in
+    (λ f. cc, λ shows. absurd (five_lines_show_no_order c.args.operations.now c.args.lines.now long shows))
