@@ -37,7 +37,7 @@ _fifobench() {
             _fifobench_words '-h --help' "$word"
             ;;
         draw)
-            _fifobench_words '--text --html -h --help' "$word"
+            [ "$before" = --around ] || _fifobench_words '--text --html --around --all -h --help' "$word"
             ;;
         stress)
             case $before in

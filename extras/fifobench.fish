@@ -16,6 +16,8 @@ complete -c fifobench -n '__fish_seen_subcommand_from help' -a 'check shrink ver
 complete -c fifobench -n '__fish_seen_subcommand_from check shrink sim stress' -s q -l quiet -d 'Print the first line of the verdict alone'
 complete -c fifobench -n '__fish_seen_subcommand_from draw' -l text -d 'Draw in lines of characters, and not as SVG'
 complete -c fifobench -n '__fish_seen_subcommand_from draw' -l html -d 'Draw as an HTML page, to be looked at in a browser'
+complete -c fifobench -n '__fish_seen_subcommand_from draw' -l around -x -d 'With NO, events drawn around it, 0 to 1000'
+complete -c fifobench -n '__fish_seen_subcommand_from draw' -l all -d 'Draw the whole history, with NO too'
 complete -c fifobench -n '__fish_seen_subcommand_from stress' -l queue -x -d 'Name of the queue' -a "
     proved\t'A list under one lock, proved to keep the order'
     locked\t'A list under one lock'

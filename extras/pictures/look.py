@@ -74,9 +74,28 @@ def mistake(rng, queue, given, digits):
     return "ret-empty"
 
 
-def run(program, word, text):
-    done = subprocess.run([program, word], input=text.encode(), stdout=subprocess.PIPE, check=False)
+def run(program, words, text):
+    done = subprocess.run([program, *words], input=text.encode(), stdout=subprocess.PIPE, check=False)
     return done.stdout.decode("ascii"), done.returncode
+
+
+def drawn(text, answer, around):
+    """How many operations are to be drawn with the answer, and this many events around those that it lists."""
+    tickets, pending, operations = [], {}, []
+    for fields in (line.split() for line in text.splitlines()):
+        if len(fields) > 2:
+            tickets.append(int(fields[0]))
+            if fields[2].startswith("call-"):
+                pending[fields[1]] = int(fields[0])
+            else:
+                operations.append((pending[fields[1]], int(fields[0])))
+    lines = [line.split() for line in answer.splitlines()]
+    if lines[0][0] == "YES":
+        return len(operations)
+    place = {ticket: i for i, ticket in enumerate(tickets)}
+    shown = [(place[int(line[0])], place[int(line[1])]) for line in lines[1:] if line[0] != "init"]
+    places = [(place[call], place[ret]) for call, ret in operations]
+    return sum(any(call - around <= to and at - around <= ret for at, to in shown) for call, ret in places)
 
 
 def box(element):
@@ -147,18 +166,19 @@ def main():
     program, looked, wrong, answers = sys.argv[1], 0, 0, {}
     for seed in range(400):
         text, held = history(random.Random(seed))
-        answer, status = run(program, "check", text)
+        answer, status = run(program, ["check"], text)
         if status > 1:
             answers["refused"] = answers.get("refused", 0) + 1
             continue
         kind = answer.splitlines()[0].strip()
         answers[kind] = answers.get(kind, 0) + 1
-        picture, status = run(program, "draw", text + answer)
-        found = faults(picture, text.count(" call-"), held) if status == 0 else [f"status {status}"]
-        looked += 1
-        if found:
-            wrong += 1
-            print(f"pictures: seed {seed}, {kind}: " + "; ".join(found[:4]))
+        for words, count in (["--all"], text.count(" call-")), ([], drawn(text, answer, 0)), (["--around", "3"], drawn(text, answer, 3)):
+            picture, status = run(program, ["draw", *words], text + answer)
+            found = faults(picture, count, held) if status == 0 else [f"status {status}"]
+            looked += 1
+            if found:
+                wrong += 1
+                print(f"pictures: seed {seed}, {kind}, {' '.join(words)}: " + "; ".join(found[:4]))
     print(f"pictures: {looked} looked at ({', '.join(f'{n} {k}' for k, n in sorted(answers.items()))}), {wrong} wrong")
     return 1 if wrong or not looked else 0
 

@@ -25,24 +25,25 @@ use Rattle.clap.proofs.ValueTestLemmas.{accepts-Accepts}
 use Rattle.event_records.specs.declared.limits.TheConstants.{MAX_RING, MAX_SEED, MAX_STRESS_INITIAL, MAX_THREAD_OPERATIONS, MAX_WORKERS, MIN_RING}
 use Rattle.command_words.specs.Commands.{the_program}
 use Rattle.command_words.specs.Inner.Commands.{IsAnswerable}
-use Rattle.command_words.specs.Options.{number_rule, queue_rule, quiet_rule, stress_rules}
-use Rattle.command_words.specs.Inner.Options.{HasNumber, HasSettings}
+use Rattle.command_words.specs.Options.{draw_rules, flag_rule, number_rule, queue_rule, quiet_rule, stress_rules}
+use Rattle.command_words.specs.Inner.Options.{HasDistance, HasNumber, HasSettings}
+use Rattle.command_words.specs.declared.options.TheConstants.{MAX_AROUND}
 use Rattle.command_words.proofs.Levels.{first_by_default, first_given, last_checks}
 use Rattle.command_words.proofs.NoKinds.{first_none, then_none}
 use Rattle.command_words.proofs.Rows.{DefaultsPass, HasDefault, RowsPass, set_passes}
 use Rattle.command_words.proofs.Stops.{IsNotHelp, StopsWell, turn_stops}
 use Rattle.command_words.proofs.Walks.{AllUseWell, FindsWell, UsesWell, finds_well, walk_keeps}
 
--- ---- the options of `stress`
+-- ---- options
 
--- the value passes the parser of the option with this id
-abbrev test : Text → Text → Bool
-test id v = option_map_or (λ a. accepts a.ignore_case (parser_of_value a.parser) v) (arg_by_id stress_rules id) true
+-- the value passes the parser of the option of these with this id
+abbrev test : List Rule → Text → Text → Bool
+test rules id v = option_map_or (λ a. accepts a.ignore_case (parser_of_value a.parser) v) (arg_by_id rules id) true
 
--- the subcommand as it is built
-abbrev stress_built : Shape
-stress_built = record (new_shape (codes "stress")) {
-  rules = map filled stress_rules ++ filled help_rule ∷ [];
+-- a subcommand with these options, as it is built
+abbrev built_with : Text → List Rule → Shape
+built_with name rules = record (new_shape name) {
+  rules = map filled rules ++ filled help_rule ∷ [];
   is_built = true;
   disable_help_subcommand = true;
 }
@@ -54,52 +55,60 @@ accepted ignore_case parser v e = go (accepts ignore_case parser v) e
     go true e = refl
     go false e = cc
 
--- an option of one value passes its values on where they passed
-set_uses : (a : Rule) (how : Reading)
-    → ((again : Bool) (values : List Text) (rows : List Row)
-    → use_fault again a values rows ≡ or_else (range_kinds 1 1 (length values)) (set_fault again a (values_or_missing a values) rows))
-    → ((values : List Text) (rows : List Row) → used a values rows ≡ with_values a.id how CommandLine (values_or_missing a values) (without a.id rows))
-    → ((v : Text) → accepts a.ignore_case (parser_of_value a.parser) v ≡ true → test a.id v ≡ true) → UsesWell test a
-set_uses a how fault same f again [] rows e p =
-    let bad : kind.InvalidValue ∷ [] ≡ [] = sym (fault again [] rows) ∙ e in
-    cc
-set_uses a how fault same f again (v ∷ vs) rows e p =
-    let values_pass = then_none _ _ (then_none _ _ (sym (fault again (v ∷ vs) rows) ∙ e)) in
-    let first_passes = f v (accepted a.ignore_case (parser_of_value a.parser) v (first_none _ _ values_pass)) in
-    subst (RowsPass test) (sym (same (v ∷ vs) rows)) (set_passes test a.id how (v ∷ vs) rows first_passes p)
+module _ (rules : List Rule) where
+  -- an option of one value passes its values on where they passed
+  set_uses : (a : Rule) (how : Reading)
+      → ((again : Bool) (values : List Text) (rows : List Row)
+      → use_fault again a values rows ≡ or_else (range_kinds 1 1 (length values)) (set_fault again a (values_or_missing a values) rows))
+      → ((values : List Text) (rows : List Row) → used a values rows ≡ with_values a.id how CommandLine (values_or_missing a values) (without a.id rows))
+      → ((v : Text) → accepts a.ignore_case (parser_of_value a.parser) v ≡ true → test rules a.id v ≡ true) → UsesWell (test rules) a
+  set_uses a how fault same f again [] rows e p =
+      let bad : kind.InvalidValue ∷ [] ≡ [] = sym (fault again [] rows) ∙ e in
+      cc
+  set_uses a how fault same f again (v ∷ vs) rows e p =
+      let values_pass = then_none _ _ (then_none _ _ (sym (fault again (v ∷ vs) rows) ∙ e)) in
+      let first_passes = f v (accepted a.ignore_case (parser_of_value a.parser) v (first_none _ _ values_pass)) in
+      subst (RowsPass (test rules)) (sym (same (v ∷ vs) rows)) (set_passes (test rules) a.id how (v ∷ vs) rows first_passes p)
 
-help_uses : UsesWell test (filled help_rule)
-help_uses again values rows e p =
-    let range = (unwrap_or_range (filled help_rule).range) in
-    let bad : kind.DisplayHelp ∷ [] ≡ [] = then_none (range_kinds range.start_inclusive range.end_inclusive (length values)) (kind.DisplayHelp ∷ []) e in
-    cc
+  help_uses : UsesWell (test rules) (filled help_rule)
+  help_uses again values rows e p =
+      let range = (unwrap_or_range (filled help_rule).range) in
+      let bad : kind.DisplayHelp ∷ [] ≡ [] = then_none (range_kinds range.start_inclusive range.end_inclusive (length values)) (kind.DisplayHelp ∷ []) e in
+      cc
 
-number_uses : (name : Text) (low high : ℕ) (default : Text) → ((v : Text) → accepts false (vp.Unsigned low high) v ≡ true → test name v ≡ true)
-    → UsesWell test (filled (number_rule name low high default))
-number_uses name low high default f = set_uses (filled (number_rule name low high default)) AsWritten (λ again values rows. refl) (λ values rows. refl) f
+  number_uses : (name : Text) (low high : ℕ) (default : Text) → ((v : Text) → accepts false (vp.Unsigned low high) v ≡ true → test rules name v ≡ true)
+      → UsesWell (test rules) (filled (number_rule name low high default))
+  number_uses name low high default f = set_uses (filled (number_rule name low high default)) AsWritten (λ again values rows. refl) (λ values rows. refl) f
 
-queue_uses : UsesWell test (filled queue_rule)
-queue_uses = set_uses (filled queue_rule) AsWritten (λ again values rows. refl) (λ values rows. refl) (λ v e. refl)
+  -- a flag takes no value, and its use sets it
+  flag_uses : (name : Text) → ((v : Text) → test rules name v ≡ true) → UsesWell (test rules) (filled (flag_rule name))
+  flag_uses name f again [] rows e p = set_passes (test rules) name (reading_by (filled (flag_rule name))) (codes "true" ∷ []) rows (f (codes "true")) p
+  flag_uses name f again (v ∷ vs) rows e p = set_passes (test rules) name (reading_by (filled (flag_rule name))) (v ∷ vs) rows (f v) p
 
--- a flag takes no value, and its use sets it
-flag_uses : UsesWell test (filled quiet_rule)
-flag_uses again [] rows e p = set_passes test (codes "quiet") (reading_by (filled quiet_rule)) (codes "true" ∷ []) rows refl p
-flag_uses again (v ∷ vs) rows e p = set_passes test (codes "quiet") (reading_by (filled quiet_rule)) (v ∷ vs) rows refl p
+-- ---- those of `stress`
 
-all_use_well : AllUseWell test stress_built.rules
+queue_uses : UsesWell (test stress_rules) (filled queue_rule)
+queue_uses = set_uses stress_rules (filled queue_rule) AsWritten (λ again values rows. refl) (λ values rows. refl) (λ v e. refl)
+
+-- so does that for a quiet answer
+quiet_uses : UsesWell (test stress_rules) (filled quiet_rule)
+quiet_uses again [] rows e p = set_passes (test stress_rules) (codes "quiet") (reading_by (filled quiet_rule)) (codes "true" ∷ []) rows refl p
+quiet_uses again (v ∷ vs) rows e p = set_passes (test stress_rules) (codes "quiet") (reading_by (filled quiet_rule)) (v ∷ vs) rows refl p
+
+all_use_well : AllUseWell (test stress_rules) (built_with (codes "stress") stress_rules).rules
 all_use_well = (
   queue_uses,
   (
-    number_uses (codes "threads") 1 MAX_WORKERS (codes "2") (λ v e. e),
+    number_uses stress_rules (codes "threads") 1 MAX_WORKERS (codes "2") (λ v e. e),
     (
-      number_uses (codes "ops") 0 MAX_THREAD_OPERATIONS (codes "1000") (λ v e. e),
+      number_uses stress_rules (codes "ops") 0 MAX_THREAD_OPERATIONS (codes "1000") (λ v e. e),
       (
-        number_uses (codes "seed") 0 MAX_SEED (codes "1") (λ v e. e),
+        number_uses stress_rules (codes "seed") 0 MAX_SEED (codes "1") (λ v e. e),
         (
-          number_uses (codes "percent") 0 100 (codes "50") (λ v e. e),
+          number_uses stress_rules (codes "percent") 0 100 (codes "50") (λ v e. e),
           (
-            number_uses (codes "ring") MIN_RING MAX_RING (codes "1024") (λ v e. e),
-            (number_uses (codes "initial") 0 MAX_STRESS_INITIAL (codes "0") (λ v e. e), (flag_uses, (help_uses, tt))),
+            number_uses stress_rules (codes "ring") MIN_RING MAX_RING (codes "1024") (λ v e. e),
+            (number_uses stress_rules (codes "initial") 0 MAX_STRESS_INITIAL (codes "0") (λ v e. e), (quiet_uses, (help_uses stress_rules, tt))),
           ),
         ),
       ),
@@ -107,7 +116,7 @@ all_use_well = (
   ),
 )
 
-defaults_do : DefaultsPass test stress_built.rules
+defaults_do : DefaultsPass (test stress_rules) (built_with (codes "stress") stress_rules).rules
 defaults_do = (tt, (refl, (refl, (refl, (refl, (refl, (refl, (refl, (tt, tt)))))))))
 
 any_text : (o : Option Text) (P : Text → Type 0) → IsSomeAnd o P → IsSome o
@@ -123,35 +132,70 @@ left_true true e = refl
 left_true false e = e
 
 -- the last check of `stress`: what is required was given
-given_queue : (rows : List Row) → check_fault stress_built rows false ≡ [] → is_given (codes "queue") rows ≡ true
+given_queue : (rows : List Row) → check_fault (built_with (codes "stress") stress_rules) rows false ≡ [] → is_given (codes "queue") rows ≡ true
 given_queue rows e = go (is_given (codes "queue") rows) e
   where
     go : (b : Bool) → (if not b || false then kind.MissingRequiredArgument ∷ [] else []) ≡ [] → b ≡ true
     go true e = refl
     go false e = cc
 
-module _ (rest : List Text) (none : level_fault stress_built [] nothing_held rest false [] ≡ []) where
-  well : FindsWell test stress_built.rules
-  well = finds_well test stress_built.rules all_use_well
+-- a number of a subcommand that was met without a fault
+module _ (name : Text) (rules : List Rule) (uses : AllUseWell (test rules) (built_with name rules).rules)
+    (defaults : DefaultsPass (test rules) (built_with name rules).rules) (rest : List Text)
+    (none : level_fault (built_with name rules) [] nothing_held rest false [] ≡ []) where
+  well : FindsWell (test rules) (built_with name rules).rules
+  well = finds_well (test rules) (built_with name rules).rules uses
 
-  number : (id : Text) (low high : ℕ) → ((v : Text) → test id v ≡ true → accepts false (vp.Unsigned low high) v ≡ true) → HasDefault id stress_built.rules
-      → HasNumber id low high (rows_after stress_built.rules [] rest)
+  number : (id : Text) (low high : ℕ) → ((v : Text) → test rules id v ≡ true → accepts false (vp.Unsigned low high) v ≡ true)
+      → HasDefault id (built_with name rules).rules → HasNumber id low high (rows_after (built_with name rules).rules [] rest)
   number id low high f default =
-      such_text _ (λ v. test id v ≡ true) (IsUnsignedIn low high) (λ v e. accepts-Accepts false (vp.Unsigned low high) v (f v e))
-      (first_by_default test stress_built rest well defaults_do none id default)
+      such_text _ (λ v. test rules id v ≡ true) (IsUnsignedIn low high) (λ v e. accepts-Accepts false (vp.Unsigned low high) v (f v e))
+      (first_by_default (test rules) (built_with name rules) rest well defaults none id default)
 
-  has_settings : HasSettings (rows_after stress_built.rules [] rest)
+module _ (rest : List Text) (none : level_fault (built_with (codes "stress") stress_rules) [] nothing_held rest false [] ≡ []) where
+  setting : (id : Text) (low high : ℕ) → ((v : Text) → test stress_rules id v ≡ true → accepts false (vp.Unsigned low high) v ≡ true)
+      → HasDefault id (built_with (codes "stress") stress_rules).rules
+      → HasNumber id low high (rows_after (built_with (codes "stress") stress_rules).rules [] rest)
+  setting = number (codes "stress") stress_rules all_use_well defaults_do rest none
+
+  found : FindsWell (test stress_rules) (built_with (codes "stress") stress_rules).rules
+  found = well (codes "stress") stress_rules all_use_well defaults_do rest none
+
+  has_settings : HasSettings (rows_after (built_with (codes "stress") stress_rules).rules [] rest)
   has_settings = record {
-    queue = any_text _ (λ v. test (codes "queue") v ≡ true)
-        (first_given test stress_built rest well defaults_do none (codes "queue")
-        (given_queue (rows_after stress_built.rules [] rest) (last_checks test stress_built rest well defaults_do none)));
-    threads = number (codes "threads") 1 MAX_WORKERS (λ v e. e) (inr (inl (refl, tt)));
-    operations = number (codes "ops") 0 MAX_THREAD_OPERATIONS (λ v e. e) (inr (inr (inl (refl, tt))));
-    seed = number (codes "seed") 0 MAX_SEED (λ v e. e) (inr (inr (inr (inl (refl, tt)))));
-    percent = number (codes "percent") 0 100 (λ v e. e) (inr (inr (inr (inr (inl (refl, tt))))));
-    ring = number (codes "ring") MIN_RING MAX_RING (λ v e. e) (inr (inr (inr (inr (inr (inl (refl, tt)))))));
-    initial = number (codes "initial") 0 MAX_STRESS_INITIAL (λ v e. e) (inr (inr (inr (inr (inr (inr (inl (refl, tt))))))));
+    queue = any_text _ (λ v. test stress_rules (codes "queue") v ≡ true)
+        (first_given (test stress_rules) (built_with (codes "stress") stress_rules) rest found defaults_do none (codes "queue")
+        (given_queue (rows_after (built_with (codes "stress") stress_rules).rules [] rest)
+        (last_checks (test stress_rules) (built_with (codes "stress") stress_rules) rest found defaults_do none)));
+    threads = setting (codes "threads") 1 MAX_WORKERS (λ v e. e) (inr (inl (refl, tt)));
+    operations = setting (codes "ops") 0 MAX_THREAD_OPERATIONS (λ v e. e) (inr (inr (inl (refl, tt))));
+    seed = setting (codes "seed") 0 MAX_SEED (λ v e. e) (inr (inr (inr (inl (refl, tt)))));
+    percent = setting (codes "percent") 0 100 (λ v e. e) (inr (inr (inr (inr (inl (refl, tt))))));
+    ring = setting (codes "ring") MIN_RING MAX_RING (λ v e. e) (inr (inr (inr (inr (inr (inl (refl, tt)))))));
+    initial = setting (codes "initial") 0 MAX_STRESS_INITIAL (λ v e. e) (inr (inr (inr (inr (inr (inr (inl (refl, tt))))))));
   }
+
+-- ---- those of `draw`
+
+draw_uses_well : AllUseWell (test draw_rules) (built_with (codes "draw") draw_rules).rules
+draw_uses_well = (
+  flag_uses draw_rules (codes "text") (λ v. refl),
+  (
+    flag_uses draw_rules (codes "html") (λ v. refl),
+    (
+      number_uses draw_rules (codes "around") 0 MAX_AROUND (codes "0") (λ v e. e),
+      (flag_uses draw_rules (codes "all") (λ v. refl), (help_uses draw_rules, tt)),
+    ),
+  ),
+)
+
+draw_defaults : DefaultsPass (test draw_rules) (built_with (codes "draw") draw_rules).rules
+draw_defaults = (refl, (refl, (refl, (refl, (tt, tt)))))
+
+has_distance : (rest : List Text) → level_fault (built_with (codes "draw") draw_rules) [] nothing_held rest false [] ≡ []
+    → HasDistance (rows_after (built_with (codes "draw") draw_rules).rules [] rest)
+has_distance rest none =
+    number (codes "draw") draw_rules draw_uses_well draw_defaults rest none (codes "around") 0 MAX_AROUND (λ v e. e) (inr (inr (inl (refl, tt))))
 
 -- ---- the program
 
@@ -233,7 +277,7 @@ all_answer_well = (
     (
       (λ name rest a n e. inr (inr (inl refl))),
       (
-        (λ name rest a n e. inr (inr (inr (inl refl)))),
+        (λ name rest a n e. inr (inr (inr (inl (refl, has_distance rest e))))),
         (
           (λ name rest a n e. inr (inr (inr (inr (inl refl))))),
           (

@@ -1,13 +1,14 @@
 -- What can be answered is a request, with its numbers in their ranges.
 use Rattle.std.proofs.Common.{◌≤◌, inl, inr, ℕ, List, Option, Some, None, codes, unwrap_or, []}
-use Rattle.std.specs.Prelude.{IsSomeAnd}
+use Rattle.std.specs.Prelude.{IfSome, IsSomeAnd, Bool, true, false, if◌then◌else◌}
 use Rattle.std.specs.Str.Parse.{digits_value, without_leading_plus}
 use Rattle.clap.specs.Values.{IsUnsignedIn}
 use Rattle.clap.specs.Walk.{Row, Text, first_of}
 use Rattle.event_records.specs.declared.limits.TheConstants.{MAX_RING, MAX_SEED, MAX_STRESS_INITIAL, MAX_THREAD_OPERATIONS, MAX_WORKERS, MIN_RING}
 use Rattle.command_words.specs.Commands.{IsInRange, request_named, request_of_subcommand}
 use Rattle.command_words.specs.Inner.Commands.{IsAnswerable}
-use Rattle.command_words.specs.Options.{IsWithinRanges, number_in, settings_in}
+use Rattle.command_words.specs.declared.options.TheConstants.{MAX_AROUND}
+use Rattle.command_words.specs.Options.{IsWithinRanges, has_flag, number_in, settings_in}
 use Rattle.command_words.specs.Inner.Options.{HasNumber, HasSettings}
 
 -- the value of a text that is a number in a range
@@ -33,7 +34,11 @@ named : (name : Text) (rows : List Row) → IsAnswerable (Some (name, rows)) →
 named name rows (inl is) = rw is tt
 named name rows (inr (inl is)) = rw is tt
 named name rows (inr (inr (inl is))) = rw is tt
-named name rows (inr (inr (inr (inl is)))) = rw is tt
+named name rows (inr (inr (inr (inl draw)))) = rw draw.0 (near (has_flag (codes "all") rows))
+  where
+    near : (b : Bool) → IfSome (if b then None else Some (number_in (codes "around") rows)) (λ n. n ≤ MAX_AROUND)
+    near true = tt
+    near false = (in_range (codes "around") 0 MAX_AROUND rows draw.1).1
 named name rows (inr (inr (inr (inr (inl is))))) = rw is tt
 named name rows (inr (inr (inr (inr (inr (inl is)))))) = rw is tt
 named name rows (inr (inr (inr (inr (inr (inr (inl is))))))) = rw is tt

@@ -1,13 +1,14 @@
 -- The commands of the program.
-use Rattle.std.specs.Prelude.{Bool, true, false, List, [], ◌∷◌, Option, Some, None, option_and_then, codes, if◌then◌else◌, ⊤}
+use Rattle.std.specs.Prelude.{◌≤◌, IfSome, Bool, true, false, List, [], ◌∷◌, Option, Some, None, option_and_then, codes, if◌then◌else◌, ⊤}
 use Rattle.std.specs.Option.{option_map_or}
 use Rattle.std.specs.Str.{bytes_eq}
 use Rattle.clap.specs.Faults.{fault_of}
 use Rattle.clap.specs.Kinds.{Kinds}
 use Rattle.clap.specs.Simple.{App, new_shape, subcommand_of}
 use Rattle.clap.specs.Walk.{Row, Text}
-use Rattle.command_words.specs.Options.{IsWithinRanges, Settings, form_in, is_quiet, settings_in, settings_of, the_draw, the_judging, the_stress}
-use Rattle.command_words.specs.declared.options.PictureForm.{PictureForm}
+use Rattle.command_words.specs.Options.{IsWithinRanges, Settings, drawing_in, is_quiet, settings_in, settings_of, the_draw, the_judging, the_stress}
+use Rattle.command_words.specs.declared.options.DrawOptions.{DrawOptions}
+use Rattle.command_words.specs.declared.options.TheConstants.{MAX_AROUND}
 use Rattle.command_words.specs.declared.tasks.Task.{Task}
 use Rattle.command_words.specs.declared.tasks.Task.TheVariants as task
 
@@ -32,7 +33,7 @@ pub data Request : Type 0 where
   check : Request
   shrink : Request
   verify : Request
-  draw : PictureForm → Request
+  draw : DrawOptions → Request
   convert : Request
   stats : Request
   sim : Request
@@ -44,7 +45,7 @@ request_named name rows =
     if bytes_eq name (codes "check") then Some check
     else if bytes_eq name (codes "shrink") then Some shrink
     else if bytes_eq name (codes "verify") then Some verify
-    else if bytes_eq name (codes "draw") then Some (draw (form_in rows))
+    else if bytes_eq name (codes "draw") then Some (draw (drawing_in rows))
     else if bytes_eq name (codes "convert") then Some convert
     else if bytes_eq name (codes "stats") then Some stats
     else if bytes_eq name (codes "sim") then Some sim
@@ -71,7 +72,7 @@ abbrev pub request_of : Task → Request
 request_of task.Check = check
 request_of task.Shrink = shrink
 request_of task.Verify = verify
-request_of (task.Draw form) = draw form
+request_of (task.Draw options) = draw options
 request_of task.Convert = convert
 request_of task.Stats = stats
 request_of task.Sim = sim
@@ -79,5 +80,6 @@ request_of (task.Stress options) = stress (settings_of options)
 
 -- each number of the request lies in the range of its option
 abbrev pub IsInRange : Request → Type 0
+IsInRange (draw options) = IfSome options.around (λ n. n ≤ MAX_AROUND)
 IsInRange (stress settings) = IsWithinRanges settings
 IsInRange _ = ⊤

@@ -7,8 +7,10 @@ use Rattle.clap.specs.Walk.{Row, Rule, Text, first_of}
 use Rattle.clap.specs.declared.builder.action.ArgAction.TheVariants.{SetTrue}
 use Rattle.clap.specs.declared.builder.value_parser.ValueParser.TheVariants as vp
 use Rattle.event_records.specs.declared.limits.TheConstants.{MAX_RING, MAX_SEED, MAX_STRESS_INITIAL, MAX_THREAD_OPERATIONS, MAX_WORKERS, MIN_RING}
+use Rattle.command_words.specs.declared.options.TheConstants.{MAX_AROUND}
 use Rattle.command_words.specs.declared.options.PictureForm.{PictureForm}
 use Rattle.command_words.specs.declared.options.PictureForm.TheVariants.{Html, Svg, Terminal}
+use Rattle.command_words.specs.declared.options.DrawOptions.{DrawOptions}
 use Rattle.command_words.specs.declared.options.StressOptions.{StressOptions}
 
 -- ---- what may be written
@@ -49,9 +51,14 @@ quiet_rule = record (new_rule (codes "quiet")) {
 abbrev pub the_judging : Text → Shape
 the_judging name = record (new_shape name) { rules = quiet_rule ∷ [] }
 
--- `draw` with its flags
+-- the flags of `draw`, and how many events around a violation it draws
+abbrev pub draw_rules : List Rule
+draw_rules =
+    flag_rule (codes "text") ∷ flag_rule (codes "html") ∷ number_rule (codes "around") 0 MAX_AROUND (codes "0") ∷ flag_rule (codes "all") ∷ []
+
+-- `draw` with its options
 abbrev pub the_draw : Shape
-the_draw = record (new_shape (codes "draw")) { rules = flag_rule (codes "text") ∷ flag_rule (codes "html") ∷ [] }
+the_draw = record (new_shape (codes "draw")) { rules = draw_rules }
 
 -- the options in the order of the help: ranges and defaults
 abbrev pub stress_rules : List Rule
@@ -114,6 +121,18 @@ is_quiet rows = has_flag (codes "quiet") rows
 -- the form of a picture that clap's matches of `draw` ask for: characters if that flag was given, else a page, else SVG
 abbrev pub form_in : List Row → PictureForm
 form_in rows = if has_flag (codes "text") rows then Terminal else (if has_flag (codes "html") rows then Html else Svg)
+
+-- how many events around a violation are drawn: all that there are, if that flag was given
+abbrev pub around_in : List Row → Option ℕ
+around_in rows = if has_flag (codes "all") rows then None else Some (number_in (codes "around") rows)
+
+-- a picture in this form, with no events around a violation
+abbrev pub drawing_as : PictureForm → DrawOptions
+drawing_as form = record { form = form; around = Some 0 }
+
+-- how clap's matches of `draw` ask for a picture
+abbrev pub drawing_in : List Row → DrawOptions
+drawing_in rows = record { form = form_in rows; around = around_in rows }
 
 -- the settings that clap's matches of `stress` give, in which an option that isn't given has its default
 abbrev pub settings_in : List Row → Settings

@@ -7,6 +7,7 @@ ghost use Rattle.command_words.specs.Commands.{the_program, the_program_alone};
 ghost use Rattle.command_words.specs.Options.{flag_rule, number_rule, queue_rule, quiet_rule, the_draw, the_judging, the_stress};
 
 use crate::help;
+use crate::options::MAX_AROUND;
 use clap::builder::ValueParser;
 use clap::{Arg, ArgAction, Command};
 use event_records::{
@@ -99,7 +100,9 @@ fn draw_command<'a>(alloc: Global) -> Result<Command<'a>, AllocError>
 {
     plain_command(alloc, "draw", help::DRAW_ABOUT, help::DRAW_LONG)
         .arg(flag_option(alloc, "text", help::TEXT_HELP))?
-        .arg(flag_option(alloc, "html", help::HTML_HELP))
+        .arg(flag_option(alloc, "html", help::HTML_HELP))?
+        .arg(number_option(alloc, "around", (0, MAX_AROUND), "0", help::AROUND_HELP))?
+        .arg(flag_option(alloc, "all", help::ALL_HELP))
 }
 
 fn flag_option<'a>(alloc: Global, name: &'a str, about: &'a str) -> Arg<'a>

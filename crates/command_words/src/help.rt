@@ -1,9 +1,9 @@
 //! The texts of the help. No line is longer than 80 characters. Of each command a short text is printed for `-h`, and a long one
 //! for `--help`.
 
-/// The version of the program, as CHANGELOG.md has it, and in a second line the kit that proves and builds it.
-pub(crate) const VERSION: &str =
-    "0.2.0\nproved and built with rattle-kit-13f logic dac8208d650f15bf";
+/// The version of the program, as CHANGELOG.md has it, and in a second line the logic that its proofs are checked in: that of the
+/// kit, whose name says nothing of it.
+pub(crate) const VERSION: &str = "0.2.0\nproved in the Rattle logic dac8208d650f15bf";
 
 pub(crate) const ABOUT: &str = "Records and judges histories of a concurrent FIFO queue";
 
@@ -142,8 +142,14 @@ the history, `INVALID`, and nothing is drawn. Values that the queue holds first
 first, numbered as operations are. `6:11` is value 11 of thread 6 as recorders
 name it, 6 * 2^32 + 11, and `init:3` is 2^38 + 3.
 
-More than 400 operations or values that the queue holds first, or more than 400
-lines of the verdict, are `REFUSED Size`: shrink the history first. Lines count
+With `NO` only the operations that show it and those that overlap one of them
+are drawn; a row `... 250 events ...` stands for what is left out between. With
+`--around 20` so are the 20 events before and after each operation that shows
+it, and all that is pending meanwhile: in characters with `(`, `)` and `:`. With
+`--all` everything is drawn.
+
+More than 400 operations to be drawn, values that the queue holds first, or
+lines of the verdict are `REFUSED Size`: shrink the history first. Lines count
 from 1 through both texts.
 
 Status:
@@ -175,6 +181,10 @@ Example:
 pub(crate) const TEXT_HELP: &str = "Draws in lines of characters, and not as SVG";
 
 pub(crate) const HTML_HELP: &str = "Draws as an HTML page, to be looked at in a browser";
+
+pub(crate) const AROUND_HELP: &str = "With NO, events drawn around it, 0 to 1000";
+
+pub(crate) const ALL_HELP: &str = "Draws the whole history, with NO too";
 
 pub(crate) const CONVERT_ABOUT: &str = "Writes a history as a text of version 2";
 

@@ -1,9 +1,10 @@
 //! The options of `draw` and `stress`.
-ghost use Rattle.std.specs.Prelude.{◌≡◌, ℕ, Some};
+ghost use Rattle.std.specs.Prelude.{◌≡◌, ◌≤◌, ℕ, Some, IfSome};
 ghost use Rattle.clap.specs.Matches.{found_of};
 ghost use Rattle.clap.specs.Walk.{rows_of};
-ghost use Rattle.command_words.specs.Options.{IsWithinRanges, form_in, has_flag, is_given, is_quiet, number_in, settings_in, settings_of};
-ghost use Rattle.command_words.specs.Inner.Options.{HasNumber, HasSettings};
+ghost use Rattle.command_words.specs.Options.{IsWithinRanges, around_in, drawing_as, drawing_in, form_in, has_flag, is_given, is_quiet};
+ghost use Rattle.command_words.specs.Options.{number_in, settings_in, settings_of};
+ghost use Rattle.command_words.specs.Inner.Options.{HasDistance, HasNumber, HasSettings};
 
 use clap::ArgMatches;
 
@@ -18,8 +19,55 @@ pub enum PictureForm {
     Terminal,
 }
 
+/// The greatest distance that `draw` takes, in events.
+pub const MAX_AROUND: u64 = 1000;
+
+/// How `draw` draws.
+#[derive(Clone, Copy, Debug, PartialEq, Eq)]
+pub struct DrawOptions {
+    pub form: PictureForm,
+    /// Of a `NO`, how many events before and after the operations that show it are drawn; all of the history, if `None`.
+    pub around: Option<usize>,
+}
+
+impl DrawOptions {
+    /// What `draw` takes if it is asked for no more than a form.
+    pub fn new(form: PictureForm) -> DrawOptions
+        ensures { result ≡ drawing_as form }
+    {
+        DrawOptions {
+            form,
+            around: Some(0),
+        }
+    }
+}
+
+/// The options in the matches of `draw`.
+pub(crate) fn draw_options(matches: &ArgMatches<'_>) -> DrawOptions
+    requires { HasDistance (rows_of (found_of matches.now)) }
+    ensures drawing { result ≡ drawing_in (rows_of (found_of matches.now)) }
+    ensures range { IfSome result.around (λ n. n ≤ MAX_AROUND) }
+{
+    DrawOptions {
+        form: picture_form(matches),
+        around: distance(matches),
+    }
+}
+
+fn distance(matches: &ArgMatches<'_>) -> Option<usize>
+    requires { HasDistance (rows_of (found_of matches.now)) }
+    ensures around { result ≡ around_in (rows_of (found_of matches.now)) }
+    ensures range { IfSome result (λ n. n ≤ MAX_AROUND) }
+{
+    if has_flag(matches, "all") {
+        None
+    } else {
+        Some(number(matches, "around") as usize)
+    }
+}
+
 /// The form of a picture in the matches of `draw`.
-pub(crate) fn picture_form(matches: &ArgMatches<'_>) -> PictureForm
+fn picture_form(matches: &ArgMatches<'_>) -> PictureForm
     ensures { result ≡ form_in (rows_of (found_of matches.now)) }
 {
     if has_flag(matches, "text") {

@@ -6,7 +6,7 @@ ghost use Rattle.command_words.specs.Commands.{IsInRange, faults_in, is_quiet_in
 ghost use Rattle.command_words.specs.Inner.Commands.{IsAnswerable};
 
 use crate::commands::the_command;
-use crate::options::{PictureForm, StressOptions, is_quiet, picture_form, stress_options};
+use crate::options::{DrawOptions, StressOptions, draw_options, is_quiet, stress_options};
 use clap::{ArgMatches, Error};
 use std::alloc::Global;
 use std::convert::AsStr;
@@ -20,8 +20,8 @@ pub enum Task<'a> {
     Shrink,
     /// Read a history and a claimed verdict, and print whether the verdict holds.
     Verify,
-    /// Read a history and a claimed verdict, and print a picture of both in this form.
-    Draw(PictureForm),
+    /// Read a history and a claimed verdict, and print a picture of both.
+    Draw(DrawOptions),
     /// Read a history of either version of the text, and write it in version 2.
     Convert,
     /// Read a history and print its statistics.
@@ -87,7 +87,7 @@ fn task_of<'a>(matches: &ArgMatches<'a>) -> Task<'a>
         "check" => Task::Check,
         "shrink" => Task::Shrink,
         "verify" => Task::Verify,
-        "draw" => Task::Draw(picture_form(options)),
+        "draw" => Task::Draw(draw_options(options)),
         "convert" => Task::Convert,
         "stats" => Task::Stats,
         "sim" => Task::Sim,

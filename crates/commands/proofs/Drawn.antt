@@ -8,14 +8,16 @@ use Rattle.verdicts.specs.Claims.{IsTrueClaim}
 use Rattle.verdicts.specs.Claiming.{claim_of}
 use Rattle.verdicts.specs.Verdicts.{IsEvidenceFrom, IsExactFrom, IsVerdictFrom}
 use Rattle.verdicts.proofs.TrueClaims.{evidence_is_true}
-use Rattle.drawing.specs.Claim.{count_of_lines}
-use Rattle.drawing.specs.declared.columns.TheConstants.{MOST_DRAWN}
 use Rattle.history_text.specs.Versions.{HistoryText}
-use Rattle.command_words.specs.declared.options.PictureForm.{PictureForm}
+use Rattle.command_words.specs.declared.options.DrawOptions.{DrawOptions}
 use Rattle.commands.specs.Answers.{Reply, refused_size}
+use Rattle.commands.specs.Inner.Drawing.{IsUndrawn}
+use Rattle.commands.specs.Outcomes.{answer_of_fault}
+use Rattle.commands.specs.declared.outcome.Fault.{Fault}
+use Rattle.commands.specs.declared.outcome.Fault.TheVariants.{Text, History, Size, Queue, Limit, Memory, Run}
 use Rattle.commands.specs.Inputs.{drawable}
 use Rattle.commands.specs.Judging.{AnswersOrNoMemory, Draws, DrawsAlone, DrawsClaim, IsDrawn, IsFaulty, said_by}
-use Rattle.commands.specs.Judging.{IsSmallHistory, IsSound, IsTooLarge, IsVerdictClaim}
+use Rattle.commands.specs.Judging.{HasFewValues, IsSmall, IsSound, IsTooLarge, IsVerdictClaim}
 
 -- a claim is that of the verdict
 pub claims_verdict : (history : HistoryView) (verdict : Verdict) (claimed : Claimed) → IsVerdictFrom history.initial (operations_of history.events) verdict
@@ -25,40 +27,64 @@ claims_verdict history verdict claimed chosen evidence exact claim =
     record { verdict = verdict; chosen = chosen; evidence = evidence; exact = exact; claim = claim }
 
 -- the claim of the verdict on a small history is true
-pub decided_is_true : (history : HistoryView) (claimed : Claimed) → IsSound history → IsSmallHistory history → IsVerdictClaim history claimed
+pub decided_is_true : (history : HistoryView) (claimed : Claimed) → IsSound history → HasFewValues history → IsVerdictClaim history claimed
     → IsTrueClaim history.initial (operations_of history.events) claimed
-decided_is_true history claimed complete small right =
+decided_is_true history claimed complete few right =
     subst (IsTrueClaim history.initial (operations_of history.events)) (sym right.claim)
-    (evidence_is_true history.initial history.events right.verdict complete (omega (arith, small.few_initial)) right.evidence)
+    (evidence_is_true history.initial history.events right.verdict complete (omega (arith, few)) right.evidence)
 
--- the claim has too many lines
-pub too_many_lines : (text : HistoryText) (claimed : Claimed) → IsSound (said_by text) → MOST_DRAWN < count_of_lines claimed
-    → IsTooLarge (record { text = text; claimed = claimed }) refused_size
-too_many_lines text claimed complete many =
-    record { complete = complete; large = (λ small. absurd (omega (arith, small.few_lines, many))); is = refl }
+-- too much is to be drawn
+pub too_large : (options : DrawOptions) (text : HistoryText) (claimed : Claimed) → IsSound (said_by text)
+    → ¬ (IsSmall options (record { text = text; claimed = claimed })) → IsTooLarge options (record { text = text; claimed = claimed }) refused_size
+too_large options text claimed complete large = record { complete = complete; large = large; is = refl }
 
 -- the picture with the claim of the verdict, or that the claim is too large
-pub drawn_decided : (form : PictureForm) (text : HistoryText) (claimed : Claimed) (answer : Reply) → IsVerdictClaim (said_by text) claimed
-    → AnswersOrNoMemory (IsDrawn form) (record { text = text; claimed = claimed }) answer → AnswersOrNoMemory (DrawsAlone form) text answer
-drawn_decided form text claimed answer right (inl drawn) = inl (inr (inr (record { claimed = claimed; right = right; answered = inr drawn })))
-drawn_decided form text claimed answer right (inr memory) = inr memory
+pub drawn_decided : (options : DrawOptions) (text : HistoryText) (claimed : Claimed) (answer : Reply) → IsVerdictClaim (said_by text) claimed
+    → AnswersOrNoMemory (IsDrawn options) (record { text = text; claimed = claimed }) answer → AnswersOrNoMemory (DrawsAlone options) text answer
+drawn_decided options text claimed answer right (inl drawn) = inl (inr (inr (record { claimed = claimed; right = right; answered = inr drawn })))
+drawn_decided options text claimed answer right (inr memory) = inr memory
 
--- a history whose verdict has too many lines is answered by its size
-pub large_decided : (form : PictureForm) (text : HistoryText) (claimed : Claimed) → IsVerdictClaim (said_by text) claimed → IsSound (said_by text)
-    → MOST_DRAWN < count_of_lines claimed → DrawsAlone form text refused_size
-large_decided form text claimed right complete many =
-    inr (inr (record { claimed = claimed; right = right; answered = inl (too_many_lines text claimed complete many) }))
+-- a history with a verdict of which too much is to be drawn is answered by its size
+pub large_decided : (options : DrawOptions) (text : HistoryText) (claimed : Claimed) → IsVerdictClaim (said_by text) claimed → IsSound (said_by text)
+    → ¬ (IsSmall options (record { text = text; claimed = claimed })) → DrawsAlone options text refused_size
+large_decided options text claimed right complete large =
+    inr (inr (record { claimed = claimed; right = right; answered = inl (too_large options text claimed complete large) }))
 
 -- the picture with a claim that is evidence
-pub drawn_claim : (form : PictureForm) (text : HistoryText) (claimed : Claimed) (answer : Reply)
-    → AnswersOrNoMemory (IsDrawn form) (record { text = text; claimed = claimed }) answer
-    → AnswersOrNoMemory (DrawsClaim form) (record { text = text; claimed = claimed }) answer
-drawn_claim form text claimed answer (inl drawn) = inl (inr (inr (inr drawn)))
-drawn_claim form text claimed answer (inr memory) = inr memory
+pub drawn_claim : (options : DrawOptions) (text : HistoryText) (claimed : Claimed) (answer : Reply)
+    → AnswersOrNoMemory (IsDrawn options) (record { text = text; claimed = claimed }) answer
+    → AnswersOrNoMemory (DrawsClaim options) (record { text = text; claimed = claimed }) answer
+drawn_claim options text claimed answer (inl drawn) = inl (inr (inr (inr drawn)))
+drawn_claim options text claimed answer (inr memory) = inr memory
 
 -- whatever is claimed of it, a history has its first fault
-pub faulty_history : (form : PictureForm) (text : HistoryText) (claimed : Option Claimed) (answer : Reply)
-    → AnswersOrNoMemory IsFaulty (said_by text) answer → AnswersOrNoMemory (Draws form) (drawable text claimed) answer
-faulty_history form text claimed answer (inr memory) = inr memory
-faulty_history form text None answer (inl faulty) = inl (inl faulty)
-faulty_history form text (Some claimed) answer (inl faulty) = inl (inl faulty)
+pub faulty_history : (options : DrawOptions) (text : HistoryText) (claimed : Option Claimed) (answer : Reply)
+    → AnswersOrNoMemory IsFaulty (said_by text) answer → AnswersOrNoMemory (Draws options) (drawable text claimed) answer
+faulty_history options text claimed answer (inr memory) = inr memory
+faulty_history options text None answer (inl faulty) = inl (inl faulty)
+faulty_history options text (Some claimed) answer (inl faulty) = inl (inl faulty)
+
+-- why nothing is drawn is answered so: of a claim
+pub undrawn_claim : (options : DrawOptions) (text : HistoryText) (claimed : Claimed) (fault : Fault) → IsSound (said_by text)
+    → IsUndrawn (said_by text) claimed options.around fault
+    → AnswersOrNoMemory (DrawsClaim options) (record { text = text; claimed = claimed }) (answer_of_fault fault)
+undrawn_claim options text claimed Size complete why = inl (inr (inl (too_large options text claimed complete (λ small. why (small.few_lines, small.few_operations)))))
+undrawn_claim options text claimed Memory complete why = inr refl
+undrawn_claim options text claimed (Text found) complete why = absurd why
+undrawn_claim options text claimed (History found) complete why = absurd why
+undrawn_claim options text claimed Queue complete why = absurd why
+undrawn_claim options text claimed Limit complete why = absurd why
+undrawn_claim options text claimed (Run found) complete why = absurd why
+
+-- and of the claim of the verdict
+pub undrawn_alone : (options : DrawOptions) (text : HistoryText) (claimed : Claimed) (fault : Fault) → IsSound (said_by text)
+    → IsVerdictClaim (said_by text) claimed → IsUndrawn (said_by text) claimed options.around fault
+    → AnswersOrNoMemory (DrawsAlone options) text (answer_of_fault fault)
+undrawn_alone options text claimed Size complete right why =
+    inl (large_decided options text claimed right complete (λ small. why (small.few_lines, small.few_operations)))
+undrawn_alone options text claimed Memory complete right why = inr refl
+undrawn_alone options text claimed (Text found) complete right why = absurd why
+undrawn_alone options text claimed (History found) complete right why = absurd why
+undrawn_alone options text claimed Queue complete right why = absurd why
+undrawn_alone options text claimed Limit complete right why = absurd why
+undrawn_alone options text claimed (Run found) complete right why = absurd why

@@ -33,7 +33,7 @@ use Rattle.text_lines.specs.Input.{Ahead}
 use Rattle.text_lines.proofs.MemoryOrNot.{is_memory}
 use Rattle.history_text.proofs.OneHistory as histories
 use Rattle.history_text.proofs.OneSchedule as schedules
-use Rattle.command_words.specs.declared.options.PictureForm.{PictureForm}
+use Rattle.command_words.specs.declared.options.DrawOptions.{DrawOptions}
 use Rattle.command_words.specs.Commands.{check, shrink, verify, draw, convert, stats, sim}
 use Rattle.commands.specs.Answers.{Reply, judged, shown, played, verified, counted, memory_fault, answer_of_text_fault, answer_of_history_fault}
 use Rattle.commands.specs.Inputs.{ClaimOnText, IsHistoryOf, IsFaultOfHistoryInput, IsScheduleOf, IsFaultOfScheduleInput, IsClaimOf, IsFaultOfClaimInput}
@@ -181,63 +181,63 @@ one_verification claim a b (inr x) (inr y) =
 -- ---- pictures
 
 -- what is answered of a complete history
-abbrev DrawsComplete : PictureForm → ClaimOnText → Reply → Type 0
-DrawsComplete form claim answer = IsTooLarge claim answer ⊎ (IsRefuted claim answer ⊎ IsDrawn form claim answer)
+abbrev DrawsComplete : DrawOptions → ClaimOnText → Reply → Type 0
+DrawsComplete options claim answer = IsTooLarge options claim answer ⊎ (IsRefuted options claim answer ⊎ IsDrawn options claim answer)
 
-drawn_of : (form : PictureForm) (claim : ClaimOnText) (a : Reply) → DrawsComplete form claim a → IsSound (said_by claim.text)
-drawn_of form claim a (inl x) = x.complete
-drawn_of form claim a (inr (inl x)) = x.complete
-drawn_of form claim a (inr (inr x)) = x.complete
+drawn_of : (options : DrawOptions) (claim : ClaimOnText) (a : Reply) → DrawsComplete options claim a → IsSound (said_by claim.text)
+drawn_of options claim a (inl x) = x.complete
+drawn_of options claim a (inr (inl x)) = x.complete
+drawn_of options claim a (inr (inr x)) = x.complete
 
-one_picture_of_complete : (form : PictureForm) (claim : ClaimOnText) (a b : Reply) → DrawsComplete form claim a → DrawsComplete form claim b → a ≡ b
-one_picture_of_complete form claim a b (inl x) (inl y) = x.is ∙ sym y.is
-one_picture_of_complete form claim a b (inl x) (inr (inl y)) = absurd (x.large y.small)
-one_picture_of_complete form claim a b (inl x) (inr (inr y)) = absurd (x.large y.small)
-one_picture_of_complete form claim a b (inr (inl x)) (inl y) = absurd (y.large x.small)
-one_picture_of_complete form claim a b (inr (inr x)) (inl y) = absurd (y.large x.small)
-one_picture_of_complete form claim a b (inr (inl x)) (inr (inl y)) = x.is ∙ sym y.is
-one_picture_of_complete form claim a b (inr (inl x)) (inr (inr y)) = absurd (x.untrue y.evidence)
-one_picture_of_complete form claim a b (inr (inr x)) (inr (inl y)) = absurd (y.untrue x.evidence)
-one_picture_of_complete form claim a b (inr (inr x)) (inr (inr y)) = x.is ∙ sym y.is
+one_picture_of_complete : (options : DrawOptions) (claim : ClaimOnText) (a b : Reply) → DrawsComplete options claim a → DrawsComplete options claim b → a ≡ b
+one_picture_of_complete options claim a b (inl x) (inl y) = x.is ∙ sym y.is
+one_picture_of_complete options claim a b (inl x) (inr (inl y)) = absurd (x.large y.small)
+one_picture_of_complete options claim a b (inl x) (inr (inr y)) = absurd (x.large y.small)
+one_picture_of_complete options claim a b (inr (inl x)) (inl y) = absurd (y.large x.small)
+one_picture_of_complete options claim a b (inr (inr x)) (inl y) = absurd (y.large x.small)
+one_picture_of_complete options claim a b (inr (inl x)) (inr (inl y)) = x.is ∙ sym y.is
+one_picture_of_complete options claim a b (inr (inl x)) (inr (inr y)) = absurd (x.untrue y.evidence)
+one_picture_of_complete options claim a b (inr (inr x)) (inr (inl y)) = absurd (y.untrue x.evidence)
+one_picture_of_complete options claim a b (inr (inr x)) (inr (inr y)) = x.is ∙ sym y.is
 
 -- a claim on a history is drawn in one way
-pub one_picture_of_claim : (form : PictureForm) (claim : ClaimOnText) (a b : Reply) → DrawsClaim form claim a → DrawsClaim form claim b → a ≡ b
-one_picture_of_claim form claim a b (inl x) (inl y) = one_faulty (said_by claim.text) a b x y
-one_picture_of_claim form claim a b (inl x) (inr y) = absurd (not_both (said_by claim.text) a x (drawn_of form claim b y))
-one_picture_of_claim form claim a b (inr x) (inl y) = absurd (not_both (said_by claim.text) b y (drawn_of form claim a x))
-one_picture_of_claim form claim a b (inr x) (inr y) = one_picture_of_complete form claim a b x y
+pub one_picture_of_claim : (options : DrawOptions) (claim : ClaimOnText) (a b : Reply) → DrawsClaim options claim a → DrawsClaim options claim b → a ≡ b
+one_picture_of_claim options claim a b (inl x) (inl y) = one_faulty (said_by claim.text) a b x y
+one_picture_of_claim options claim a b (inl x) (inr y) = absurd (not_both (said_by claim.text) a x (drawn_of options claim b y))
+one_picture_of_claim options claim a b (inr x) (inl y) = absurd (not_both (said_by claim.text) b y (drawn_of options claim a x))
+one_picture_of_claim options claim a b (inr x) (inr y) = one_picture_of_complete options claim a b x y
 
 -- what is answered of a history on its own is answered of it with the claim of its verdict
-pub alone_as_claimed : (form : PictureForm) (text : HistoryText) (claimed : Claimed) (a : Reply) → HasText text → IsSound (said_by text)
-    → IsVerdictClaim (said_by text) claimed → DrawsAlone form text a → DrawsClaim form (record { text = text; claimed = claimed }) a
-alone_as_claimed form text claimed a has complete right (inl x) = inl x
-alone_as_claimed form text claimed a has complete right (inr (inl x)) =
-    inr (inl (record { complete = x.complete; large = (λ small. x.large small.history); is = x.is }))
-alone_as_claimed form text claimed a has complete right (inr (inr x)) = inr (elim x.answered [
-  | inl large ↦ inl (subst (λ c. IsTooLarge (record { text = text; claimed = c }) a) same large)
-  | inr drawn ↦ inr (inr (subst (λ c. IsDrawn form (record { text = text; claimed = c }) a) same drawn))
+pub alone_as_claimed : (options : DrawOptions) (text : HistoryText) (claimed : Claimed) (a : Reply) → HasText text → IsSound (said_by text)
+    → IsVerdictClaim (said_by text) claimed → DrawsAlone options text a → DrawsClaim options (record { text = text; claimed = claimed }) a
+alone_as_claimed options text claimed a has complete right (inl x) = inl x
+alone_as_claimed options text claimed a has complete right (inr (inl x)) =
+    inr (inl (record { complete = x.complete; large = (λ small. x.large small.few_values); is = x.is }))
+alone_as_claimed options text claimed a has complete right (inr (inr x)) = inr (elim x.answered [
+  | inl large ↦ inl (subst (λ c. IsTooLarge options (record { text = text; claimed = c }) a) same large)
+  | inr drawn ↦ inr (inr (subst (λ c. IsDrawn options (record { text = text; claimed = c }) a) same drawn))
 ])
   where
     same : x.claimed ≡ claimed
     same = one_verdict_claim (said_by text) x.claimed claimed complete (few_values text has) x.right right
 
-decided_of : (form : PictureForm) (text : HistoryText) (a : Reply) → IsDrawnDecided form text a → IsSound (said_by text)
-decided_of form text a x = elim x.answered [ inl large ↦ large.complete | inr drawn ↦ drawn.complete ]
+decided_of : (options : DrawOptions) (text : HistoryText) (a : Reply) → IsDrawnDecided options text a → IsSound (said_by text)
+decided_of options text a x = elim x.answered [ inl large ↦ large.complete | inr drawn ↦ drawn.complete ]
 
-one_picture_alone : (form : PictureForm) (text : HistoryText) (a b : Reply) → HasText text → DrawsAlone form text a → DrawsAlone form text b → a ≡ b
-one_picture_alone form text a b has (inr (inr x)) y =
-    let complete = decided_of form text a x in
-    one_picture_of_claim form (record { text = text; claimed = x.claimed }) a b
-    (alone_as_claimed form text x.claimed a has complete x.right (inr (inr x))) (alone_as_claimed form text x.claimed b has complete x.right y)
-one_picture_alone form text a b has (inl x) (inr (inr y)) = absurd (not_both (said_by text) a x (decided_of form text b y))
-one_picture_alone form text a b has (inl x) (inl y) = one_faulty (said_by text) a b x y
-one_picture_alone form text a b has (inl x) (inr (inl y)) = absurd (not_both (said_by text) a x y.complete)
-one_picture_alone form text a b has (inr (inl x)) (inl y) = absurd (not_both (said_by text) b y x.complete)
-one_picture_alone form text a b has (inr (inl x)) (inr (inl y)) = x.is ∙ sym y.is
-one_picture_alone form text a b has (inr (inl x)) (inr (inr y)) =
-    let complete = decided_of form text b y in
-    one_picture_of_claim form (record { text = text; claimed = y.claimed }) a b
-    (alone_as_claimed form text y.claimed a has complete y.right (inr (inl x))) (alone_as_claimed form text y.claimed b has complete y.right (inr (inr y)))
+one_picture_alone : (options : DrawOptions) (text : HistoryText) (a b : Reply) → HasText text → DrawsAlone options text a → DrawsAlone options text b → a ≡ b
+one_picture_alone options text a b has (inr (inr x)) y =
+    let complete = decided_of options text a x in
+    one_picture_of_claim options (record { text = text; claimed = x.claimed }) a b
+    (alone_as_claimed options text x.claimed a has complete x.right (inr (inr x))) (alone_as_claimed options text x.claimed b has complete x.right y)
+one_picture_alone options text a b has (inl x) (inr (inr y)) = absurd (not_both (said_by text) a x (decided_of options text b y))
+one_picture_alone options text a b has (inl x) (inl y) = one_faulty (said_by text) a b x y
+one_picture_alone options text a b has (inl x) (inr (inl y)) = absurd (not_both (said_by text) a x y.complete)
+one_picture_alone options text a b has (inr (inl x)) (inl y) = absurd (not_both (said_by text) b y x.complete)
+one_picture_alone options text a b has (inr (inl x)) (inr (inl y)) = x.is ∙ sym y.is
+one_picture_alone options text a b has (inr (inl x)) (inr (inr y)) =
+    let complete = decided_of options text b y in
+    one_picture_of_claim options (record { text = text; claimed = y.claimed }) a b
+    (alone_as_claimed options text y.claimed a has complete y.right (inr (inl x))) (alone_as_claimed options text y.claimed b has complete y.right (inr (inr y)))
 
 -- ---- schedules
 
@@ -315,8 +315,8 @@ pub verify_has_one : HasOneAnswer verify
 verify_has_one = of_input IsClaimOf IsFaultOfClaimInput Verifies one_claim only_memory_of_claim one_known_fault_of_claim one_verification
 
 -- `draw` has one answer
-pub draw_has_one : (form : PictureForm) → HasOneAnswer (draw form)
-draw_has_one form input a b x y =
+pub draw_has_one : (options : DrawOptions) → HasOneAnswer (draw options)
+draw_has_one options input a b x y =
     of_input IsDrawableOf IsFaultOfDrawableInput OfWritten one_drawable only_memory_of_drawable one_known_fault_of_drawable one_of_written input a b
     (written input a x) (written input b y)
   where
@@ -329,9 +329,9 @@ draw_has_one form input a b x y =
     have_texts input (with_claim claim) is = is.history
 
     OfWritten : Drawable → Reply → Type 0
-    OfWritten read answer = HasTexts read × Draws form read answer
+    OfWritten read answer = HasTexts read × Draws options read answer
 
-    written : (input : Ahead) (answer : Reply) → AnswersFor IsDrawableOf IsFaultOfDrawableInput (Draws form) input answer
+    written : (input : Ahead) (answer : Reply) → AnswersFor IsDrawableOf IsFaultOfDrawableInput (Draws options) input answer
         → AnswersFor IsDrawableOf IsFaultOfDrawableInput OfWritten input answer
     written input answer (inr faulty) = inr faulty
     written input answer (inl read) = inl (record {
@@ -341,8 +341,8 @@ draw_has_one form input a b x y =
     })
 
     one_of_written : (read : Drawable) (a b : Reply) → OfWritten read a → OfWritten read b → a ≡ b
-    one_of_written (alone text) a b of_a of_b = one_picture_alone form text a b of_a.0 of_a.1 of_b.1
-    one_of_written (with_claim claim) a b of_a of_b = one_picture_of_claim form claim a b of_a.1 of_b.1
+    one_of_written (alone text) a b of_a of_b = one_picture_alone options text a b of_a.0 of_a.1 of_b.1
+    one_of_written (with_claim claim) a b of_a of_b = one_picture_of_claim options claim a b of_a.1 of_b.1
 
 one_conversion : (text : HistoryText) (a b : Reply) → HasText text → Converts text a → Converts text b → a ≡ b
 one_conversion text a b has (inl x) (inl y) = one_faulty (said_by text) a b x y

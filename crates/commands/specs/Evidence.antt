@@ -3,7 +3,7 @@ use Rattle.std.specs.Prelude.{◌≡◌, ℕ, List, ◌++◌, ◌⊎◌, true}
 use Rattle.history_text.specs.Versions.{HistoryText}
 use Rattle.verdicts.specs.declared.verifying.Claimed.{Claimed}
 use Rattle.text_lines.specs.Input.{Ahead, EndOfInput}
-use Rattle.command_words.specs.declared.options.PictureForm.{PictureForm}
+use Rattle.command_words.specs.declared.options.DrawOptions.{DrawOptions}
 use Rattle.command_words.specs.Commands.{check, shrink, verify, draw}
 use Rattle.history_text.specs.Versions.{text_of}
 use Rattle.commands.specs.Answers.{Reply, judged, shown, verified, memory_fault, answer_text}
@@ -35,6 +35,6 @@ ShrunkIsChecked = (bytes : List ℕ) (small : HistoryText) (claimed : Claimed) (
 
 -- where `check` answers an input with a verdict, `draw` answers that input as it answers it followed by the verdict's text, or
 -- memory runs out
-abbrev pub DrawnAsChecked : PictureForm → Type 0
-DrawnAsChecked form = (bytes : List ℕ) (claimed : Claimed) (a b : Reply) → AnswersOf check (input_of bytes) (judged claimed)
-    → AnswersOf (draw form) (input_of bytes) a → AnswersOf (draw form) (input_of (bytes ++ answer_text (judged claimed))) b → SameOrNoMemory a b
+abbrev pub DrawnAsChecked : DrawOptions → Type 0
+DrawnAsChecked options = (bytes : List ℕ) (claimed : Claimed) (a b : Reply) → AnswersOf check (input_of bytes) (judged claimed)
+    → AnswersOf (draw options) (input_of bytes) a → AnswersOf (draw options) (input_of (bytes ++ answer_text (judged claimed))) b → SameOrNoMemory a b

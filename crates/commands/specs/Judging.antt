@@ -26,9 +26,12 @@ use Rattle.verdicts.specs.Selection.{KeepsViolation, StaysChosen, IsMinimal, Has
 use Rattle.history_text.specs.Versions.{HistoryText}
 use Rattle.history_text.specs.declared.version.Version.TheVariants.{Two}
 use Rattle.history_text.specs.Versions.{said_in}
+use Rattle.command_words.specs.declared.options.DrawOptions.{DrawOptions}
 use Rattle.command_words.specs.declared.options.PictureForm.{PictureForm}
 use Rattle.command_words.specs.declared.options.PictureForm.TheVariants.{Html, Svg, Terminal}
 use Rattle.drawing.specs.Claim.{count_of_lines}
+use Rattle.drawing.specs.Drawn.{drawn_operations}
+use Rattle.drawing.specs.Scene.{SceneView, scene_of}
 use Rattle.drawing.specs.Terminal.{terminal_picture}
 use Rattle.svg_picture.specs.Picture.{svg_picture}
 use Rattle.svg_picture.specs.Html.{html_picture}
@@ -128,66 +131,71 @@ Verifies claim answer = IsFaulty (said_by claim.text) answer ⊎ IsVerified clai
 
 -- ---- pictures
 
--- the history has few enough initial values and operations to be drawn
-pub record IsSmallHistory (history : HistoryView) : Type 0 where
-  pub few_initial : length history.initial ≤ MOST_DRAWN
-  pub few_operations : length (operations_of history.events) ≤ MOST_DRAWN
+-- the history has few enough initial values to be drawn
+abbrev pub HasFewValues : HistoryView → Type 0
+HasFewValues history = length history.initial ≤ MOST_DRAWN
 
--- and the claim has few enough lines
-pub record IsSmall (claim : ClaimOnText) : Type 0 where
-  pub history : IsSmallHistory (said_by claim.text)
+-- so has it, and the claim has few enough lines, of which few enough operations are drawn
+pub record IsSmall (options : DrawOptions) (claim : ClaimOnText) : Type 0 where
+  pub few_values : HasFewValues (said_by claim.text)
   pub few_lines : count_of_lines claim.claimed ≤ MOST_DRAWN
+  pub few_operations : length (drawn_operations (said_by claim.text) claim.claimed options.around) ≤ MOST_DRAWN
 
--- it is a complete history, which is too large to be drawn, or the claim is
-pub record IsTooLarge (claim : ClaimOnText) (answer : Reply) : Type 0 where
+-- it is a complete history, and too much of it is to be drawn
+pub record IsTooLarge (options : DrawOptions) (claim : ClaimOnText) (answer : Reply) : Type 0 where
   pub complete : IsSound (said_by claim.text)
-  pub large : ¬ (IsSmall claim)
+  pub large : ¬ (IsSmall options claim)
   pub is : answer ≡ refused_size
 
 -- it is a complete history, and the claim is no evidence in it
-pub record IsRefuted (claim : ClaimOnText) (answer : Reply) : Type 0 where
+pub record IsRefuted (options : DrawOptions) (claim : ClaimOnText) (answer : Reply) : Type 0 where
   pub complete : IsSound (said_by claim.text)
-  pub small : IsSmall claim
+  pub small : IsSmall options claim
   pub untrue : ¬ (IsTrueClaim claim.text.initial (operations_of claim.text.events) claim.claimed)
   pub is : answer ≡ verified false
 
--- the picture of a history and a claim, in a form
-abbrev pub picture_in : PictureForm → HistoryView → Claimed → List ℕ
-picture_in Svg history claimed = svg_picture history claimed
-picture_in Html history claimed = html_picture history claimed
-picture_in Terminal history claimed = terminal_picture history claimed
+-- the picture of a scene, in a form
+abbrev pub picture_in : PictureForm → SceneView → List ℕ
+picture_in Svg scene = svg_picture scene
+picture_in Html scene = html_picture scene
+picture_in Terminal scene = terminal_picture scene
 
--- it is a complete history, the claim is evidence in it, and this is the picture of both in that form
-pub record IsDrawn (form : PictureForm) (claim : ClaimOnText) (answer : Reply) : Type 0 where
+-- the picture of a history and a claim: of what is drawn of them, in the form that is asked for
+abbrev pub picture_of : DrawOptions → HistoryView → Claimed → List ℕ
+picture_of options history claimed = picture_in options.form (scene_of history claimed (drawn_operations history claimed options.around))
+
+-- it is a complete history, the claim is evidence in it, and this is the picture of both
+pub record IsDrawn (options : DrawOptions) (claim : ClaimOnText) (answer : Reply) : Type 0 where
   pub complete : IsSound (said_by claim.text)
-  pub small : IsSmall claim
+  pub small : IsSmall options claim
   pub evidence : IsTrueClaim claim.text.initial (operations_of claim.text.events) claim.claimed
-  pub is : answer ≡ drawn (picture_in form (said_by claim.text) claim.claimed)
+  pub is : answer ≡ drawn (picture_of options (said_by claim.text) claim.claimed)
 
--- the first fault of the history, or the picture in a form with the claim, where they are small and the claim is evidence
-abbrev pub DrawsClaim : PictureForm → ClaimOnText → Reply → Type 0
-DrawsClaim form claim answer = IsFaulty (said_by claim.text) answer ⊎ (IsTooLarge claim answer ⊎ (IsRefuted claim answer ⊎ IsDrawn form claim answer))
+-- the first fault of the history, or the picture with the claim, where they are small and the claim is evidence
+abbrev pub DrawsClaim : DrawOptions → ClaimOnText → Reply → Type 0
+DrawsClaim options claim answer =
+    IsFaulty (said_by claim.text) answer ⊎ (IsTooLarge options claim answer ⊎ (IsRefuted options claim answer ⊎ IsDrawn options claim answer))
 
--- it is a complete history, which is too large to be drawn, whatever is claimed of it
+-- it is a complete history with too many initial values to be drawn, whatever is claimed of it
 pub record IsTooLargeAlone (text : HistoryText) (answer : Reply) : Type 0 where
   pub complete : IsSound (said_by text)
-  pub large : ¬ (IsSmallHistory (said_by text))
+  pub large : ¬ (HasFewValues (said_by text))
   pub is : answer ≡ refused_size
 
--- this is the picture in that form of a complete history and the claim of its verdict, or they are too large to be drawn
-pub record IsDrawnDecided (form : PictureForm) (text : HistoryText) (answer : Reply) : Type 0 where
+-- this is the picture of a complete history and the claim of its verdict, or too much of it is to be drawn
+pub record IsDrawnDecided (options : DrawOptions) (text : HistoryText) (answer : Reply) : Type 0 where
   pub claimed : Claimed
   pub right : IsVerdictClaim (said_by text) claimed
-  pub answered : IsTooLarge (record { text = text; claimed = claimed }) answer ⊎ IsDrawn form (record { text = text; claimed = claimed }) answer
+  pub answered : IsTooLarge options (record { text = text; claimed = claimed }) answer ⊎ IsDrawn options (record { text = text; claimed = claimed }) answer
 
--- the first fault of the history, or the picture in a form with the claim of its verdict, where they are small
-abbrev pub DrawsAlone : PictureForm → HistoryText → Reply → Type 0
-DrawsAlone form text answer = IsFaulty (said_by text) answer ⊎ (IsTooLargeAlone text answer ⊎ IsDrawnDecided form text answer)
+-- the first fault of the history, or the picture with the claim of its verdict, where they are small
+abbrev pub DrawsAlone : DrawOptions → HistoryText → Reply → Type 0
+DrawsAlone options text answer = IsFaulty (said_by text) answer ⊎ (IsTooLargeAlone text answer ⊎ IsDrawnDecided options text answer)
 
 -- `draw`: what is answered of a history with a claim; and of a history on its own, which is decided
-abbrev pub Draws : PictureForm → Drawable → Reply → Type 0
-Draws form (alone text) answer = DrawsAlone form text answer
-Draws form (with_claim claim) answer = DrawsClaim form claim answer
+abbrev pub Draws : DrawOptions → Drawable → Reply → Type 0
+Draws options (alone text) answer = DrawsAlone options text answer
+Draws options (with_claim claim) answer = DrawsClaim options claim answer
 
 -- ---- conversions
 

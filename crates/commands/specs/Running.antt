@@ -46,7 +46,7 @@ abbrev pub AnswersOf : Request → Ahead → Reply → Type 0
 AnswersOf check input answer = AnswersFor IsHistoryOf IsFaultOfHistoryInput Judges input answer
 AnswersOf shrink input answer = AnswersFor IsHistoryOf IsFaultOfHistoryInput Shrinks input answer
 AnswersOf verify input answer = AnswersFor IsClaimOf IsFaultOfClaimInput Verifies input answer
-AnswersOf (draw form) input answer = AnswersFor IsDrawableOf IsFaultOfDrawableInput (Draws form) input answer
+AnswersOf (draw options) input answer = AnswersFor IsDrawableOf IsFaultOfDrawableInput (Draws options) input answer
 AnswersOf convert input answer = AnswersFor IsHistoryOf IsFaultOfHistoryInput Converts input answer
 AnswersOf stats input answer = AnswersFor IsHistoryOf IsFaultOfHistoryInput Counts input answer
 AnswersOf sim input answer = AnswersFor IsScheduleOf IsFaultOfScheduleInput Simulates input answer

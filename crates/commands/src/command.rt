@@ -163,7 +163,7 @@ where
         Task::Check => return check(rt, rt.alloc(), reader),
         Task::Shrink => return shrink(rt.alloc(), reader),
         Task::Verify => return verify(rt.alloc(), reader),
-        Task::Draw(form) => return draw(rt.alloc(), reader, form),
+        Task::Draw(options) => return draw(rt.alloc(), reader, options),
         Task::Convert => return convert(rt.alloc(), reader),
         Task::Stats => return stats(rt.alloc(), reader),
         Task::Sim => return sim(rt.alloc(), reader),

@@ -1,32 +1,36 @@
 //! `draw`: the picture of a history and a verdict on it.
-ghost use Rattle.std.specs.Prelude.{◌≡◌, ◌≤◌, IfOk, IfSome};
+ghost use Rattle.std.specs.Prelude.{◌≡◌, ◌≤◌, IfOk, IfErr, IfSome, Some, length};
 ghost use Rattle.history_merge.specs.Operations.{operations_of};
 ghost use Rattle.verdicts.specs.Claims.{IsTrueClaim};
 ghost use Rattle.drawing.specs.Claim.{count_of_lines};
+ghost use Rattle.drawing.specs.Drawn.{drawn_operations};
+ghost use Rattle.drawing.specs.Scene.{scene_on, scene_of};
 ghost use Rattle.history_text.specs.declared.version.Version.{Version};
 ghost use Rattle.history_text.specs.Versions.{said_in};
 ghost use Rattle.commands.specs.Inputs.{IsDrawableOf, IsFaultOfDrawableInput, drawable};
-ghost use Rattle.commands.specs.Judging.{Draws, DrawsAlone, DrawsClaim, IsDrawn, IsSmallHistory, IsSound, AnswersFor, AnswersOrNoMemory, picture_in};
+ghost use Rattle.commands.specs.Judging.{Draws, DrawsAlone, DrawsClaim, HasFewValues, IsDrawn, IsSmall, IsSound, AnswersFor, AnswersOrNoMemory};
+ghost use Rattle.commands.specs.Judging.{picture_in};
+ghost use Rattle.commands.specs.Inner.Drawing.{IsUndrawn};
 ghost use Rattle.commands.specs.Outcomes.{answer_of, NamesPlaces};
 
 use crate::input::{drawable_of, history_of};
 use crate::outcome::{Fault, Outcome, Report};
-use command_words::PictureForm;
-use drawing::{MOST_DRAWN, count_of_lines, terminal_picture};
-use history_merge::History;
+use command_words::{DrawOptions, PictureForm};
+use drawing::{MOST_DRAWN, Scene, count_of_lines, drawn_operations, scene_of, terminal_picture};
+use history_merge::{History, Operation};
 use history_text::TextSource;
 use std::alloc::{AllocError, Global};
 use svg_picture::{html_picture, svg_picture};
 use verdicts::{Claimed, claim, decide};
 
-/// What `draw` finds in what the reader gives, for a picture in this form.
-pub fn draw<S: TextSource + Drop>(alloc: Global, reader: S, form: PictureForm) -> Outcome
-    ensures found { IfSome (S.ahead reader) (λ input. AnswersFor IsDrawableOf IsFaultOfDrawableInput (Draws form) input (answer_of result)) }
+/// What `draw` finds in what the reader gives.
+pub fn draw<S: TextSource + Drop>(alloc: Global, reader: S, options: DrawOptions) -> Outcome
+    ensures found { IfSome (S.ahead reader) (λ input. AnswersFor IsDrawableOf IsFaultOfDrawableInput (Draws options) input (answer_of result)) }
     ensures places { NamesPlaces result }
 {
     let (gathered, claimed) = drawable_of(alloc, reader)?;
     let (_version, history) = history_of(gathered)?;
-    draw_history(alloc, &history, &claimed, form)
+    draw_history(alloc, &history, &claimed, options)
 }
 
 /// The picture of this history with the claim, or with its verdict where there is none.
@@ -34,79 +38,101 @@ fn draw_history(
     alloc: Global,
     history: &History,
     claimed: &Option<Claimed>,
-    form: PictureForm,
+    options: DrawOptions,
 ) -> Outcome
-    ensures found { (version : Version) → AnswersOrNoMemory (Draws form) (drawable (said_in version history.now) claimed.now) (answer_of result) }
+    ensures found { (version : Version) → AnswersOrNoMemory (Draws options) (drawable (said_in version history.now) claimed.now) (answer_of result) }
     ensures places { NamesPlaces result }
 {
-    if history.initial().len() > MOST_DRAWN || history.operations().len() > MOST_DRAWN {
+    if history.initial().len() > MOST_DRAWN {
         return Err(Fault::Size);
     }
     match claimed {
-        Some(claimed) => draw_claim(alloc, history, claimed, form),
-        None => draw_verdict(alloc, history, form),
+        Some(claimed) => draw_claim(alloc, history, claimed, options),
+        None => draw_verdict(alloc, history, options),
     }
 }
 
-/// The picture of a small history with the claim, where that is small and evidence.
-fn draw_claim(alloc: Global, history: &History, claimed: &Claimed, form: PictureForm) -> Outcome
-    requires complete { IsSound history.now }
-    requires small { IsSmallHistory history.now }
-    ensures found { (version : Version)
-        → AnswersOrNoMemory (DrawsClaim form) (record { text = said_in version history.now; claimed = claimed.now }) (answer_of result) }
-    ensures places { NamesPlaces result }
+/// The operations to be drawn, where these and the lines of the claim are few.
+fn drawn_if_few(
+    alloc: Global,
+    history: &History,
+    claimed: &Claimed,
+    around: Option<usize>,
+) -> Result<Vec<Operation>, Fault>
+    ensures drawn { IfOk result (λ drawn. drawn.items ≡ drawn_operations history.now claimed.now around) }
+    ensures few { IfOk result (λ drawn. length drawn.items ≤ MOST_DRAWN) }
+    ensures few_lines { IfOk result (λ drawn. count_of_lines claimed.now ≤ MOST_DRAWN) }
+    ensures large { IfErr result (IsUndrawn history.now claimed.now around) }
 {
     if count_of_lines(claimed) > MOST_DRAWN {
         return Err(Fault::Size);
     }
+    let drawn = drawn_operations(alloc, history, claimed, around)?;
+    if drawn.len() > MOST_DRAWN {
+        return Err(Fault::Size);
+    }
+    Ok(drawn)
+}
+
+/// The picture of a history of few values with the claim, where little is drawn and the claim is evidence.
+fn draw_claim(alloc: Global, history: &History, claimed: &Claimed, options: DrawOptions) -> Outcome
+    requires complete { IsSound history.now }
+    requires few_values { HasFewValues history.now }
+    ensures found { (version : Version)
+        → AnswersOrNoMemory (DrawsClaim options) (record { text = said_in version history.now; claimed = claimed.now }) (answer_of result) }
+    ensures places { NamesPlaces result }
+{
+    let drawn = drawn_if_few(alloc, history, claimed, options.around)?;
     if !verdicts::verify(alloc, history, claimed)? {
         return Ok(Report::Verified(false));
     }
-    draw_evidence(alloc, history, claimed, form)
+    draw_evidence(alloc, history, claimed, drawn, options)
 }
 
-/// The picture of a small history with its verdict, where that is small.
-fn draw_verdict(alloc: Global, history: &History, form: PictureForm) -> Outcome
+/// The picture of a history of few values with its verdict, where little is drawn.
+fn draw_verdict(alloc: Global, history: &History, options: DrawOptions) -> Outcome
     requires complete { IsSound history.now }
-    requires small { IsSmallHistory history.now }
-    ensures found { (version : Version) → AnswersOrNoMemory (DrawsAlone form) (said_in version history.now) (answer_of result) }
+    requires few_values { HasFewValues history.now }
+    ensures found { (version : Version) → AnswersOrNoMemory (DrawsAlone options) (said_in version history.now) (answer_of result) }
     ensures places { NamesPlaces result }
 {
     let verdict = decide(alloc, history)?;
     let claimed = claim(alloc, history, &verdict)?;
-    if count_of_lines(&claimed) > MOST_DRAWN {
-        return Err(Fault::Size);
-    }
-    draw_evidence(alloc, history, &claimed, form)
+    let drawn = drawn_if_few(alloc, history, &claimed, options.around)?;
+    draw_evidence(alloc, history, &claimed, drawn, options)
 }
 
-/// The picture of a small history with a small claim that is evidence in it.
-fn draw_evidence(alloc: Global, history: &History, claimed: &Claimed, form: PictureForm) -> Outcome
-    requires complete { IsSound history.now }
-    requires small { IsSmallHistory history.now }
-    requires few_lines { count_of_lines claimed.now ≤ MOST_DRAWN }
-    requires evidence { IsTrueClaim history.now.initial (operations_of history.now.events) claimed.now }
-    ensures found { (version : Version)
-        → AnswersOrNoMemory (IsDrawn form) (record { text = said_in version history.now; claimed = claimed.now }) (answer_of result) }
-    ensures places { NamesPlaces result }
-{
-    let picture = picture_in(alloc, history, claimed, form)?;
-    Ok(Report::Drawn(picture))
-}
-
-/// The picture of a history and a claim in this form.
-fn picture_in(
+/// The picture of what is drawn of a history and a claim that is evidence in it.
+fn draw_evidence(
     alloc: Global,
     history: &History,
     claimed: &Claimed,
-    form: PictureForm,
-) -> Result<Vec<u8>, AllocError>
-    requires { count_of_lines claimed.now ≤ MOST_DRAWN }
-    ensures { IfOk result (λ picture. picture.items ≡ picture_in form history.now claimed.now) }
+    drawn: Vec<Operation>,
+    options: DrawOptions,
+) -> Outcome
+    requires complete { IsSound history.now }
+    requires few_values { HasFewValues history.now }
+    requires few_lines { count_of_lines claimed.now ≤ MOST_DRAWN }
+    requires drawn { drawn.items ≡ drawn_operations history.now claimed.now options.around }
+    requires few { length drawn.items ≤ MOST_DRAWN }
+    requires evidence { IsTrueClaim history.now.initial (operations_of history.now.events) claimed.now }
+    ensures found { (version : Version)
+        → AnswersOrNoMemory (IsDrawn options) (record { text = said_in version history.now; claimed = claimed.now }) (answer_of result) }
+    ensures places { NamesPlaces result }
+{
+    let scene = scene_of(alloc, history, claimed, drawn)?;
+    let picture = picture_in(alloc, &scene, options.form)?;
+    Ok(Report::Drawn(picture))
+}
+
+/// The picture of a scene in this form.
+fn picture_in(alloc: Global, scene: &Scene<'_>, form: PictureForm) -> Result<Vec<u8>, AllocError>
+    requires { count_of_lines scene.now.claimed.now ≤ MOST_DRAWN }
+    ensures { IfOk result (λ picture. picture.items ≡ picture_in form (scene_on scene.now)) }
 {
     match form {
-        PictureForm::Svg => svg_picture(alloc, history, claimed),
-        PictureForm::Html => html_picture(alloc, history, claimed),
-        PictureForm::Terminal => terminal_picture(alloc, history, claimed),
+        PictureForm::Svg => svg_picture(alloc, scene),
+        PictureForm::Html => html_picture(alloc, scene),
+        PictureForm::Terminal => terminal_picture(alloc, scene),
     }
 }

@@ -1,6 +1,6 @@
 //! Laws of what one command writes and another answers of it. These functions do nothing; the law is what each of them
 //! ensures.
-ghost use Rattle.command_words.specs.declared.options.PictureForm.{PictureForm};
+ghost use Rattle.command_words.specs.declared.options.DrawOptions.{DrawOptions};
 ghost use Rattle.commands.specs.Evidence.{CheckedIsValid, ShrunkIsValid, ShrunkIsChecked, DrawnAsChecked};
 
 /// Every verdict that `check` writes is evidence: `verify` answers the input, followed by the verdict, with `VALID`, or
@@ -19,5 +19,5 @@ pub fn what_is_shrunk_is_valid()
 /// `draw` decides a history as `check` does: it answers a history on its own as it answers the history followed by the verdict
 /// of `check`, or memory runs out.
 pub fn a_history_is_drawn_with_its_verdict()
-    ensures { (form : PictureForm) → DrawnAsChecked form }
+    ensures { (options : DrawOptions) → DrawnAsChecked options }
 {}

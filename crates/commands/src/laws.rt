@@ -9,7 +9,7 @@ ghost use Rattle.recorder_core.specs.Laws.{IsDone};
 ghost use Rattle.recorder_core.specs.Replay.{IsHonest};
 ghost use Rattle.simulation.specs.Simulations.{rejections};
 ghost use Rattle.verdicts.specs.declared.verifying.Claimed.TheVariants.{Yes};
-ghost use Rattle.command_words.specs.declared.options.PictureForm.{PictureForm};
+ghost use Rattle.command_words.specs.declared.options.DrawOptions.{DrawOptions};
 ghost use Rattle.command_words.specs.Commands.{check, shrink, verify, draw, convert, stats, sim};
 ghost use Rattle.command_words.specs.Options.{Settings};
 ghost use Rattle.commands.specs.Answers.{Reply, ShowsNoViolation, played};
@@ -30,7 +30,7 @@ pub fn one_answer()
     ensures check { HasOneAnswer check }
     ensures shrink { HasOneAnswer shrink }
     ensures verify { HasOneAnswer verify }
-    ensures draw { (form : PictureForm) → HasOneAnswer (draw form) }
+    ensures draw { (options : DrawOptions) → HasOneAnswer (draw options) }
     ensures convert { HasOneAnswer convert }
     ensures stats { HasOneAnswer stats }
     ensures sim { HasOneAnswer sim }

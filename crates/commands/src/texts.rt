@@ -15,7 +15,7 @@ use crate::print::write_outcome;
 use crate::shrink::shrink;
 use crate::stats::stats;
 use crate::verify::verify;
-use command_words::PictureForm;
+use command_words::DrawOptions;
 use history_merge::HistoryBuilder;
 use history_text::{MemorySource, Watched};
 use std::alloc::{AllocError, Global};
@@ -47,12 +47,12 @@ pub fn verify_text(alloc: Global, text: &[u8]) -> Outcome
     verify(alloc, MemorySource::new(text))
 }
 
-/// What `draw` finds in a text, for a picture in this form.
-pub fn draw_text(alloc: Global, text: &[u8], form: PictureForm) -> Outcome
-    ensures found { AnswersOf (draw form) (input_of text.now) (answer_of result) }
+/// What `draw` finds in a text.
+pub fn draw_text(alloc: Global, text: &[u8], options: DrawOptions) -> Outcome
+    ensures found { AnswersOf (draw options) (input_of text.now) (answer_of result) }
     ensures places { NamesPlaces result }
 {
-    draw(alloc, MemorySource::new(text), form)
+    draw(alloc, MemorySource::new(text), options)
 }
 
 /// What `stats` finds in a text.

@@ -1,8 +1,8 @@
 use fifobench_core::{
     AnsweredDeq, AnsweredEnq, AskDeq, AskEnq, Event, History, HistoryBuilder, LEAST_INITIAL_NAME,
     MOST_DRAWN, MemorySource, Plan, TestQueue, TextReader, Verdict, Watched, What, claim,
-    count_of_lines, decide, history, history_from, read_history, read_verdict, run, run_from,
-    shrink, terminal_picture, verify, write_verdict,
+    count_of_lines, decide, drawn_operations, history, history_from, read_history, read_verdict,
+    run, run_from, scene_of, shrink, terminal_picture, verify, write_verdict,
 };
 use std::alloc::Global;
 use std::sync::{Mutex, Wait};
@@ -146,9 +146,11 @@ fn terminal_picture_example(rt: HostRuntime) -> Result<(), Fail> {
 
     let verdict = decide(alloc, &history)?;
     let claimed = claim(alloc, &history, &verdict)?;
+    let drawn = drawn_operations(alloc, &history, &claimed, None)?;
+    let scene = scene_of(alloc, &history, &claimed, drawn)?;
     let mut picture = Vec::new(alloc);
     if count_of_lines(&claimed) <= MOST_DRAWN {
-        picture = terminal_picture(alloc, &history, &claimed)?;
+        picture = terminal_picture(alloc, &scene)?;
     }
     assert!(rt; picture.as_slice().starts_with(b"NO: "));
     Ok(())

@@ -10,8 +10,10 @@ use Rattle.history_merge.specs.Operations.{operations_of}
 use Rattle.history_merge.proofs.Completeness.{operations_are_complete}
 use Rattle.history_merge.proofs.Distinct.{contains_cons, not_in_none, contains_at, pairs_at, one_at, found_first, IsTraced, traced, same_call}
 use Rattle.history_merge.proofs.Distinct.{return_differs_from_call}
+use Rattle.drawing.specs.Drawn.{drawn_operations}
 use Rattle.drawing.specs.Layout.{is_under_way}
 use Rattle.drawing.specs.Laws.{BarsAreOfOperations, NoOtherBars}
+use Rattle.drawing.proofs.Nearness.{among_operations}
 
 -- ---- what is found
 
@@ -88,8 +90,10 @@ module _ (events : List Event) (complete : IsCompleteHistory events) where
 
 -- each operation has its bar
 pub bars_are_of_operations : BarsAreOfOperations
-bars_are_of_operations events o ticket complete among called returns =
-    let some = found (is_under_way o.thread ticket) (operations_of events) o among (under_way_if o.thread ticket o refl called returns) in
-    let bar = no_other_bars (operations_of events) o.thread ticket some.0 some.1 in
-    let same = one_bar events complete some.0 o ticket bar.among among bar.own bar.called bar.returns called returns in
+bars_are_of_operations history claimed around o ticket complete among called returns =
+    let drawn = drawn_operations history claimed around in
+    let some = found (is_under_way o.thread ticket) drawn o among (under_way_if o.thread ticket o refl called returns) in
+    let bar = no_other_bars drawn o.thread ticket some.0 some.1 in
+    let same = one_bar history.events complete some.0 o ticket (among_operations history claimed around some.0 bar.among)
+    (among_operations history claimed around o among) bar.own bar.called bar.returns called returns in
     some.1 ∙ ap (λ x. Some x) same

@@ -62,21 +62,21 @@ of_greatest P g (x ∷ rest) (suc k) holds each =
 -- an operation of a linearization takes effect just after the event of a call
 pub point_is_a_call : (initial : List ℕ) (events : List Event) (order : List Operation) (i : ℕ) (o : Operation)
     → IsLegalOrderFrom initial (operations_of events) order → slice_get order i ≡ Some o
-    → (e : Event) × (Contains events e) × (e.ticket ≡ point order i)
+    → (e : Event) × (Contains events e) × ((o : Operation) × Contains (operations_of events) o × (o.call ≡ e.ticket)) × (e.ticket ≡ point order i)
 point_is_a_call initial events [] i o legal at = absurd (cc)
 point_is_a_call initial events (x ∷ rest) i o legal at =
     let first : max 0 x.call ≡ x.call = omega arith in
     rw add-one (of_greatest IsTicket (max 0 x.call) rest i (subst IsTicket (sym first) (called x 0 refl)) (λ j p less here. called p (suc j) here))
   where
     IsTicket : ℕ → Type 0
-    IsTicket t = (e : Event) × (Contains events e) × (e.ticket ≡ t)
+    IsTicket t = (e : Event) × (Contains events e) × ((o : Operation) × Contains (operations_of events) o × (o.call ≡ e.ticket)) × (e.ticket ≡ t)
 
     called : (p : Operation) (j : ℕ) → slice_get (x ∷ rest) j ≡ Some p → IsTicket p.call
     called p j here =
         let among = Contains-permutation (x ∷ rest) (operations_of events) p (IsPermutation-sym (operations_of events) (x ∷ rest) legal.holds_each_once)
         (contains_at (x ∷ rest) j p here) in
         let t = traced events p among in
-        (t.call, contains_at events t.called_at t.call t.at_call, sym t.made.called)
+        (t.call, contains_at events t.called_at t.call t.at_call, (p, among, t.made.called), sym t.made.called)
 
 -- effects of a linearization lie within the bars
 pub effects_are_in_bars : EffectsAreInBars

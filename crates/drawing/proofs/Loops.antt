@@ -6,9 +6,8 @@ use Rattle.std.proofs.lemmas.List.{map-append, take_more, at_drop_more}
 use Rattle.std.proofs.lemmas.List.Elements.{filter-append}
 use Rattle.std.proofs.lemmas.Grind.{flat_map-append}
 use Rattle.std.proofs.lemmas.List.Sums.{fold_more, fold-append}
-use Rattle.event_records.specs.declared.event.Event.{Event}
 use Rattle.history_merge.specs.declared.operation.Operation.{Operation}
-use Rattle.drawing.specs.Layout.{threads_below, has_events, point, greatest_call}
+use Rattle.drawing.specs.Layout.{threads_below, has_operations, point, greatest_call}
 use Rattle.drawing.specs.Words.{Word, placed, with_words}
 
 range_suc : (a n : ℕ) → range_with_len a (suc n) ≡ range_with_len a n ++ (a + n) ∷ []
@@ -36,24 +35,24 @@ pub passed_over : {X : Type 0} (p : X → Bool) (xs : List X) (i : ℕ) (d : X) 
 passed_over p xs i d within before fails =
     before ∙ find_step p xs i d within ∙ ap (λ (b : Bool). cond b (Some (get_or xs i d)) (find p (drop (i + 1) xs))) fails
 
--- the threads that have events, with one thread more
-pub threads_more : (events : List Event) (n : ℕ) → threads_below events (n + 1) ≡ threads_below events n ++ cond (has_events events n) (n ∷ []) []
+-- the threads that have operations, with one thread more
+pub threads_more : (operations : List Operation) (n : ℕ) → threads_below operations (n + 1) ≡ threads_below operations n ++ cond (has_operations operations n) (n ∷ []) []
 unfolding threads_below
-threads_more events n =
-    ap (filter (has_events events)) (range_more n) ∙ filter-append (has_events events) (range_with_len 0 n) (n ∷ [])
+threads_more operations n =
+    ap (filter (has_operations operations)) (range_more n) ∙ filter-append (has_operations operations) (range_with_len 0 n) (n ∷ [])
 
--- a thread with events is one more
-pub threads_yes : (events : List Event) (n : ℕ) → has_events events n ≡ true → threads_below events (n + 1) ≡ threads_below events n ++ n ∷ []
-threads_yes events n h = threads_more events n ∙ ap (λ (b : Bool). threads_below events n ++ cond b (n ∷ []) []) h
+-- a thread with operations is one more
+pub threads_yes : (operations : List Operation) (n : ℕ) → has_operations operations n ≡ true → threads_below operations (n + 1) ≡ threads_below operations n ++ n ∷ []
+threads_yes operations n h = threads_more operations n ∙ ap (λ (b : Bool). threads_below operations n ++ cond b (n ∷ []) []) h
 
--- a thread without events is none more
-pub threads_no : (events : List Event) (n : ℕ) → has_events events n ≡ false → threads_below events (n + 1) ≡ threads_below events n
-threads_no events n h = threads_more events n ∙ ap (λ (b : Bool). threads_below events n ++ cond b (n ∷ []) []) h ∙ append-nil _
+-- a thread without operations is none more
+pub threads_no : (operations : List Operation) (n : ℕ) → has_operations operations n ≡ false → threads_below operations (n + 1) ≡ threads_below operations n
+threads_no operations n h = threads_more operations n ∙ ap (λ (b : Bool). threads_below operations n ++ cond b (n ∷ []) []) h ∙ append-nil _
 
 -- there is no thread below 0
-pub threads_none : (events : List Event) → threads_below events 0 ≡ []
+pub threads_none : (operations : List Operation) → threads_below operations 0 ≡ []
 unfolding threads_below
-threads_none events = refl
+threads_none operations = refl
 
 -- the point of the next operation of an order
 pub point_more : (order : List Operation) (i : ℕ) (d : Operation) (greatest v : ℕ) → i < length order → greatest ≡ greatest_call (take i order)

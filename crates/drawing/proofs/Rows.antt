@@ -1,11 +1,13 @@
 -- Rows stand in the order of time.
-use Rattle.std.proofs.Common.{◌≡◌, ℕ, zero, suc, ◌+◌, ◌<◌, ◌≤◌, Bool, true, false, ◌&&◌, ◌||◌, inl, inr, List, [], ◌∷◌, Some, refl, sym, ap, subst, ◌∙◌, arith}
-use Rattle.std.proofs.Common.{eq-eqb, zero-add}
-use Rattle.std.specs.Prelude.{Contains, nat_lt, nat_eq, slice_get}
+use Rattle.std.proofs.Common.{◌≡◌, ℕ, zero, suc, ◌+◌, ◌<◌, ◌≤◌, Bool, true, false, ◌&&◌, ◌||◌, ◌⊎◌, inl, inr, cond, List, [], ◌∷◌, ◌++◌, length, Some}
+use Rattle.std.proofs.Common.{refl, sym, ap, subst, ◌∙◌, arith}
+use Rattle.std.proofs.Common.{eq-eqb, eqb-true, zero-add}
+use Rattle.std.specs.Prelude.{Contains, ◌==◌, nat_lt, nat_eq, slice_get, sum_by}
 use Rattle.std.specs.List.{flat_map, enumerate_from}
 use Rattle.std.proofs.lemmas.Bool.{cases_lt}
 use Rattle.std.proofs.lemmas.Bool.Decides.{nat_tests}
 use Rattle.std.proofs.lemmas.List.Elements.{Contains-append_left, Contains-append_right}
+use Rattle.std.proofs.lemmas.List.Sums.{sum_by-append, sum_by-cons}
 use Rattle.std.proofs.lemmas.List.Sorted.{Contains-permutation, IsPermutation-sym}
 use Rattle.event_records.specs.declared.event.Event.{Event}
 use Rattle.history_merge.specs.declared.operation.Operation.{Operation}
@@ -16,13 +18,16 @@ use Rattle.verdicts.specs.declared.verifying.Claimed.{Claimed}
 use Rattle.verdicts.specs.declared.verifying.Claimed.TheVariants.{Yes}
 use Rattle.drawing.specs.Claim.{order_of}
 use Rattle.drawing.specs.Layout.{point}
-use Rattle.drawing.specs.Scene.{initial_row, initial_rows, effect_row_if, effect_if, effect_rows, event_rows, rows_of, row_time, row_turn, stands_above}
+use Rattle.drawing.specs.Scene.{initial_row, initial_rows, effect_row_if, effect_if, effect_rows, event_rows, has_row, left_out_rows}
+use Rattle.drawing.specs.Scene.{rows_after, rows_of, row_time, row_turn, stands_above}
 use Rattle.drawing.specs.Scene.{row_number}
 use Rattle.drawing.specs.declared.scene.Row.{Row}
-use Rattle.drawing.specs.declared.scene.Row.TheVariants.{Head, Initial, Ticket, Effect}
-use Rattle.drawing.specs.Laws.{RowsRise, InitialValuesHaveRows, EventsHaveRows, EffectsHaveRows, InitialRowsAreFirst, RowsTellPrecedence}
+use Rattle.drawing.specs.declared.scene.Row.TheVariants.{Head, Initial, Ticket, LeftOut, Effect}
+use Rattle.drawing.specs.Laws.{RowsRise, InitialValuesHaveRows, OperationsHaveRows, EffectsHaveRows, InitialRowsAreFirst, RowsTellPrecedence}
+use Rattle.drawing.specs.Laws.{EventsAreCounted, events_in}
 use Rattle.drawing.specs.Laws.{EffectRowsAreInBars, EffectRowsRise}
 use Rattle.drawing.proofs.Below.{fewer, one_fewer}
+use Rattle.drawing.proofs.Nearness.{any_of, in_flat_map, or_true}
 use Rattle.drawing.proofs.Effects.{effects_are_in_bars, effects_rise, point_is_a_call}
 
 -- ---- numbers rise
@@ -62,13 +67,6 @@ no_lower rows s t no_later =
 
 -- ---- rows of their own
 
-in_flat_map : {X A : Type 0} (f : X → List A) (xs : List X) (x : X) (a : A) → Contains xs x → Contains (f x) a → Contains (flat_map f xs) a
-in_flat_map f [] x a among here = absurd (not_in_none x among)
-in_flat_map f (y ∷ ys) x a among here = elim (contains_cons y ys x among) [
-  | inl same ↦ Contains-append_left (f y) (flat_map f ys) a (subst (λ z. Contains (f z) a) (sym same) here)
-  | inr there ↦ Contains-append_right (f y) (flat_map f ys) a (in_flat_map f ys x a there here)
-]
-
 enumerated_at : {X : Type 0} (a : ℕ) (xs : List X) (i : ℕ) (x : X) → slice_get xs i ≡ Some x → slice_get (enumerate_from a xs) i ≡ Some (a + i, x)
 enumerated_at a [] i x at = absurd (cc)
 enumerated_at a (y ∷ ys) zero x at = let e : a ≡ a + 0 = omega arith in ap (λ n. Some (n, y)) e ∙ ap (λ z. Some (a + 0, z)) (the_same at)
@@ -84,8 +82,8 @@ in_enumerated xs i x at = contains_at (enumerate_from 0 xs) i (i, x) (enumerated
 
 pub initial_values_have_rows : InitialValuesHaveRows
 unfolding rows_of
-initial_values_have_rows history claimed j v at =
-    Contains-append_left (initial_rows history.initial) (flat_map (event_rows (order_of claimed)) history.events) (Initial j v) (among history.initial at)
+initial_values_have_rows history claimed drawn j v at =
+    Contains-append_left (initial_rows history.initial) (rows_after drawn (order_of claimed) 0 0 history.events) (Initial j v) (among history.initial at)
   where
     among : (initial : List ℕ) → slice_get initial j ≡ Some v → Contains (initial_rows initial) (Initial j v)
     among [] is = absurd (cc)
@@ -94,17 +92,114 @@ initial_values_have_rows history claimed j v at =
         (in_flat_map initial_row (enumerate_from 0 (front ∷ others)) (j, v) (Initial j v) (in_enumerated (front ∷ others) j v is)
         (contains_at (Initial j v ∷ []) 0 (Initial j v) refl))
 
--- a row that stands with an event is one of all
-with_event : (history : HistoryView) (claimed : Claimed) (e : Event) (r : Row) → Contains history.events e → Contains (event_rows (order_of claimed) e) r
-    → Contains (rows_of history claimed) r
-unfolding rows_of
-with_event history claimed e r among here =
-    Contains-append_right (initial_rows history.initial) (flat_map (event_rows (order_of claimed)) history.events) r
-    (in_flat_map (event_rows (order_of claimed)) history.events e r among here)
+-- a row that stands with an event that has its own is one of all
+module _ (drawn order : List Operation) (e : Event) (r : Row) (own : has_row drawn e.ticket ≡ true) (here : Contains (event_rows order e) r) where
+  in_rows_after : (count last : ℕ) (events : List Event) → Contains events e → Contains (rows_after drawn order count last events) r
+  in_rows_after count last [] among = absurd (not_in_none e among)
+  in_rows_after count last (x ∷ later) among =
+      join (has_row drawn x.ticket) refl (λ there. in_rows_after 0 last later there) (λ there. in_rows_after (count + 1) x.ticket later there)
+    where
+      join : (b : Bool) → has_row drawn x.ticket ≡ b → (Contains later e → Contains (rows_after drawn order 0 last later) r)
+          → (Contains later e → Contains (rows_after drawn order (count + 1) x.ticket later) r)
+          → Contains (cond b (left_out_rows count last ++ (event_rows order x ++ rows_after drawn order 0 last later))
+          (rows_after drawn order (count + 1) x.ticket later)) r
+      join true is shown hidden = Contains-append_right (left_out_rows count last) (event_rows order x ++ rows_after drawn order 0 last later) r
+          (elim (contains_cons x later e among) [
+            | inl same ↦ Contains-append_left (event_rows order x) (rows_after drawn order 0 last later) r
+                (subst (λ y. Contains (event_rows order y) r) (sym same) here)
+            | inr there ↦ Contains-append_right (event_rows order x) (rows_after drawn order 0 last later) r (shown there)
+          ])
+      join false is shown hidden = elim (contains_cons x later e among) [
+        | inl same ↦ let clash : false ≡ true = sym is ∙ ap (λ (y : Event). has_row drawn y.ticket) same ∙ own in cc
+        | inr there ↦ hidden there
+      ]
 
-pub events_have_rows : EventsHaveRows
-events_have_rows history claimed e among =
-    with_event history claimed e (Ticket e.ticket) among (contains_at (event_rows (order_of claimed) e) 0 (Ticket e.ticket) refl)
+with_event : (history : HistoryView) (claimed : Claimed) (drawn : List Operation) (e : Event) (r : Row) → Contains history.events e
+    → has_row drawn e.ticket ≡ true → Contains (event_rows (order_of claimed) e) r → Contains (rows_of history claimed drawn) r
+unfolding rows_of
+with_event history claimed drawn e r among own here =
+    Contains-append_right (initial_rows history.initial) (rows_after drawn (order_of claimed) 0 0 history.events) r
+    (in_rows_after drawn (order_of claimed) e r own here 0 0 history.events among)
+
+-- the event of an operation that is drawn has its own row
+has_own : (drawn : List Operation) (o : Operation) (ticket : ℕ) → Contains drawn o → (o.call ≡ ticket) ⊎ (o.ret ≡ ticket) → has_row drawn ticket ≡ true
+has_own drawn o ticket among at = any_of (λ o. nat_eq o.call ticket || nat_eq o.ret ticket) drawn o among (passes o.call o.ret at)
+  where
+    passes : (call ret : ℕ) → (call ≡ ticket) ⊎ (ret ≡ ticket) → (nat_eq call ticket || nat_eq ret ticket) ≡ true
+    passes call ret (inl called) = ap (λ (b : Bool). b || nat_eq ret ticket) (eq-eqb call ticket called)
+    passes call ret (inr returned) = ap (λ (b : Bool). nat_eq call ticket || b) (eq-eqb ret ticket returned) ∙ or_true (nat_eq call ticket)
+
+pub operations_have_rows : OperationsHaveRows
+operations_have_rows history claimed drawn o among drawn_too =
+    let t = traced history.events o among in (
+      subst (λ n. Contains (rows_of history claimed drawn) (Ticket n)) (sym t.made.called)
+          (with_event history claimed drawn t.call (Ticket t.call.ticket) (contains_at history.events t.called_at t.call t.at_call)
+          (has_own drawn o t.call.ticket drawn_too (inl t.made.called))
+          (contains_at (event_rows (order_of claimed) t.call) 0 (Ticket t.call.ticket) refl)),
+      subst (λ n. Contains (rows_of history claimed drawn) (Ticket n)) (sym t.made.returned)
+          (with_event history claimed drawn t.answer (Ticket t.answer.ticket) (contains_at history.events t.returned_at t.answer t.at_return)
+          (has_own drawn o t.answer.ticket drawn_too (inr t.made.returned))
+          (contains_at (event_rows (order_of claimed) t.answer) 0 (Ticket t.answer.ticket) refl)),
+    )
+
+-- ---- events are counted
+
+none_in_all : {X : Type 0} (f : X → List Row) → ((x : X) → sum_by events_in (f x) ≡ 0) → (xs : List X) → sum_by events_in (flat_map f xs) ≡ 0
+none_in_all f none [] = refl
+none_in_all f none (x ∷ xs) =
+    let here = none x in
+    let later = none_in_all f none xs in
+    omega (arith, sum_by-append events_in (f x) (flat_map f xs))
+
+counted_left_out : (count last : ℕ) → sum_by events_in (left_out_rows count last) ≡ count
+counted_left_out count last = join (count == 0) refl
+  where
+    join : (b : Bool) → (count == 0) ≡ b → sum_by events_in (cond b [] (LeftOut count last ∷ [])) ≡ count
+    join true none = sym (eqb-true count 0 none)
+    join false some = omega (arith, sum_by-cons events_in (LeftOut count last) [])
+
+counted_with_event : (order : List Operation) (e : Event) → sum_by events_in (event_rows order e) ≡ 1
+unfolding effect_rows
+counted_with_event order e =
+    let effects = none_in_all (effect_if order e.ticket) (λ (i, o). no_event (point order i == e.ticket) o (i + 1) (point order i)) (enumerate_from 0 order) in
+    omega (arith, sum_by-append events_in (Ticket e.ticket ∷ []) (flat_map (effect_if order e.ticket) (enumerate_from 0 order)))
+  where
+    no_event : (b : Bool) (o : Operation) (number at : ℕ) → sum_by events_in (effect_row_if b o number at) ≡ 0
+    no_event true o number at = refl
+    no_event false o number at = refl
+
+counted_after : (drawn order : List Operation) (count last : ℕ) (events : List Event)
+    → sum_by events_in (rows_after drawn order count last events) ≡ count + length events
+counted_after drawn order count last [] = let here = counted_left_out count last in omega arith
+counted_after drawn order count last (e ∷ later) =
+    join (has_row drawn e.ticket) (counted_after drawn order 0 last later) (counted_after drawn order (count + 1) e.ticket later)
+  where
+    join : (b : Bool) → sum_by events_in (rows_after drawn order 0 last later) ≡ 0 + length later
+        → sum_by events_in (rows_after drawn order (count + 1) e.ticket later) ≡ count + 1 + length later
+        → sum_by events_in (cond b (left_out_rows count last ++ (event_rows order e ++ rows_after drawn order 0 last later))
+        (rows_after drawn order (count + 1) e.ticket later)) ≡ count + length (e ∷ later)
+    join true shown hidden =
+        let here = counted_left_out count last in
+        let own = counted_with_event order e in
+        omega (
+          arith,
+          sum_by-append events_in (left_out_rows count last) (event_rows order e ++ rows_after drawn order 0 last later),
+          sum_by-append events_in (event_rows order e) (rows_after drawn order 0 last later),
+        )
+    join false shown hidden = omega arith
+
+pub events_are_counted : EventsAreCounted
+unfolding rows_of
+events_are_counted history claimed drawn =
+    let first = none_first history.initial in
+    let others = counted_after drawn (order_of claimed) 0 0 history.events in
+    omega (arith, sum_by-append events_in (initial_rows history.initial) (rows_after drawn (order_of claimed) 0 0 history.events))
+  where
+    none_first : (initial : List ℕ) → sum_by events_in (initial_rows initial) ≡ 0
+    none_first [] = refl
+    none_first (front ∷ others) =
+        let all = none_in_all initial_row (λ (place, v). refl) (enumerate_from 0 (front ∷ others)) in
+        omega (arith, sum_by-append events_in (Head ∷ []) (flat_map initial_row (enumerate_from 0 (front ∷ others))))
 
 -- an operation has its row after the event at its point
 after_its_event : (order : List Operation) (i : ℕ) (o : Operation) (e : Event) → slice_get order i ≡ Some o → e.ticket ≡ point order i
@@ -119,37 +214,25 @@ after_its_event order i o e at here =
 pub effects_have_rows : EffectsHaveRows
 effects_have_rows history order i o complete legal at =
     let call = point_is_a_call history.initial history.events order i o legal at in
-    with_event history (Yes order) call.0 (Effect o (i + 1) (point order i)) call.1 (after_its_event order i o call.0 at call.2)
+    with_event history (Yes order) (operations_of history.events) call.0 (Effect o (i + 1) (point order i)) call.1
+    (has_own (operations_of history.events) call.2.0 call.0.ticket call.2.1 (inl call.2.2)) (after_its_event order i o call.0 at call.3)
 
 -- ---- what follows
 
 pub initial_rows_are_first : InitialRowsAreFirst
-initial_rows_are_first history claimed j later v w ticket at less =
-    let among = initial_values_have_rows history claimed j v at in (
+initial_rows_are_first history claimed drawn j later v w ticket at less =
+    let among = initial_values_have_rows history claimed drawn j v at in (
       rows_rise _ (Initial j v) (Initial later w) among (in_turn 0 (j + 1) 0 (later + 1) (omega arith) (omega arith)),
       rows_rise _ (Initial j v) (Ticket ticket) among (earlier 0 (j + 1) (ticket + 1) 0 (omega arith)),
     )
 
--- the event of a call, and that of a return, have their rows
-module _ (history : HistoryView) (claimed : Claimed) (o : Operation) (among : Contains (operations_of history.events) o) where
-  call_has_row : Contains (rows_of history claimed) (Ticket o.call)
-  call_has_row =
-      let t = traced history.events o among in
-      subst (λ n. Contains (rows_of history claimed) (Ticket n)) (sym t.made.called)
-      (events_have_rows history claimed t.call (contains_at history.events t.called_at t.call t.at_call))
-
-  return_has_row : Contains (rows_of history claimed) (Ticket o.ret)
-  return_has_row =
-      let t = traced history.events o among in
-      subst (λ n. Contains (rows_of history claimed) (Ticket n)) (sym t.made.returned)
-      (events_have_rows history claimed t.answer (contains_at history.events t.returned_at t.answer t.at_return))
-
 pub rows_tell_precedence : RowsTellPrecedence
-rows_tell_precedence history claimed x y in_x = (
-  λ less. rows_rise _ (Ticket x.ret) (Ticket y.call) (return_has_row history claimed x in_x) (earlier (x.ret + 1) 0 (y.call + 1) 0 (omega arith)),
+rows_tell_precedence history claimed drawn x y in_x drawn_too = (
+  λ less. rows_rise _ (Ticket x.ret) (Ticket y.call) (operations_have_rows history claimed drawn x in_x drawn_too).1
+      (earlier (x.ret + 1) 0 (y.call + 1) 0 (omega arith)),
   λ above. elim (cases_lt x.ret y.call) [
     | inl less ↦ less
-    | inr not_less ↦ let low = no_lower (rows_of history claimed) y.call x.ret (omega arith) in absurd (omega arith)
+    | inr not_less ↦ let low = no_lower (rows_of history claimed drawn) y.call x.ret (omega arith) in absurd (omega arith)
   ],
 )
 
@@ -158,7 +241,8 @@ effect_rows_are_in_bars history order i o complete legal at =
     let window = effects_are_in_bars history.initial history.events order i o complete legal at in
     let among = Contains-permutation order (operations_of history.events) o (IsPermutation-sym (operations_of history.events) order legal.holds_each_once)
     (contains_at order i o at) in (
-      rows_rise _ (Ticket o.call) (Effect o (i + 1) (point order i)) (call_has_row history (Yes order) o among)
+      rows_rise _ (Ticket o.call) (Effect o (i + 1) (point order i))
+          (operations_have_rows history (Yes order) (operations_of history.events) o among among).0
           (in_turn (o.call + 1) 0 (point order i + 1) (i + 1) (let c = window.0 in omega arith) (omega arith)),
       rows_rise _ (Effect o (i + 1) (point order i)) (Ticket o.ret) (effects_have_rows history order i o complete legal at)
           (earlier (point order i + 1) (i + 1) (o.ret + 1) 0 (let c = window.1 in omega arith)),

@@ -1,5 +1,5 @@
 -- What holds of pictures.
-use Rattle.std.specs.Prelude.{◌≡◌, ℕ, ◌+◌, ◌^◌, ◌<◌, ◌≤◌, ◌↔◌, true, List, Some, Contains, slice_get}
+use Rattle.std.specs.Prelude.{◌≡◌, ℕ, ◌+◌, ◌^◌, ◌<◌, ◌≤◌, ◌↔◌, true, List, Option, Some, Contains, length, slice_get, sum_by}
 use Rattle.event_records.specs.declared.event.Event.{Event}
 use Rattle.history_merge.specs.declared.operation.Operation.{Operation}
 use Rattle.history_merge.specs.Complete.{IsCompleteHistory}
@@ -13,12 +13,38 @@ use Rattle.verdicts.specs.declared.verifying.Claimed.TheVariants.{Yes, No}
 use Rattle.verdicts.specs.declared.verifying.ViolationKind.{ViolationKind}
 use Rattle.verdicts.specs.Claims.{IsTrueClaim}
 use Rattle.drawing.specs.declared.columns.Columns.{Columns}
+use Rattle.drawing.specs.Drawn.{drawn_operations}
 use Rattle.drawing.specs.Names.{value_text}
 use Rattle.drawing.specs.Layout.{initial_label, under_way, place_in, initial_place_in, point}
 use Rattle.drawing.specs.Scene.{rows_of, row_number, stands_above}
 use Rattle.drawing.specs.Terminal.{lane_column}
 use Rattle.drawing.specs.declared.scene.Row.{Row}
 use Rattle.drawing.specs.declared.scene.Row.TheVariants as row
+
+-- ---- what is drawn
+
+-- the lines list no other operations
+abbrev pub AreOperationsOf : List Operation → List ClaimLine → Type 0
+AreOperationsOf operations lines = (o : Operation) → Contains lines (Op o) → Contains operations o
+
+-- an operation that overlaps one of a `NO` is drawn, whatever the distance
+abbrev pub OverlappingAreDrawn : Type 0
+OverlappingAreDrawn =
+    (history : HistoryView) (kind : ViolationKind) (lines : List ClaimLine) (around : Option ℕ) (x y : Operation) → Contains (operations_of history.events) x
+    → Contains lines (Op y) → ¬ (Precedes x y) → ¬ (Precedes y x) → Contains (drawn_operations history (No kind lines) around) x
+
+-- without a distance no others are
+abbrev pub NoOthersAreDrawn : Type 0
+NoOthersAreDrawn =
+    (history : HistoryView) (kind : ViolationKind) (lines : List ClaimLine) (x : Operation) → AreOperationsOf (operations_of history.events) lines
+    → Contains (drawn_operations history (No kind lines) (Some 0)) x
+    → (y : Operation) × Contains lines (Op y) × (¬ (Precedes x y)) × (¬ (Precedes y x))
+
+-- those of a `NO` are drawn themselves
+abbrev pub LinesAreDrawn : Type 0
+LinesAreDrawn =
+    (history : HistoryView) (kind : ViolationKind) (lines : List ClaimLine) (around : Option ℕ) → IsCompleteHistory history.events
+    → AreOperationsOf (operations_of history.events) lines → AreOperationsOf (drawn_operations history (No kind lines) around) lines
 
 -- ---- lanes
 
@@ -30,11 +56,12 @@ LanesAreApart =
 
 -- ---- bars
 
--- from its call to its return, each operation is what stands in its thread's lane
+-- from its call to its return, each operation that is drawn is what stands in its thread's lane
 abbrev pub BarsAreOfOperations : Type 0
 BarsAreOfOperations =
-    (events : List Event) (o : Operation) (ticket : ℕ) → IsCompleteHistory events → Contains (operations_of events) o
-    → o.call ≤ ticket → ticket ≤ o.ret → under_way (operations_of events) o.thread ticket ≡ Some o
+    (history : HistoryView) (claimed : Claimed) (around : Option ℕ) (o : Operation) (ticket : ℕ) → IsCompleteHistory history.events
+    → Contains (drawn_operations history claimed around) o → o.call ≤ ticket → ticket ≤ o.ret
+    → under_way (drawn_operations history claimed around) o.thread ticket ≡ Some o
 
 -- the operation is of this thread, and the ticket lies from its call to its return
 pub record HasBarAt (operations : List Operation) (thread ticket : ℕ) (o : Operation) : Type 0 where
@@ -69,48 +96,62 @@ RowsRise = (rows : List Row) (other r : Row) → Contains rows other → stands_
 -- each initial value has its row
 abbrev pub InitialValuesHaveRows : Type 0
 InitialValuesHaveRows =
-    (history : HistoryView) (claimed : Claimed) (j v : ℕ) → slice_get history.initial j ≡ Some v → Contains (rows_of history claimed) (row.Initial j v)
+    (history : HistoryView) (claimed : Claimed) (drawn : List Operation) (j v : ℕ) → slice_get history.initial j ≡ Some v
+    → Contains (rows_of history claimed drawn) (row.Initial j v)
 
--- each event has its row
-abbrev pub EventsHaveRows : Type 0
-EventsHaveRows =
-    (history : HistoryView) (claimed : Claimed) (e : Event) → Contains history.events e → Contains (rows_of history claimed) (row.Ticket e.ticket)
+-- the call and the return of each operation that is drawn have their rows
+abbrev pub OperationsHaveRows : Type 0
+OperationsHaveRows =
+    (history : HistoryView) (claimed : Claimed) (drawn : List Operation) (o : Operation) → Contains (operations_of history.events) o → Contains drawn o
+    → Contains (rows_of history claimed drawn) (row.Ticket o.call) × Contains (rows_of history claimed drawn) (row.Ticket o.ret)
+
+-- how many events a row stands for
+abbrev pub events_in : Row → ℕ
+events_in (row.Ticket ticket) = 1
+events_in (row.LeftOut count last) = count
+events_in r = 0
+
+-- no event is lost: each has its row, or is counted in that of events that are left out
+abbrev pub EventsAreCounted : Type 0
+EventsAreCounted =
+    (history : HistoryView) (claimed : Claimed) (drawn : List Operation) → sum_by events_in (rows_of history claimed drawn) ≡ length history.events
 
 -- each operation of a linearization has its row, where it takes effect
 abbrev pub EffectsHaveRows : Type 0
 EffectsHaveRows =
     (history : HistoryView) (order : List Operation) (i : ℕ) (o : Operation) → IsCompleteHistory history.events
     → IsLegalOrderFrom history.initial (operations_of history.events) order → slice_get order i ≡ Some o
-    → Contains (rows_of history (Yes order)) (row.Effect o (i + 1) (point order i))
+    → Contains (rows_of history (Yes order) (operations_of history.events)) (row.Effect o (i + 1) (point order i))
 
 -- the rows of initial values stand one below another, and above those of all events
 abbrev pub InitialRowsAreFirst : Type 0
 InitialRowsAreFirst =
-    (history : HistoryView) (claimed : Claimed) (j later v w ticket : ℕ) → slice_get history.initial j ≡ Some v → j < later
-    → (row_number (rows_of history claimed) (row.Initial j v) < row_number (rows_of history claimed) (row.Initial later w))
-    × (row_number (rows_of history claimed) (row.Initial j v) < row_number (rows_of history claimed) (row.Ticket ticket))
+    (history : HistoryView) (claimed : Claimed) (drawn : List Operation) (j later v w ticket : ℕ) → slice_get history.initial j ≡ Some v → j < later
+    → (row_number (rows_of history claimed drawn) (row.Initial j v) < row_number (rows_of history claimed drawn) (row.Initial later w))
+    × (row_number (rows_of history claimed drawn) (row.Initial j v) < row_number (rows_of history claimed drawn) (row.Ticket ticket))
 
--- a return stands above a call if and only if its operation precedes the other
+-- the return of an operation that is drawn stands above a call if and only if its operation precedes the other
 abbrev pub RowsTellPrecedence : Type 0
 RowsTellPrecedence =
-    (history : HistoryView) (claimed : Claimed) (x y : Operation) → Contains (operations_of history.events) x
-    → Precedes x y ↔ (row_number (rows_of history claimed) (row.Ticket x.ret) < row_number (rows_of history claimed) (row.Ticket y.call))
+    (history : HistoryView) (claimed : Claimed) (drawn : List Operation) (x y : Operation) → Contains (operations_of history.events) x → Contains drawn x
+    → Precedes x y ↔ (row_number (rows_of history claimed drawn) (row.Ticket x.ret) < row_number (rows_of history claimed drawn) (row.Ticket y.call))
 
 -- an operation of a linearization takes effect in a row between those of its call and of its return
 abbrev pub EffectRowsAreInBars : Type 0
 EffectRowsAreInBars =
     (history : HistoryView) (order : List Operation) (i : ℕ) (o : Operation) → IsCompleteHistory history.events
     → IsLegalOrderFrom history.initial (operations_of history.events) order → slice_get order i ≡ Some o
-    → (row_number (rows_of history (Yes order)) (row.Ticket o.call) < row_number (rows_of history (Yes order)) (row.Effect o (i + 1) (point order i)))
-    × (row_number (rows_of history (Yes order)) (row.Effect o (i + 1) (point order i)) < row_number (rows_of history (Yes order)) (row.Ticket o.ret))
+    → let rows = rows_of history (Yes order) (operations_of history.events) in
+    (row_number rows (row.Ticket o.call) < row_number rows (row.Effect o (i + 1) (point order i)))
+    × (row_number rows (row.Effect o (i + 1) (point order i)) < row_number rows (row.Ticket o.ret))
 
 -- and these rows rise in its order
 abbrev pub EffectRowsRise : Type 0
 EffectRowsRise =
     (history : HistoryView) (order : List Operation) (i j : ℕ) (o p : Operation) → IsCompleteHistory history.events
     → IsLegalOrderFrom history.initial (operations_of history.events) order → slice_get order i ≡ Some o → i < j
-    → row_number (rows_of history (Yes order)) (row.Effect o (i + 1) (point order i))
-    < row_number (rows_of history (Yes order)) (row.Effect p (j + 1) (point order j))
+    → let rows = rows_of history (Yes order) (operations_of history.events) in
+    row_number rows (row.Effect o (i + 1) (point order i)) < row_number rows (row.Effect p (j + 1) (point order j))
 
 -- ---- names
 
@@ -123,10 +164,6 @@ abbrev pub InitialValuesHaveTheirNames : Type 0
 InitialValuesHaveTheirNames = (v w : ℕ) → v < 2 ^ 64 → w < 2 ^ 64 → initial_label v ≡ initial_label w → v ≡ w
 
 -- ---- numbers
-
--- the lines list no other operations
-abbrev pub AreOperationsOf : List Operation → List ClaimLine → Type 0
-AreOperationsOf operations lines = (o : Operation) → Contains lines (Op o) → Contains operations o
 
 -- an operation with a number is the line of that number
 abbrev pub NumbersAreOfLines : Type 0

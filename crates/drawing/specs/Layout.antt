@@ -36,17 +36,17 @@ initial_label v = initial_text (name_of v)
 
 -- ---- threads
 
--- some event is of this thread
-abbrev pub has_events : List Event → ℕ → Bool
-has_events events thread = list_any (λ e. nat_eq e.thread thread) events
+-- some operation is of this thread
+abbrev pub has_operations : List Operation → ℕ → Bool
+has_operations operations thread = list_any (λ o. nat_eq o.thread thread) operations
 
--- the threads below n that have events, the least first
-unfoldable pub threads_below : List Event → ℕ → List ℕ
-threads_below events n = filter (has_events events) (range_with_len 0 n)
+-- the threads below n that have operations, the least first
+unfoldable pub threads_below : List Operation → ℕ → List ℕ
+threads_below operations n = filter (has_operations operations) (range_with_len 0 n)
 
--- the threads that have events, the least first
-abbrev pub threads_of : List Event → List ℕ
-threads_of events = threads_below events (MAX_THREAD + 1)
+-- the threads that have operations, the least first
+abbrev pub threads_of : List Operation → List ℕ
+threads_of operations = threads_below operations (MAX_THREAD + 1)
 
 -- ---- tickets and labels
 

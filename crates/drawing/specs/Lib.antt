@@ -5,6 +5,7 @@ pub mod Words
 pub mod Captions
 pub mod Signs
 pub mod Claim
+pub mod Drawn
 pub mod Scene
 pub mod Terminal
 pub mod Laws

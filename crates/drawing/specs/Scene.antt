@@ -1,25 +1,24 @@
 -- The scene of a picture, which characters and pixels draw alike: its rows from top to bottom, and its lanes side by side.
-use Rattle.std.specs.Prelude.{ℕ, ◌+◌, ◌==◌, ◌&&◌, ◌||◌, nat_lt, nat_eq, Bool, true, false, Option, Some, None, List, [], ◌∷◌, ◌++◌, count_by, codes}
-use Rattle.std.specs.List.{flat_map, enumerate_from}
+use Rattle.std.specs.Prelude.{ℕ, ◌+◌, ◌==◌, ◌&&◌, ◌||◌, if◌then◌else◌, max, fold, length, decimal, nat_lt, nat_eq, Bool, true, false, Option, Some, None, List, [], ◌∷◌, ◌++◌, count_by, codes}
+use Rattle.std.specs.List.{flat_map, enumerate_from, list_any}
 use Rattle.event_records.specs.declared.event.Event.{Event}
 use Rattle.history_merge.specs.Initial.{HistoryView}
 use Rattle.history_merge.specs.declared.operation.Operation.{Operation}
 use Rattle.history_merge.specs.declared.operation.OpKind.{OpKind}
 use Rattle.history_merge.specs.declared.operation.OpKind.TheVariants as kind
-use Rattle.history_merge.specs.Operations.{operations_of}
 use Rattle.verdicts.specs.declared.verifying.ClaimLine.{ClaimLine}
 use Rattle.verdicts.specs.declared.verifying.Claimed.{Claimed}
 use Rattle.verdicts.specs.declared.verifying.Claimed.TheVariants.{No}
 use Rattle.verdicts.specs.declared.verifying.ViolationKind.TheVariants.{VRepeat}
 use Rattle.drawing.specs.Claim.{order_of}
-use Rattle.drawing.specs.Layout.{threads_of, last_ticket, point, place_in, initial_place_in}
+use Rattle.drawing.specs.Layout.{digits, threads_of, last_ticket, point, place_in, initial_place_in}
 use Rattle.drawing.specs.Bands.{bands_of}
 use Rattle.drawing.specs.declared.bands.Band.{Band}
 use Rattle.drawing.specs.declared.scene.Row.{Row}
-use Rattle.drawing.specs.declared.scene.Row.TheVariants.{Head, Initial, Ticket, Effect}
+use Rattle.drawing.specs.declared.scene.Row.TheVariants.{Head, Initial, Ticket, LeftOut, Effect}
 use Rattle.drawing.specs.declared.sheet.Scene.{Scene}
 
--- what a picture shows: what the queue holds first, the operations, the claim, the threads with events, bands and rows
+-- what a picture shows: what the queue holds first, the operations that are drawn, the claim, their threads, bands and rows
 pub record SceneView : Type 0 where
   pub initial : List ℕ
   pub operations : List Operation
@@ -33,7 +32,7 @@ pub record SceneView : Type 0 where
 abbrev pub scene_on : Scene → SceneView
 scene_on scene = record {
   initial = scene.initial.now;
-  operations = scene.operations.now;
+  operations = scene.operations.items;
   claimed = scene.claimed.now;
   threads = scene.threads.items;
   bands = scene.bands.items;
@@ -69,19 +68,34 @@ effect_rows order ticket = flat_map (effect_if order ticket) (enumerate_from 0 o
 abbrev pub event_rows : List Operation → Event → List Row
 event_rows order e = Ticket e.ticket ∷ effect_rows order e.ticket
 
--- the rows of a history and what is claimed of it
-unfoldable pub rows_of : HistoryView → Claimed → List Row
-rows_of history claimed = initial_rows history.initial ++ flat_map (event_rows (order_of claimed)) history.events
+-- an operation that is drawn is called or returns at this ticket
+abbrev pub has_row : List Operation → ℕ → Bool
+has_row drawn ticket = list_any (λ o. nat_eq o.call ticket || nat_eq o.ret ticket) drawn
 
--- the scene of a history and what is claimed of it
-unfoldable pub scene_of : HistoryView → Claimed → SceneView
-scene_of history claimed = record {
+-- the row of this number of events that are left out up to this ticket; none if there are none
+abbrev pub left_out_rows : ℕ → ℕ → List Row
+left_out_rows count last = if count == 0 then [] else LeftOut count last ∷ []
+
+-- the rows of events, after this number of events that are left out up to this ticket: one for each event of a drawn operation
+abbrev pub rows_after : List Operation → List Operation → ℕ → ℕ → List Event → List Row
+rows_after drawn order count last [] = left_out_rows count last
+rows_after drawn order count last (e ∷ later) =
+    if has_row drawn e.ticket then left_out_rows count last ++ (event_rows order e ++ rows_after drawn order 0 last later)
+    else rows_after drawn order (count + 1) e.ticket later
+
+-- the rows of a history of which these operations are drawn, and what is claimed of it
+unfoldable pub rows_of : HistoryView → Claimed → List Operation → List Row
+rows_of history claimed drawn = initial_rows history.initial ++ rows_after drawn (order_of claimed) 0 0 history.events
+
+-- the scene of a history of which these operations are drawn, and what is claimed of it
+unfoldable pub scene_of : HistoryView → Claimed → List Operation → SceneView
+scene_of history claimed drawn = record {
   initial = history.initial;
-  operations = operations_of history.events;
+  operations = drawn;
   claimed = claimed;
-  threads = threads_of history.events;
+  threads = threads_of drawn;
   bands = bands_of claimed;
-  rows = rows_of history claimed;
+  rows = rows_of history claimed drawn;
   last_ticket = last_ticket history.events;
 }
 
@@ -92,6 +106,7 @@ abbrev pub row_time : Row → ℕ
 row_time Head = 0
 row_time (Initial place v) = 0
 row_time (Ticket ticket) = ticket + 1
+row_time (LeftOut count last) = last + 1
 row_time (Effect o number point) = point + 1
 
 -- its turn among the rows of that time
@@ -99,6 +114,7 @@ abbrev pub row_turn : Row → ℕ
 row_turn Head = 0
 row_turn (Initial place v) = place + 1
 row_turn (Ticket ticket) = 0
+row_turn (LeftOut count last) = 0
 row_turn (Effect o number point) = number
 
 -- a row stands above another
@@ -108,6 +124,19 @@ stands_above other row = nat_lt (row_time other) (row_time row) || (nat_eq (row_
 -- the number of a row, from 0: how many stand above it
 unfoldable pub row_number : List Row → Row → ℕ
 row_number rows row = count_by (λ other. stands_above other row) rows
+
+-- the words in place of events that are left out
+abbrev pub left_out_words : ℕ → List ℕ
+left_out_words count = codes "... " ++ (decimal count ++ (if count == 1 then codes " event ..." else codes " events ..."))
+
+-- how much room a row wants in the column of tickets for such words
+abbrev pub left_out_width : Row → ℕ
+left_out_width (LeftOut count last) = length (left_out_words count)
+left_out_width r = 0
+
+-- how wide the column of tickets is: for the word above it, the last ticket, and words in place of events
+abbrev pub ticket_width : SceneView → ℕ
+ticket_width scene = fold (λ widest r. max widest (left_out_width r)) (max 6 (digits scene.last_ticket)) scene.rows
 
 -- how many lanes stand to the left of a thread's
 abbrev pub lanes_before : List ℕ → ℕ → ℕ

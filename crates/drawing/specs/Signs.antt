@@ -1,10 +1,14 @@
 -- How to read a picture: its signs, and what each means. Characters and pixels draw them in their own way.
-use Rattle.std.specs.Prelude.{ℕ, List, [], ◌∷◌, ◌++◌, codes}
+use Rattle.std.specs.Prelude.{ℕ, if◌then◌else◌, List, [], ◌∷◌, ◌++◌, codes}
+use Rattle.std.specs.List.{list_any}
+use Rattle.history_merge.specs.declared.operation.Operation.{Operation}
 use Rattle.verdicts.specs.declared.verifying.Claimed.{Claimed}
 use Rattle.verdicts.specs.declared.verifying.Claimed.TheVariants.{Yes, No}
 use Rattle.verdicts.specs.declared.verifying.ViolationKind.TheVariants.{VFresh, VRepeat, VOrd, VWit}
 use Rattle.drawing.specs.declared.signs.Sign.{Sign}
-use Rattle.drawing.specs.declared.signs.Sign.TheVariants.{First, InOrder, OfOperations, OfValues, Present, Absent, Dequeued, InAndOut, SaidEmpty}
+use Rattle.drawing.specs.declared.signs.Sign.TheVariants.{First, InOrder, OfOperations, OfValues, Present, Absent, Dequeued, InAndOut, SaidEmpty, Away}
+use Rattle.drawing.specs.Drawn.{is_away}
+use Rattle.drawing.specs.Scene.{SceneView}
 
 -- the sign of initial values, where there are some
 abbrev pub initial_signs : List ℕ → List Sign
@@ -25,9 +29,13 @@ band_signs (No VRepeat lines) = []
 band_signs (No VOrd lines) = Present ∷ InAndOut ∷ []
 band_signs (No VWit lines) = Present ∷ SaidEmpty ∷ []
 
+-- the sign of operations that overlap none of those that show a `NO`, where there are some
+abbrev pub away_signs : Claimed → List Operation → List Sign
+away_signs claimed operations = if list_any (is_away claimed) operations then Away ∷ [] else []
+
 -- the signs of a picture
-abbrev pub signs_of : List ℕ → Claimed → List Sign
-signs_of initial claimed = initial_signs initial ++ (number_sign claimed initial ∷ band_signs claimed)
+abbrev pub signs_of : SceneView → List Sign
+signs_of scene = initial_signs scene.initial ++ (number_sign scene.claimed scene.initial ∷ (band_signs scene.claimed ++ away_signs scene.claimed scene.operations))
 
 -- what a sign means
 abbrev pub meaning : Sign → List ℕ
@@ -40,3 +48,4 @@ meaning Absent = codes "the value surely was not in the queue."
 meaning Dequeued = codes "within this time it was dequeued nevertheless."
 meaning InAndOut = codes "within this time the later value went in and out."
 meaning SaidEmpty = codes "within this time the queue was said to be empty."
+meaning Away = codes "an operation that overlaps none of those with numbers"

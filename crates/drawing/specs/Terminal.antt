@@ -1,7 +1,6 @@
 -- A scene as lines of characters: a line for each row.
-use Rattle.std.specs.Prelude.{ℕ, ◌+◌, ◌-◌, ◌*◌, ◌%◌, ◌==◌, ◌&&◌, nat_lt, max, if◌then◌else◌, Option, Some, None, List, [], ◌∷◌, ◌++◌, map, length, codes, decimal}
+use Rattle.std.specs.Prelude.{ℕ, ◌+◌, ◌-◌, ◌*◌, ◌%◌, ◌==◌, ◌&&◌, nat_lt, max, Bool, true, false, if◌then◌else◌, Option, Some, None, List, [], ◌∷◌, ◌++◌, map, length, codes, decimal}
 use Rattle.std.specs.List.{concat, flat_map, range_with_len, enumerate_from}
-use Rattle.history_merge.specs.Initial.{HistoryView}
 use Rattle.history_merge.specs.declared.operation.Operation.{Operation}
 use Rattle.verdicts.specs.declared.verifying.ClaimLine.{ClaimLine}
 use Rattle.verdicts.specs.declared.verifying.Claimed.{Claimed}
@@ -14,14 +13,15 @@ use Rattle.drawing.specs.declared.bands.Head.{Head}
 use Rattle.drawing.specs.Layout.{digits, label, numbered_label, initial_label, label_width, under_way, called_at}
 use Rattle.drawing.specs.Layout.{initial_place_in, number_at, number_in}
 use Rattle.drawing.specs.Bands.{head_text, form, holds_gap}
-use Rattle.drawing.specs.Scene.{SceneView, scene_of, lanes_before, way_word, initial_way}
+use Rattle.drawing.specs.Drawn.{is_away}
+use Rattle.drawing.specs.Scene.{SceneView, lanes_before, left_out_words, ticket_width, way_word, initial_way}
 use Rattle.drawing.specs.declared.scene.Row.{Row}
 use Rattle.drawing.specs.declared.scene.Row.TheVariants as row
 use Rattle.drawing.specs.Words.{Word, line_of}
 use Rattle.drawing.specs.Captions.{headline, caption}
 use Rattle.drawing.specs.Signs.{signs_of, meaning}
 use Rattle.drawing.specs.declared.signs.Sign.{Sign}
-use Rattle.drawing.specs.declared.signs.Sign.TheVariants.{First, InOrder, OfOperations, OfValues, Present, Absent}
+use Rattle.drawing.specs.declared.signs.Sign.TheVariants.{First, InOrder, OfOperations, OfValues, Present, Absent, Away}
 use Rattle.drawing.specs.declared.columns.TheConstants.{ROWS_UNDER_HEADS}
 
 -- ---- columns
@@ -44,7 +44,7 @@ columns_for ticket room lane lanes = record {
 -- the columns of a scene: tickets are at least as wide as the word above them, a lane has room for a bracket with a number
 abbrev pub columns_of : SceneView → Columns
 columns_of scene =
-    columns_for (max 6 (digits scene.last_ticket)) (room_beside scene.claimed (label_width scene.initial scene.operations) (length scene.bands))
+    columns_for (ticket_width scene) (room_beside scene.claimed (label_width scene.initial scene.operations) (length scene.bands))
     (max 2 (digits (count_of_lines scene.claimed)) + 2) (length scene.threads)
 
 -- a thread's lane stands to the right of those of lower threads
@@ -73,9 +73,25 @@ band_word columns gap (i, band) = band_at (band_column columns i) band gap
 abbrev pub band_words : Columns → List Band → Option ℕ → List Word
 band_words columns bands gap = map (band_word columns gap) (enumerate_from 0 bands)
 
+-- a call; that of an operation away from those that show a `NO` is round
+abbrev pub call_sign : Bool → List ℕ
+call_sign true = codes "("
+call_sign false = codes "["
+
+-- a return
+abbrev pub return_sign : Bool → List ℕ
+return_sign true = codes ")"
+return_sign false = codes "]"
+
+-- that an operation is under way
+abbrev pub under_sign : Bool → List ℕ
+under_sign true = codes ":"
+under_sign false = codes "|"
+
 -- what stands in a lane in the row of an event: a call with its number, a return, or that an operation is under way
-abbrev pub event_sign : List ClaimLine → ℕ → Operation → List ℕ
-event_sign shown ticket o = if o.call == ticket then codes "[" ++ number_in shown o else (if o.ret == ticket then codes "]" else codes "|")
+abbrev pub event_sign : List ClaimLine → Bool → ℕ → Operation → List ℕ
+event_sign shown away ticket o =
+    if o.call == ticket then call_sign away ++ number_in shown o else (if o.ret == ticket then return_sign away else under_sign away)
 
 -- what stands in a lane in the row of an effect: the number of the operation that takes effect, or that another is under way
 abbrev pub effect_sign : Operation → ℕ → ℕ → Operation → List ℕ
@@ -83,17 +99,18 @@ effect_sign effect number point o =
     if o.call == effect.call then decimal number else (if o.ret == point then [] else codes "|")
 
 -- what stands in a lane in a row, where this operation is under way
-abbrev pub lane_sign : List ClaimLine → Row → Option Operation → List ℕ
-lane_sign shown (row.Ticket ticket) (Some o) = event_sign shown ticket o
-lane_sign shown (row.Effect effect number point) (Some o) = effect_sign effect number point o
-lane_sign shown r under = []
+abbrev pub lane_sign : Claimed → Row → Option Operation → List ℕ
+lane_sign claimed (row.Ticket ticket) (Some o) = event_sign (shown_by claimed) (is_away claimed o) ticket o
+lane_sign claimed (row.LeftOut count last) (Some o) = under_sign (is_away claimed o)
+lane_sign claimed (row.Effect effect number point) (Some o) = effect_sign effect number point o
+lane_sign claimed r under = []
 
 -- the words in the lanes in a row just after a ticket
 abbrev pub lane_words : Columns → SceneView → Row → ℕ → List Word
 lane_words columns scene r ticket =
     map (λ thread. record {
       column = lane_column columns scene.threads thread;
-      bytes = lane_sign (shown_by scene.claimed) r (under_way scene.operations thread ticket);
+      bytes = lane_sign scene.claimed r (under_way scene.operations thread ticket);
     }) scene.threads
 
 -- the label of an operation, where there is one
@@ -109,6 +126,12 @@ event_words columns scene ticket =
     ticket_word columns ticket ∷ record { column = columns.beside; bytes = way_word scene.claimed (called_at scene.operations ticket) }
     ∷ (band_words columns scene.bands (Some ticket) ++ (lane_words columns scene (row.Ticket ticket) ticket
     ++ record { column = columns.label; bytes = label_if (called_at scene.operations ticket) } ∷ []))
+
+-- the words in the row of events that are left out: how many, the bands, and what the threads do
+unfoldable pub left_out_line : Columns → SceneView → ℕ → ℕ → List Word
+left_out_line columns scene count last =
+    record { column = columns.ticket - length (left_out_words count); bytes = left_out_words count }
+    ∷ (band_words columns scene.bands (Some last) ++ lane_words columns scene (row.LeftOut count last) last)
 
 -- the number and the label of what takes effect, of this many
 abbrev pub effect_word : Columns → ℕ → Operation → ℕ → Word
@@ -145,6 +168,7 @@ abbrev pub row_words : Columns → SceneView → Row → List Word
 row_words columns scene row.Head = first_words columns scene
 row_words columns scene (row.Initial place v) = initial_words columns scene v
 row_words columns scene (row.Ticket ticket) = event_words columns scene ticket
+row_words columns scene (row.LeftOut count last) = left_out_line columns scene count last
 row_words columns scene (row.Effect effect number point) = effect_words columns scene effect number point
 
 -- ---- heads
@@ -211,6 +235,7 @@ sign_text OfOperations = codes "1    "
 sign_text OfValues = codes "1    "
 sign_text Present = codes "###  "
 sign_text Absent = codes "xxx  "
+sign_text Away = codes "(:)  "
 sign_text sign = codes ":::  "
 
 -- a sign, and what it means
@@ -222,18 +247,14 @@ unfoldable pub lane_meanings : List ℕ
 lane_meanings = concat (line (codes "[    call of an operation") ∷ line (codes "]    its return") ∷ [])
 
 -- how to read the picture
-unfoldable pub legend : List ℕ → Claimed → List ℕ
-legend initial claimed = lane_meanings ++ flat_map sign_line (signs_of initial claimed)
+unfoldable pub legend : SceneView → List ℕ
+legend scene = lane_meanings ++ flat_map sign_line (signs_of scene)
 
 -- what stands above the rows
 unfoldable pub words : SceneView → List ℕ
 words scene =
-    line (headline scene.claimed) ++ (caption scene.claimed ++ (line [] ++ (legend scene.initial scene.claimed ++ line [])))
+    line (headline scene.claimed) ++ (caption scene.claimed ++ (line [] ++ (legend scene ++ line [])))
 
--- a scene in lines of characters
-abbrev pub scene_text : SceneView → List ℕ
-scene_text scene = words scene ++ lines (columns_of scene) scene
-
--- the picture of a history and what is claimed of it, in lines of characters
-unfoldable pub terminal_picture : HistoryView → Claimed → List ℕ
-terminal_picture history claimed = scene_text (scene_of history claimed)
+-- the picture of a scene in lines of characters
+unfoldable pub terminal_picture : SceneView → List ℕ
+terminal_picture scene = words scene ++ lines (columns_of scene) scene

@@ -1,12 +1,13 @@
 //! Columns, and what they make room for.
 ghost use Rattle.std.specs.Prelude.{◌≡◌, ◌+◌, ◌*◌, ◌≤◌, IfOk, length, vec_len};
-ghost use Rattle.drawing.specs.Layout.{digits, label, has_events, threads_of, last_ticket, initial_width, label_width};
+ghost use Rattle.drawing.specs.Layout.{digits, label, has_operations, threads_of, last_ticket, initial_width, label_width};
 ghost use Rattle.drawing.specs.Terminal.{room_beside, columns_of};
 ghost use Rattle.drawing.specs.Scene.{scene_on};
 ghost use Rattle.drawing.specs.Claim.{count_of_lines};
 
 use crate::claim::count_of_lines;
 use crate::names::{initial_label_len, value_len};
+use crate::scene::ticket_width;
 use crate::sheet::Scene;
 use event_records::{Event, MAX_THREAD, MAX_THREADS};
 use history_merge::{History, OpKind, Operation};
@@ -14,7 +15,7 @@ use itoa::Buffer;
 use std::alloc::{AllocError, Global};
 use verdicts::Claimed;
 
-/// The most initial values and the most operations of a history, and the most lines of a claim, that are drawn.
+/// The most initial values, the most operations of a history and the most lines of a claim that are drawn.
 pub const MOST_DRAWN: usize = 400;
 
 /// How many events stand under heads, before these are repeated.
@@ -28,7 +29,7 @@ pub fn events_of(alloc: Global, history: &History) -> Result<Vec<Event>, AllocEr
 }
 
 /// The greatest column where lanes begin.
-pub(crate) const MAX_LANES: usize = 32 + 5 * (MOST_DRAWN + 2);
+pub(crate) const MAX_LANES: usize = 47 + 5 * (MOST_DRAWN + 2);
 
 /// Where the columns of a picture of characters stand, from 0.
 #[derive(Clone, Copy, Debug, PartialEq, Eq)]
@@ -54,21 +55,23 @@ pub fn digits(number: u64) -> usize
     buffer.format(number).as_bytes().len()
 }
 
-fn has_events(events: &[Event], thread: u8) -> bool
-    ensures { result ≡ has_events events.now thread }
+fn has_operations(operations: &[Operation], thread: u8) -> bool
+    ensures { result ≡ has_operations operations.now thread }
 {
-    events.iter().any(|event| event.thread == thread)
+    operations
+        .iter()
+        .any(|operation| operation.thread == thread)
 }
 
-/// The threads that have events, the least first.
+/// The threads that have operations, the least first.
 #[tactic(auto, using(crate::proofs::Loops::threads_yes, crate::proofs::Loops::threads_no, crate::proofs::Loops::threads_none))]
-pub fn threads_of(alloc: Global, events: &[Event]) -> Result<Vec<u8>, AllocError>
-    ensures threads { IfOk result (λ threads. threads.items ≡ threads_of events.now) }
+pub fn threads_of(alloc: Global, operations: &[Operation]) -> Result<Vec<u8>, AllocError>
+    ensures threads { IfOk result (λ threads. threads.items ≡ threads_of operations.now) }
     ensures few { IfOk result (λ threads. vec_len threads ≤ MAX_THREADS) }
 {
     let mut threads = Vec::new(alloc);
     for thread in 0..MAX_THREAD + 1 {
-        if has_events(events, thread) {
+        if has_operations(operations, thread) {
             threads.push(thread)?;
         }
     }
@@ -135,14 +138,14 @@ fn room_beside(claimed: &Claimed, widest_label: usize, bands: usize) -> usize
 pub(crate) fn columns_of(scene: &Scene<'_>) -> Columns
     requires { count_of_lines scene.now.claimed.now ≤ MOST_DRAWN }
     ensures columns { result ≡ columns_of (scene_on scene.now) }
-    ensures ticket { result.ticket ≤ 20 }
-    ensures beside { result.beside ≤ 22 }
+    ensures ticket { result.ticket ≤ 35 }
+    ensures beside { result.beside ≤ 37 }
     ensures lanes { result.lanes ≤ MAX_LANES }
     ensures lane { result.lane ≤ 22 }
     ensures wide { 6 ≤ result.ticket }
 {
-    let ticket = digits(scene.last_ticket).max(6);
-    let widest_label = label_width(scene.initial, scene.operations);
+    let ticket = ticket_width(scene);
+    let widest_label = label_width(scene.initial, scene.operations.as_slice());
     let room = room_beside(scene.claimed, widest_label, scene.bands.len());
     let lane = digits(count_of_lines(scene.claimed) as u64).max(2) + 2;
     Columns {

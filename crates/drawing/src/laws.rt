@@ -1,9 +1,18 @@
 ghost use Rattle.drawing.specs.Laws.{LanesAreApart, BarsAreOfOperations, NoOtherBars, EffectsAreInBars, EffectsRise, NumbersAreOfLines};
-ghost use Rattle.drawing.specs.Laws.{RowsRise, InitialValuesHaveRows, EventsHaveRows, EffectsHaveRows, InitialRowsAreFirst, RowsTellPrecedence};
+ghost use Rattle.drawing.specs.Laws.{OverlappingAreDrawn, NoOthersAreDrawn, LinesAreDrawn, EventsAreCounted};
+ghost use Rattle.drawing.specs.Laws.{RowsRise, InitialValuesHaveRows, OperationsHaveRows, EffectsHaveRows, InitialRowsAreFirst, RowsTellPrecedence};
 ghost use Rattle.drawing.specs.Laws.{EffectRowsAreInBars, EffectRowsRise};
 ghost use Rattle.drawing.specs.Laws.{ValuesHaveTheirNames, InitialValuesHaveTheirNames, LinesHaveNumbers, InitialNumbersAreOfLines, InitialLinesHaveNumbers, LinesAreOfHistory};
 
-/// The bars in the lanes are the operations, each in the lane of its thread, from its call to its return. The laws are the
+/// Of a `NO` the operations that it lists are drawn, and those that overlap one of these; others are drawn only if a distance is given.
+/// The laws are the contract; the body is empty.
+pub fn what_matters_is_drawn()
+    ensures overlapping { OverlappingAreDrawn }
+    ensures none_else { NoOthersAreDrawn }
+    ensures listed { LinesAreDrawn }
+{}
+
+/// The bars in the lanes are the operations that are drawn, each in the lane of its thread, from its call to its return. The laws are the
 /// contract; the body is empty.
 pub fn bars_are_the_operations()
     ensures each { BarsAreOfOperations }
@@ -17,12 +26,14 @@ pub fn effects_rise_within_bars()
     ensures rise { EffectsRise }
 {}
 
-/// Rows stand in the order of time: initial values, front first, then events by their tickets, and of a `YES` the effects in its order,
+/// Rows stand in the order of time: initial values, front first, then events by their tickets, each of an operation that is drawn in
+/// a row of its own and all others counted in rows between, and of a `YES` the effects in its order,
 /// each within its bar. Returns stand above calls as operations precede one another. The laws are the contract; the body is empty.
 pub fn rows_stand_in_time()
     ensures rise { RowsRise }
     ensures initial { InitialValuesHaveRows }
-    ensures events { EventsHaveRows }
+    ensures operations { OperationsHaveRows }
+    ensures counted { EventsAreCounted }
     ensures effects { EffectsHaveRows }
     ensures first { InitialRowsAreFirst }
     ensures precedence { RowsTellPrecedence }

@@ -5,6 +5,7 @@ mod bands;
 mod captions;
 mod claim;
 mod columns;
+mod drawn;
 mod initial;
 mod laws;
 mod line;
@@ -19,15 +20,18 @@ pub use bands::{Band, Head, bands_of, form_words, head_words, push_head};
 pub use captions::{headline, push_caption};
 pub use claim::{count_of_lines, order_of};
 pub use columns::{Columns, MOST_DRAWN, digits, label_width};
+pub use drawn::{drawn_operations, is_away};
 pub use laws::{
     bars_are_the_operations, effects_rise_within_bars, lanes_stand_apart,
     lines_of_evidence_are_drawn, names_are_of_one_value, numbers_are_those_of_the_claim,
-    rows_stand_in_time,
+    rows_stand_in_time, what_matters_is_drawn,
 };
 pub use line::{Added, push_line};
 pub use lookup::{called_at, initial_place_of, place_of};
 pub use names::push_initial_label;
-pub use scene::{Row, initial_way, lanes_before, row_number, scene_of, way_word};
+pub use scene::{
+    Row, initial_way, lanes_before, left_out_words, row_number, scene_of, ticket_width, way_word,
+};
 pub use sheet::Scene;
 pub use signs::{Sign, meaning, signs_of};
 pub use terminal::{numbered_label, push_label, terminal_picture};

@@ -1,13 +1,14 @@
 //! The scene of a picture, which characters and SVG draw alike: rows from top to bottom, and lanes side by side.
-ghost use Rattle.std.specs.Prelude.{◌≡◌, ◌==◌, ◌++◌, ◌≤◌, ◌+◌, ◌^◌, OnOk, IfOk, length};
+ghost use Rattle.std.specs.Prelude.{if◌then◌else◌, codes, ◌≡◌, ◌==◌, ◌++◌, ◌≤◌, ◌+◌, ◌^◌, OnOk, IfOk, length, vec_len};
 ghost use Rattle.std.specs.List.{flat_map, enumerate_from};
-ghost use Rattle.drawing.specs.Scene.{scene_on, initial_row, initial_rows, effect_row_if, effect_rows, event_rows, rows_of, scene_of};
+ghost use Rattle.drawing.specs.Scene.{scene_on, initial_row, initial_rows, effect_row_if, effect_rows, event_rows, has_row, left_out_rows};
+ghost use Rattle.drawing.specs.Scene.{rows_after, rows_of, scene_of, left_out_words, left_out_width, ticket_width};
 ghost use Rattle.drawing.specs.Scene.{row_time, row_turn, stands_above, row_number, lanes_before, way, way_of, way_word, initial_way};
 
 use crate::bands::bands_of;
 use crate::claim::order_of;
-use crate::columns::{events_of, last_ticket, threads_of};
-use crate::line::Added;
+use crate::columns::{digits, events_of, last_ticket, threads_of};
+use crate::line::{Added, Piece, push_all};
 use crate::lookup::{initial_place_in, place_in};
 use crate::sheet::Scene;
 use event_records::{Event, MAX_THREADS};
@@ -24,6 +25,8 @@ pub enum Row {
     Initial(usize, u64),
     /// The event with this ticket.
     Ticket(u64),
+    /// This number of events are left out, the last of them with this ticket.
+    LeftOut(usize, u64),
     /// An operation of a `YES` takes effect: its number in the order, and the ticket just after which it does.
     Effect(Operation, u64, u64),
 }
@@ -87,49 +90,83 @@ fn push_event_rows(rows: &mut Vec<Row>, order: &[Operation], event: Event) -> Ad
     push_effect_rows(rows, order, event.ticket)
 }
 
-fn push_rows_of_events(rows: &mut Vec<Row>, order: &[Operation], events: &[Event]) -> Added
-    ensures { OnOk result (rows.new.items ≡ rows.old.items ++ flat_map (event_rows order.now) events.now) }
+fn has_row(drawn: &[Operation], ticket: u64) -> bool
+    ensures { result ≡ has_row drawn.now ticket }
 {
-    for event in events {
-        push_event_rows(rows, order, *event)?;
+    drawn.iter().any(|operation| operation.call == ticket || operation.ret == ticket)
+}
+
+fn push_left_out(rows: &mut Vec<Row>, count: usize, last: u64) -> Added
+    ensures { OnOk result (rows.new.items ≡ rows.old.items ++ left_out_rows count last) }
+{
+    if count != 0 {
+        rows.push(Row::LeftOut(count, last))?;
     }
     Ok(())
 }
 
-/// The rows of a history and what is claimed of it.
+/// Adds the rows of events, of which those of the drawn operations have their own.
+fn push_rows_of_events(
+    rows: &mut Vec<Row>,
+    drawn: &[Operation],
+    order: &[Operation],
+    events: &[Event],
+) -> Added
+    ensures { OnOk result (rows.new.items ≡ rows.old.items ++ rows_after drawn.now order.now 0 0 events.now) }
+{
+    let mut count = 0;
+    let mut last = 0;
+    for event in events {
+        if has_row(drawn, event.ticket) {
+            push_left_out(rows, count, last)?;
+            push_event_rows(rows, order, *event)?;
+            count = 0;
+        } else {
+            count += 1;
+            last = event.ticket;
+        }
+    }
+    push_left_out(rows, count, last)
+}
+
+/// The rows of a history of which these operations are drawn, and what is claimed of it.
 #[tactic(auto, unfolding(crate::specs::Scene::rows_of))]
 fn rows_of(
     alloc: Global,
     history: &History,
     events: &[Event],
     claimed: &Claimed,
+    drawn: &[Operation],
 ) -> Result<Vec<Row>, AllocError>
     requires { events.now ≡ history.now.events }
-    ensures { IfOk result (λ rows. rows.items ≡ rows_of history.now claimed.now) }
+    ensures { IfOk result (λ rows. rows.items ≡ rows_of history.now claimed.now drawn.now) }
 {
     let mut rows = Vec::new(alloc);
     push_initial_rows(&mut rows, history.initial())?;
-    push_rows_of_events(&mut rows, order_of(claimed), events)?;
+    push_rows_of_events(&mut rows, drawn, order_of(claimed), events)?;
     Ok(rows)
 }
 
-/// The scene of a history and what is claimed of it.
+/// The scene of a history of which these operations are drawn ([`drawn_operations`](crate::drawn_operations)), and what is claimed of it.
+///
+/// Time O(n d) for n events of which d have rows; memory for the events. `AllocError` comes only where a growth was refused.
 #[tactic(auto, unfolding(crate::specs::Scene::scene_of))]
 pub fn scene_of<'a>(
     alloc: Global,
     history: &'a History,
     claimed: &'a Claimed,
+    drawn: Vec<Operation>,
 ) -> Result<Scene<'a>, AllocError>
-    ensures scene { IfOk result (λ scene. scene_on scene ≡ scene_of history.now claimed.now) }
+    ensures scene { IfOk result (λ scene. scene_on scene ≡ scene_of history.now claimed.now drawn.items) }
     ensures claimed { IfOk result (λ scene. scene.claimed.now ≡ claimed.now) }
 {
     let events = events_of(alloc, history)?;
-    let threads = threads_of(alloc, events.as_slice())?;
+    let threads = threads_of(alloc, drawn.as_slice())?;
     let bands = bands_of(alloc, claimed)?;
-    let rows = rows_of(alloc, history, events.as_slice(), claimed)?;
+    let rows = rows_of(alloc, history, events.as_slice(), claimed, drawn.as_slice())?;
     Ok(Scene {
         initial: history.initial(),
-        operations: history.operations(),
+        operations: drawn,
         claimed,
         threads,
         bands,
@@ -143,7 +180,7 @@ fn row_time(row: Row) -> u128
 {
     match row {
         Row::Head | Row::Initial(_, _) => 0,
-        Row::Ticket(ticket) => u128::from(ticket) + 1,
+        Row::Ticket(ticket) | Row::LeftOut(_, ticket) => u128::from(ticket) + 1,
         Row::Effect(_, _, point) => u128::from(point) + 1,
     }
 }
@@ -152,7 +189,7 @@ fn row_turn(row: Row) -> u128
     ensures { result ≡ row_turn row }
 {
     match row {
-        Row::Head | Row::Ticket(_) => 0,
+        Row::Head | Row::Ticket(_) | Row::LeftOut(_, _) => 0,
         Row::Initial(place, _) => place as u128 + 1,
         Row::Effect(_, number, _) => u128::from(number),
     }
@@ -173,6 +210,53 @@ pub fn row_number(rows: &[Row], row: Row) -> usize
     rows.iter()
         .filter(|other| stands_above(**other, row))
         .count()
+}
+
+/// The words in place of this number of events.
+pub fn left_out_words(alloc: Global, count: usize) -> Result<Vec<u8>, AllocError>
+    ensures { IfOk result (λ words. words.items ≡ left_out_words count) }
+{
+    let mut words = Vec::new(alloc);
+    push_all(
+        &mut words,
+        &[Piece::Words(b"... "), Piece::Number(count as u64)],
+    )?;
+    words.extend_from_slice(events_word(count))?;
+    Ok(words)
+}
+
+fn events_word(count: usize) -> &'static [u8]
+    ensures { result.now ≡ (if count == 1 then codes " event ..." else codes " events ...") }
+{
+    if count == 1 {
+        b" event ..."
+    } else {
+        b" events ..."
+    }
+}
+
+fn left_out_width(row: Row) -> usize
+    ensures value { result ≡ left_out_width row }
+    ensures few { result ≤ 35 }
+{
+    match row {
+        Row::LeftOut(count, _) => 4 + digits(count as u64) + events_word(count).len(),
+        _ => 0,
+    }
+}
+
+/// How wide the column of tickets is, in characters.
+pub fn ticket_width(scene: &Scene<'_>) -> usize
+    ensures value { result ≡ ticket_width (scene_on scene.now) }
+    ensures few { result ≤ 35 }
+    ensures wide { 6 ≤ result }
+{
+    let mut widest = digits(scene.last_ticket).max(6);
+    let rows = scene.rows.as_slice();
+    for row in rows {
+        widest = widest.max(left_out_width(*row));
+    }
+    widest
 }
 
 /// How many lanes stand to the left of a thread's.

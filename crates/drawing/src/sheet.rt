@@ -16,9 +16,10 @@ use verdicts::Claimed;
 pub struct Scene<'a> {
     /// What the queue holds first, front first.
     pub initial: &'a [u64],
-    pub operations: &'a [Operation],
+    /// Those that are drawn.
+    pub operations: Vec<Operation>,
     pub claimed: &'a Claimed,
-    /// The threads that have events, the least first.
+    /// The threads that have one of these operations, the least first.
     pub threads: Vec<u8>,
     /// The bands of a `NO`, left to right.
     pub bands: Vec<Band>,
@@ -40,8 +41,8 @@ pub(crate) struct Sheet<'a> {
     ghost few_lines: { count_of_lines scene.now.claimed.now ≤ MOST_DRAWN },
     ghost few_bands: { vec_len scene.now.bands ≤ MOST_DRAWN + 2 },
     ghost few_threads: { vec_len scene.now.threads ≤ MAX_THREADS },
-    ghost ticket: { columns.ticket ≤ 20 },
-    ghost beside: { columns.beside ≤ 22 },
+    ghost ticket: { columns.ticket ≤ 35 },
+    ghost beside: { columns.beside ≤ 37 },
     ghost lanes_begin: { columns.lanes ≤ MAX_LANES },
     ghost lane: { columns.lane ≤ 22 },
 }

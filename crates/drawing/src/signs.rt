@@ -1,8 +1,12 @@
 //! How to read a picture.
 ghost use Rattle.std.specs.Prelude.{◌≡◌, ◌∷◌, ◌++◌, [], OnOk, IfOk};
-ghost use Rattle.drawing.specs.Signs.{initial_signs, number_sign, band_signs, signs_of, meaning};
+ghost use Rattle.drawing.specs.Signs.{initial_signs, number_sign, band_signs, away_signs, signs_of, meaning};
+ghost use Rattle.drawing.specs.Scene.{scene_on};
 
+use crate::drawn::is_any_away;
 use crate::line::Added;
+use crate::sheet::Scene;
+use history_merge::Operation;
 use std::alloc::{AllocError, Global};
 use verdicts::{Claimed, ViolationKind};
 
@@ -27,6 +31,8 @@ pub enum Sign {
     InAndOut,
     /// The time in which the queue was said to be empty.
     SaidEmpty,
+    /// An operation that overlaps none of those that show a `NO`.
+    Away,
 }
 
 fn push_initial_sign(signs: &mut Vec<Sign>, initial: &[u64]) -> Added
@@ -72,14 +78,24 @@ fn push_band_signs(signs: &mut Vec<Sign>, claimed: &Claimed) -> Added
     }
 }
 
+fn push_away_sign(signs: &mut Vec<Sign>, claimed: &Claimed, operations: &[Operation]) -> Added
+    ensures { OnOk result (signs.new.items ≡ signs.old.items ++ away_signs claimed.now operations.now) }
+{
+    if is_any_away(claimed, operations) {
+        signs.push(Sign::Away)?;
+    }
+    Ok(())
+}
+
 /// The signs of a picture, from top to bottom.
-pub fn signs_of(alloc: Global, initial: &[u64], claimed: &Claimed) -> Result<Vec<Sign>, AllocError>
-    ensures { IfOk result (λ signs. signs.items ≡ signs_of initial.now claimed.now) }
+pub fn signs_of(alloc: Global, scene: &Scene<'_>) -> Result<Vec<Sign>, AllocError>
+    ensures { IfOk result (λ signs. signs.items ≡ signs_of (scene_on scene.now)) }
 {
     let mut signs = Vec::new(alloc);
-    push_initial_sign(&mut signs, initial)?;
-    signs.push(number_sign(claimed, initial))?;
-    push_band_signs(&mut signs, claimed)?;
+    push_initial_sign(&mut signs, scene.initial)?;
+    signs.push(number_sign(scene.claimed, scene.initial))?;
+    push_band_signs(&mut signs, scene.claimed)?;
+    push_away_sign(&mut signs, scene.claimed, scene.operations.as_slice())?;
     Ok(signs)
 }
 
@@ -97,5 +113,6 @@ pub fn meaning(sign: Sign) -> &'static [u8]
         Sign::Dequeued => b"within this time it was dequeued nevertheless.",
         Sign::InAndOut => b"within this time the later value went in and out.",
         Sign::SaidEmpty => b"within this time the queue was said to be empty.",
+        Sign::Away => b"an operation that overlaps none of those with numbers",
     }
 }

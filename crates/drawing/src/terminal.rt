@@ -7,22 +7,24 @@ ghost use Rattle.drawing.specs.Layout.{label, numbered_label, number_in};
 ghost use Rattle.drawing.specs.Scene.{scene_on};
 ghost use Rattle.drawing.specs.Inner.Words.{scene_in};
 ghost use Rattle.drawing.specs.Words.{placed, with_words, line_of};
-ghost use Rattle.drawing.specs.Terminal.{ticket_word, event_sign, effect_sign, lane_sign, lane_column, lane_words, label_if, band_at, band_words};
+ghost use Rattle.drawing.specs.Terminal.{ticket_word, call_sign, return_sign, under_sign, event_sign, effect_sign, lane_sign, lane_column, lane_words};
+ghost use Rattle.drawing.specs.Terminal.{label_if, band_at, band_words, left_out_line};
 ghost use Rattle.drawing.specs.Terminal.{event_words, effect_words, row_words, strokes, head_words, head_lines, thread_words, order_word, lane_names};
 ghost use Rattle.drawing.specs.Terminal.{name_words, heads, heads_again, numbered_row, lines, sign_text, sign_line, lane_meanings, legend, words};
-ghost use Rattle.drawing.specs.Terminal.{scene_text, terminal_picture};
+ghost use Rattle.drawing.specs.Terminal.{terminal_picture};
 
 use crate::bands::{Band, Head, form, head_words, holds_gap};
 use crate::captions::{headline, push_caption};
 use crate::claim::{count_of_lines, shown_by};
 use crate::columns::{Columns, MOST_DRAWN, ROWS_UNDER_HEADS, columns_of, digits};
+use crate::drawn::is_away;
 use crate::initial::{first_line, initial_line};
 use crate::line::{Added, Piece, place, push_all, push_line};
 use crate::lookup::{called_at, place_in, under_way};
-use crate::scene::{Row, lanes_before, scene_of, way_word};
+use crate::scene::{Row, lanes_before, left_out_words, way_word};
 use crate::sheet::{Scene, Sheet};
 use crate::signs::{Sign, meaning, signs_of};
-use history_merge::{History, OpKind, Operation};
+use history_merge::{OpKind, Operation};
 use itoa::Buffer;
 use std::alloc::{AllocError, Global};
 use verdicts::{ClaimLine, Claimed};
@@ -42,16 +44,35 @@ fn place_ticket(line: &mut Vec<u8>, columns: Columns, ticket: u64) -> Added
     place_number(line, column, ticket)
 }
 
+fn call_sign(away: bool) -> &'static [u8]
+    ensures { result.now ≡ call_sign away }
+{
+    if away { b"(" } else { b"[" }
+}
+
+fn return_sign(away: bool) -> &'static [u8]
+    ensures { result.now ≡ return_sign away }
+{
+    if away { b")" } else { b"]" }
+}
+
+fn under_sign(away: bool) -> &'static [u8]
+    ensures { result.now ≡ under_sign away }
+{
+    if away { b":" } else { b"|" }
+}
+
 /// A bracket, and after it the number of an operation in a claim.
 fn numbered_call(
     alloc: Global,
     shown: &[ClaimLine],
+    away: bool,
     operation: Operation,
 ) -> Result<Vec<u8>, AllocError>
     requires { length shown.now ≤ MOST_DRAWN }
-    ensures { IfOk result (λ word. word.items ≡ codes "[" ++ number_in shown.now operation) }
+    ensures { IfOk result (λ word. word.items ≡ call_sign away ++ number_in shown.now operation) }
 {
-    let mut word = Vec::from_slice(alloc, b"[")?;
+    let mut word = Vec::from_slice(alloc, call_sign(away))?;
     if let Some(place) = place_in(shown, operation) {
         let mut buffer = Buffer::new();
         word.extend_from_slice(buffer.format(place as u64 + 1).as_bytes())?;
@@ -63,18 +84,19 @@ fn numbered_call(
 fn event_sign(
     alloc: Global,
     shown: &[ClaimLine],
+    away: bool,
     ticket: u64,
     operation: Operation,
 ) -> Result<Vec<u8>, AllocError>
     requires { length shown.now ≤ MOST_DRAWN }
-    ensures { IfOk result (λ word. word.items ≡ event_sign shown.now ticket operation) }
+    ensures { IfOk result (λ word. word.items ≡ event_sign shown.now away ticket operation) }
 {
     if operation.call == ticket {
-        numbered_call(alloc, shown, operation)
+        numbered_call(alloc, shown, away, operation)
     } else if operation.ret == ticket {
-        Vec::from_slice(alloc, b"]")
+        Vec::from_slice(alloc, return_sign(away))
     } else {
-        Vec::from_slice(alloc, b"|")
+        Vec::from_slice(alloc, under_sign(away))
     }
 }
 
@@ -101,15 +123,21 @@ fn effect_sign(
 /// What stands in a lane in a row, where this operation is under way.
 fn lane_sign(
     alloc: Global,
-    shown: &[ClaimLine],
+    claimed: &Claimed,
     row: Row,
     under: Option<Operation>,
 ) -> Result<Vec<u8>, AllocError>
-    requires { length shown.now ≤ MOST_DRAWN }
-    ensures { IfOk result (λ word. word.items ≡ lane_sign shown.now row under) }
+    requires { count_of_lines claimed.now ≤ MOST_DRAWN }
+    ensures { IfOk result (λ word. word.items ≡ lane_sign claimed.now row under) }
 {
     match (row, under) {
-        (Row::Ticket(ticket), Some(operation)) => event_sign(alloc, shown, ticket, operation),
+        (Row::Ticket(ticket), Some(operation)) => {
+            let away = is_away(claimed, operation);
+            event_sign(alloc, shown_by(claimed), away, ticket, operation)
+        }
+        (Row::LeftOut(_, _), Some(operation)) => {
+            Vec::from_slice(alloc, under_sign(is_away(claimed, operation)))
+        }
         (Row::Effect(effect, number, point), Some(operation)) => {
             effect_sign(alloc, effect, number, point, operation)
         }
@@ -128,11 +156,11 @@ fn lane_column(sheet: &Sheet<'_>, thread: u8) -> usize
 fn place_lanes(line: &mut Vec<u8>, sheet: &Sheet<'_>, row: Row, ticket: u64) -> Added
     ensures { OnOk result (line.new.items ≡ with_words line.old.items (lane_words sheet.now.columns (scene_in sheet.now) row ticket)) }
 {
-    let shown = shown_by(sheet.scene.claimed);
+    let operations = sheet.scene.operations.as_slice();
     let threads = sheet.scene.threads.as_slice();
     for thread in threads {
-        let operation = under_way(sheet.scene.operations, *thread, ticket);
-        let word = lane_sign(sheet.alloc, shown, row, operation)?;
+        let operation = under_way(operations, *thread, ticket);
+        let word = lane_sign(sheet.alloc, sheet.scene.claimed, row, operation)?;
         place(line, lane_column(sheet, *thread), word.as_slice())?;
     }
     Ok(())
@@ -190,7 +218,7 @@ fn event_line(sheet: &Sheet<'_>, ticket: u64) -> Result<Vec<u8>, AllocError>
         (event_words sheet.now.columns (scene_in sheet.now) ticket)) }
 {
     let mut bytes = Vec::new(sheet.alloc);
-    let called = called_at(sheet.scene.operations, ticket);
+    let called = called_at(sheet.scene.operations.as_slice(), ticket);
     place_ticket(&mut bytes, sheet.columns, ticket)?;
     place(
         &mut bytes,
@@ -201,6 +229,20 @@ fn event_line(sheet: &Sheet<'_>, ticket: u64) -> Result<Vec<u8>, AllocError>
     place_lanes(&mut bytes, sheet, Row::Ticket(ticket), ticket)?;
     let label = label_if(sheet.alloc, called)?;
     place(&mut bytes, sheet.columns.label, label.as_slice())?;
+    Ok(bytes)
+}
+
+/// The line of events that are left out.
+#[tactic(auto, unfolding(crate::specs::Terminal::left_out_line))]
+fn left_out_line(sheet: &Sheet<'_>, count: usize, last: u64) -> Result<Vec<u8>, AllocError>
+    ensures { IfOk result (λ bytes. bytes.items ≡ line_of (left_out_line sheet.now.columns (scene_in sheet.now) count last)) }
+{
+    let mut bytes = Vec::new(sheet.alloc);
+    let words = left_out_words(sheet.alloc, count)?;
+    let column = sheet.columns.ticket.saturating_sub(words.len());
+    place(&mut bytes, column, words.as_slice())?;
+    place_bands(&mut bytes, sheet, Some(last))?;
+    place_lanes(&mut bytes, sheet, Row::LeftOut(count, last), last)?;
     Ok(bytes)
 }
 
@@ -346,6 +388,7 @@ fn row_line(sheet: &Sheet<'_>, row: Row) -> Result<Vec<u8>, AllocError>
         Row::Head => first_line(sheet),
         Row::Initial(_, value) => initial_line(sheet, value),
         Row::Ticket(ticket) => event_line(sheet, ticket),
+        Row::LeftOut(count, last) => left_out_line(sheet, count, last),
         Row::Effect(effect, number, point) => effect_line(sheet, effect, number, point),
     }
 }
@@ -386,6 +429,7 @@ fn sign_text(sign: Sign) -> &'static [u8]
         Sign::InOrder | Sign::OfOperations | Sign::OfValues => b"1    ",
         Sign::Present => b"###  ",
         Sign::Absent => b"xxx  ",
+        Sign::Away => b"(:)  ",
         _ => b":::  ",
     }
 }
@@ -417,10 +461,10 @@ fn lane_meanings() -> &'static [u8]
 
 /// Adds how to read the picture.
 #[tactic(auto, unfolding(crate::specs::Terminal::legend))]
-fn push_legend(alloc: Global, text: &mut Vec<u8>, initial: &[u64], claimed: &Claimed) -> Added
-    ensures { OnOk result (text.new.items ≡ text.old.items ++ legend initial.now claimed.now) }
+fn push_legend(alloc: Global, text: &mut Vec<u8>, scene: &Scene<'_>) -> Added
+    ensures { OnOk result (text.new.items ≡ text.old.items ++ legend (scene_on scene.now)) }
 {
-    let signs = signs_of(alloc, initial, claimed)?;
+    let signs = signs_of(alloc, scene)?;
     text.extend_from_slice(lane_meanings())?;
     push_signs(text, signs.as_slice())
 }
@@ -434,14 +478,34 @@ fn push_words(alloc: Global, text: &mut Vec<u8>, scene: &Scene<'_>) -> Added
     push_line(text, headline(scene.claimed))?;
     push_caption(text, scene.claimed)?;
     push_line(text, b"")?;
-    push_legend(alloc, text, scene.initial, scene.claimed)?;
+    push_legend(alloc, text, scene)?;
     push_line(text, b"")
 }
 
-/// A scene in lines of characters.
-fn scene_text(alloc: Global, scene: &Scene<'_>) -> Result<Vec<u8>, AllocError>
+/// Draws a scene in lines of ASCII for a terminal.
+///
+/// The `history` dequeues 7, which was never enqueued:
+///
+/// ```rust
+/// let verdict = decide(alloc, &history)?;
+/// let claimed = claim(alloc, &history, &verdict)?;
+/// let drawn = drawn_operations(alloc, &history, &claimed, None)?;
+/// let scene = scene_of(alloc, &history, &claimed, drawn)?;
+/// let mut picture = Vec::new(alloc);
+/// if count_of_lines(&claimed) <= MOST_DRAWN {
+///     picture = terminal_picture(alloc, &scene)?;
+/// }
+/// assert!(rt; picture.as_slice().starts_with(b"NO: "));
+/// ```
+///
+/// The claim need not be evidence: what stands in the picture follows its lines. Time O(n t n) for n operations of t threads, and
+/// O(k m) for k initial values and m lines; memory for the text, of O(n t + k m) bytes. `AllocError` comes only where a growth was
+/// refused.
+#[tactic(auto, unfolding(crate::specs::Terminal::terminal_picture))]
+pub fn terminal_picture(alloc: Global, scene: &Scene<'_>) -> Result<Vec<u8>, AllocError>
+    // The claim has few enough lines to be drawn.
     requires { count_of_lines scene.now.claimed.now ≤ MOST_DRAWN }
-    ensures { IfOk result (λ text. text.items ≡ scene_text (scene_on scene.now)) }
+    ensures { IfOk result (λ text. text.items ≡ terminal_picture (scene_on scene.now)) }
 {
     let sheet = Sheet {
         alloc,
@@ -452,35 +516,4 @@ fn scene_text(alloc: Global, scene: &Scene<'_>) -> Result<Vec<u8>, AllocError>
     push_words(alloc, &mut text, scene)?;
     push_lines(&mut text, &sheet)?;
     Ok(text)
-}
-
-/// Draws a history and what is claimed of it, in lines of ASCII for a terminal.
-///
-/// The `history` dequeues 7, which was never enqueued:
-///
-/// ```rust
-/// let verdict = decide(alloc, &history)?;
-/// let claimed = claim(alloc, &history, &verdict)?;
-/// let mut picture = Vec::new(alloc);
-/// if count_of_lines(&claimed) <= MOST_DRAWN {
-///     picture = terminal_picture(alloc, &history, &claimed)?;
-/// }
-/// assert!(rt; picture.as_slice().starts_with(b"NO: "));
-/// ```
-///
-/// The claim need not be evidence: what stands in the picture follows its lines. Time O(n t n) for n operations of t threads, and
-/// O(k m) for k initial values and m lines; memory for the text, of O(n t + k m) bytes. `AllocError` comes only where a growth was
-/// refused.
-#[tactic(auto, unfolding(crate::specs::Terminal::terminal_picture))]
-pub fn terminal_picture(
-    alloc: Global,
-    history: &History,
-    claimed: &Claimed,
-) -> Result<Vec<u8>, AllocError>
-    // The claim has few enough lines to be drawn.
-    requires { count_of_lines claimed.now ≤ MOST_DRAWN }
-    ensures { IfOk result (λ text. text.items ≡ terminal_picture history.now claimed.now) }
-{
-    let scene = scene_of(alloc, history, claimed)?;
-    scene_text(alloc, &scene)
 }

@@ -14,6 +14,7 @@ ghost use Rattle.std.specs.Prelude.{◌≡◌, ◌<◌, ◌≤◌, ◌⊎◌, Li
 ghost use Rattle.event_records.specs.declared.event.Event.{Event};
 ghost use Rattle.event_records.specs.declared.limits.TheConstants.{MAX_EVENTS};
 ghost use Rattle.command_words.specs.Commands.{check, draw, shrink, stats, verify};
+ghost use Rattle.command_words.specs.Options.{drawing_as};
 ghost use Rattle.command_words.specs.declared.options.PictureForm.TheVariants.{Svg, Terminal};
 ghost use Rattle.commands.specs.Answers.{refused_limit, memory_fault};
 ghost use Rattle.commands.specs.Evidence.{input_of};
@@ -24,7 +25,7 @@ ghost use Rattle.fifobench_c.specs.Recorded.{AreEvents, IsFirstUnknown, bad_what
 
 use crate::filling::{tell, tell_bad_what};
 use crate::recorded::gathered;
-use command_words::PictureForm;
+use command_words::{DrawOptions, PictureForm};
 use commands::{
     Fault, check_text, draw_text, judge_gathered, shrink_text, stats_text, verify_text,
 };
@@ -85,11 +86,11 @@ pub extern "C" fn fifobench_draw(
     answer: &mut [u8],
     needed: &mut usize,
 ) -> u8
-    ensures { TellsOneOf (AnswersOrNoMemory (AnswersOf (draw Svg)) (input_of text.now)) answer.old answer.new needed.new result }
+    ensures { TellsOneOf (AnswersOrNoMemory (AnswersOf (draw (drawing_as Svg))) (input_of text.now)) answer.old answer.new needed.new result }
 {
     tell(
         alloc,
-        &draw_text(alloc, text, PictureForm::Svg),
+        &draw_text(alloc, text, DrawOptions::new(PictureForm::Svg)),
         answer,
         needed,
     )
@@ -103,11 +104,11 @@ pub extern "C" fn fifobench_draw_text(
     answer: &mut [u8],
     needed: &mut usize,
 ) -> u8
-    ensures { TellsOneOf (AnswersOrNoMemory (AnswersOf (draw Terminal)) (input_of text.now)) answer.old answer.new needed.new result }
+    ensures { TellsOneOf (AnswersOrNoMemory (AnswersOf (draw (drawing_as Terminal))) (input_of text.now)) answer.old answer.new needed.new result }
 {
     tell(
         alloc,
-        &draw_text(alloc, text, PictureForm::Terminal),
+        &draw_text(alloc, text, DrawOptions::new(PictureForm::Terminal)),
         answer,
         needed,
     )

@@ -4,7 +4,7 @@
 //! It has no code of its own. `own_queue` and `racy_queue` are whole programs over it.
 #![tactic(auto)]
 
-pub use drawing::{MOST_DRAWN, count_of_lines, terminal_picture};
+pub use drawing::{MOST_DRAWN, count_of_lines, drawn_operations, scene_of, terminal_picture};
 pub use event_records::{Event, Kind, LEAST_INITIAL_NAME, MAX_RING, MAX_THREADS, What};
 pub use history_merge::{
     History, HistoryBuilder, HistoryFault, OpId, OpKind, Operation, history, history_from,

@@ -16,9 +16,9 @@ rows_are_apart page other row among above = let rises = rows_rise page.scene.row
 -- bars share a height if and only if operations overlap
 pub bars_overlap_in_time : BarsOverlapInTime
 unfolding scene_of
-bars_overlap_in_time history claimed x y in_x =
-    let tells = rows_tell_precedence history claimed x y in_x in
-    let rows = rows_of history claimed in (
+bars_overlap_in_time history claimed drawn x y in_x drawn_too =
+    let tells = rows_tell_precedence history claimed drawn x y in_x drawn_too in
+    let rows = rows_of history claimed drawn in (
       λ less. let rises = tells.0 less in omega arith,
       λ above. elim (cases_lt (row_number rows (Ticket x.ret)) (row_number rows (Ticket y.call))) [
         | inl rises ↦ tells.1 rises

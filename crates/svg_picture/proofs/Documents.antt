@@ -1,10 +1,9 @@
 -- A picture is a well-formed document.
 use Rattle.std.proofs.Common.{◌≡◌, ℕ, true, false, Bool, cond, ◌&&◌, List, [], ◌∷◌, refl, ap₂}
 use Rattle.std.specs.Prelude.{decimal}
-use Rattle.drawing.specs.Scene.{scene_of}
 use Rattle.svg_picture.specs.Markup.{Tag, Svg, Title, Desc, Style, Defs, Pattern, Group, Text, Rect, Line, tag_name, tag_attributes}
 use Rattle.svg_picture.specs.Markup.{Content, Nothing, Words, Element, Then, is_plain, plain_byte, plain_words, text_of}
-use Rattle.svg_picture.specs.Picture.{page_content, inside, page_of, picture_content, svg_picture}
+use Rattle.svg_picture.specs.Picture.{page_content, inside, page_of, svg_picture}
 use Rattle.svg_picture.specs.Laws.{are_plain, IsTag, IsMarkup, PicturesAreWellFormed, nothing, plain, closed, both}
 
 -- ---- plain words
@@ -73,11 +72,11 @@ markup (Then first second) = both (text_of first) (text_of second) (markup first
 
 -- a picture is a document
 pub pictures_are_well_formed : PicturesAreWellFormed
-unfolding svg_picture picture_content page_content
-pictures_are_well_formed history claimed = record {
+unfolding svg_picture page_content
+pictures_are_well_formed scene = record {
   attributes = tag_attributes (Svg _ _ _);
-  inner = text_of (inside (page_of (scene_of history claimed)));
+  inner = text_of (inside (page_of scene));
   tag = tag_is (Svg _ _ _);
-  markup = markup (inside (page_of (scene_of history claimed)));
+  markup = markup (inside (page_of scene));
   is = refl;
 }

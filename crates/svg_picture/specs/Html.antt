@@ -1,10 +1,9 @@
 -- A picture as a page for a browser: a fixed head, the picture, and a fixed foot with a script.
 use Rattle.std.specs.Prelude.{ℕ, List, [], ◌∷◌, ◌++◌, codes}
 use Rattle.std.specs.List.{concat}
-use Rattle.history_merge.specs.Initial.{HistoryView}
-use Rattle.verdicts.specs.declared.verifying.Claimed.{Claimed}
+use Rattle.drawing.specs.Scene.{SceneView}
 use Rattle.svg_picture.specs.Markup.{text_of}
-use Rattle.svg_picture.specs.Picture.{picture_content}
+use Rattle.svg_picture.specs.Picture.{page_content, page_of}
 
 -- the page up to what the script marks
 unfoldable pub page_start : List ℕ
@@ -39,8 +38,8 @@ page_aside = concat (codes "g[tabindex]{cursor:pointer} g[data-how=one] rect:not
     ∷ codes "<p id='say' aria-live='polite'>Choose an operation to see what precedes it.</p>\n"
     ∷ codes "<p><span class='before'>precedes it</span> <span class='beside'>overlaps it</span>\n"
     ∷ codes "<span class='after'>follows it</span></p>\n"
-    ∷ codes "<details><summary>the history as text</summary>\n"
-    ∷ codes "<textarea id='text' rows='12' readonly aria-label='the history as text'></textarea>\n"
+    ∷ codes "<details><summary>what is drawn, as text</summary>\n"
+    ∷ codes "<textarea id='text' rows='12' readonly aria-label='what is drawn, as text'></textarea>\n"
     ∷ codes "<button id='copy'>copy</button></details>\n"
     ∷ codes "</aside>\n"
     ∷ codes "<main>\n" ∷ [])
@@ -111,6 +110,6 @@ page_head = page_start ++ page_aside
 abbrev pub page_foot : List ℕ
 page_foot = script_bars ++ (script_marks ++ (script_lines ++ script_heads))
 
--- the page of a history and what is claimed of it: its fixed head, the picture by its definition, and its fixed foot
-unfoldable pub html_picture : HistoryView → Claimed → List ℕ
-html_picture history claimed = page_head ++ (text_of (picture_content history claimed) ++ page_foot)
+-- the page of a scene: its fixed head, the picture by its definition, and its fixed foot
+unfoldable pub html_picture : SceneView → List ℕ
+html_picture scene = page_head ++ (text_of (page_content (page_of scene)) ++ page_foot)

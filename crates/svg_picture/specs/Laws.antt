@@ -6,7 +6,7 @@ use Rattle.history_merge.specs.declared.operation.Operation.{Operation}
 use Rattle.history_merge.specs.Operations.{Precedes, operations_of}
 use Rattle.history_merge.specs.Initial.{HistoryView}
 use Rattle.verdicts.specs.declared.verifying.Claimed.{Claimed}
-use Rattle.drawing.specs.Scene.{scene_of, stands_above}
+use Rattle.drawing.specs.Scene.{SceneView, scene_of, stands_above}
 use Rattle.drawing.specs.declared.scene.Row.{Row}
 use Rattle.svg_picture.specs.Markup.{Named, is_plain, declaration, start_tag, end_tag}
 use Rattle.svg_picture.specs.Layout.{Page, lane_width, thread_x, row_y, call_y, ret_y}
@@ -65,7 +65,7 @@ pub record IsDocument (text : List ℕ) : Type 0 where
 
 -- a picture is a well-formed document
 abbrev pub PicturesAreWellFormed : Type 0
-PicturesAreWellFormed = (history : HistoryView) (claimed : Claimed) → IsDocument (svg_picture history claimed)
+PicturesAreWellFormed = (scene : SceneView) → IsDocument (svg_picture scene)
 
 -- ---- time
 
@@ -77,8 +77,8 @@ RowsAreApart =
 -- a bar ends above another begins if and only if its operation precedes the other: so bars share a height if and only if operations overlap
 abbrev pub BarsOverlapInTime : Type 0
 BarsOverlapInTime =
-    (history : HistoryView) (claimed : Claimed) (x y : Operation) → Contains (operations_of history.events) x
-    → Precedes x y ↔ (ret_y (page_of (scene_of history claimed)) x.ret < call_y (page_of (scene_of history claimed)) y.call)
+    (history : HistoryView) (claimed : Claimed) (drawn : List Operation) (x y : Operation) → Contains (operations_of history.events) x → Contains drawn x
+    → Precedes x y ↔ (ret_y (page_of (scene_of history claimed drawn)) x.ret < call_y (page_of (scene_of history claimed drawn)) y.call)
 
 -- ---- lanes
 

@@ -4,7 +4,6 @@ use Rattle.std.specs.List.{concat, enumerate_from}
 use Rattle.history_merge.specs.declared.operation.Operation.{Operation}
 use Rattle.history_merge.specs.declared.operation.OpKind.{OpKind}
 use Rattle.history_merge.specs.declared.operation.OpKind.TheVariants as kind
-use Rattle.history_merge.specs.Initial.{HistoryView}
 use Rattle.verdicts.specs.declared.verifying.Claimed.{Claimed}
 use Rattle.verdicts.specs.declared.verifying.Claimed.TheVariants.{Yes, No}
 use Rattle.drawing.specs.Claim.{count_of_lines}
@@ -14,12 +13,13 @@ use Rattle.drawing.specs.declared.bands.Head.TheVariants as band_head
 use Rattle.drawing.specs.Layout.{digits, label, numbered_label, initial_label, label_width, called_at, place_of, initial_place_of}
 use Rattle.drawing.specs.Bands.{head_text}
 use Rattle.drawing.specs.Captions.{headline, caption}
-use Rattle.drawing.specs.Scene.{SceneView, scene_of, way_word, initial_way}
+use Rattle.drawing.specs.Drawn.{is_away}
+use Rattle.drawing.specs.Scene.{SceneView, left_out_words, ticket_width, way_word, initial_way}
 use Rattle.drawing.specs.declared.scene.Row.{Row}
-use Rattle.drawing.specs.declared.scene.Row.TheVariants.{Head, Initial, Ticket, Effect}
+use Rattle.drawing.specs.declared.scene.Row.TheVariants.{Head, Initial, Ticket, LeftOut, Effect}
 use Rattle.drawing.specs.Signs.{signs_of, meaning}
 use Rattle.drawing.specs.declared.signs.Sign.{Sign}
-use Rattle.drawing.specs.declared.signs.Sign.TheVariants.{First, InOrder, OfOperations, OfValues, Present, Absent}
+use Rattle.drawing.specs.declared.signs.Sign.TheVariants.{First, InOrder, OfOperations, OfValues, Present, Absent, Away}
 use Rattle.svg_picture.specs.declared.sheet.Measures.{Measures}
 use Rattle.svg_picture.specs.Markup.{Content, Nothing, Words, Element, Svg, Title, Desc, Defs, Pattern, Group, each, group, document}
 use Rattle.svg_picture.specs.Layout.{Page, shown, left, bar_width, thread_x, band_x, width, legend_y, top, row_y, call_y, ret_y, bottom, height}
@@ -29,11 +29,12 @@ use Rattle.svg_picture.specs.Elements.{text_at, rect, stroke, lines_at, samples,
 
 -- ---- what is claimed of an operation
 
--- how an operation or an initial value is marked: of a `NO` those of the claim are on, the others off
-abbrev pub mark : Claimed → Option ℕ → List ℕ
-mark (Yes order) place = codes "yes"
-mark (No kind lines) None = codes "off"
-mark (No kind lines) (Some place) = codes "on"
+-- how an operation or an initial value is marked: of a `NO` those of the claim are on, the others off, or away from those
+abbrev pub mark : Claimed → Bool → Option ℕ → List ℕ
+mark (Yes order) away place = codes "yes"
+mark (No kind lines) away (Some place) = codes "on"
+mark (No kind lines) true None = codes "away"
+mark (No kind lines) false None = codes "off"
 
 -- ---- bars
 
@@ -82,7 +83,7 @@ bar_parts page o place =
 
 -- the bar of an operation at this place of the claim
 unfoldable pub placed_bar : Page → Operation → Option ℕ → Content
-placed_bar page o place = Element (Group (mark page.scene.claimed place)) (bar_parts page o place)
+placed_bar page o place = Element (Group (mark page.scene.claimed (is_away page.scene.claimed o) place)) (bar_parts page o place)
 
 -- the bar of an operation
 abbrev pub bar : Page → Operation → Content
@@ -173,7 +174,7 @@ initial_parts m y v place = group (Element Title (Words (initial_words v place))
 
 -- an initial value at this place of the claim
 unfoldable pub placed_initial : Page → ℕ → ℕ → Option ℕ → Content
-placed_initial page y v place = Element (Group (mark page.scene.claimed place)) (initial_parts page.measures y v place)
+placed_initial page y v place = Element (Group (mark page.scene.claimed false place)) (initial_parts page.measures y v place)
 
 -- ---- rows
 
@@ -188,10 +189,14 @@ unfoldable pub initial_value : Page → ℕ → ℕ → Content
 initial_value page y v =
     group (way_at page.measures (y + 10) (initial_way page.scene.claimed v) ∷ placed_initial page y v (initial_place_of page.scene.claimed v) ∷ [])
 
--- a ticket, at the right of its column, with the word `in` or `out` of what is called, where its value was dequeued twice
+-- words at the right of the column of tickets
+unfoldable pub in_tickets : Page → ℕ → List ℕ → Content
+in_tickets page y words = text_at 7 (codes "dim") (6 + 7 * (page.measures.ticket - length words)) (y + 14) words
+
+-- a ticket, with the word `in` or `out` of what is called, where its value was dequeued twice
 unfoldable pub event : Page → ℕ → ℕ → Content
 event page y ticket =
-    group (text_at 7 (codes "dim") (6 + 7 * (page.measures.ticket - digits ticket)) (y + 14) (decimal ticket)
+    group (in_tickets page y (decimal ticket)
     ∷ way_at page.measures (y + 20) (way_word page.scene.claimed (called_at page.scene.operations ticket)) ∷ [])
 
 -- the number and the label of an operation of a `YES`, beside the tickets, and the number in its bar
@@ -205,6 +210,7 @@ abbrev pub row_parts : Page → ℕ → Row → Content
 row_parts page y Head = text_at 7 (codes "dim") (left page.measures + 3) (y + 14) (codes "in the queue first")
 row_parts page y (Initial place v) = initial_value page y v
 row_parts page y (Ticket ticket) = event page y ticket
+row_parts page y (LeftOut count last) = in_tickets page y (left_out_words count)
 row_parts page y (Effect o number point) = effect page y o number
 
 -- a row of the scene
@@ -266,6 +272,7 @@ sign OfOperations y = pill 6 y 1
 sign OfValues y = pill 6 y 1
 sign Present y = rect (codes "sure") 0 6 (y + 1) 28 14
 sign Absent y = rect (codes "none") 0 6 (y + 1) 28 14
+sign Away y = rect (codes "far") 0 6 (y + 1) 28 14
 sign others y = rect (codes "time") 0 6 (y + 1) 28 14
 
 -- a sign, and what it means
@@ -285,7 +292,7 @@ unfoldable pub heading : Page → Content
 heading page =
     group (text_at 9 (codes "head") 6 26 (headline page.scene.claimed) ∷ lines_at 8 (codes "say") 46 (caption page.scene.claimed)
     ∷ samples (legend_y page.measures) ∷ lines_at 7 (codes "dim") (legend_y page.measures + 35) reading
-    ∷ signs page.measures (signs_of page.scene.initial page.scene.claimed) ∷ [])
+    ∷ signs page.measures (signs_of page.scene) ∷ [])
 
 -- the words for those who don't see the picture, and its style
 unfoldable pub about : Claimed → Content
@@ -311,7 +318,7 @@ inside page = group (frame page ∷ bands page ∷ bars page ∷ rows page ∷ [
 unfoldable pub page_content : Page → Content
 page_content page = Element (Svg (width page.measures) (height page.measures) (view_box page.measures)) (inside page)
 
--- ---- of a history and a claim
+-- ---- of a scene
 
 -- there is an order
 abbrev pub is_yes : Claimed → Bool
@@ -321,7 +328,7 @@ is_yes (No kind lines) = false
 -- how wide the parts of a picture are, in characters, and how many there are
 abbrev pub measures_of : SceneView → Measures
 measures_of scene = record {
-  ticket = max 6 (digits scene.last_ticket);
+  ticket = ticket_width scene;
   number = digits (count_of_lines scene.claimed);
   label = label_width scene.initial scene.operations;
   lanes = length scene.threads;
@@ -330,7 +337,7 @@ measures_of scene = record {
   head = longest (map (λ band. head_text band.head) scene.bands);
   captions = line_count (caption scene.claimed);
   caption = longest (parts (caption scene.claimed));
-  legend = 2 + length (signs_of scene.initial scene.claimed);
+  legend = 2 + length (signs_of scene);
   is_yes = is_yes scene.claimed;
 }
 
@@ -338,10 +345,6 @@ measures_of scene = record {
 abbrev pub page_of : SceneView → Page
 page_of scene = record { measures = measures_of scene; scene = scene }
 
--- the picture of a history and what is claimed of it, as a tree of elements
-unfoldable pub picture_content : HistoryView → Claimed → Content
-picture_content history claimed = page_content (page_of (scene_of history claimed))
-
--- the picture of a history and what is claimed of it, as a document
-unfoldable pub svg_picture : HistoryView → Claimed → List ℕ
-svg_picture history claimed = document (picture_content history claimed)
+-- the picture of a scene as a document
+unfoldable pub svg_picture : SceneView → List ℕ
+svg_picture scene = document (page_content (page_of scene))

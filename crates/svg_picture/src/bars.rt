@@ -10,22 +10,21 @@ use crate::markup::Attribute::Words;
 use crate::markup::{push_element, push_end, push_number, push_start};
 use crate::sheet::Sheet;
 use crate::words::{corner, kind_word};
-use drawing::{Added, MOST_DRAWN, Row, digits, place_of, push_label};
+use drawing::{Added, MOST_DRAWN, Row, digits, is_away, place_of, push_label};
 use history_merge::{OpKind, Operation};
 use itoa::Buffer;
 use std::alloc::{AllocError, Global};
 use verdicts::Claimed;
 
 /// How an operation or an initial value is marked.
-pub(crate) fn mark(claimed: &Claimed, place: Option<usize>) -> &'static [u8]
-    ensures { result.now ≡ mark claimed.now place }
+pub(crate) fn mark(claimed: &Claimed, away: bool, place: Option<usize>) -> &'static [u8]
+    ensures { result.now ≡ mark claimed.now away place }
 {
-    match claimed {
-        Claimed::Yes(_) => b"yes",
-        Claimed::No(_, _) => match place {
-            None => b"off",
-            Some(_) => b"on",
-        },
+    match (claimed, place) {
+        (Claimed::Yes(_), _) => b"yes",
+        (Claimed::No(_, _), Some(_)) => b"on",
+        (Claimed::No(_, _), None) if away => b"away",
+        (Claimed::No(_, _), None) => b"off",
     }
 }
 
@@ -160,7 +159,8 @@ fn push_bar(text: &mut Vec<u8>, sheet: &Sheet<'_>, operation: Operation) -> Adde
     ensures { OnOk result (text.new.items ≡ text.old.items ++ text_of (bar (page_on sheet.now) operation)) }
 {
     let place = place_of(sheet.scene.claimed, operation);
-    let class = mark(sheet.scene.claimed, place);
+    let away = is_away(sheet.scene.claimed, operation);
+    let class = mark(sheet.scene.claimed, away, place);
     push_start(text, b"g", &[Words(b"class", class)])?;
     let words = bar_words(sheet.alloc, operation, place)?;
     push_element(text, b"title", &[], words.as_slice())?;
@@ -175,7 +175,8 @@ fn push_bar(text: &mut Vec<u8>, sheet: &Sheet<'_>, operation: Operation) -> Adde
 pub(crate) fn push_bars(text: &mut Vec<u8>, sheet: &Sheet<'_>) -> Added
     ensures { OnOk result (text.new.items ≡ text.old.items ++ text_of (bars (page_on sheet.now))) }
 {
-    for operation in sheet.scene.operations {
+    let operations = sheet.scene.operations.as_slice();
+    for operation in operations {
         push_bar(text, sheet, *operation)?;
     }
     Ok(())

@@ -1,13 +1,12 @@
 //! A picture as a page for a browser.
 ghost use Rattle.std.specs.Prelude.{◌≡◌, ◌≤◌, IfOk};
 ghost use Rattle.drawing.specs.Claim.{count_of_lines};
+ghost use Rattle.drawing.specs.Scene.{scene_on};
 ghost use Rattle.svg_picture.specs.Html.{page_start, page_aside, script_bars, script_marks, script_lines, script_heads, html_picture};
 
 use crate::picture::push_picture;
-use drawing::MOST_DRAWN;
-use history_merge::History;
+use drawing::{MOST_DRAWN, Scene};
 use std::alloc::{AllocError, Global};
-use verdicts::Claimed;
 
 /// The page up to what the script marks.
 #[tactic(auto, unfolding(crate::specs::Html::page_start))]
@@ -49,8 +48,8 @@ g[data-how=after] rect:not(.pill),.after{fill:#e3daf5;stroke:#5b3f9e;background:
 <p id='say' aria-live='polite'>Choose an operation to see what precedes it.</p>\n\
 <p><span class='before'>precedes it</span> <span class='beside'>overlaps it</span>\n\
 <span class='after'>follows it</span></p>\n\
-<details><summary>the history as text</summary>\n\
-<textarea id='text' rows='12' readonly aria-label='the history as text'></textarea>\n\
+<details><summary>what is drawn, as text</summary>\n\
+<textarea id='text' rows='12' readonly aria-label='what is drawn, as text'></textarea>\n\
 <button id='copy'>copy</button></details>\n\
 </aside>\n\
 <main>\n"
@@ -130,23 +129,19 @@ by('fit').setAttribute('aria-pressed', fit); }); document.querySelector('aside')
 </html>\n"
 }
 
-/// The picture of a history and what is claimed of it, as one HTML page that needs nothing else: a fixed head, the picture of
+/// The picture of a scene as one HTML page that needs nothing else: a fixed head, the picture of
 /// [`svg_picture`](crate::svg_picture), and a fixed foot with a script. Without scripts it is the picture.
 ///
 /// Time and memory are those of the picture. `AllocError` comes only where a growth was refused.
 #[tactic(auto, unfolding(crate::specs::Html::html_picture))]
-pub fn html_picture(
-    alloc: Global,
-    history: &History,
-    claimed: &Claimed,
-) -> Result<Vec<u8>, AllocError>
+pub fn html_picture(alloc: Global, scene: &Scene<'_>) -> Result<Vec<u8>, AllocError>
     // The claim has few enough lines to be drawn.
-    requires { count_of_lines claimed.now ≤ MOST_DRAWN }
-    ensures { IfOk result (λ text. text.items ≡ html_picture history.now claimed.now) }
+    requires { count_of_lines scene.now.claimed.now ≤ MOST_DRAWN }
+    ensures { IfOk result (λ text. text.items ≡ html_picture (scene_on scene.now)) }
 {
     let mut text = Vec::from_slice(alloc, page_start())?;
     text.extend_from_slice(page_aside())?;
-    push_picture(alloc, &mut text, history, claimed)?;
+    push_picture(alloc, &mut text, scene)?;
     text.extend_from_slice(script_bars())?;
     text.extend_from_slice(script_marks())?;
     text.extend_from_slice(script_lines())?;

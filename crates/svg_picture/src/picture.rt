@@ -5,7 +5,7 @@ ghost use Rattle.drawing.specs.Scene.{scene_on};
 ghost use Rattle.drawing.specs.Captions.{caption};
 ghost use Rattle.svg_picture.specs.Markup.{text_of};
 ghost use Rattle.svg_picture.specs.Layout.{page_on};
-ghost use Rattle.svg_picture.specs.Picture.{about, frame, heading, inside, is_yes, measures_of, page_content, page_of, picture_content, svg_picture, view_box};
+ghost use Rattle.svg_picture.specs.Picture.{about, frame, heading, inside, is_yes, measures_of, page_content, page_of, svg_picture, view_box};
 
 use crate::bars::push_bars;
 use crate::beside::push_bands;
@@ -21,9 +21,8 @@ use crate::signs::push_signs;
 use crate::words::{push_style, reading};
 use drawing::{
     Added, MOST_DRAWN, Scene, count_of_lines, digits, headline, label_width, push_caption,
-    scene_of, signs_of,
+    signs_of, ticket_width,
 };
-use history_merge::History;
 use std::alloc::{AllocError, Global};
 use verdicts::Claimed;
 
@@ -47,7 +46,7 @@ fn push_heading(text: &mut Vec<u8>, sheet: &Sheet<'_>) -> Added
     push_lines_at(text, 8, b"say", 46, caption.as_slice())?;
     push_samples(text, y)?;
     push_lines_at(text, 7, b"dim", y + 35, reading())?;
-    let signs = signs_of(sheet.alloc, sheet.scene.initial, sheet.scene.claimed)?;
+    let signs = signs_of(sheet.alloc, sheet.scene)?;
     push_signs(text, sheet.measures, signs.as_slice())
 }
 
@@ -131,11 +130,11 @@ fn measures_of(alloc: Global, scene: &Scene<'_>) -> Result<Measures, AllocError>
     ensures { IfOk result (λ m. m ≡ measures_of (scene_on scene.now)) }
 {
     let caption = caption_of(alloc, scene.claimed)?;
-    let signs = signs_of(alloc, scene.initial, scene.claimed)?;
+    let signs = signs_of(alloc, scene)?;
     Ok(Measures {
-        ticket: digits(scene.last_ticket).max(6) as u8,
+        ticket: ticket_width(scene) as u8,
         number: digits(count_of_lines(scene.claimed) as u64) as u8,
-        label: label_width(scene.initial, scene.operations) as u8,
+        label: label_width(scene.initial, scene.operations.as_slice()) as u8,
         lanes: scene.threads.len(),
         rows: scene.rows.len(),
         heads: scene.bands.len(),
@@ -147,23 +146,8 @@ fn measures_of(alloc: Global, scene: &Scene<'_>) -> Result<Measures, AllocError>
     })
 }
 
-/// Adds the picture of a history and what is claimed of it.
-#[tactic(auto, unfolding(crate::specs::Picture::picture_content))]
-pub(crate) fn push_picture(
-    alloc: Global,
-    text: &mut Vec<u8>,
-    history: &History,
-    claimed: &Claimed,
-) -> Added
-    requires { count_of_lines claimed.now ≤ MOST_DRAWN }
-    ensures { OnOk result (text.new.items ≡ text.old.items ++ text_of (picture_content history.now claimed.now)) }
-{
-    let scene = scene_of(alloc, history, claimed)?;
-    push_scene(alloc, text, &scene)
-}
-
 /// Adds the picture of a scene.
-fn push_scene(alloc: Global, text: &mut Vec<u8>, scene: &Scene<'_>) -> Added
+pub(crate) fn push_picture(alloc: Global, text: &mut Vec<u8>, scene: &Scene<'_>) -> Added
     requires { count_of_lines scene.now.claimed.now ≤ MOST_DRAWN }
     ensures { OnOk result (text.new.items ≡ text.old.items ++ text_of (page_content (page_of (scene_on scene.now)))) }
 {
@@ -176,21 +160,17 @@ fn push_scene(alloc: Global, text: &mut Vec<u8>, scene: &Scene<'_>) -> Added
     push_page(text, &sheet)
 }
 
-/// The picture of a history and what is claimed of it, as an SVG 1.1 document.
+/// The picture of a scene as an SVG 1.1 document.
 ///
-/// The claim need not be evidence: what stands in the picture follows its lines. Time O(n n) for n events, and O(k m)
-/// for k initial values and m lines; memory for the text, of O(n + k) bytes. `AllocError` comes only where a growth was refused.
+/// The claim need not be evidence: what stands in the picture follows its lines. Time O(n n) for n rows, and O(k m) for k initial
+/// values and m lines; memory for the text, of O(n + k) bytes. `AllocError` comes only where a growth was refused.
 #[tactic(auto, unfolding(crate::specs::Picture::svg_picture))]
-pub fn svg_picture(
-    alloc: Global,
-    history: &History,
-    claimed: &Claimed,
-) -> Result<Vec<u8>, AllocError>
+pub fn svg_picture(alloc: Global, scene: &Scene<'_>) -> Result<Vec<u8>, AllocError>
     // The claim has few enough lines to be drawn.
-    requires { count_of_lines claimed.now ≤ MOST_DRAWN }
-    ensures { IfOk result (λ text. text.items ≡ svg_picture history.now claimed.now) }
+    requires { count_of_lines scene.now.claimed.now ≤ MOST_DRAWN }
+    ensures { IfOk result (λ text. text.items ≡ svg_picture (scene_on scene.now)) }
 {
     let mut text = Vec::from_slice(alloc, b"<?xml version=\"1.0\" encoding=\"UTF-8\"?>\n")?;
-    push_picture(alloc, &mut text, history, claimed)?;
+    push_picture(alloc, &mut text, scene)?;
     Ok(text)
 }

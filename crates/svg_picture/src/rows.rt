@@ -1,9 +1,10 @@
 //! The rows of the scene.
 ghost use Rattle.std.specs.Prelude.{◌≡◌, ◌+◌, ◌-◌, ◌*◌, ◌++◌, ◌≤◌, ◌^◌, OnOk, IfOk, IfSome};
 ghost use Rattle.drawing.specs.Layout.{initial_place_of};
+ghost use Rattle.drawing.specs.Scene.{left_out_words};
 ghost use Rattle.svg_picture.specs.Markup.{text_of};
 ghost use Rattle.svg_picture.specs.Layout.{page_on};
-ghost use Rattle.svg_picture.specs.Picture.{initial_words, initial_number, initial_rect, placed_initial, way_at, initial_value, event, effect, row_content, rows};
+ghost use Rattle.svg_picture.specs.Picture.{initial_words, initial_number, initial_rect, placed_initial, way_at, initial_value, in_tickets, event, effect, row_content, rows};
 ghost use Rattle.svg_picture.specs.Picture.{ticket_names, order_name};
 
 use crate::bars::{mark, push_number_words, push_pill};
@@ -13,8 +14,8 @@ use crate::markup::Attribute::Words;
 use crate::markup::{push_element, push_end, push_number, push_start};
 use crate::sheet::{Measures, Sheet};
 use drawing::{
-    Added, MOST_DRAWN, Row, called_at, digits, initial_place_of, initial_way, numbered_label,
-    push_initial_label, way_word,
+    Added, MOST_DRAWN, Row, called_at, digits, initial_place_of, initial_way, left_out_words,
+    numbered_label, push_initial_label, way_word,
 };
 use history_merge::Operation;
 use itoa::Buffer;
@@ -82,7 +83,7 @@ fn push_initial_group(text: &mut Vec<u8>, sheet: &Sheet<'_>, y: u128, value: u64
         ++ text_of (placed_initial (page_on sheet.now) y value (initial_place_of sheet.now.scene.now.claimed.now value))) }
 {
     let place = initial_place_of(sheet.scene.claimed, value);
-    let class = mark(sheet.scene.claimed, place);
+    let class = mark(sheet.scene.claimed, false, place);
     push_start(text, b"g", &[Words(b"class", class)])?;
     let words = initial_words(sheet.alloc, value, place)?;
     push_element(text, b"title", &[], words.as_slice())?;
@@ -117,16 +118,32 @@ fn push_initial_value(text: &mut Vec<u8>, sheet: &Sheet<'_>, y: u128, value: u64
     push_initial_group(text, sheet, y, value)
 }
 
+/// Adds words at the right of the column of tickets.
+#[tactic(auto, unfolding(crate::specs::Picture::in_tickets))]
+fn push_in_tickets(text: &mut Vec<u8>, sheet: &Sheet<'_>, y: u128, words: &[u8]) -> Added
+    requires { y ≤ 2 ^ 91 }
+    ensures { OnOk result (text.new.items ≡ text.old.items ++ text_of (in_tickets (page_on sheet.now) y words.now)) }
+{
+    let x = ticket_x(sheet.measures, words.len());
+    push_text_at(text, 7, b"dim", x, y + 14, words)
+}
+
+fn push_left_out(text: &mut Vec<u8>, sheet: &Sheet<'_>, y: u128, count: usize) -> Added
+    requires { y ≤ 2 ^ 91 }
+    ensures { OnOk result (text.new.items ≡ text.old.items ++ text_of (in_tickets (page_on sheet.now) y (left_out_words count))) }
+{
+    let words = left_out_words(sheet.alloc, count)?;
+    push_in_tickets(text, sheet, y, words.as_slice())
+}
+
 #[tactic(auto, unfolding(crate::specs::Picture::event))]
 fn push_event(text: &mut Vec<u8>, sheet: &Sheet<'_>, y: u128, ticket: u64) -> Added
     requires { y ≤ 2 ^ 91 }
     ensures { OnOk result (text.new.items ≡ text.old.items ++ text_of (event (page_on sheet.now) y ticket)) }
 {
-    let x = ticket_x(sheet.measures, digits(ticket));
     let mut buffer = Buffer::new();
-    let words = buffer.format(ticket).as_bytes();
-    push_text_at(text, 7, b"dim", x, y + 14, words)?;
-    let called = called_at(sheet.scene.operations, ticket);
+    push_in_tickets(text, sheet, y, buffer.format(ticket).as_bytes())?;
+    let called = called_at(sheet.scene.operations.as_slice(), ticket);
     let way = way_word(sheet.scene.claimed, called);
     push_way_at(text, sheet.measures, y + 20, way)
 }
@@ -163,6 +180,7 @@ fn push_row(text: &mut Vec<u8>, sheet: &Sheet<'_>, row: Row) -> Added
         }
         Row::Initial(_, value) => push_initial_value(text, sheet, y, value),
         Row::Ticket(ticket) => push_event(text, sheet, y, ticket),
+        Row::LeftOut(count, _) => push_left_out(text, sheet, y, count),
         Row::Effect(operation, number, _) => push_effect(text, sheet, y, operation, number),
     }
 }

@@ -34,6 +34,7 @@ fn push_sign(text: &mut Vec<u8>, drawn: Sign, y: u128) -> Added
         Sign::InOrder | Sign::OfOperations | Sign::OfValues => push_pill(text, 6, y, 1),
         Sign::Present => push_band_sample(text, b"sure", y),
         Sign::Absent => push_band_sample(text, b"none", y),
+        Sign::Away => push_band_sample(text, b"far", y),
         _ => push_band_sample(text, b"time", y),
     }
 }

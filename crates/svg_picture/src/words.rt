@@ -57,7 +57,8 @@ text{font-family:DejaVu Sans Mono,Menlo,Consolas,monospace;font-size:11.6px;fill
 .dim{fill:#5c6470}.lead{stroke:#5c6470}\n\
 .enq{fill:#cfe3ff;stroke:#1f5fbf}.deq{fill:#ffe2bf;stroke:#b35c00}\n\
 .not{fill:#ffffff;stroke:#1f5fbf;stroke-dasharray:5 3}.empty{fill:#ffffff;stroke:#b35c00;stroke-dasharray:5 3}\n\
-.on rect{stroke-width:3}.off rect{fill:#f7f8fa;stroke:#b4bac4}.off text{fill:#6b7280}\n\
+.on rect{stroke-width:3}.off rect{fill:#f7f8fa;stroke:#b4bac4}.off text,.away text{fill:#6b7280}\n\
+.away rect,.far{fill:none;stroke:#b4bac4;stroke-dasharray:2 3}\n\
 .pill,.pick{pointer-events:none}.pill{fill:#1a1a1a;stroke:none}.pick{fill:#ffffff;font-weight:bold}\n\
 .sure{fill:#6b4bb8}.none{fill:url(#hatch);stroke:#6b4bb8}.hatch{stroke:#6b4bb8;stroke-width:2}\n\
 .time{fill:none;stroke:#b3261e;stroke-width:2;stroke-dasharray:5 3}\n\
@@ -74,7 +75,7 @@ svg{background:#14171c}text{fill:#e6e8eb}.page{fill:#14171c}.row{fill:#1d222a}\n
 .dim{fill:#9aa4b2}.lead{stroke:#9aa4b2}\n\
 .enq{fill:#1b3560;stroke:#7fb0ff}.deq{fill:#553710;stroke:#ffb45c}\n\
 .not{fill:#14171c;stroke:#7fb0ff}.empty{fill:#14171c;stroke:#ffb45c}\n\
-.off rect{fill:#191d23;stroke:#4a5260}.off text{fill:#8b95a3}\n\
+.off rect{fill:#191d23;stroke:#4a5260}.off text,.away text{fill:#8b95a3}.away rect,.far{stroke:#4a5260}\n\
 .pill{fill:#e6e8eb}.pick{fill:#14171c}\n\
 .sure{fill:#a78bf0}.none,.hatch,line.sure,line.none{stroke:#a78bf0}.time{stroke:#ff7a70}\n\
 }\n"

@@ -1,10 +1,10 @@
 -- What a request that is answered has.
 use Rattle.std.specs.Prelude.{◌≡◌, ◌⊎◌, List, Option, Some, None, codes}
 use Rattle.clap.specs.Walk.{Row, Text}
-use Rattle.command_words.specs.Inner.Options.{HasSettings}
+use Rattle.command_words.specs.Inner.Options.{HasDistance, HasSettings}
 
--- a subcommand of the program was met, and where it is `stress` its options are there and in their ranges
+-- a subcommand of the program was met, and its numbers are there and in their ranges
 abbrev pub IsAnswerable : Option (Text × List Row) → Type 0
 IsAnswerable None = ⊥
 IsAnswerable (Some p) = (p.0 ≡ codes "check") ⊎ (p.0 ≡ codes "shrink") ⊎ (p.0 ≡ codes "verify")
-    ⊎ (p.0 ≡ codes "draw") ⊎ (p.0 ≡ codes "convert") ⊎ (p.0 ≡ codes "stats") ⊎ (p.0 ≡ codes "sim") ⊎ ((p.0 ≡ codes "stress") × HasSettings p.1)
+    ⊎ ((p.0 ≡ codes "draw") × HasDistance p.1) ⊎ (p.0 ≡ codes "convert") ⊎ (p.0 ≡ codes "stats") ⊎ (p.0 ≡ codes "sim") ⊎ ((p.0 ≡ codes "stress") × HasSettings p.1)

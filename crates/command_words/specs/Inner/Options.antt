@@ -3,12 +3,17 @@ use Rattle.std.specs.Prelude.{ℕ, List, IsSome, IsSomeAnd, codes}
 use Rattle.clap.specs.Values.{IsUnsignedIn}
 use Rattle.clap.specs.Walk.{Row, Text, first_of}
 use Rattle.event_records.specs.declared.limits.TheConstants.{MAX_RING, MAX_SEED, MAX_STRESS_INITIAL, MAX_THREAD_OPERATIONS, MAX_WORKERS, MIN_RING}
+use Rattle.command_words.specs.declared.options.TheConstants.{MAX_AROUND}
 
 -- ---- what the parse has checked
 
 -- the option has a text, which is a number from low to high
 abbrev pub HasNumber : Text → ℕ → ℕ → List Row → Type 0
 HasNumber id low high rows = IsSomeAnd (first_of id rows) (IsUnsignedIn low high)
+
+-- the distance of `draw` is there and in its range
+abbrev pub HasDistance : List Row → Type 0
+HasDistance rows = HasNumber (codes "around") 0 MAX_AROUND rows
 
 -- the queue's name is there, and each number is in its range
 pub record HasSettings (rows : List Row) : Type 0 where

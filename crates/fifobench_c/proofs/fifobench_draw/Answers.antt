@@ -1,5 +1,6 @@
 use Rattle.std.proofs.Common.{inl}
 use Rattle.command_words.specs.Commands.{draw}
+use Rattle.command_words.specs.Options.{drawing_as}
 use Rattle.command_words.specs.declared.options.PictureForm.TheVariants.{Svg}
 use Rattle.commands.specs.Evidence.{input_of}
 use Rattle.commands.specs.Running.{AnswersOf}
@@ -7,4 +8,4 @@ use Rattle.fifobench_c.proofs.Telling.{told_one}
 use Rattle.fifobench_c.proofs.fifobench_draw.Goals as goal
 
 pub returns : goal.returns
-returns c = told_one (AnswersOf (draw Svg)) (input_of c.args.text.now) _ _ _ _ _ (inl c.draw_text.ensures.found) c.tell.ensures
+returns c = told_one (AnswersOf (draw (drawing_as Svg))) (input_of c.args.text.now) _ _ _ _ _ (inl c.draw_text.ensures.found) c.tell.ensures

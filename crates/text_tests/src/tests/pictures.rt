@@ -3,7 +3,7 @@ ghost use Rattle.std.specs.Prelude.{◌≤◌, IfOk};
 ghost use Rattle.drawing.specs.Claim.{count_of_lines};
 ghost use Rattle.drawing.specs.declared.columns.TheConstants.{MOST_DRAWN};
 
-use drawing::{MOST_DRAWN, count_of_lines, terminal_picture};
+use drawing::{MOST_DRAWN, count_of_lines, drawn_operations, scene_of, terminal_picture};
 use history_merge::History;
 use history_text::{MemorySource, TextReader, read_history, read_verdict};
 use std::alloc::Global;
@@ -46,20 +46,28 @@ fn read(alloc: Global, text: &[u8]) -> Result<(History, Claimed), Fail>
 }
 
 /// The picture of a history's text and a verdict's, in lines of characters.
-fn terminal_of<R: AllocGlobal>(rt: &R, text: &[u8]) -> Result<Vec<u8>, Fail> {
+fn terminal_of<R: AllocGlobal>(
+    rt: &R,
+    text: &[u8],
+    around: Option<usize>,
+) -> Result<Vec<u8>, Fail> {
     let (history, claimed) = read(rt.alloc(), text)?;
-    Ok(terminal_picture(rt.alloc(), &history, &claimed)?)
+    let drawn = drawn_operations(rt.alloc(), &history, &claimed, around)?;
+    let scene = scene_of(rt.alloc(), &history, &claimed, drawn)?;
+    Ok(terminal_picture(rt.alloc(), &scene)?)
 }
 
 /// The SVG document of a history's text and a verdict's.
 fn svg_of<R: AllocGlobal>(rt: &R, text: &[u8]) -> Result<Vec<u8>, Fail> {
     let (history, claimed) = read(rt.alloc(), text)?;
-    Ok(svg_picture(rt.alloc(), &history, &claimed)?)
+    let drawn = drawn_operations(rt.alloc(), &history, &claimed, None)?;
+    let scene = scene_of(rt.alloc(), &history, &claimed, drawn)?;
+    Ok(svg_picture(rt.alloc(), &scene)?)
 }
 
 /// Asserts the picture of a history's text and a verdict's, in lines of characters, given in parts.
 fn assert_drawn<R: AllocGlobal + Abort>(rt: &R, text: &[u8], parts: &[&str]) -> Result<(), Fail> {
-    let drawn = terminal_of(rt, text)?;
+    let drawn = terminal_of(rt, text, None)?;
     let mut rest = drawn.as_slice();
     for part in parts {
         let Some(behind) = rest.strip_prefix(part.as_bytes()) else {
@@ -73,7 +81,8 @@ fn assert_drawn<R: AllocGlobal + Abort>(rt: &R, text: &[u8], parts: &[&str]) -> 
 
 #[test]
 fn draws_the_greatest_numbers_whole(rt: HostRuntime) -> Result<(), Fail> {
-    assert_eq!(rt; terminal_of(&rt, TEXT)?.as_slice(), PICTURE.as_bytes());
+    let picture = terminal_of(&rt, TEXT, None)?;
+    assert_eq!(rt; picture.as_slice(), PICTURE.as_bytes());
     Ok(())
 }
 
@@ -118,9 +127,56 @@ fn draws_a_value_that_was_not_there_as_svg(rt: HostRuntime) -> Result<(), Fail> 
 #[test]
 fn a_page_has_its_head_and_its_foot(rt: HostRuntime) -> Result<(), Fail> {
     let (history, claimed) = read(rt.alloc(), FRESH)?;
-    let page = html_picture(rt.alloc(), &history, &claimed)?;
+    let drawn = drawn_operations(rt.alloc(), &history, &claimed, None)?;
+    let scene = scene_of(rt.alloc(), &history, &claimed, drawn)?;
+    let page = html_picture(rt.alloc(), &scene)?;
     assert!(rt; page.as_slice().starts_with(b"<!DOCTYPE html>\n"));
     assert!(rt; page.as_slice().ends_with(b"</script>\n</body>\n</html>\n"));
+    Ok(())
+}
+
+/// A value that nobody enqueued, after four events of other operations.
+const LATE: &[u8] = b"fifo-history 1\n0 0 call-enq 1\n1 0 ret-enq\n2 0 call-deq\n3 0 ret-deq 1\n\
+    4 0 call-deq\n5 0 ret-deq 9\nend 6\nNO VFresh\n4 5 0 deq 9\n";
+
+/// The words in place of events are 16 wide, bands begin at column 18, lanes at 28, and labels at 36.
+const LATE_HEADS: &str = "\n\
+\x20                 9 not in\n\
+\x20                  |   9 dequeued\n\
+\x20                  |    |   thread\n\
+\x20         ticket   |    |   0\n";
+
+const LATE_ALONE: &str = "... 4 events ...  xxx\n\
+\x20              4  xxx  :::  [1      deq 9\n\
+\x20              5  xxx       ]\n";
+
+/// With the event before it and the operation that it ends, which is away.
+const LATE_WITH_ONE: &str = "(:)  an operation that overlaps none of those with numbers\n";
+
+const LATE_ROWS: &str = "... 2 events ...  xxx\n\
+\x20              2  xxx       (       deq 1\n\
+\x20              3  xxx       )\n\
+\x20              4  xxx  :::  [1      deq 9\n\
+\x20              5  xxx       ]\n";
+
+/// Whether a picture ends with these parts.
+fn ends_with_parts(picture: &[u8], parts: &[&str]) -> bool {
+    let mut rest = picture;
+    for part in parts.iter().rev() {
+        let Some(before) = rest.strip_suffix(part.as_bytes()) else {
+            return false;
+        };
+        rest = before;
+    }
+    true
+}
+
+#[test]
+fn events_that_do_not_matter_are_left_out(rt: HostRuntime) -> Result<(), Fail> {
+    let alone = terminal_of(&rt, LATE, Some(0))?;
+    assert!(rt; ends_with_parts(alone.as_slice(), &[LATE_HEADS, LATE_ALONE]));
+    let with_one = terminal_of(&rt, LATE, Some(1))?;
+    assert!(rt; ends_with_parts(with_one.as_slice(), &[LATE_WITH_ONE, LATE_HEADS, LATE_ROWS]));
     Ok(())
 }
 

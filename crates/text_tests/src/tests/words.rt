@@ -1,6 +1,6 @@
 use clap::Error;
 use clap::error::ErrorKind;
-use command_words::{Order, PictureForm, StressOptions, Task, order_in};
+use command_words::{DrawOptions, Order, PictureForm, StressOptions, Task, order_in};
 use std::alloc::AllocError;
 use std::test::Fail;
 
@@ -53,14 +53,29 @@ fn a_flag_asks_for_a_quiet_answer(rt: HostRuntime) -> Result<(), Fail> {
 
 #[test]
 fn a_picture_is_svg_a_page_or_characters(rt: HostRuntime) -> Result<(), Fail> {
-    let svg = Task::Draw(PictureForm::Svg);
+    let svg = Task::Draw(DrawOptions::new(PictureForm::Svg));
     assert!(rt; has_task(&rt, &["fifobench", "draw"], svg)?);
-    let terminal = Task::Draw(PictureForm::Terminal);
+    let terminal = Task::Draw(DrawOptions::new(PictureForm::Terminal));
     assert!(rt; has_task(&rt, &["fifobench", "draw", "--text"], terminal)?);
-    let page = Task::Draw(PictureForm::Html);
+    let page = Task::Draw(DrawOptions::new(PictureForm::Html));
     assert!(rt; has_task(&rt, &["fifobench", "draw", "--html"], page)?);
     let kind = ErrorKind::UnknownArgument;
     assert!(rt; has_fault(&rt, &["fifobench", "draw", "--svg"], kind)?);
+    Ok(())
+}
+
+#[test]
+fn a_picture_is_of_what_is_near_or_of_all(rt: HostRuntime) -> Result<(), Fail> {
+    let form = PictureForm::Svg;
+    let near = Task::Draw(DrawOptions {
+        form,
+        around: Some(20),
+    });
+    assert!(rt; has_task(&rt, &["fifobench", "draw", "--around", "20"], near)?);
+    let all = Task::Draw(DrawOptions { form, around: None });
+    assert!(rt; has_task(&rt, &["fifobench", "draw", "--all", "--around", "20"], all)?);
+    let kind = ErrorKind::ValueValidation;
+    assert!(rt; has_fault(&rt, &["fifobench", "draw", "--around", "1001"], kind)?);
     Ok(())
 }
 

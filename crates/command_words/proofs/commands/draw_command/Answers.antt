@@ -6,10 +6,14 @@ use Rattle.command_words.proofs.commands.draw_command.Goals as goal
 pub returns-clause-shape : goal.returns-clause-shape
 returns-clause-shape c =
     let text = c.in_ok-arg.ensures.shape c.flag_option.ensures.local ∙ ap₂ with_rule c.plain_command.ensures.app c.flag_option.ensures.rule in
-    IfOk-weaker c.arg-2.result _ _
-    (λ r h. ap (λ (a : App). a.top) (h.shape c.flag_option-2.ensures.local ∙ ap₂ with_rule text c.flag_option-2.ensures.rule)) c.arg-2.ensures
+    let html = c.in_ok-arg-2.ensures.shape c.flag_option-2.ensures.local ∙ ap₂ with_rule text c.flag_option-2.ensures.rule in
+    let around = c.in_ok-arg-3.ensures.shape c.number_option.ensures.local ∙ ap₂ with_rule html c.number_option.ensures.rule in
+    IfOk-weaker c.arg-4.result _ _
+    (λ r h. ap (λ (a : App). a.top) (h.shape c.flag_option-3.ensures.local ∙ ap₂ with_rule around c.flag_option-3.ensures.rule)) c.arg-4.ensures
 
 pub returns-clause-local : goal.returns-clause-local
 returns-clause-local c =
     let text = c.in_ok-arg.ensures.globals ∙ ap₂ ◌||◌ c.plain_command.ensures.local c.flag_option.ensures.local in
-    IfOk-weaker c.arg-2.result _ _ (λ r h. h.globals ∙ ap₂ ◌||◌ text c.flag_option-2.ensures.local) c.arg-2.ensures
+    let html = c.in_ok-arg-2.ensures.globals ∙ ap₂ ◌||◌ text c.flag_option-2.ensures.local in
+    let around = c.in_ok-arg-3.ensures.globals ∙ ap₂ ◌||◌ html c.number_option.ensures.local in
+    IfOk-weaker c.arg-4.result _ _ (λ r h. h.globals ∙ ap₂ ◌||◌ around c.flag_option-3.ensures.local) c.arg-4.ensures

@@ -4,6 +4,6 @@ use Rattle.drawing.proofs.columns.threads_of.Given as goal
 
 abbrev pub invariant-loop-thread : goal.invariant-loop-thread
 invariant-loop-thread l = record {
-  threads : l.threads.items ≡ threads_below l.events l.thread;
+  threads : l.threads.items ≡ threads_below l.operations l.thread;
   few : vec_len l.threads ≤ l.thread;
 }

@@ -7,8 +7,11 @@ returns-clause-rise c = rows.rows_rise
 pub returns-clause-initial : goal.returns-clause-initial
 returns-clause-initial c = rows.initial_values_have_rows
 
-pub returns-clause-events : goal.returns-clause-events
-returns-clause-events c = rows.events_have_rows
+pub returns-clause-operations : goal.returns-clause-operations
+returns-clause-operations c = rows.operations_have_rows
+
+pub returns-clause-counted : goal.returns-clause-counted
+returns-clause-counted c = rows.events_are_counted
 
 pub returns-clause-effects : goal.returns-clause-effects
 returns-clause-effects c = rows.effects_have_rows

@@ -1,7 +1,10 @@
-use Rattle.std.proofs.Common.{◌≡◌, ◌++◌, take}
-use Rattle.std.specs.List.{flat_map}
-use Rattle.drawing.specs.Scene.{event_rows}
+use Rattle.std.proofs.Common.{◌≡◌, ◌≤◌, ◌++◌, drop}
+use Rattle.drawing.specs.Scene.{rows_after}
 use Rattle.drawing.proofs.scene.push_rows_of_events.Given as goal
 
 abbrev pub invariant-loop-event : goal.invariant-loop-event
-invariant-loop-event l = l.rows.items ≡ l.fn.rows.items ++ flat_map (event_rows l.order) (take l.event-index l.events)
+invariant-loop-event l = record {
+  rows : l.fn.rows.items ++ rows_after l.drawn l.order 0 0 l.events
+      ≡ l.rows.items ++ rows_after l.drawn l.order l.count l.last (drop l.event-index l.events);
+  count : l.count ≤ l.event-index;
+}

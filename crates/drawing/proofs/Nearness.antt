@@ -1,0 +1,191 @@
+-- Which operations are drawn: those that overlap one of a `NO`, and with no distance no others.
+use Rattle.std.proofs.Common.{◌≡◌, ℕ, zero, suc, ◌+◌, ◌-◌, ◌<◌, ◌≤◌, inl, inr, Bool, true, false, ◌&&◌, ◌||◌, cond, List, [], ◌∷◌, ◌++◌, length, map}
+use Rattle.std.proofs.Common.{get_or, take, filter, Some, None, Option, refl, sym, ap, subst, ◌∙◌, arith}
+use Rattle.std.specs.Prelude.{Contains, nat_lt, nat_le, count_by, flat_map}
+use Rattle.std.specs.List.{list_any}
+use Rattle.std.proofs.lemmas.Bool.{cases_lt}
+use Rattle.std.proofs.lemmas.Bool.Decides.{nat_tests}
+use Rattle.std.proofs.lemmas.Option.{slice_get-get_or}
+use Rattle.std.specs.List.Sorted.{IsPartitionedBy, IsNonDecreasingBy}
+use Rattle.std.proofs.lemmas.List.Sorted.{IsPartitionedBy-ltb}
+use Rattle.event_records.specs.Turns.{TicketsRise}
+use Rattle.std.proofs.lemmas.List.Elements.{Contains-append_left, Contains-append_right, filter_more}
+use Rattle.std.proofs.lemmas.List.Sums.{sum_by-cons}
+use Rattle.event_records.specs.declared.event.Event.{Event}
+use Rattle.history_merge.specs.Initial.{HistoryView}
+use Rattle.history_merge.specs.declared.operation.Operation.{Operation}
+use Rattle.history_merge.specs.Operations.{operations_of}
+use Rattle.history_merge.proofs.Completeness.{operations_are_complete}
+use Rattle.history_merge.proofs.Distinct.{call_before_return, contains_at, contains_cons, not_in_none, pairs_at, traced}
+use Rattle.value_match.proofs.Lists.{one_deeper, passes_filter, passed_filter}
+use Rattle.verdicts.specs.declared.verifying.ClaimLine.{ClaimLine}
+use Rattle.verdicts.specs.declared.verifying.ClaimLine.TheVariants.{Op, Initial}
+use Rattle.verdicts.specs.declared.verifying.Claimed.{Claimed}
+use Rattle.verdicts.specs.declared.verifying.Claimed.TheVariants.{Yes, No}
+use Rattle.drawing.specs.Drawn.{events_before, are_near, operation_in, operations_in, drawn_operations}
+use Rattle.drawing.specs.Inner.Drawn.{standing_of, stand_near}
+use Rattle.drawing.specs.declared.drawn.Standing.{Standing}
+use Rattle.drawing.specs.Laws.{OverlappingAreDrawn, NoOthersAreDrawn, LinesAreDrawn}
+use Rattle.drawing.proofs.Below.{fewer, one_fewer}
+
+-- ---- lists
+
+-- what one element makes is among what all make
+pub in_flat_map : {X A : Type 0} (f : X → List A) (xs : List X) (x : X) (a : A) → Contains xs x → Contains (f x) a → Contains (flat_map f xs) a
+in_flat_map f [] x a among here = absurd (not_in_none x among)
+in_flat_map f (y ∷ ys) x a among here = elim (contains_cons y ys x among) [
+  | inl same ↦ Contains-append_left (f y) (flat_map f ys) a (subst (λ z. Contains (f z) a) (sym same) here)
+  | inr there ↦ Contains-append_right (f y) (flat_map f ys) a (in_flat_map f ys x a there here)
+]
+
+pub or_true : (b : Bool) → (b || true) ≡ true
+or_true true = refl
+or_true false = refl
+
+-- an element that passes is found
+pub any_of : {X : Type 0} (p : X → Bool) (xs : List X) (x : X) → Contains xs x → p x ≡ true → list_any p xs ≡ true
+any_of p [] x among passes = absurd (not_in_none x among)
+any_of p (y ∷ ys) x among passes = elim (contains_cons y ys x among) [
+  | inl here ↦ ap (λ (b : Bool). b || list_any p ys) (ap p here ∙ passes)
+  | inr there ↦ ap (λ (b : Bool). p y || b) (any_of p ys x there passes) ∙ or_true (p y)
+]
+
+-- one that is found passes
+some_passes : {X : Type 0} (p : X → Bool) (xs : List X) → list_any p xs ≡ true → (x : X) × Contains xs x × (p x ≡ true)
+some_passes p [] is = cc
+some_passes p (y ∷ ys) is = join (p y) refl is (λ found. some_passes p ys found)
+  where
+    join : (b : Bool) → p y ≡ b → (b || list_any p ys) ≡ true → (list_any p ys ≡ true → (x : _) × Contains ys x × (p x ≡ true))
+        → (x : _) × Contains (y ∷ ys) x × (p x ≡ true)
+    join true passes found later = (y, contains_at (y ∷ ys) 0 y refl, passes)
+    join false fails found later = let there = later found in (there.0, one_deeper y ys there.0 there.1, there.2)
+
+-- a test of what elements are made into
+any_mapped : {X Y : Type 0} (p : Y → Bool) (f : X → Y) (xs : List X) → list_any p (map f xs) ≡ list_any (λ x. p (f x)) xs
+any_mapped p f [] = refl
+any_mapped p f (x ∷ xs) = ap (λ (b : Bool). p (f x) || b) (any_mapped p f xs)
+
+-- what is near of one operation more
+pub near_step : (events : List Event) (n : ℕ) (lines operations : List Operation) (i : ℕ) (d : Operation) (listed : List Standing) (standing : Standing) (b : Bool)
+    (old new : List Operation) → i < length operations → listed ≡ map (standing_of events) lines → standing ≡ standing_of events (get_or operations i d)
+    → b ≡ list_any (stand_near n standing) listed → old ≡ filter (λ o. list_any (are_near events n o) lines) (take i operations)
+    → new ≡ old ++ cond b (get_or operations i d ∷ []) [] → new ≡ filter (λ o. list_any (are_near events n o) lines) (take (i + 1) operations)
+near_step events n lines operations i d listed standing b old new within stand here tells before now =
+    let x = get_or operations i d in
+    let p = λ (o : Operation). list_any (are_near events n o) lines in
+    let passes : b ≡ p x = tells ∙ ap (λ (s : Standing). list_any (stand_near n s) listed) here
+    ∙ ap (list_any (stand_near n (standing_of events x))) stand ∙ any_mapped (stand_near n (standing_of events x)) (standing_of events) lines in
+    now ∙ ap (λ (c : Bool). old ++ cond c (x ∷ []) []) passes ∙ ap (λ (l : List Operation). l ++ cond (p x) (x ∷ []) []) before
+    ∙ sym (filter_more p operations i d within)
+
+-- as many pass as stand before the first that fails, if none passes after it
+pub counted_up_to : {X : Type 0} (p : X → Bool) (xs : List X) (i : ℕ) → i ≤ length xs → ((k : ℕ) (d : X) → k < i → p (get_or xs k d) ≡ true)
+    → ((k : ℕ) (d : X) → i ≤ k → k < length xs → p (get_or xs k d) ≡ false) → i ≡ count_by p xs
+counted_up_to p [] i within passes fails = omega arith
+counted_up_to p (x ∷ xs) zero within passes fails =
+    let here : cond {A = ℕ} (p x) 1 0 ≡ 0 = ap (λ (b : Bool). cond {A = ℕ} b 1 0) (fails 0 x (omega arith) (omega arith)) in
+    let later = counted_up_to p xs 0 (omega arith) (λ k d less. absurd (omega arith)) (λ k d from to. fails (suc k) d (omega arith) (omega arith)) in
+    omega (arith, sum_by-cons (λ y. cond {A = ℕ} (p y) 1 0) x xs)
+counted_up_to p (x ∷ xs) (suc i) within passes fails =
+    let here : cond {A = ℕ} (p x) 1 0 ≡ 1 = ap (λ (b : Bool). cond {A = ℕ} b 1 0) (passes 0 x (omega arith)) in
+    let later = counted_up_to p xs i (omega arith) (λ k d less. passes (suc k) d (omega arith)) (λ k d from to. fails (suc k) d (omega arith) (omega arith)) in
+    omega (arith, sum_by-cons (λ y. cond {A = ℕ} (p y) 1 0) x xs)
+
+-- tickets rise, so those below one come first
+pub parted_by_ticket : (events : List Event) (ticket : ℕ) → TicketsRise events → IsPartitionedBy (λ e. nat_lt e.ticket ticket) events
+parted_by_ticket events ticket rise = IsPartitionedBy-ltb (λ (e : Event). e.ticket) events ticket non_decreasing
+  where
+    non_decreasing : IsNonDecreasingBy (λ (e : Event). e.ticket) events
+    non_decreasing i j d le within = elim (cases_lt i j) [
+      | inl less ↦
+          let below = pairs_at (λ e r. e.ticket < r.ticket) events i j (get_or events i d) (get_or events j d) rise less
+          (slice_get-get_or events i d (omega arith)) (slice_get-get_or events j d within) in
+          omega arith
+      | inr no_less ↦ let same : i ≡ j = omega arith in let e : (get_or events i d).ticket ≡ (get_or events j d).ticket =
+          ap (λ k. (get_or events k d).ticket) same in omega arith
+    ]
+
+-- ---- lines
+
+in_operations : (lines : List ClaimLine) (o : Operation) → Contains lines (Op o) → Contains (operations_in lines) o
+in_operations lines o among = in_flat_map operation_in lines (Op o) o among (contains_at (o ∷ []) 0 o refl)
+
+from_operations : (lines : List ClaimLine) (o : Operation) → Contains (operations_in lines) o → Contains lines (Op o)
+from_operations [] o among = absurd (not_in_none o among)
+from_operations (Op x ∷ lines) o among = elim (contains_cons x (operations_in lines) o among) [
+  | inl here ↦ contains_at (Op x ∷ lines) 0 (Op o) (ap (λ y. Some (Op y)) here)
+  | inr there ↦ one_deeper (Op x) lines (Op o) (from_operations lines o there)
+]
+from_operations (Initial v ∷ lines) o among = one_deeper (Initial v) lines (Op o) (from_operations lines o among)
+
+-- ---- what is drawn
+
+-- only operations of the history are
+pub among_operations : (history : HistoryView) (claimed : Claimed) (around : Option ℕ) (o : Operation) → Contains (drawn_operations history claimed around) o
+    → Contains (operations_of history.events) o
+among_operations history (Yes order) around o among = among
+among_operations history (No kind lines) None o among = among
+among_operations history (No kind lines) (Some n) o among =
+    (passed_filter (λ x. list_any (are_near history.events n x) (operations_in lines)) (operations_of history.events) o among).0
+
+-- no fewer events come before a later ticket
+before_rises : (events : List Event) (s t : ℕ) → s ≤ t → events_before events s ≤ events_before events t
+before_rises events s t no_later =
+    fewer (λ e. nat_lt e.ticket s) (λ e. nat_lt e.ticket t) (λ e before. still e.ticket before) events
+  where
+    still : (ticket : ℕ) → nat_lt ticket s ≡ true → nat_lt ticket t ≡ true
+    still ticket before = grind (arith, nat_tests)
+
+-- more come before a ticket after a return
+before_grows : (events : List Event) (o : Operation) (t : ℕ) → Contains (operations_of events) o → o.ret < t
+    → events_before events o.ret < events_before events t
+before_grows events o t among less =
+    let tr = traced events o among in
+    let at : o.ret ≡ tr.answer.ticket = tr.made.returned in
+    let more = one_fewer (λ e. nat_lt e.ticket o.ret) (λ e. nat_lt e.ticket t) (λ e before. still e.ticket before) events tr.answer
+    (contains_at events tr.returned_at tr.answer tr.at_return) (not_itself tr.answer.ticket o.ret at) (before tr.answer.ticket o.ret at less) in
+    omega arith
+  where
+    still : (ticket : ℕ) → nat_lt ticket o.ret ≡ true → nat_lt ticket t ≡ true
+    still ticket earlier = grind (arith, nat_tests)
+
+    not_itself : (ticket ret : ℕ) → ret ≡ ticket → nat_lt ticket ret ≡ false
+    not_itself ticket ret is = grind (arith, nat_tests)
+
+    before : (ticket ret : ℕ) → ret ≡ ticket → ret < t → nat_lt ticket t ≡ true
+    before ticket ret is earlier = grind (arith, nat_tests)
+
+near_if : (n a b c d : ℕ) → a ≤ b → c ≤ d → (nat_le (a - n) b && nat_le (c - n) d) ≡ true
+near_if n a b c d first second = grind (arith, nat_tests)
+
+near_tells : (a b c d : ℕ) → (nat_le (a - 0) b && nat_le (c - 0) d) ≡ true → (a ≤ b) × (c ≤ d)
+near_tells a b c d near = (grind (arith, nat_tests), grind (arith, nat_tests))
+
+pub overlapping_are_drawn : OverlappingAreDrawn
+overlapping_are_drawn history kind lines None x y in_x listed apart apart' = in_x
+overlapping_are_drawn history kind lines (Some n) x y in_x listed apart apart' =
+    let events = history.events in
+    let first = before_rises events y.call x.ret (omega (arith, apart)) in
+    let second = before_rises events x.call y.ret (omega (arith, apart')) in
+    passes_filter (λ o. list_any (are_near events n o) (operations_in lines)) (operations_of events) x
+    (any_of (are_near events n x) (operations_in lines) y (in_operations lines y listed)
+    (near_if n (events_before events y.call) (events_before events x.ret) (events_before events x.call) (events_before events y.ret) first second)) in_x
+
+pub no_others_are_drawn : NoOthersAreDrawn
+no_others_are_drawn history kind lines x all_among drawn =
+    let events = history.events in
+    let passed = passed_filter (λ o. list_any (are_near events 0 o) (operations_in lines)) (operations_of events) x drawn in
+    let some = some_passes (are_near events 0 x) (operations_in lines) passed.1 in
+    let y = some.0 in
+    let listed = from_operations lines y some.1 in
+    let tells = near_tells (events_before events y.call) (events_before events x.ret) (events_before events x.call) (events_before events y.ret) some.2 in (
+      y,
+      listed,
+      λ less. let grows = before_grows events x y.call passed.0 less in absurd (omega arith),
+      λ less. let grows = before_grows events y x.call (all_among y listed) less in absurd (omega arith),
+    )
+
+pub lines_are_drawn : LinesAreDrawn
+lines_are_drawn history kind lines around complete all_among o listed =
+    let rises = call_before_return (operations_of history.events) o (operations_are_complete history.events complete) (all_among o listed) in
+    overlapping_are_drawn history kind lines around o o (all_among o listed) listed (λ less. absurd (omega arith)) (λ less. absurd (omega arith))

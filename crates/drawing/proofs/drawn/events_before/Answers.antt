@@ -1,0 +1,13 @@
+use Rattle.std.proofs.Common.{rules, ◌+◌, ◌<◌, ◌≤◌, get_or, length, inl, inr, ◌⊎◌, arith}
+use Rattle.std.specs.Prelude.{nat_lt, slice_get}
+use Rattle.std.proofs.lemmas.List.Sorted.{IsPartitionPoint-from_clause}
+use Rattle.drawing.proofs.Nearness.{counted_up_to, parted_by_ticket}
+use Rattle.drawing.proofs.drawn.events_before.Goals as goal
+
+pub returns : goal.returns
+returns c =
+    let events = c.args.events.now in
+    let point = IsPartitionPoint-from_clause (λ e. nat_lt e.ticket c.args.ticket) events c.partition_point.result c.partition_point.ensures.partitioned
+    (parted_by_ticket events c.args.ticket c.requires) (λ a r f k. search rules) in
+    counted_up_to (λ e. nat_lt e.ticket c.args.ticket) events c.partition_point.result c.partition_point.ensures.bound
+    (λ k d less. point.0 k d (omega arith) less) point.1

@@ -1,0 +1,7 @@
+use Rattle.std.proofs.Common.{◌≡◌, map, take}
+use Rattle.drawing.specs.Drawn.{operations_in}
+use Rattle.drawing.specs.Inner.Drawn.{standing_of}
+use Rattle.drawing.proofs.drawn.standings_in.Given as goal
+
+abbrev pub invariant-loop-line : goal.invariant-loop-line
+invariant-loop-line l = l.standings.items ≡ map (standing_of l.events) (operations_in (take l.line-index l.lines))

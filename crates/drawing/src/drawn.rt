@@ -1,0 +1,154 @@
+//! Which operations of a history are drawn.
+ghost use Rattle.std.specs.Prelude.{◌≡◌, ◌++◌, IfOk, OnOk, filter, map};
+ghost use Rattle.std.specs.List.{list_any};
+ghost use Rattle.event_records.specs.Turns.{TicketsRise};
+ghost use Rattle.history_merge.specs.Operations.{operations_of};
+ghost use Rattle.drawing.specs.Drawn.{events_before, are_near, operations_in, drawn_operations, overlaps_line, is_away};
+ghost use Rattle.drawing.specs.Inner.Drawn.{standing_of, stand_near};
+
+use crate::columns::events_of;
+use event_records::Event;
+use history_merge::{History, Operation};
+use std::alloc::{AllocError, Global};
+use verdicts::{ClaimLine, Claimed};
+
+/// How many events come before the call of an operation, and before its return.
+#[derive(Clone, Copy, Debug)]
+pub(crate) struct Standing {
+    call: usize,
+    ret: usize,
+}
+
+fn events_before(events: &[Event], ticket: u64) -> usize
+    requires { TicketsRise events.now }
+    ensures { result ≡ events_before events.now ticket }
+{
+    events.partition_point(|event| event.ticket < ticket)
+}
+
+fn standing_of(events: &[Event], operation: Operation) -> Standing
+    requires { TicketsRise events.now }
+    ensures { result ≡ standing_of events.now operation }
+{
+    Standing {
+        call: events_before(events, operation.call),
+        ret: events_before(events, operation.ret),
+    }
+}
+
+fn stand_near(x: Standing, y: Standing, around: usize) -> bool
+    ensures { result ≡ stand_near around x y }
+{
+    y.call.saturating_sub(around) <= x.ret && x.call.saturating_sub(around) <= y.ret
+}
+
+/// Where the operations of lines stand among the events.
+fn standings_in(
+    alloc: Global,
+    events: &[Event],
+    lines: &[ClaimLine],
+) -> Result<Vec<Standing>, AllocError>
+    requires { TicketsRise events.now }
+    ensures { IfOk result (λ standings. standings.items ≡ map (standing_of events.now) (operations_in lines.now)) }
+{
+    let mut standings = Vec::new(alloc);
+    for line in lines {
+        if let ClaimLine::Op(operation) = *line {
+            standings.push(standing_of(events, operation))?;
+        }
+    }
+    Ok(standings)
+}
+
+fn is_near_any(listed: &[Standing], standing: Standing, around: usize) -> bool
+    ensures { result ≡ list_any (stand_near around standing) listed.now }
+{
+    listed
+        .iter()
+        .any(|other| stand_near(standing, *other, around))
+}
+
+/// The operations near one of those of the lines.
+fn near_operations(
+    alloc: Global,
+    events: &[Event],
+    operations: &[Operation],
+    lines: &[ClaimLine],
+    around: usize,
+) -> Result<Vec<Operation>, AllocError>
+    requires { TicketsRise events.now }
+    ensures { IfOk result (λ near. near.items
+        ≡ filter (λ o. list_any (are_near events.now around o) (operations_in lines.now)) operations.now) }
+{
+    let listed = standings_in(alloc, events, lines)?;
+    let mut near = Vec::new(alloc);
+    for operation in operations {
+        if is_near_any(listed.as_slice(), standing_of(events, *operation), around) {
+            near.push(*operation)?;
+        }
+    }
+    Ok(near)
+}
+
+/// The operations of a history that a picture shows with a claim, in the order of their calls.
+///
+/// All of them for a `YES`, and if `around` is `None`. Of a `NO` those that it lists, those that overlap one of these, and those with
+/// an event among the `around` ones before the call or after the return of one of these.
+///
+/// Time O(n (log n + m)) for n operations and m lines; memory for the events. `AllocError` comes only where a growth was refused.
+pub fn drawn_operations(
+    alloc: Global,
+    history: &History,
+    claimed: &Claimed,
+    around: Option<usize>,
+) -> Result<Vec<Operation>, AllocError>
+    ensures { IfOk result (λ drawn. drawn.items ≡ drawn_operations history.now claimed.now around) }
+{
+    match (claimed, around) {
+        (Claimed::No(_, lines), Some(around)) => {
+            let events = events_of(alloc, history)?;
+            near_operations(
+                alloc,
+                events.as_slice(),
+                history.operations(),
+                lines.as_slice(),
+                around,
+            )
+        }
+        _ => Vec::from_slice(alloc, history.operations()),
+    }
+}
+
+fn overlaps_line(operation: Operation, line: ClaimLine) -> bool
+    ensures { result ≡ overlaps_line operation line }
+{
+    match line {
+        ClaimLine::Op(listed) => operation.call <= listed.ret && listed.call <= operation.ret,
+        ClaimLine::Initial(_) => false,
+    }
+}
+
+fn overlaps_any(operation: Operation, lines: &[ClaimLine]) -> bool
+    ensures { result ≡ list_any (overlaps_line operation) lines.now }
+{
+    lines.iter().any(|line| overlaps_line(operation, *line))
+}
+
+/// Whether an operation overlaps none of those that show a `NO`.
+pub fn is_away(claimed: &Claimed, operation: Operation) -> bool
+    ensures { result ≡ is_away claimed.now operation }
+{
+    match claimed {
+        Claimed::Yes(_) => false,
+        Claimed::No(_, lines) => !overlaps_any(operation, lines.as_slice()),
+    }
+}
+
+/// Whether one of these operations is so.
+pub(crate) fn is_any_away(claimed: &Claimed, operations: &[Operation]) -> bool
+    ensures { result ≡ list_any (is_away claimed.now) operations.now }
+{
+    operations
+        .iter()
+        .any(|operation| is_away(claimed, *operation))
+}
