@@ -112,13 +112,21 @@ digit_at bytes count k after have inside next =
       value = ap (λ (n : ℕ). digits_value 10 (take n bytes)) next ∙ omega (arith, more, is);
     }
 
--- two digits more
-pub two_more : (bytes : List ℕ) (at end : ℕ) → HaveDigits bytes end → end ≡ at + 2
-    → digits_value 10 (take end bytes) ≡ digits_value 10 (take at bytes) * 100 + ((get_or bytes at 0 - 48) * 10 + (get_or bytes (at + 1) 0 - 48))
+-- two digits more, and what their bytes make together
+pub record AreTwoMore (bytes : List ℕ) (at end : ℕ) : Type 0 where
+  pub low : 528 ≤ get_or bytes at 0 * 10 + get_or bytes (at + 1) 0
+  pub high : get_or bytes at 0 * 10 + get_or bytes (at + 1) 0 < 628
+  pub value : digits_value 10 (take end bytes) + 528 ≡ digits_value 10 (take at bytes) * 100 + (get_or bytes at 0 * 10 + get_or bytes (at + 1) 0)
+
+pub two_more : (bytes : List ℕ) (at end : ℕ) → HaveDigits bytes end → end ≡ at + 2 → AreTwoMore bytes at end
 two_more bytes at end have is =
     let one = digit_at bytes end at (at + 1) have (omega (arith, is)) refl in
     let two = digit_at bytes end (at + 1) end have (omega (arith, is)) (omega (arith, is)) in
-    omega (arith, one.value, two.value)
+    record {
+      low = omega (arith, one.low, two.low);
+      high = omega (arith, one.high, two.high);
+      value = omega (arith, one.value, two.value, one.low, two.low);
+    }
 
 -- more digits stand at the front than at a lesser place
 pub fewer_digits : (bytes : List ℕ) (count fewer : ℕ) → HaveDigits bytes count → fewer ≤ count → HaveDigits bytes fewer

@@ -68,7 +68,8 @@ fn value_of_first(bytes: &[u8], count: usize) -> u64
         at += 2;
     }
     if at < count {
-        value = value.wrapping_mul(10).wrapping_add(u64::from(bytes[at] - b'0'));
+        let last = u64::from(bytes[at]) - u64::from(b'0');
+        value = value.wrapping_mul(10).wrapping_add(last);
     }
     value
 }
@@ -80,7 +81,7 @@ fn two_digits(bytes: &[u8], at: usize) -> u64
     ensures value { digits_value 10 (take (at + 2) bytes.now) ≡ digits_value 10 (take at bytes.now) * 100 + result }
     ensures few { result < 100 }
 {
-    u64::from(bytes[at] - b'0') * 10 + u64::from(bytes[at + 1] - b'0')
+    u64::from(bytes[at]) * 10 + u64::from(bytes[at + 1]) - 11 * u64::from(b'0')
 }
 
 /// Reads all digits that follow those at the front, one at a time.
