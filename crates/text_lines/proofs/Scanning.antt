@@ -6,6 +6,8 @@ use Rattle.std.specs.Prelude.{◌==◌, ◌%◌, decimal}
 use Rattle.std.specs.Char.{is_ascii_digit, digit_value}
 use Rattle.std.specs.List.{list_all}
 use Rattle.std.specs.Bool.{MatchBool}
+use Rattle.std.specs.Int.{w64, from_le_bytes, to_le_bytes}
+use Rattle.std.proofs.lemmas.Nat.{le_bytes_8}
 use Rattle.std.specs.Str.Parse.{digits_value, digits_value_after}
 use Rattle.std.proofs.lemmas.Bool.Decides.{nat_tests}
 use Rattle.std.proofs.lemmas.List.{take-append-le, get_or_append_left, take-append-drop, length-take-le, get_or-take, take_rest}
@@ -229,3 +231,17 @@ module _ (bytes : List ℕ) (v : ℕ) (rest : List ℕ) (small : v < 2 ^ 64) (is
       let all = digits_value-take-le 10 (decimal v) count (omega arith) in
       let whole : digits_value 10 (decimal v) ≡ v = digits_value-decimal (numerals_by_value _ digits_test) v small in
       omega (arith, value_is, all, whole, beyond, small))
+
+-- ---- words
+
+-- eight bytes are the same if they make one number
+pub same_eight : (xs ys : List ℕ) (m n : ℕ) → length xs ≡ 8 → length ys ≡ 8 → ((i : ℕ) → get_or xs i 0 < 256) → ((i : ℕ) → get_or ys i 0 < 256)
+    → m ≡ from_le_bytes w64 xs → n ≡ from_le_bytes w64 ys → MatchBool (m == n) (xs ≡ ys) (xs ≡ ys → ⊥)
+same_eight xs ys m n xs_long ys_long xs_fit ys_fit m_is n_is =
+    by_bool (m == n) (λ e.
+        let one : m ≡ n = grind (arith, nat_tests, e) in
+        sym (le_bytes_8 xs m xs_long xs_fit m_is) ∙ ap (to_le_bytes w64) one ∙ le_bytes_8 ys n ys_long ys_fit n_is)
+    (λ e same.
+        let one : m ≡ n = m_is ∙ ap (from_le_bytes w64) same ∙ sym n_is in
+        let test : (m == n) ≡ true = grind (arith, nat_tests, one) in
+        absurd (cc (test, e)))

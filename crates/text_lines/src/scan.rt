@@ -1,5 +1,5 @@
 //! What stands at the front of some bytes, found in one pass.
-ghost use Rattle.std.specs.Prelude.{◌≡◌, ◌^◌, ◌<◌, ◌≤◌, ◌++◌, IfSome, IfNone, List, ℕ, decimal, false, true, take, slice_index};
+ghost use Rattle.std.specs.Prelude.{◌≡◌, ◌^◌, ◌<◌, ◌≤◌, ◌++◌, length, IfSome, IfNone, List, ℕ, decimal, false, true, take, slice_index};
 ghost use Rattle.std.specs.Bool.{MatchBool};
 ghost use Rattle.std.specs.Str.Parse.{digits_value};
 ghost use Rattle.text_lines.specs.Lines.{begins_with_digit};
@@ -47,7 +47,7 @@ fn is_long_in_range(bytes: &[u8], count: usize, value: u64) -> bool
     value >= LEAST_LONG
 }
 
-/// Returns the bytes after the word that they begin with.
+/// Returns the bytes after the word that they begin with. A word of eight bytes is compared at once.
 #[inline(always)]
 pub fn after_word<'a>(bytes: &'a [u8], word: &[u8]) -> Option<&'a [u8]>
     ensures rest { IfSome result (λ rest. bytes.now ≡ word.now ++ rest.now) }
@@ -56,12 +56,36 @@ pub fn after_word<'a>(bytes: &'a [u8], word: &[u8]) -> Option<&'a [u8]>
     if bytes.len() < word.len() {
         return None;
     }
+    let (front, rest) = bytes.split_at(word.len());
+    if !is_same(front, word) {
+        return None;
+    }
+    Some(rest)
+}
+
+/// Whether the bytes are those of the word.
+#[inline(always)]
+fn is_same(bytes: &[u8], word: &[u8]) -> bool
+    requires { length bytes.now ≡ length word.now }
+    ensures { MatchBool result (bytes.now ≡ word.now) (bytes.now ≡ word.now → ⊥) }
+{
+    if word.len() == 8
+        && let Some(bytes) = bytes.first_chunk()
+        && let Some(word) = word.first_chunk()
+    {
+        return is_same_eight(bytes, word);
+    }
     let mut is_same = true;
     for i in 0..word.len() {
         is_same &= bytes[i] == word[i];
     }
-    if !is_same {
-        return None;
-    }
-    Some(&bytes[word.len()..])
+    is_same
+}
+
+/// Whether both are the same, as one number each.
+#[inline(always)]
+fn is_same_eight(bytes: &[u8; 8], word: &[u8; 8]) -> bool
+    ensures { MatchBool result (bytes.now ≡ word.now) (bytes.now ≡ word.now → ⊥) }
+{
+    u64::from_le_bytes(*bytes) == u64::from_le_bytes(*word)
 }
