@@ -127,7 +127,8 @@ fn what_front(bytes: &[u8]) -> Option<(What, &[u8])>
     if let Some(rest) = after_word(bytes, b"ret-not\n") {
         return Some((What::RetNot, rest));
     }
-    let rest = after_word(bytes, b"ret-empty\n")?;
+    let rest = after_word(bytes, b"ret-empt")?;
+    let rest = after_word(rest, b"y\n")?;
     Some((What::RetEmpty, rest))
 }
 
