@@ -28,5 +28,13 @@ two_digits (a ∷ b ∷ s ∷ rest) long first second space some ten one =
     let ones : number % 10 ≡ above_zero b = omega (arith, one) in
     let back_a : 48 + above_zero a ≡ a = omega (arith, first, ten) in
     let back_b : 48 + above_zero b ≡ b = omega (arith, second, one) in
-    rw (take_rest (a ∷ b ∷ s ∷ rest) 3, decimal_step number (omega (arith, some)) (omega (arith, ten, one)), tens, ones,
-    decimal_digit (above_zero a) ten, back_a, back_b, space) refl
+    rw (
+      take_rest (a ∷ b ∷ s ∷ rest) 3,
+      decimal_step number (omega (arith, some)) (omega (arith, ten, one)),
+      tens,
+      ones,
+      decimal_digit (above_zero a) ten,
+      back_a,
+      back_b,
+      space,
+    ) refl

@@ -46,8 +46,8 @@ digits_at bytes count within each = record {
   digits =
       let long : length (take count bytes) ≡ count = length-take-le count bytes within in
       list_all-from_AllPass is_ascii_digit (take count bytes) (All-from_get_or (λ b. is_ascii_digit b ≡ true) (take count bytes) 0 (λ k inside.
-          let here : k < count = omega (arith, inside, long) in
-          subst (λ (b : ℕ). is_ascii_digit b ≡ true) (sym (get_or-take count bytes k 0 here)) (each k here)));
+      let here : k < count = omega (arith, inside, long) in
+      subst (λ (b : ℕ). is_ascii_digit b ≡ true) (sym (get_or-take count bytes k 0 here)) (each k here)));
 }
 
 -- how many lanes come before the first that is no digit

@@ -239,9 +239,9 @@ pub same_eight : (xs ys : List ℕ) (m n : ℕ) → length xs ≡ 8 → length y
     → m ≡ from_le_bytes w64 xs → n ≡ from_le_bytes w64 ys → MatchBool (m == n) (xs ≡ ys) (xs ≡ ys → ⊥)
 same_eight xs ys m n xs_long ys_long xs_fit ys_fit m_is n_is =
     by_bool (m == n) (λ e.
-        let one : m ≡ n = grind (arith, nat_tests, e) in
-        sym (le_bytes_8 xs m xs_long xs_fit m_is) ∙ ap (to_le_bytes w64) one ∙ le_bytes_8 ys n ys_long ys_fit n_is)
+    let one : m ≡ n = grind (arith, nat_tests, e) in
+    sym (le_bytes_8 xs m xs_long xs_fit m_is) ∙ ap (to_le_bytes w64) one ∙ le_bytes_8 ys n ys_long ys_fit n_is)
     (λ e same.
-        let one : m ≡ n = m_is ∙ ap (from_le_bytes w64) same ∙ sym n_is in
-        let test : (m == n) ≡ true = grind (arith, nat_tests, one) in
-        absurd (cc (test, e)))
+    let one : m ≡ n = m_is ∙ ap (from_le_bytes w64) same ∙ sym n_is in
+    let test : (m == n) ≡ true = grind (arith, nat_tests, one) in
+    absurd (cc (test, e)))

@@ -9,8 +9,7 @@ returns-then-first-lt10 c =
 
 pub returns : goal.returns
 returns c =
-    let bytes = c.args.bytes.now in
-    (
+    let bytes = c.args.bytes.now in (
       two_digits bytes c.if-bytes-lt3.false (c.type_inv.bytes 0).fits (c.type_inv.bytes 1).fits c.if-bytes-ne32.false (omega arith) (omega arith) (omega arith),
       c.if-thread-gt-MAX_THREAD.false,
     )

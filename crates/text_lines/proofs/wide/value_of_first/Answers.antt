@@ -26,13 +26,13 @@ returns-then-at-count c =
     let value = c.if-count-at-ge2.value in
     let so_far : (value ≡ digits_value 10 (take at bytes) % 2 ^ 64) × (c.args.count ≡ at + 1) = elim c.if-count-at-ge2.branch [
       | then-count-at-ge2 w ↦ (
-          same_place bytes value _ at (sym w.at-is) (omega (arith, w.value-is, c.loop-at.invariant.value_is, w.two_digits-then-count-at-ge2.ensures.value)),
-          omega (arith, w.at-is, w.if-count-at-ge2.true, c.loop-at-test.false, c.if-at-count.true),
-        )
+        same_place bytes value _ at (sym w.at-is) (omega (arith, w.value-is, c.loop-at.invariant.value_is, w.two_digits-then-count-at-ge2.ensures.value)),
+        omega (arith, w.at-is, w.if-count-at-ge2.true, c.loop-at-test.false, c.if-at-count.true),
+      )
       | else-count-at-ge2 w ↦ (
-          same_place bytes value _ at (sym w.at-is) (w.value-is ∙ c.loop-at.invariant.value_is),
-          omega (arith, w.at-is, w.if-count-at-ge2.false, c.if-at-count.true),
-        )
+        same_place bytes value _ at (sym w.at-is) (w.value-is ∙ c.loop-at.invariant.value_is),
+        omega (arith, w.at-is, w.if-count-at-ge2.false, c.if-at-count.true),
+      )
     ] in
     let last = digit_at bytes c.args.count at c.args.count c.requires c.if-at-count.true so_far.1 in
     omega (arith, so_far.0, last.value, c.from.ensures)

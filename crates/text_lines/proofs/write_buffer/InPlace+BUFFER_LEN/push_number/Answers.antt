@@ -5,5 +5,9 @@ use Rattle.text_lines.proofs.write_buffer.InPlace+BUFFER_LEN.push_number.Goals a
 
 pub returns-clause-short : goal.returns-clause-short
 returns-clause-short c =
-    omega (arith, ap length c.push_decimal.ensures, length-append c.args.self.now (decimal c.args.number),
-    length-decimal-le 20 c.args.number (omega arith) (omega arith) (omega arith))
+    omega (
+      arith,
+      ap length c.push_decimal.ensures,
+      length-append c.args.self.now (decimal c.args.number),
+      length-decimal-le 20 c.args.number (omega arith) (omega arith) (omega arith),
+    )
