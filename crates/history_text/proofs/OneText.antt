@@ -1,21 +1,15 @@
 -- The events at the front of one input, and the line after them, are one list, and have no fault.
-use Rattle.std.proofs.Common.{◌≡◌, ℕ, ◌+◌, List, ◌++◌, length, arith, ap, sym, subst, ◌∙◌, refl, Option, Some, None, Ok, inl, inr, append_assoc, IfOk}
-use Rattle.std.proofs.Common.{IfErr, MatchResult}
-use Rattle.std.specs.declared.result.Result.{Result}
+use Rattle.std.proofs.Common.{◌≡◌, ℕ, List, ◌++◌, length, arith, ap, sym, subst, ◌∙◌, refl, None, Ok, append_assoc}
 use Rattle.std.proofs.lemmas.List.{append_cancel_left}
-use Rattle.std.proofs.lemmas.Result.{MatchResult-weaker, IfOk-weaker}
 use Rattle.event_records.specs.declared.event.Event.{Event}
 use Rattle.text_lines.specs.declared.fault.TextFault.{TextFault}
-use Rattle.text_lines.specs.declared.fault.TextFault.TheVariants.{Memory}
-use Rattle.text_lines.specs.Lines.{line, end_line, front_of, header_fault}
+use Rattle.text_lines.specs.Lines.{end_line, front_of}
 use Rattle.history_text.specs.Items.{lines_of, item_at_front, ItemFault}
-use Rattle.history_text.specs.Histories.{header, lines_to_end, event_format, HasHistoryText}
-use Rattle.text_lines.specs.Input.{Ahead, Ending, EndOfInput, Takes}
-use Rattle.history_text.proofs.ReadTexts as texts
-use Rattle.history_text.proofs.ItemFronts.{end_front, header_front}
+use Rattle.history_text.specs.Histories.{lines_to_end, event_format, HasHistoryText}
+use Rattle.text_lines.specs.Input.{Ending, EndOfInput}
+use Rattle.history_text.proofs.ItemFronts.{end_front}
 use Rattle.history_text.proofs.EventLines.{event_front}
-use Rattle.history_text.proofs.OneLine.{some_is, none_or_some}
-use Rattle.history_text.proofs.Runs.{stops_at_last, same_items, no_item_fault, one_item_fault}
+use Rattle.history_text.proofs.Runs.{stops_at_last, same_items, no_item_fault}
 
 lines_of_events : (events : List Event) (rest : List ℕ) → lines_to_end events ++ rest ≡ lines_of event_format events ++ (end_line (length events) ++ rest)
 lines_of_events events rest = append_assoc (lines_of event_format events) (end_line (length events)) rest

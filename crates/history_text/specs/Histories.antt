@@ -1,6 +1,6 @@
 -- The texts of histories: how they are written, and the first fault of bytes that should begin with one.
-use Rattle.std.specs.Prelude.{◌≡◌, ℕ, ◌+◌, ◌≤◌, true, ◌⊎◌}
-use Rattle.std.specs.Prelude.{List, [], ◌∷◌, ◌++◌, length, codes, decimal, Some, slice_index}
+use Rattle.std.specs.Prelude.{ℕ, ◌≤◌, true}
+use Rattle.std.specs.Prelude.{List, [], ◌∷◌, ◌++◌, length, codes, decimal, slice_index}
 use Rattle.std.specs.declared.result.Result.{Result}
 use Rattle.std.specs.List.{flat_map}
 use Rattle.event_records.specs.declared.event.Event.{Event}
@@ -8,10 +8,9 @@ use Rattle.event_records.specs.declared.event.What.{What}
 use Rattle.event_records.specs.declared.event.What.TheVariants.{CallEnq, RetEnq, RetNot, CallDeq, RetDeq, RetEmpty}
 use Rattle.event_records.specs.declared.limits.TheConstants.{MAX_TICKET, MAX_THREAD, MAX_EVENTS}
 use Rattle.text_lines.specs.declared.fault.TextFault.{TextFault}
-use Rattle.text_lines.specs.Input.{Ending}
-use Rattle.text_lines.specs.Lines.{line, spaced, end_line, greatest_value, front_of, header_fault, After}
+use Rattle.text_lines.specs.Lines.{line, spaced, end_line, greatest_value}
 use Rattle.text_lines.specs.Forms.{Table, FieldForm, Word}
-use Rattle.history_text.specs.Items.{Format, HaveLines, ItemFault, NoRoom, a_ticket, a_thread, a_value, read_by}
+use Rattle.history_text.specs.Items.{Format, HaveLines, a_ticket, a_thread, a_value, read_by}
 
 -- ---- what is written
 

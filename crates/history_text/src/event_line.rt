@@ -1,6 +1,6 @@
 //! The line of an event, judged by its form, or read in one pass.
-ghost use Rattle.std.specs.Prelude.{◌≡◌, ◌≤◌, ◌++◌, IfErr, IfSome, slice_index};
-ghost use Rattle.text_lines.specs.Lines.{IsLineFault, fields_of, spaced};
+ghost use Rattle.std.specs.Prelude.{◌≡◌, ◌≤◌, ◌++◌, ◌∷◌, decimal, IfErr, IfSome, slice_index};
+ghost use Rattle.text_lines.specs.Lines.{IsLineFault, fields_of, line, spaced};
 ghost use Rattle.history_text.specs.Histories as wanted;
 ghost use Rattle.history_text.specs.Histories.{event_line, what_fields, HasValueInRange, HasEventLine, event_format};
 ghost use Rattle.std.proofs.Common.{lit≤};
@@ -75,32 +75,61 @@ fn event_in(line: u64, bytes: &[u8]) -> Result<Event, TextFault>
     Ok(event_of(what, &numbers))
 }
 
-/// Returns what a thread called or the queue answered, if its word stands at the front, and the bytes after it.
+/// Returns the thread at the front, and the bytes after the space that follows it.
+#[inline(always)]
+fn thread_front(bytes: &[u8]) -> Option<(u8, &[u8])>
+    ensures { IfSome result (λ p. (bytes.now ≡ decimal p.0 ++ 32 ∷ p.1.now) × (p.0 ≤ MAX_THREAD)) }
+{
+    if bytes.len() < 3 {
+        return None;
+    }
+    let first = bytes[0].wrapping_sub(b'0');
+    if bytes[1] == b' ' && first < 10 {
+        return Some((first, &bytes[2..]));
+    }
+    let second = bytes[1].wrapping_sub(b'0');
+    if bytes[2] != b' ' || first == 0 || first > 6 || second > 9 {
+        return None;
+    }
+    let thread = first * 10 + second;
+    if thread > MAX_THREAD {
+        return None;
+    }
+    Some((thread, &bytes[3..]))
+}
+
+/// Returns what a thread called or the queue answered, if its words and a line feed stand at the front, and the bytes
+/// after them.
+///
+/// Eight bytes are compared at once.
 #[inline(always)]
 fn what_front(bytes: &[u8]) -> Option<(What, &[u8])>
-    ensures { IfSome result (λ p. (bytes.now ≡ spaced (what_fields p.0) ++ p.1.now) × HasValueInRange p.0) }
+    ensures { IfSome result (λ p. (bytes.now ≡ line (spaced (what_fields p.0)) ++ p.1.now) × HasValueInRange p.0) }
 {
-    if let Some(rest) = after_word(bytes, b"call-") {
-        if let Some(rest) = after_word(rest, b"enq ") {
-            let (value, rest) = number_front(rest)?;
-            return Some((What::CallEnq(value), rest));
-        }
-        let rest = after_word(rest, b"deq")?;
-        return Some((What::CallDeq, rest));
+    if let Some(rest) = after_word(bytes, b"call-enq") {
+        let rest = after_word(rest, b" ")?;
+        let (value, rest) = number_front(rest)?;
+        let rest = after_word(rest, b"\n")?;
+        return Some((What::CallEnq(value), rest));
     }
-    let rest = after_word(bytes, b"ret-")?;
-    if let Some(rest) = after_word(rest, b"enq") {
+    if let Some(rest) = after_word(bytes, b"ret-enq\n") {
         return Some((What::RetEnq, rest));
     }
-    if let Some(rest) = after_word(rest, b"deq ") {
+    if let Some(rest) = after_word(bytes, b"call-deq") {
+        let rest = after_word(rest, b"\n")?;
+        return Some((What::CallDeq, rest));
+    }
+    if let Some(rest) = after_word(bytes, b"ret-deq ") {
         let (value, rest) = number_front(rest)?;
+        let rest = after_word(rest, b"\n")?;
         return Some((What::RetDeq(value), rest));
     }
-    if let Some(rest) = after_word(rest, b"empty") {
-        return Some((What::RetEmpty, rest));
+    if let Some(rest) = after_word(bytes, b"ret-not\n") {
+        return Some((What::RetNot, rest));
     }
-    let rest = after_word(rest, b"not")?;
-    Some((What::RetNot, rest))
+    let rest = after_word(bytes, b"ret-empt")?;
+    let rest = after_word(rest, b"y\n")?;
+    Some((What::RetEmpty, rest))
 }
 
 /// Returns the event whose line stands whole at the front, and the bytes after it.
@@ -115,16 +144,11 @@ fn event_front(bytes: &[u8]) -> Option<(Event, &[u8])>
         return None;
     }
     let rest = after_word(rest, b" ")?;
-    let (thread, rest) = number_front(rest)?;
-    if thread > u64::from(MAX_THREAD) {
-        return None;
-    }
-    let rest = after_word(rest, b" ")?;
+    let (thread, rest) = thread_front(rest)?;
     let (what, rest) = what_front(rest)?;
-    let rest = after_word(rest, b"\n")?;
     let event = Event {
         ticket,
-        thread: thread as u8,
+        thread,
         what,
     };
     Some((event, rest))

@@ -1,43 +1,136 @@
 -- What stands at the front, found in one pass.
 use Rattle.std.proofs.Common.{◌≡◌, ℕ, ◌+◌, ◌-◌, ◌*◌, ◌^◌, ◌<◌, ◌≤◌, List, ◌++◌, length, take, drop, get_or, Bool, true, false, ◌||◌, not, nat_lt, nat_le}
 use Rattle.std.proofs.Common.{arith, ap, sym, subst, ◌∙◌, refl, inl, inr, [], ◌∷◌, zero, suc}
-use Rattle.std.specs.Prelude.{◌==◌, decimal, Option, Some, None, IfNone}
-use Rattle.std.specs.Int.{IsInRange}
-use Rattle.std.specs.Char.{is_ascii_digit}
+use Rattle.std.proofs.Common.{lit<}
+use Rattle.std.specs.Prelude.{◌==◌, ◌%◌, decimal}
+use Rattle.std.specs.Char.{is_ascii_digit, digit_value}
 use Rattle.std.specs.List.{list_all}
-use Rattle.std.specs.Str.Parse.{digits_value}
+use Rattle.std.specs.Bool.{MatchBool}
+use Rattle.std.specs.Int.{w64, from_le_bytes, to_le_bytes}
+use Rattle.std.proofs.lemmas.Nat.{le_bytes_8}
+use Rattle.std.specs.Str.Parse.{digits_value, digits_value_after}
 use Rattle.std.proofs.lemmas.Bool.Decides.{nat_tests}
 use Rattle.std.proofs.lemmas.List.{take-append-le, get_or_append_left, take-append-drop, length-take-le, get_or-take, take_rest}
 use Rattle.std.proofs.lemmas.Bool.{cases_lt}
-use Rattle.std.proofs.lemmas.List.Folds.{list_all_more}
 use Rattle.std.proofs.lemmas.Fmt.{decimal_nonempty, decimal_digit, first_decimal, digits_value-decimal}
 use Rattle.std.proofs.lemmas.Str.Parse.{digits_value-take-le, numerals_by_value}
 use Rattle.text_lines.specs.Lines.{is_number, begins_with_digit}
-use Rattle.text_lines.specs.Inner.Digits.{IsDigitsSoFar, StopsAt, AreDigitsBeyond}
-use Rattle.text_lines.proofs.Digits.{digits_go_on}
+use Rattle.text_lines.specs.Inner.Digits.{IsDigitsSoFar, StopsAt}
+use Rattle.std.proofs.lemmas.Str.{digit_value_digit}
+use Rattle.std.proofs.lemmas.Int.Digits.{digits_value-lt}
+use Rattle.std.proofs.Math.Nat.{pow-suc, pow-le-pow_right}
 use Rattle.text_lines.proofs.Numbers.{number_spelled, both, digits_test}
 use Rattle.text_lines.proofs.WrittenLines.{all_digits}
+use Rattle.text_lines.proofs.Lanes.{by_digit, digit_at}
 
-is_digit : (b : ℕ) → IsInRange 48 57 b → is_ascii_digit b ≡ true
-is_digit b range = grind (arith, nat_tests, range.0, range.1)
+-- ---- how great the number of some digits is
 
--- one digit more
-pub one_more_digit : (bytes : List ℕ) (count value last : ℕ) → count < length bytes → IsDigitsSoFar bytes count value
-    → IsInRange 48 57 (get_or bytes count 0) → last ≡ get_or bytes count 0 - 48 → IsDigitsSoFar bytes (count + 1) (value * 10 + last)
-one_more_digit bytes count value last more so_far range last_is = record {
-  within = omega (arith, more);
-  digits = list_all_more is_ascii_digit bytes count 0 more ∙ rw (so_far.digits, is_digit (get_or bytes count 0) range) refl;
-  value_is = digits_go_on bytes count value last more range last_is so_far.value_is;
-}
+digits_value_after_is : (n : ℕ) (ds : List ℕ) → digits_value_after 10 n ds ≡ n * 10 ^ length ds + digits_value 10 ds
+digits_value_after_is n [] = omega arith
+digits_value_after_is n (c ∷ cs) =
+    let after = digits_value_after_is (n * 10 + digit_value c) cs in
+    let alone = digits_value_after_is (0 * 10 + digit_value c) cs in
+    omega (arith, after, alone, ap (λ (power : ℕ). n * power) (pow-suc 10 (length cs)))
 
-digit_range : (b : ℕ) → is_ascii_digit b ≡ true → IsInRange 48 57 b
-digit_range b e = let p = both (nat_le 48 b) (nat_le b 57) e in (grind (arith, nat_tests, p.0), grind (arith, nat_tests, p.1))
+digits_below : (ds : List ℕ) → list_all is_ascii_digit ds ≡ true → digits_value 10 ds < 10 ^ length ds
+digits_below ds digits = digits_value-lt 10 ds ((numerals_by_value _ digits_test).to ds digits)
 
--- what stands there, if it is tested to be a digit
-pub one_tested_more : (bytes : List ℕ) (count value last : ℕ) → count < length bytes → IsDigitsSoFar bytes count value
-    → is_ascii_digit (get_or bytes count 0) ≡ true → last ≡ get_or bytes count 0 - 48 → IsDigitsSoFar bytes (count + 1) (value * 10 + last)
-one_tested_more bytes count value last more so_far digit last_is =
-    one_more_digit bytes count value last more so_far (digit_range (get_or bytes count 0) digit) last_is
+-- up to 19 digits are in range
+pub few_in_range : (bytes : List ℕ) (count : ℕ) → count ≤ length bytes → list_all is_ascii_digit (take count bytes) ≡ true → count ≤ 19
+    → digits_value 10 (take count bytes) < 2 ^ 64
+few_in_range bytes count within digits few =
+    let long = length-take-le count bytes within in
+    let short : length (take count bytes) ≤ 19 = omega (arith, long, few) in
+    let most : 10 ^ length (take count bytes) ≤ 10 ^ 19 = pow-le-pow_right (lit< tt) short in
+    let below = digits_below (take count bytes) digits in
+    omega (arith, most, below)
+
+-- a first digit, and what comes after it
+record HasParts (first power whole : ℕ) : Type 0 where
+  digit : ℕ
+  rest : ℕ
+  first_is : first ≡ 48 + digit
+  less : rest < power
+  sum : whole ≡ digit * power + rest
+
+first_and_rest : (b : ℕ) (bs : List ℕ) → list_all is_ascii_digit (b ∷ bs) ≡ true → HasParts b (10 ^ length bs) (digits_value 10 (b ∷ bs))
+first_and_rest b bs digits =
+    let p = both (is_ascii_digit b) _ digits in
+    let q = both (nat_le 48 b) (nat_le b 57) p.0 in
+    let low : 48 ≤ b = grind (arith, nat_tests, q.0) in
+    let high : b ≤ 57 = grind (arith, nat_tests, q.1) in
+    let value = digit_value_digit b (low, high) in
+    let is : digit_value b ≡ b - 48 = omega (arith, value) in
+    record {
+      digit = b - 48;
+      rest = digits_value 10 bs;
+      first_is = omega (arith, low);
+      less = digits_below bs p.1;
+      sum = rw is (digits_value_after_is (0 * 10 + (b - 48)) bs ∙ omega arith);
+    }
+
+no_less : (digit power : ℕ) → 1 ≤ digit → power ≤ digit * power
+no_less zero power some = absurd (omega (arith, some))
+no_less (suc d) power some = omega arith
+
+-- more than 20 digits are beyond it
+pub many_beyond : (bytes : List ℕ) (count : ℕ) → count ≤ length bytes → list_all is_ascii_digit (take count bytes) ≡ true
+    → (get_or bytes 0 0 ≡ 48 → ⊥) → 20 < count → 2 ^ 64 ≤ digits_value 10 (take count bytes)
+many_beyond [] count within digits lead many = absurd (omega (arith, within, many))
+many_beyond (b ∷ bs) zero within digits lead many = absurd (omega (arith, many))
+many_beyond (b ∷ bs) (suc n) within digits lead many =
+    let parts = first_and_rest b (take n bs) digits in
+    let long : length (take n bs) ≡ n = length-take-le n bs (omega (arith, within)) in
+    let enough : 20 ≤ length (take n bs) = omega (arith, long, many) in
+    let most : 10 ^ 20 ≤ 10 ^ length (take n bs) = pow-le-pow_right (lit< tt) enough in
+    let some : 1 ≤ parts.digit = omega (arith, parts.first_is, lead) in
+    let more = no_less parts.digit (10 ^ length (take n bs)) some in
+    omega (arith, parts.sum, most, more)
+
+-- 20 digits are between two numbers, by the first of them
+pub record IsLong (first whole : ℕ) : Type 0 where
+  pub low : 49 ≤ first → 10 ^ 19 ≤ whole
+  pub one : first ≡ 49 → whole < 2 * 10 ^ 19
+  pub two : 50 ≤ first → 2 * 10 ^ 19 ≤ whole
+
+twenty : (b : ℕ) (ds : List ℕ) → list_all is_ascii_digit (b ∷ ds) ≡ true → length ds ≡ 19 → IsLong b (digits_value 10 (b ∷ ds))
+twenty b ds digits long =
+    let parts = first_and_rest b ds digits in
+    let power : 10 ^ length ds ≡ 10 ^ 19 = ap (λ (n : ℕ). 10 ^ n) long in
+    let sum = rw power at parts.sum in
+    let less = rw power at parts.less in
+    record {
+      low = λ h. omega (arith, parts.first_is, sum, less, h);
+      one = λ h. omega (arith, parts.first_is, sum, less, h);
+      two = λ h. omega (arith, parts.first_is, sum, less, h);
+    }
+
+pub twenty_front : (bytes : List ℕ) (count : ℕ) → count ≤ length bytes → list_all is_ascii_digit (take count bytes) ≡ true → count ≡ 20
+    → IsLong (get_or bytes 0 0) (digits_value 10 (take count bytes))
+twenty_front [] count within digits is = absurd (omega (arith, within, is))
+twenty_front (b ∷ bs) zero within digits is = absurd (omega (arith, is))
+twenty_front (b ∷ bs) (suc n) within digits is =
+    twenty b (take n bs) digits (length-take-le n bs (omega (arith, within)) ∙ omega (arith, is))
+
+by_bool : {A B : Type 0} (b : Bool) → (b ≡ true → A) → (b ≡ false → B) → MatchBool b A B
+by_bool true held failed = held refl
+by_bool false held failed = failed refl
+
+-- 20 digits that begin with 1 are in range if their value in 64 bits has 20
+pub twenty_told : (value whole : ℕ) → value ≡ whole % 2 ^ 64 → 10 ^ 19 ≤ whole → whole < 2 * 10 ^ 19
+    → MatchBool (nat_le (10 ^ 19) value) (whole < 2 ^ 64) (2 ^ 64 ≤ whole)
+twenty_told value whole is low high =
+    by_bool (nat_le (10 ^ 19) value) (λ e. let more : 10 ^ 19 ≤ value = grind (arith, nat_tests, e) in omega (arith, is, low, high, more))
+    (λ e. let less : value < 10 ^ 19 = grind (arith, nat_tests, e) in omega (arith, is, low, high, less))
+
+-- 20 digits that don't begin with 1 are beyond it
+pub twenty_beyond : (bytes : List ℕ) (count : ℕ) → count ≤ length bytes → list_all is_ascii_digit (take count bytes) ≡ true → count ≡ 20
+    → (get_or bytes 0 0 ≡ 48 → ⊥) → (get_or bytes 0 0 ≡ 49 → ⊥) → 2 ^ 64 ≤ digits_value 10 (take count bytes)
+twenty_beyond bytes count within digits is zero_no one_no =
+    let long = twenty_front bytes count within digits is in
+    let first = digit_at bytes count 0 1 (record { within = within; digits = digits }) (omega (arith, is)) refl in
+    let more = long.two (omega (arith, zero_no, one_no, first.low)) in
+    omega (arith, more)
 
 left_true : (a b : Bool) → a ≡ true → (a || b) ≡ true
 left_true a b e = rw e refl
@@ -100,10 +193,6 @@ no_more (d ∷ ds) rest (suc n) digits stops =
     let less = no_more ds rest n (both (is_ascii_digit d) _ digits).1 (λ h. stops (omega (arith, h))) in
     omega (arith, less)
 
-by_digit : (b : Bool) → (b ≡ false → ⊥) → b ≡ true
-by_digit true h = refl
-by_digit false h = absurd (h refl)
-
 -- a number of two digits or more doesn't begin with 0
 begins_other : (v : ℕ) → v < 2 ^ 64 → 1 < length (decimal v) → get_or (decimal v) 0 0 ≡ 48 → ⊥
 begins_other zero small long first =
@@ -134,25 +223,25 @@ module _ (bytes : List ℕ) (v : ℕ) (rest : List ℕ) (small : v < 2 ^ 64) (is
       begins_other v small (omega (arith, long, many)) first)
 
   -- digits beyond 64 bits stand there
-  pub none_beyond : (count value last : ℕ) → count < length bytes → IsDigitsSoFar bytes count value → IsInRange 48 57 (get_or bytes count 0)
-      → last ≡ get_or bytes count 0 - 48 → 2 ^ 64 ≤ value * 10 + last → begins_with_digit rest ≡ true
-  none_beyond count value last more so_far range last_is beyond = by_digit (begins_with_digit rest) (λ ends.
-      let next = one_more_digit bytes count value last more so_far range last_is in
-      let long = within_number (count + 1) (value * 10 + last) next ends in
-      let front : take (count + 1) bytes ≡ take (count + 1) (decimal v) =
-      ap (λ (bs : List ℕ). take (count + 1) bs) is ∙ take-append-le (count + 1) (decimal v) rest long in
-      let value_is : value * 10 + last ≡ digits_value 10 (take (count + 1) (decimal v)) = next.value_is ∙ ap (λ (ds : List ℕ). digits_value 10 ds) front in
-      let all = digits_value-take-le 10 (decimal v) (count + 1) (omega arith) in
+  pub none_beyond : (count value : ℕ) → IsDigitsSoFar bytes count value → 2 ^ 64 ≤ value → begins_with_digit rest ≡ true
+  none_beyond count value so_far beyond = by_digit (begins_with_digit rest) (λ ends.
+      let long = within_number count value so_far ends in
+      let front : take count bytes ≡ take count (decimal v) = ap (λ (bs : List ℕ). take count bs) is ∙ take-append-le count (decimal v) rest long in
+      let value_is : value ≡ digits_value 10 (take count (decimal v)) = so_far.value_is ∙ ap (λ (ds : List ℕ). digits_value 10 ds) front in
+      let all = digits_value-take-le 10 (decimal v) count (omega arith) in
       let whole : digits_value 10 (decimal v) ≡ v = digits_value-decimal (numerals_by_value _ digits_test) v small in
       omega (arith, value_is, all, whole, beyond, small))
 
--- one digit more is beyond 64 bits
-pub digits_are_beyond : (bytes : List ℕ) (count value last : ℕ) → count < length bytes → IsDigitsSoFar bytes count value
-    → is_ascii_digit (get_or bytes count 0) ≡ true → last ≡ get_or bytes count 0 - 48 → 2 ^ 64 ≤ value * 10 + last → AreDigitsBeyond bytes
-digits_are_beyond bytes count value last more so_far digit last_is beyond = λ v rest small is.
-    none_beyond bytes v rest small is count value last more so_far (digit_range (get_or bytes count 0) digit) last_is beyond
+-- ---- words
 
--- what holds anyway holds if there is none
-pub on_none : {X : Type 0} (found : Option X) (P : Type 0) → P → IfNone found P
-on_none (Some x) P p = tt
-on_none None P p = p
+-- eight bytes are the same if they make one number
+pub same_eight : (xs ys : List ℕ) (m n : ℕ) → length xs ≡ 8 → length ys ≡ 8 → ((i : ℕ) → get_or xs i 0 < 256) → ((i : ℕ) → get_or ys i 0 < 256)
+    → m ≡ from_le_bytes w64 xs → n ≡ from_le_bytes w64 ys → MatchBool (m == n) (xs ≡ ys) (xs ≡ ys → ⊥)
+same_eight xs ys m n xs_long ys_long xs_fit ys_fit m_is n_is =
+    by_bool (m == n) (λ e.
+    let one : m ≡ n = grind (arith, nat_tests, e) in
+    sym (le_bytes_8 xs m xs_long xs_fit m_is) ∙ ap (to_le_bytes w64) one ∙ le_bytes_8 ys n ys_long ys_fit n_is)
+    (λ e same.
+    let one : m ≡ n = m_is ∙ ap (from_le_bytes w64) same ∙ sym n_is in
+    let test : (m == n) ≡ true = grind (arith, nat_tests, one) in
+    absurd (cc (test, e)))

@@ -1,5 +1,6 @@
-ghost use Rattle.std.specs.Prelude.{◌≡◌, ◌+◌, ◌<◌, ◌≤◌, ◌∷◌, ◌++◌, List, [], length, take, ℕ};
+ghost use Rattle.std.specs.Prelude.{◌≡◌, ◌+◌, ◌<◌, ◌≤◌, ◌∷◌, ◌++◌, List, [], length, take, ℕ, decimal};
 
+use itoa::write_digits;
 use std::marker::Model;
 
 /// Up to `N` bytes that lie in place and take no memory, seen as a list.
@@ -71,5 +72,28 @@ impl<const MOST: usize> InPlace<MOST> {
         let places = &mut self.bytes[..];
         places[start..end].copy_from_slice(bytes);
         self.len = end;
+    }
+
+    /// Adds a number in decimal digits, of which there are at most 20.
+    #[inline(always)]
+    pub(crate) fn push_decimal(&mut self, number: u64)
+        requires { length self.old + 20 ≤ MOST }
+        ensures { self.new ≡ self.old ++ decimal number }
+    {
+        let end = self.len + decimal_len(number);
+        let places = &mut self.bytes[..];
+        write_digits(number, places, end);
+        self.len = end;
+    }
+}
+
+/// Returns how many decimal digits a number has.
+#[inline(always)]
+fn decimal_len(number: u64) -> usize
+    ensures { result ≡ length (decimal number) }
+{
+    match number.checked_ilog10() {
+        Some(tens) => tens as usize + 1,
+        None => 1,
     }
 }

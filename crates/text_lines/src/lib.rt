@@ -15,6 +15,7 @@ mod memory;
 mod scan;
 mod sink;
 mod source;
+mod wide;
 mod write_buffer;
 
 pub use buffered::Buffered;

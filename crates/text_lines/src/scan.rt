@@ -1,11 +1,17 @@
 //! What stands at the front of some bytes, found in one pass.
-ghost use Rattle.std.specs.Prelude.{◌≡◌, ◌+◌, ◌*◌, ◌^◌, ◌<◌, ◌≤◌, ◌++◌, IfSome, IfNone, List, ℕ, decimal, true, false, length, slice_index};
-ghost use Rattle.std.specs.Char.{is_ascii_digit};
+ghost use Rattle.std.specs.Prelude.{◌≡◌, ◌^◌, ◌<◌, ◌≤◌, ◌++◌, length, IfSome, IfNone, List, ℕ, decimal, false, true, take, slice_index};
+ghost use Rattle.std.specs.Bool.{MatchBool};
+ghost use Rattle.std.specs.Str.Parse.{digits_value};
 ghost use Rattle.text_lines.specs.Lines.{begins_with_digit};
-ghost use Rattle.text_lines.specs.Inner.Digits.{IsDigitsSoFar, AreDigitsFront, AreDigitsBeyond};
+ghost use Rattle.text_lines.specs.Inner.Digits.{AreDigitsFront};
 
-/// The least number of 19 digits. With one digit more, a lesser one is in range.
-const LEAST_LONG: u64 = 1_000_000_000_000_000_000;
+use crate::wide::digits_front;
+
+/// As many digits are in range, whatever they are.
+const ALWAYS_IN_RANGE: usize = 19;
+
+/// The least number of one digit more.
+const LEAST_LONG: u64 = 10_000_000_000_000_000_000;
 
 /// Returns the number at the front, with all its digits, and the bytes after it; none if no number of 64 bits stands
 /// there.
@@ -15,67 +21,33 @@ pub fn number_front(bytes: &[u8]) -> Option<(u64, &[u8])>
     ensures whole { IfSome result (λ p. begins_with_digit p.1.now ≡ false) }
     ensures none { IfNone result ((value : ℕ) (rest : List ℕ) → value < 2 ^ 64 → bytes.now ≡ decimal value ++ rest → begins_with_digit rest ≡ true) }
 {
-    let (value, count) = digits_front(bytes)?;
+    let (count, value) = digits_front(bytes);
     if count == 0 {
         return None;
     }
     if count > 1 && bytes[0] == b'0' {
         return None;
     }
+    if count > ALWAYS_IN_RANGE && !is_long_in_range(bytes, count, value) {
+        return None;
+    }
     Some((value, &bytes[count..]))
 }
 
-/// Returns what all digits at the front stand for, and how many there are; none if that is beyond 64 bits.
-#[inline(always)]
-fn digits_front(bytes: &[u8]) -> Option<(u64, usize)>
-    ensures digits { IfSome result (λ p. AreDigitsFront bytes.now p.1 p.0) }
-    ensures beyond { IfNone result (AreDigitsBeyond bytes.now) }
+/// Whether a number of 20 digits or more is in range, by its value in 64 bits.
+fn is_long_in_range(bytes: &[u8], count: usize, value: u64) -> bool
+    requires digits { AreDigitsFront bytes.now count value }
+    requires long { 19 < count }
+    requires lead { slice_index bytes.now 0 ≡ 48 → ⊥ }
+    ensures { MatchBool result (digits_value 10 (take count bytes.now) < 2 ^ 64) (2 ^ 64 ≤ digits_value 10 (take count bytes.now)) }
 {
-    let mut value = 0u64;
-    let mut count = 0;
-    while count < bytes.len() {
-        let byte = bytes[count];
-        if !byte.is_ascii_digit() {
-            break;
-        }
-        if value >= LEAST_LONG {
-            return long_digits_front(bytes, count, value);
-        }
-        value = value * 10 + u64::from(byte - b'0');
-        count += 1;
+    if count > ALWAYS_IN_RANGE + 1 || bytes[0] != b'1' {
+        return false;
     }
-    Some((value, count))
+    value >= LEAST_LONG
 }
 
-/// Does so after a number of 19 digits, if one digit more may follow. A second one is beyond 64 bits.
-#[inline(never)]
-fn long_digits_front(bytes: &[u8], count: usize, value: u64) -> Option<(u64, usize)>
-    requires long { LEAST_LONG ≤ value }
-    requires so_far { IsDigitsSoFar bytes.now count value }
-    requires more { count < length bytes.now }
-    requires digit { is_ascii_digit (slice_index bytes.now count) ≡ true }
-    ensures digits { IfSome result (λ p. AreDigitsFront bytes.now p.1 p.0) }
-    ensures beyond { IfNone result (AreDigitsBeyond bytes.now) }
-{
-    let value = one_digit_more(value, u64::from(bytes[count] - b'0'))?;
-    let count = count + 1;
-    if count < bytes.len() && bytes[count].is_ascii_digit() {
-        return None;
-    }
-    Some((value, count))
-}
-
-/// Appends a digit to the number, if the result is in range.
-#[inline(always)]
-fn one_digit_more(value: u64, digit: u64) -> Option<u64>
-    ensures number { IfSome result (λ more. more ≡ value * 10 + digit) }
-    ensures in_range { IfSome result (λ more. more < 2 ^ 64) }
-    ensures beyond { IfNone result (2 ^ 64 ≤ value * 10 + digit) }
-{
-    value.checked_mul(10)?.checked_add(digit)
-}
-
-/// Returns the bytes after the word that they begin with.
+/// Returns the bytes after the word that they begin with. A word of eight bytes is compared at once.
 #[inline(always)]
 pub fn after_word<'a>(bytes: &'a [u8], word: &[u8]) -> Option<&'a [u8]>
     ensures rest { IfSome result (λ rest. bytes.now ≡ word.now ++ rest.now) }
@@ -84,12 +56,36 @@ pub fn after_word<'a>(bytes: &'a [u8], word: &[u8]) -> Option<&'a [u8]>
     if bytes.len() < word.len() {
         return None;
     }
+    let (front, rest) = bytes.split_at(word.len());
+    if !is_same(front, word) {
+        return None;
+    }
+    Some(rest)
+}
+
+/// Whether the bytes are those of the word.
+#[inline(always)]
+fn is_same(bytes: &[u8], word: &[u8]) -> bool
+    requires { length bytes.now ≡ length word.now }
+    ensures { MatchBool result (bytes.now ≡ word.now) (bytes.now ≡ word.now → ⊥) }
+{
+    if word.len() == 8
+        && let Some(bytes) = bytes.first_chunk()
+        && let Some(word) = word.first_chunk()
+    {
+        return is_same_eight(bytes, word);
+    }
     let mut is_same = true;
     for i in 0..word.len() {
         is_same &= bytes[i] == word[i];
     }
-    if !is_same {
-        return None;
-    }
-    Some(&bytes[word.len()..])
+    is_same
+}
+
+/// Whether both are the same, as one number each.
+#[inline(always)]
+fn is_same_eight(bytes: &[u8; 8], word: &[u8; 8]) -> bool
+    ensures { MatchBool result (bytes.now ≡ word.now) (bytes.now ≡ word.now → ⊥) }
+{
+    u64::from_le_bytes(*bytes) == u64::from_le_bytes(*word)
 }

@@ -3,7 +3,6 @@ ghost use Rattle.text_lines.specs.Writing.{PutsText};
 
 use crate::in_place::InPlace;
 use crate::sink::{TextSink, WriteFault, write_piece};
-use itoa::Buffer;
 
 /// The most bytes that are held back before they are written.
 pub(crate) const BUFFER_LEN: usize = 4096;
@@ -22,8 +21,7 @@ impl InPlace<BUFFER_LEN> {
         ensures digits { self.new ≡ self.old ++ decimal number }
         ensures short { length self.new ≤ length self.old + 20 }
     {
-        let mut digits = Buffer::new();
-        self.push(digits.format(number).as_bytes());
+        self.push_decimal(number);
     }
 
     /// Adds a field with a number, and the space after it.

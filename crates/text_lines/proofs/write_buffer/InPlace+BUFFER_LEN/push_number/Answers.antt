@@ -1,0 +1,13 @@
+use Rattle.std.proofs.Common.{length, ap, arith, length-append}
+use Rattle.std.specs.Prelude.{decimal}
+use Rattle.std.proofs.lemmas.Fmt.{length-decimal-le}
+use Rattle.text_lines.proofs.write_buffer.InPlace+BUFFER_LEN.push_number.Goals as goal
+
+pub returns-clause-short : goal.returns-clause-short
+returns-clause-short c =
+    omega (
+      arith,
+      ap length c.push_decimal.ensures,
+      length-append c.args.self.now (decimal c.args.number),
+      length-decimal-le 20 c.args.number (omega arith) (omega arith) (omega arith),
+    )
