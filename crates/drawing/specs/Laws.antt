@@ -33,7 +33,7 @@ OverlappingAreDrawn =
     (history : HistoryView) (kind : ViolationKind) (lines : List ClaimLine) (around : Option ℕ) (x y : Operation) → Contains (operations_of history.events) x
     → Contains lines (Op y) → ¬ (Precedes x y) → ¬ (Precedes y x) → Contains (drawn_operations history (No kind lines) around) x
 
--- without a distance no others are
+-- at the distance 0 no others are
 abbrev pub NoOthersAreDrawn : Type 0
 NoOthersAreDrawn =
     (history : HistoryView) (kind : ViolationKind) (lines : List ClaimLine) (x : Operation) → AreOperationsOf (operations_of history.events) lines

@@ -4,7 +4,7 @@ ghost use Rattle.drawing.specs.Laws.{RowsRise, InitialValuesHaveRows, Operations
 ghost use Rattle.drawing.specs.Laws.{EffectRowsAreInBars, EffectRowsRise};
 ghost use Rattle.drawing.specs.Laws.{ValuesHaveTheirNames, InitialValuesHaveTheirNames, LinesHaveNumbers, InitialNumbersAreOfLines, InitialLinesHaveNumbers, LinesAreOfHistory};
 
-/// Of a `NO` the operations that it lists are drawn, and those that overlap one of these; others are drawn only if a distance is given.
+/// Of a `NO` the operations that it lists are drawn, and those that overlap one of these; at the distance 0 no others are.
 /// The laws are the contract; the body is empty.
 pub fn what_matters_is_drawn()
     ensures overlapping { OverlappingAreDrawn }
