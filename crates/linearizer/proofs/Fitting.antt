@@ -1,37 +1,52 @@
--- Where each value fits in its order, no two are dequeued against the order of their enqueues.
-use Rattle.std.proofs.Common.{◌≡◌, ℕ, ◌+◌, ◌<◌, ◌≤◌, ◌⊎◌, List, length, Option, Some, None, arith, inl, inr, subst, sym}
-use Rattle.std.specs.Prelude.{Contains, MatchOption, slice_get}
-use Rattle.std.proofs.lemmas.Option.{slice_get_within}
+-- Where no enqueue is called after its gap, no two values are dequeued against the order of their enqueues; and where a value is passed
+-- over, two are.
+use Rattle.std.proofs.Common.{◌≡◌, ℕ, zero, suc, ◌<◌, ◌≤◌, ◌⊎◌, List, [], ◌∷◌, Option, Some, None, ap, arith, inl, inr, subst}
+use Rattle.std.specs.Prelude.{All, Contains, MatchOption, slice_get}
+use Rattle.std.proofs.lemmas.List.Elements.{All-contains_itself, All-weaker}
 use Rattle.history_merge.specs.declared.operation.Operation.{Operation}
 use Rattle.history_merge.specs.declared.operation.OpKind.TheVariants.{Deq}
 use Rattle.history_merge.specs.Operations.{Did, NoneDid, Precedes}
-use Rattle.history_merge.proofs.Distinct.{one_at, place_of, return_in_range}
+use Rattle.history_merge.proofs.Distinct.{contains_at, place_of, return_in_range}
 use Rattle.value_match.specs.declared.life.Life.{Life}
-use Rattle.value_match.specs.Lives.{IsLife, call_or_never}
+use Rattle.value_match.specs.Lives.{HoldsLives, IsLife, call_or_never, dequeue_call, dequeue_return, enqueue_call, entered_by, leaves_from}
 use Rattle.value_match.specs.Violations.{IsClear, NoOrderViolation}
-use Rattle.linearizer.specs.Values.{IsValueOrder}
-use Rattle.linearizer.specs.Inner.Placement.{FitsAt, FitUpTo}
-use Rattle.linearizer.proofs.Opposites.{stands_in_order}
-use Rattle.linearizer.proofs.Windows.{greatest_of_first, least_of_later}
+use Rattle.linearizer.specs.Values.{EachIsChoice, IsChoice, IsValueOrder}
+use Rattle.linearizer.specs.Inner.Placement.{AreCalledInTime}
+use Rattle.linearizer.specs.Inner.Sweep.{IsPassedOver}
+use Rattle.value_match.specs.declared.life.MatchedValue.{MatchedValue}
+use Rattle.value_match.specs.declared.life.TheConstants.{NEVER}
+use Rattle.value_match.proofs.Lists.{mapped_to}
+use Rattle.value_match.proofs.Lives.{life_of_contained}
+use Rattle.linearizer.proofs.Choices.{least_at, made}
+use Rattle.linearizer.proofs.Opposites.{choice_may_stand_before, no_two_opposite, stands_in_order}
+use Rattle.linearizer.proofs.Times.{above, returned_by_never, times_of_life}
+use Rattle.linearizer.proofs.DifferentTimes.{enters_at_no_call}
+use Rattle.linearizer.proofs.Windows.{least_of_later}
 
--- before any value
-pub none_fits : (lives : List Life) → FitUpTo lives 0
-none_fits lives i life below at = absurd (omega arith)
+-- of two values in their order the second is among those of which the first is the choice
+later_among : (lives : List Life) (i j : ℕ) (x y : Life) → EachIsChoice lives → i ≤ j → slice_get lives i ≡ Some x → slice_get lives j ≡ Some y
+    → (remaining : List Life) × IsChoice remaining x × Contains remaining y
+later_among [] i j x y each le at_x at_y = cc
+later_among (z ∷ lives) zero j x y each le at_x at_y =
+    let same : z ≡ x = cc in (z ∷ lives, subst (IsChoice (z ∷ lives)) same each.0, contains_at (z ∷ lives) j y at_y)
+later_among (z ∷ lives) (suc i) zero x y each le at_x at_y = absurd (omega arith)
+later_among (z ∷ lives) (suc i) (suc j) x y each le at_x at_y = later_among lives i j x y each.1 (omega arith) at_x at_y
 
--- one value more
-pub one_more_fits : (lives : List Life) (n : ℕ) (life : Life) → FitUpTo lives n → slice_get lives n ≡ Some life → FitsAt lives n life → FitUpTo lives (n + 1)
-one_more_fits lives n life so_far here fits i other below at = elim cases [
-  | inl before ↦ so_far i other before at
-  | inr same ↦
-      let one = one_at lives n life other here (subst (λ k. slice_get lives k ≡ Some other) same at) in
-      subst (λ k. FitsAt lives k other) (sym same) (subst (FitsAt lives n) one fits)
-]
-  where
-    cases : (i < n) ⊎ (i ≡ n)
-    cases = grind arith
+-- a choice isn't dequeued after a value that remains
+no_later : (remaining : List Life) (x y : Life) → IsChoice remaining x → Contains remaining y → dequeue_call x ≤ dequeue_return x
+    → dequeue_return y < dequeue_call x → ⊥
+no_later remaining x y is among takes_time later =
+    let returned = least_at dequeue_return remaining is.first_dequeued y is.dequeued_first among in
+    elim (made remaining x is) [
+      | inl dequeued ↦ let same = ap dequeue_return dequeued.1 in omega arith
+      | inr entered ↦
+          let leaves = ap leaves_from entered.1 in
+          let called : dequeue_call x ≤ leaves_from x = omega arith in
+          omega arith
+    ]
 
 module _ (operations : List Operation) (lives : List Life) (clear : IsClear operations) (order : IsValueOrder operations lives)
-    (fit : FitUpTo lives (length lives)) where
+    (in_time : AreCalledInTime lives) where
   -- what is dequeued later is so after a return in range
   dequeued_after : (v : ℕ) (deq_b : Operation) (dequeue : Option Operation) → Contains operations deq_b
       → MatchOption dequeue (NoneDid operations (Deq v)) (λ d. Did operations d (Deq v) × Precedes deq_b d) → deq_b.ret < call_or_never dequeue
@@ -48,11 +63,11 @@ module _ (operations : List Operation) (lives : List Life) (clear : IsClear oper
   no_order_violation enq_a enq_b deq_b deq_a violation =
       elim cases [
         | inl first ↦
-            let left = greatest_of_first lives at_b.0 at_a.0 a first at_a.1 in
-            omega (arith, left, fits.dequeue, later)
+            let turn = later_among lives at_a.0 at_b.0 a b order.each_is_choice first at_a.1 at_b.1 in
+            no_later turn.0 a b turn.1 turn.2 takes_time later
         | inr second ↦
             let least = least_of_later lives at_b.0 at_a.0 a second at_a.1 in
-            omega (arith, least, fits.enqueue, violation.enqueued_first)
+            omega (arith, least, in_time at_b.0 b at_b.1, violation.enqueued_first)
       ]
     where
       a : Life
@@ -73,11 +88,39 @@ module _ (operations : List Operation) (lives : List Life) (clear : IsClear oper
       at_b : (i : ℕ) × (slice_get lives i ≡ Some b)
       at_b = place_of lives b (stands_in_order operations lives clear order b is_b)
 
-      fits : FitsAt lives at_b.0 b
-      fits = fit at_b.0 b (slice_get_within lives at_b.0 b at_b.1) at_b.1
+      takes_time : dequeue_call a ≤ dequeue_return a
+      takes_time = elim (times_of_life operations a clear is_a).dequeue_takes_time [ inl less ↦ omega arith | inr never ↦ omega (arith, never.0, never.1) ]
 
       later : deq_b.ret < call_or_never deq_a
       later = dequeued_after violation.a deq_b deq_a violation.dequeues_b.0 violation.dequeued_later
 
       cases : (at_a.0 ≤ at_b.0) ⊎ (at_b.0 ≤ at_a.0)
       cases = grind arith
+
+-- where a value is passed over, two values are dequeued against the order of their enqueues
+pub passed_over : (operations : List Operation) (values : List MatchedValue) → IsClear operations → HoldsLives operations values → IsPassedOver values
+    → ¬ (NoOrderViolation operations)
+passed_over operations values clear holds passed none =
+    let may = choice_may_stand_before passed.remaining passed.next passed.entered
+    (λ x among. times_of_life operations x clear (is_life_of x among))
+    (λ x y in_x in_y. no_two_opposite operations x y clear none (is_life_of x in_x) (is_life_of y in_y))
+    (λ x among. returned_by_never operations x clear (is_life_of x among))
+    passed.is_next passed.is_left in
+    let differs = enters_at_no_call operations passed.entered passed.next clear (is_life_of passed.entered passed.is_left)
+    (is_life_of passed.next passed.next_is_left) in
+    let called = above (enqueue_call passed.next) (entered_by passed.entered) may.0 differs in
+    omega (arith, called, passed.too_late)
+  where
+    is_life_of : (x : Life) → Contains passed.remaining x → IsLife operations x
+    is_life_of x among = life_of_contained operations x (subst (λ lives. Contains lives x) holds.0 (passed.among x among))
+
+-- each value has entered before the last ticket is over
+pub entered_in_time : (operations : List Operation) (values : List MatchedValue) → IsClear operations → HoldsLives operations values
+    → All (λ value. entered_by value.life ≤ NEVER) values
+entered_in_time operations values clear holds = All-weaker (Contains values) (λ value. entered_by value.life ≤ NEVER) each values (All-contains_itself values)
+  where
+    each : (value : MatchedValue) → Contains values value → entered_by value.life ≤ NEVER
+    each value among =
+        let times = times_of_life operations value.life clear (life_of_contained operations value.life
+        (subst (λ lives. Contains lives value.life) holds.0 (mapped_to (λ m. m.life) values value among))) in
+        omega (arith, times.enqueue_is_past)

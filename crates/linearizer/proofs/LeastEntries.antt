@@ -1,68 +1,80 @@
--- The gaps of the enqueues are found from the last value to the first.
-use Rattle.std.proofs.Common.{◌≡◌, ℕ, ◌+◌, ◌-◌, ◌<◌, ◌≤◌, ◌⊎◌, min, List, [], ◌∷◌, length, get_or, set, map, drop, replicate, Some, refl, sym, ◌∙◌}
+-- The gaps of the enqueues are found with the order of the values: each lies just before the least entry of those that remain.
+use Rattle.std.proofs.Common.{◌≡◌, ℕ, zero, suc, ◌+◌, ◌-◌, ◌<◌, ◌≤◌, ◌⊎◌, List, [], ◌∷◌, ◌++◌, length, get_or, drop, Option, Some, refl, sym, ◌∙◌}
 use Rattle.std.proofs.Common.{ap, subst, inl, inr, arith}
-use Rattle.std.specs.Prelude.{fold, slice_get}
-use Rattle.std.proofs.lemmas.List.{drop_all, drop_more, get_or-set_other, get_or-set_same, length-replicate, length-set}
-use Rattle.std.proofs.lemmas.Option.{get_or_from_slice_get, slice_get_within}
+use Rattle.std.specs.Prelude.{Contains, IsPermutation, slice_get}
+use Rattle.std.proofs.Math.Seq.{drop-append_seam}
+use Rattle.std.proofs.lemmas.List.{get_or_append_left, get_or_push, length_push}
+use Rattle.std.proofs.lemmas.List.Elements.{All-contains}
+use Rattle.std.proofs.lemmas.List.Sorted.{Contains-permutation, IsPermutation-sym}
+use Rattle.history_merge.proofs.Distinct.{contains_at, place_of}
 use Rattle.value_match.specs.declared.life.Life.{Life}
 use Rattle.value_match.specs.declared.life.TheConstants.{NEVER}
-use Rattle.value_match.specs.Lives.{entered_by}
-use Rattle.linearizer.specs.Values.{enqueue_gap, least_entered_by}
-use Rattle.linearizer.specs.Inner.Placement.{AreEnqueueGaps}
+use Rattle.value_match.specs.Lives.{enqueue_call, entered_by}
+use Rattle.linearizer.specs.Values.{IsLeastBy, enqueue_gap, least_entered_by}
+use Rattle.linearizer.specs.Inner.Placement.{AreCalledInTime, AreEnqueueGaps}
+use Rattle.linearizer.proofs.Windows.{at_most_least, least_of_later}
 
-fold_min : (a b : ℕ) (xs : List ℕ) → fold min (min a b) xs ≡ min (fold min a xs) b
-fold_min a b [] = refl
-fold_min a b (x ∷ xs) =
-    let swapped : min (min a b) x ≡ min (min a x) b = omega arith in
-    ap (λ n. fold min n xs) swapped ∙ fold_min (min a x) b xs
+-- the least entry of some lives, in any order
+pub least_is : (remaining lives : List Life) (first : Life) → IsLeastBy entered_by remaining first → IsPermutation remaining lives
+    → entered_by first ≤ NEVER → least_entered_by lives ≡ entered_by first
+least_is remaining lives first least moved bound =
+    let place = place_of lives first (Contains-permutation remaining lives first moved least.0) in
+    let at_most = least_of_later lives 0 place.0 first (omega arith) place.1 in
+    let at_least = at_most_least lives 0 (entered_by first) bound (λ j y le at. All-contains (λ y. entered_by first ≤ entered_by y) remaining y least.1
+    (Contains-permutation lives remaining y (IsPermutation-sym remaining lives moved) (contains_at lives j y at))) in
+    omega (arith, at_most, at_least)
 
--- the least entry of one value more
-pub least_of_more : (life : Life) (lives : List Life) → least_entered_by (life ∷ lives) ≡ min (least_entered_by lives) (entered_by life)
-least_of_more life lives = fold_min NEVER (entered_by life) (map entered_by lives)
+-- the first values have these gaps, and are called in time
+abbrev pub HaveGaps : List Life → List ℕ → Type 0
+HaveGaps lives gaps = (i : ℕ) (life : Life) → i < length gaps → slice_get lives i ≡ Some life
+    → (get_or gaps i 0 ≡ enqueue_gap lives i) × (enqueue_call life ≤ enqueue_gap lives i)
 
--- the gaps of the values from the place i on, and the least time by which one of these has entered
-pub record AreGapsFrom (lives : List Life) (i least : ℕ) (gaps : List ℕ) : Type 0 where
-  pub one_each : length gaps ≡ length lives
-  pub least_is : least ≡ least_entered_by (drop i lives)
-  pub at_each : (k : ℕ) → i ≤ k → k < length lives → get_or gaps k 0 ≡ enqueue_gap lives k
+-- before any value
+pub no_gaps : (lives : List Life) → HaveGaps lives []
+no_gaps lives i life below at = absurd (omega arith)
 
--- one value more, by the numbers that the code computes
-pub gaps_from_before : (lives : List Life) (i j least entered least' gap : ℕ) (life : Life) (gaps : List ℕ) → AreGapsFrom lives j least gaps
-    → j ≡ i + 1 → slice_get lives i ≡ Some life
-    → entered ≡ entered_by life → least' ≡ min least entered → gap ≡ least' - 1 → AreGapsFrom lives i least' (set gaps i gap)
-gaps_from_before lives i j least entered least' gap life gaps so_far next at entered_is least'_is gap_is = record {
-  one_each = length-set gaps i gap ∙ so_far.one_each;
-  least_is = here;
-  at_each = λ k above below. elim (cases k above) [
-    | inl same ↦ subst (λ k. get_or (set gaps i gap) k 0 ≡ enqueue_gap lives k) same
-        (get_or-set_same gaps i gap 0 (omega (arith, so_far.one_each, within)) ∙ gap_is ∙ ap (λ n. n - 1) here)
-    | inr more ↦ get_or-set_other gaps i k gap 0 (λ same. omega arith) ∙ so_far.at_each k (omega arith) below
-  ];
-}
+here_is : (done : List Life) (x y : Life) (rest : List Life) (i : ℕ) → i ≡ length done → slice_get (done ++ x ∷ rest) i ≡ Some y → x ≡ y
+here_is [] x y rest zero same at = cc
+here_is [] x y rest (suc i) same at = absurd (omega arith)
+here_is (z ∷ done) x y rest zero same at = absurd (omega arith)
+here_is (z ∷ done) x y rest (suc i) same at = here_is done x y rest i (omega arith) at
+
+-- one value more
+pub one_gap_more : (done : List Life) (x : Life) (rest : List Life) (gaps : List ℕ) (time : ℕ) → length gaps ≡ length done
+    → least_entered_by (x ∷ rest) ≡ time → enqueue_call x < time → HaveGaps (done ++ x ∷ rest) gaps
+    → HaveGaps (done ++ x ∷ rest) (gaps ++ (time - 1) ∷ [])
+one_gap_more done x rest gaps time long least called so_far i life below at = elim cases [
+  | inl before ↦
+      let it = so_far i life before at in
+      (get_or_append_left gaps ((time - 1) ∷ []) 0 i before ∙ it.0, it.1)
+  | inr here ↦
+      let one = ap enqueue_call (here_is done x life rest i (here ∙ long) at) in
+      (get_or_push gaps (time - 1) 0 i (sym here) ∙ sym (gap i here), omega (arith, one, called, gap i here))
+]
   where
-    within : i < length lives
-    within = slice_get_within lives i life at
+    within : i < length gaps + 1
+    within = omega (arith, below, length_push gaps (time - 1))
 
-    rest : drop i lives ≡ life ∷ drop (i + 1) lives
-    rest = drop_more lives i life within ∙ ap (λ x. x ∷ drop (i + 1) lives) (get_or_from_slice_get lives i life life at)
+    cases : (i < length gaps) ⊎ (i ≡ length gaps)
+    cases = grind (arith, within)
 
-    here : least' ≡ least_entered_by (drop i lives)
-    here =
-        let later : least ≡ least_entered_by (drop (i + 1) lives) = so_far.least_is ∙ ap (λ k. least_entered_by (drop k lives)) next in
-        least'_is ∙ ap (min least) entered_is ∙ ap (λ n. min n (entered_by life)) later
-        ∙ sym (ap least_entered_by rest ∙ least_of_more life (drop (i + 1) lives))
+    gap : (k : ℕ) → k ≡ length gaps → enqueue_gap (done ++ x ∷ rest) k ≡ time - 1
+    gap k same = ap (λ n. least_entered_by (drop n (done ++ x ∷ rest)) - 1) (same ∙ long)
+        ∙ ap (λ lives. least_entered_by lives - 1) (drop-append_seam done (x ∷ rest)) ∙ ap (λ n. n - 1) least
 
-    cases : (k : ℕ) → i ≤ k → (i ≡ k) ⊎ (i < k)
-    cases k above = grind arith
-
--- before any value, and after all of them
-pub no_gaps : (lives : List Life) (n : ℕ) → length lives ≡ n → AreGapsFrom lives n NEVER (replicate n 0)
-no_gaps lives n long = record {
-  one_each = length-replicate n 0 ∙ sym long;
-  least_is = sym (ap least_entered_by (drop_all n lives (omega arith)));
-  at_each = λ k above below. absurd (omega arith);
-}
+life_at : (lives : List Life) (i : ℕ) → i < length lives → (life : Life) × (slice_get lives i ≡ Some life)
+life_at [] i below = absurd (omega arith)
+life_at (x ∷ lives) zero below = (x, refl)
+life_at (x ∷ lives) (suc i) below = life_at lives i (omega arith)
 
 -- the gaps of all enqueues are found
-pub all_gaps : (lives : List Life) (i least : ℕ) (gaps : List ℕ) → AreGapsFrom lives i least gaps → i ≡ 0 → AreEnqueueGaps lives gaps
-all_gaps lives i least gaps are first = record { one_each = are.one_each; at_each = λ k below. are.at_each k (omega arith) below }
+pub all_gaps : (lives : List Life) (gaps : List ℕ) → length gaps ≡ length lives → HaveGaps lives gaps → AreEnqueueGaps lives gaps × AreCalledInTime lives
+all_gaps lives gaps long have = (
+  record { one_each = long; at_each = λ i below. (have i (life_at lives i below).0 (omega (arith, long)) (life_at lives i below).1).0 },
+  λ i life at. (have i life (omega (arith, long, within lives i life at)) at).1,
+)
+  where
+    within : (xs : List Life) (i : ℕ) (life : Life) → slice_get xs i ≡ Some life → i < length xs
+    within [] i life at = cc
+    within (x ∷ xs) zero life at = omega arith
+    within (x ∷ xs) (suc i) life at = let more = within xs i life at in omega arith

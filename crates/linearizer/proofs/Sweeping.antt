@@ -281,7 +281,7 @@ chosen values taken first_in first_out place a b takes = elim (takes a.value a.i
     apart' r t n same more less = omega arith
 
 -- the entry that was read at the cursor
-least_read : (number : Life → ℕ) (values : List MatchedValue) (entries : List Timed) (taken : List Bool) (i : ℕ) (read : Timed)
+pub least_read : (number : Life → ℕ) (values : List MatchedValue) (entries : List Timed) (taken : List Bool) (i : ℕ) (read : Timed)
     → AreByTime number values entries → IsFirstLeft entries taken i → read ≡ get_or entries i read → IsLeastLeft number values taken read
 least_read number values entries taken i read are first is =
     subst (IsLeastLeft number values taken) (sym (is ∙ get_or_from_slice_get entries i first.entry read first.is_at))

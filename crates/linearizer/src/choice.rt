@@ -1,47 +1,48 @@
-ghost use Rattle.std.specs.Prelude.{◌<◌, All, IfOk, IsPermutation, length};
-ghost use Rattle.value_match.specs.Violations.{IsClear};
-ghost use Rattle.linearizer.specs.Values.{EachIsChoice};
-ghost use Rattle.linearizer.specs.Inner.Placement.{IsOrderOfPlaces, elements_at, lives_in};
-ghost use Rattle.linearizer.specs.Inner.Sweep.{TakesOneOf};
+ghost use Rattle.std.specs.Prelude.{◌<◌, ◌≤◌, All, IfOk, MatchOption, length};
+ghost use Rattle.value_match.specs.declared.life.TheConstants.{NEVER};
+ghost use Rattle.value_match.specs.Lives.{entered_by};
+ghost use Rattle.linearizer.specs.Inner.Sweep.{IsInOrder, IsPassedOver, TakesOneOf};
 
 use crate::timed::{Moment, Timed, by_time, first_left};
 use std::alloc::{AllocError, Global};
-use value_match::{FilledMatching, Values};
+use value_match::Values;
 
-/// The accepted values in their chosen order, as their places in `matching.values()`.
-pub(crate) fn ordered_places(
-    alloc: Global,
-    matching: &FilledMatching,
-) -> Result<Vec<usize>, AllocError>
-    ensures clear { IsClear matching.now }
-    ensures order { IfOk result (λ places. IsOrderOfPlaces matching.now places.items) }
-{
-    put_in_order(alloc, &matching.values())
+/// Values in their chosen order, as their places in their list, with the gap of each enqueue.
+#[derive(Debug, Drop)]
+pub(crate) struct InOrder {
+    pub(crate) places: Vec<usize>,
+    pub(crate) gaps: Vec<u64>,
 }
 
-/// The places of the values, each value the choice among itself and those after it.
+/// The values in their chosen order: each is the choice among itself and those after it. Or none, if an enqueue is called only after
+/// a value behind it has entered.
 ///
 /// The values stand in two lists, one by when each has entered, the other by when each was dequeued. In each list
 /// those before a cursor are taken, so the one at the cursor is the first of the values that remain.
-fn put_in_order(alloc: Global, values: &Values) -> Result<Vec<usize>, AllocError>
-    ensures within { IfOk result (λ places. All (λ place. place < length values.now) places.items) }
-    ensures holds_each_once { IfOk result (λ places. IsPermutation values.now (elements_at values.now places.items)) }
-    ensures each_is_choice { IfOk result (λ places. EachIsChoice (lives_in (elements_at values.now places.items))) }
+pub(crate) fn put_in_order(alloc: Global, values: &Values) -> Result<Option<InOrder>, AllocError>
+    requires { All (λ value. entered_by value.life ≤ NEVER) values.now }
+    ensures { IfOk result (λ found. MatchOption found (IsPassedOver values.now) (IsInOrder values.now)) }
 {
-    let mut ordered = Vec::with_capacity(alloc, values.len())?;
+    let mut places = Vec::with_capacity(alloc, values.len())?;
+    let mut gaps = Vec::with_capacity(alloc, values.len())?;
     let mut taken = vec![in alloc; false; values.len()]?;
     let entries = by_time(alloc, values, Moment::Entry)?;
     let dequeues = by_time(alloc, values, Moment::Dequeue)?;
     let mut first_in = 0;
     let mut first_out = 0;
-    while ordered.len() < values.len() {
+    while places.len() < values.len() {
         first_in = first_left(&entries, &taken, first_in);
         first_out = first_left(&dequeues, &taken, first_out);
-        let next = choice(values, entries[first_in], dequeues[first_out]);
+        let entry = entries[first_in];
+        let next = choice(values, entry, dequeues[first_out]);
+        if entry.time <= values.get(next).life.enqueue_call() {
+            return Ok(None);
+        }
         taken[next] = true;
-        ordered.push(next)?;
+        places.push(next)?;
+        gaps.push(entry.time - 1)?;
     }
-    Ok(ordered)
+    Ok(Some(InOrder { places, gaps }))
 }
 
 /// The place of the choice among values of which the one entered first, and the other was dequeued first.

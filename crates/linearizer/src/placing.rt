@@ -12,7 +12,7 @@ use crate::ordered_values::OrderedValues;
 use crate::position::{Placed, Position};
 use history_merge::{OpId, Operation};
 use std::alloc::{AllocError, Global};
-use value_match::{FilledMatching, NEVER};
+use value_match::FilledMatching;
 
 /// The operations by rising position.
 ///
@@ -43,25 +43,6 @@ pub(crate) struct Merged {
     pub(crate) dequeues: usize,
     pub(crate) left: u64,
     pub(crate) noops: usize,
-}
-
-/// The gap of the enqueue of each value, in the order of the values.
-pub(crate) fn enqueue_gaps(
-    alloc: Global,
-    matching: &FilledMatching,
-    order: &[usize],
-) -> Result<Vec<u64>, AllocError>
-    requires { IsOrderOfPlaces matching.now order.now }
-    ensures { IfOk result (λ gaps. AreEnqueueGaps (lives_at matching.now order.now) gaps.items) }
-{
-    let values = matching.values();
-    let mut gaps = vec![in alloc; 0; order.len()]?;
-    let mut least = NEVER;
-    for rank in (0..order.len()).rev() {
-        least = least.min(values.get(order[rank]).life.entered_by());
-        gaps[rank] = least.saturating_sub(1);
-    }
-    Ok(gaps)
 }
 
 /// Adds the enqueues in the order of the values, each after the other operations that stand before it.

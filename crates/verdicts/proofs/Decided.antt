@@ -83,9 +83,3 @@ pub refused_is_decided : (initial : List ℕ) (operations : List Operation) (ans
     → (answer ≡ matched.Fresh violation) ⊎ (answer ≡ matched.Repeat violation) → IsDecidedFrom initial operations (No violation)
 refused_is_decided initial operations answer violation complete is refused =
     no_is_decided initial operations violation complete (refused_is_chosen initial operations answer violation is refused)
-
--- where no pair is found there is no order violation
-pub order_is_absent : (initial : List ℕ) (operations : List Operation) (answer : Option OrderPair) → IsOrderAnswerFrom initial operations answer
-    → ((pair : OrderPair) → answer ≡ Some pair → ⊥) → NoOrderViolation (filled initial operations)
-order_is_absent initial operations None none not = none
-order_is_absent initial operations (Some pair) is not = absurd (not pair refl)

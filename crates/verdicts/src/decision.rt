@@ -2,7 +2,6 @@ ghost use Rattle.std.specs.Prelude.{◌≡◌, ◌≤◌, IfOk};
 ghost use Rattle.value_match.specs.Filling.{filled_operations};
 ghost use Rattle.value_match.specs.Violations.{IsClear, NoOrderViolation};
 ghost use Rattle.empty_witness.specs.Answers.{IsWitnessAnswerFrom};
-ghost use Rattle.order_violation.specs.Pairs.{IsOrderAnswerFrom};
 ghost use Rattle.parallel_finders.specs.declared.TheConstants.{MAX_PIECES};
 ghost use Rattle.verdicts.specs.Decided.{IsDecided, IsDecidedFrom};
 
@@ -59,17 +58,22 @@ pub fn decide_par<R: Threads + Sync>(
     }
 }
 
-/// The verdict where each dequeue is of a value that was there, and no value is dequeued twice.
+/// The verdict where each dequeue is of a value that was there, and no value is dequeued twice. A pair of values dequeued against the
+/// order of their enqueues is looked for only where there is one.
 fn decide_matching(alloc: Global, matching: &Matching) -> Result<Verdict, AllocError>
     requires { IsClear (filled_operations matching.now) }
     ensures { IfOk result (IsDecidedFrom matching.now.initial matching.now.operations) }
 {
-    let values = order_values(alloc, matching)?;
-    if let Some(pair) = overtaking_pair(alloc, matching, &values)? {
-        return Ok(Verdict::No(violation_of(pair)));
+    match order_values(alloc, matching)? {
+        Some(values) => {
+            let answer = find_witness(alloc, matching)?;
+            decide_in_order(alloc, matching, &values, answer)
+        }
+        None => {
+            let pair = find_order(alloc, matching)?.unwrap();
+            Ok(Verdict::No(violation_of(pair)))
+        }
     }
-    let answer = find_witness(alloc, matching)?;
-    decide_in_order(alloc, matching, &values, answer)
 }
 
 /// The same by searches in pieces.
@@ -83,46 +87,16 @@ fn decide_matching_par<R: Threads + Sync>(
     requires pieces { (1 ≤ pieces) × (pieces ≤ MAX_PIECES) }
     ensures { IfOk result (IsDecidedFrom matching.now.initial matching.now.operations) }
 {
-    let values = order_values(alloc, matching)?;
-    if let Some(pair) = overtaking_pair_par(rt, alloc, matching, &values, pieces)? {
-        return Ok(Verdict::No(violation_of(pair)));
+    match order_values(alloc, matching)? {
+        Some(values) => {
+            let answer = find_witness_par(rt, alloc, matching, pieces)?;
+            decide_in_order(alloc, matching, &values, answer)
+        }
+        None => {
+            let pair = find_order_par(rt, alloc, matching, pieces)?.unwrap();
+            Ok(Verdict::No(violation_of(pair)))
+        }
     }
-    let answer = find_witness_par(rt, alloc, matching, pieces)?;
-    decide_in_order(alloc, matching, &values, answer)
-}
-
-/// The chosen pair of values dequeued against the order of their enqueues, if there is one. None is looked for where each value
-/// stands in its windows.
-fn overtaking_pair(
-    alloc: Global,
-    matching: &Matching,
-    values: &OrderedValues,
-) -> Result<Option<OrderPair>, AllocError>
-    requires { values.now ≡ filled_operations matching.now }
-    ensures { IfOk result (IsOrderAnswerFrom matching.now.initial matching.now.operations) }
-{
-    if values.keeps_windows(matching) {
-        return Ok(None);
-    }
-    find_order(alloc, matching)
-}
-
-/// What `overtaking_pair` returns, by a search in pieces.
-fn overtaking_pair_par<R: Threads + Sync>(
-    rt: &R,
-    alloc: Global,
-    matching: &Matching,
-    values: &OrderedValues,
-    pieces: usize,
-) -> Result<Option<OrderPair>, AllocError>
-    requires values { values.now ≡ filled_operations matching.now }
-    requires pieces { (1 ≤ pieces) × (pieces ≤ MAX_PIECES) }
-    ensures { IfOk result (IsOrderAnswerFrom matching.now.initial matching.now.operations) }
-{
-    if values.keeps_windows(matching) {
-        return Ok(None);
-    }
-    find_order_par(rt, alloc, matching, pieces)
 }
 
 /// The verdict where moreover no value is dequeued against the order of the enqueues, by what is found of the empty answers.

@@ -1,5 +1,5 @@
 -- What the steps on the way to the chosen order give.
-use Rattle.std.specs.Prelude.{◌≡◌, ℕ, ◌+◌, ◌<◌, ◌≤◌, ◌++◌, List, All, AllPairs, IsPermutation, MatchOption, Some, ⊤}
+use Rattle.std.specs.Prelude.{◌≡◌, ℕ, ◌<◌, ◌≤◌, ◌++◌, List, All, AllPairs, IsPermutation, Some}
 use Rattle.std.specs.Prelude.{length, map, filter, filter_map, slice_get, slice_index, take}
 use Rattle.std.specs.List.{AllZip}
 use Rattle.history_merge.specs.declared.operation.Operation.{Operation}
@@ -36,14 +36,9 @@ pub record AreEnqueueGaps (lives : List Life) (gaps : List ℕ) : Type 0 where
   pub one_each : length gaps ≡ length lives
   pub at_each : (i : ℕ) → i < length lives → slice_index gaps i ≡ enqueue_gap lives i
 
--- the enqueue of the value at place i of the order has its gap after its call, and the dequeue returns after all that may have left before
-pub record FitsAt (lives : List Life) (i : ℕ) (life : Life) : Type 0 where
-  pub enqueue : enqueue_call life ≤ enqueue_gap lives i
-  pub dequeue : MatchOption (dequeue_of life) ⊤ (λ d. greatest_leaves_from (take (i + 1) lives) < d.ret)
-
--- the first n values do
-abbrev pub FitUpTo : List Life → ℕ → Type 0
-FitUpTo lives n = (i : ℕ) (life : Life) → i < n → slice_get lives i ≡ Some life → FitsAt lives i life
+-- no enqueue is called after its gap
+abbrev pub AreCalledInTime : List Life → Type 0
+AreCalledInTime lives = (i : ℕ) (life : Life) → slice_get lives i ≡ Some life → enqueue_call life ≤ enqueue_gap lives i
 
 -- the class by its number
 abbrev pub class_number : Class → ℕ

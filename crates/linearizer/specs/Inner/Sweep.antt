@@ -1,9 +1,12 @@
 -- The values by their times, and those of them that are left.
-use Rattle.std.specs.Prelude.{◌≡◌, ℕ, ◌<◌, ◌≤◌, ◌⊎◌, Bool, true, false, List, All, Contains, IsSomeAnd, Some, length, slice_get, take}
+use Rattle.std.specs.Prelude.{◌≡◌, ℕ, ◌<◌, ◌≤◌, ◌⊎◌, Bool, true, false, List, All, Contains, IsPermutation, IsSomeAnd, Some, length, slice_get, take}
 use Rattle.std.specs.List.Sorted.{IsNonDecreasingBy}
 use Rattle.value_match.specs.declared.life.Life.{Life}
 use Rattle.value_match.specs.declared.life.MatchedValue.{MatchedValue}
-use Rattle.value_match.specs.Lives.{dequeue_return, entered_by, leaves_from}
+use Rattle.value_match.specs.Lives.{dequeue_return, enqueue_call, entered_by, leaves_from}
+use Rattle.linearizer.specs.Values.{EachIsChoice, IsChoice}
+use Rattle.linearizer.specs.Inner.Placement.{AreCalledInTime, AreEnqueueGaps, elements_at, lives_in}
+use Rattle.linearizer.specs.declared.choice.InOrder.{InOrder}
 use Rattle.linearizer.specs.declared.timed.Moment.{Moment}
 use Rattle.linearizer.specs.declared.timed.Moment.TheVariants.{Entry, Dequeue}
 use Rattle.linearizer.specs.declared.timed.Timed.{Timed}
@@ -43,3 +46,22 @@ abbrev pub TakesOneOf : List MatchedValue → Timed → Timed → ℕ → Type 0
 TakesOneOf values first_in first_out place =
     (m : MatchedValue) → slice_get values first_in.place ≡ Some m
     → ((first_out.time < leaves_from m.life) × (place ≡ first_out.place)) ⊎ ((leaves_from m.life ≤ first_out.time) × (place ≡ first_in.place))
+
+-- the values in their chosen order, each once and by its place, with the gap of each enqueue, which comes after its call
+pub record IsInOrder (values : List MatchedValue) (order : InOrder) : Type 0 where
+  pub within : All (λ place. place < length values) order.places.items
+  pub holds_each_once : IsPermutation values (elements_at values order.places.items)
+  pub each_is_choice : EachIsChoice (lives_in (elements_at values order.places.items))
+  pub gaps : AreEnqueueGaps (lives_in (elements_at values order.places.items)) order.gaps.items
+  pub in_time : AreCalledInTime (lives_in (elements_at values order.places.items))
+
+-- the next of some of the values is called when another of them has entered
+pub record IsPassedOver (values : List MatchedValue) : Type 0 where
+  pub remaining : List Life
+  pub among : (life : Life) → Contains remaining life → Contains (lives_in values) life
+  pub next : Life
+  pub is_next : IsChoice remaining next
+  pub next_is_left : Contains remaining next
+  pub entered : Life
+  pub is_left : Contains remaining entered
+  pub too_late : entered_by entered ≤ enqueue_call next
