@@ -1,5 +1,5 @@
 -- Dequeues of values that were not there, told by the places of the calls.
-use Rattle.std.proofs.Common.{◌≡◌, ℕ, ◌+◌, ◌<◌, ◌≤◌, ◌⊎◌, ◌||◌, ◌↔◌, Bool, true, false, cond, List, length, get_or, Option, Some, None, IsTrue, refl}
+use Rattle.std.proofs.Common.{◌≡◌, ℕ, ◌+◌, ◌<◌, ◌≤◌, ◌⊎◌, ◌||◌, ◌↔◌, Bool, true, false, cond, not, List, length, get_or, Option, Some, None, IsTrue, refl}
 use Rattle.std.proofs.Common.{sym, ◌∙◌, ap, subst, inl, inr, arith, nat_lt}
 use Rattle.std.specs.Prelude.{Contains, IfSome}
 use Rattle.std.proofs.lemmas.Bool.{false≢true, ltb-true, ltb-false, lt-ltb, le-ltb, cases_Bool}
@@ -139,6 +139,42 @@ named_by_source operations o (Some e) source complete from violates = named sour
         (calls_for call.kind violates.value calls) for_it in
         subst (IsAt operations p) same there
 
+-- none of the first n operations is a dequeue of a value that was not there
+abbrev pub NoneFresh : List Operation → ℕ → Type 0
+NoneFresh operations n = (k : ℕ) (o : Operation) → k < n → IsAt operations k o → (enq : Option Operation) → ¬ (IsFreshViolation operations o enq)
+
+-- none at first
+pub none_fresh_yet : (operations : List Operation) → NoneFresh operations 0
+none_fresh_yet operations k o below at enq violates = absurd (omega (arith, below))
+
+dequeues : (operations : List Operation) (o : Operation) (enq : Option Operation) → IsFreshViolation operations o enq → (v : ℕ) × (o.kind ≡ Deq v)
+dequeues operations o None violates = (violates.value, violates.dequeues.1)
+dequeues operations o (Some e) violates = (violates.value, violates.dequeues.1)
+
+-- an operation that is no dequeue
+pub no_dequeue : (operations : List Operation) (i : ℕ) (o : Operation) → IsAt operations i o → ((v : ℕ) → ¬ (o.kind ≡ Deq v)) → NoneFresh operations i
+    → NoneFresh operations (i + 1)
+no_dequeue operations i o here other none =
+    each_more (λ k x. (enq : Option Operation) → ¬ (IsFreshViolation operations x enq)) operations i o here
+    (λ enq violates. let dequeue = dequeues operations o enq violates in other dequeue.0 dequeue.1) none
+
+-- a dequeue after the call for its value
+pub in_time_more : (operations : List Operation) (i p : ℕ) (o : Operation) (v : ℕ) (soon : Bool) → AreComplete operations → IsAt operations i o
+    → o.kind ≡ Deq v → IsCallPlace operations v (Some p)
+    → ((call : Operation) → IsAt operations p call → soon ≡ (is_refused call || nat_lt o.ret call.call)) → not soon ≡ true
+    → NoneFresh operations i → NoneFresh operations (i + 1)
+in_time_more operations i p o v soon complete here is call tells in_time none =
+    each_more (λ k x. (enq : Option Operation) → ¬ (IsFreshViolation operations x enq)) operations i o here last none
+  where
+    source : IsSourceOf operations o.kind (Some p)
+    source = subst (λ kind. IsSourceOf operations kind (Some p)) (sym is) call
+
+    last : (enq : Option Operation) → ¬ (IsFreshViolation operations o enq)
+    last enq violates =
+        let from : IsFreshFrom operations (Some p) o = (enq, named_by_source operations o enq (Some p) complete source violates, violates) in
+        let fresh = (fresh_by_call operations i p o call.0 v here is call.1 call.2).1 from in
+        false≢true (sym (ap not (tells call.0 call.1 ∙ fresh)) ∙ in_time)
+
 -- what violates is one of the operations
 pub violates_among : (operations : List Operation) (o : Operation) (enq : Option Operation) → IsFreshViolation operations o enq → Contains operations o
 violates_among operations o None violates = violates.dequeues.0
@@ -146,8 +182,7 @@ violates_among operations o (Some e) violates = violates.dequeues.0
 
 -- of the first n operations none violates, or the one at this place does and returns first
 abbrev pub IsFirstFresh : List Operation → List (Option ℕ) → ℕ → Option ℕ → Type 0
-IsFirstFresh operations sources n None = (k : ℕ) (o : Operation) → k < n → IsAt operations k o → (enq : Option Operation)
-    → ¬ (IsFreshViolation operations o enq)
+IsFirstFresh operations sources n None = NoneFresh operations n
 IsFirstFresh operations sources n (Some place) =
     (deq : Operation) × IsAt operations place deq × IsFreshFrom operations (get_or sources place None) deq
     × ((k : ℕ) (o : Operation) → k < n → IsAt operations k o → (enq : Option Operation) → IsFreshViolation operations o enq → deq.ret ≤ o.ret)
@@ -205,9 +240,8 @@ first_more operations sources i o (Some place) sooner here violates none some fo
     ]
 
 -- where none is found, no dequeue is of a value that was not there
-pub none_fresh : (operations : List Operation) (sources : List (Option ℕ)) (n : ℕ) → length operations ≤ n → IsFirstFresh operations sources n None
-    → NoFreshViolation operations
-none_fresh operations sources n all none deq enq violates =
+pub none_fresh : (operations : List Operation) (n : ℕ) → length operations ≤ n → NoneFresh operations n → NoFreshViolation operations
+none_fresh operations n all none deq enq violates =
     let at = place_of operations deq (violates_among operations deq enq violates) in
     none at.0 deq (let within = slice_get_within operations at.0 deq at.1 in omega arith) at.1 enq violates
 

@@ -4,15 +4,28 @@ ghost use Rattle.history_merge.specs.Complete.{AreComplete};
 ghost use Rattle.history_merge.specs.Operations.{IsAt};
 ghost use Rattle.value_match.specs.Lives.{is_refused};
 ghost use Rattle.value_match.specs.Outcome.{NamesChosenFresh};
-ghost use Rattle.value_match.specs.Inner.Sources.{HoldsSources, IsFreshFrom};
+ghost use Rattle.value_match.specs.Inner.Sources.{AreSources, HoldsSources, IsFreshFrom};
 ghost use Rattle.value_match.specs.Violations.{NoFreshViolation};
 
 use crate::maybe_place::MaybePlace;
+use crate::sources::Sources;
 use crate::violation::Violation;
 use history_merge::{OpId, OpKind, Operation};
 
-/// The dequeue of least return ticket among those of a value that was not there, if there is one.
-pub fn find_fresh(operations: &[Operation], sources: &[MaybePlace]) -> Option<Violation>
+/// The dequeue of least return ticket among those of a value that was not there, if there is one, by the sources of all dequeues.
+pub(crate) fn first_fresh(operations: &[Operation], sources: &Sources) -> Option<Violation>
+    requires complete { AreComplete operations.now }
+    requires sources { AreSources operations.now sources.now }
+    ensures { MatchOption result (NoFreshViolation operations.now) (NamesChosenFresh operations.now) }
+{
+    if sources.all_in_time {
+        return None;
+    }
+    find_fresh(operations, sources.places.as_slice())
+}
+
+/// The same by looking at each dequeue.
+fn find_fresh(operations: &[Operation], sources: &[MaybePlace]) -> Option<Violation>
     requires complete { AreComplete operations.now }
     requires sources { HoldsSources operations.now sources.now }
     ensures { MatchOption result (NoFreshViolation operations.now) (NamesChosenFresh operations.now) }
@@ -57,7 +70,8 @@ fn is_fresh(operations: &[Operation], sources: &[MaybePlace], place: usize) -> b
 }
 
 /// Whether the dequeue returned before the call at this place, or that was refused.
-fn comes_too_soon(operations: &[Operation], deq: Operation, source: usize) -> bool
+#[inline(always)]
+pub(crate) fn comes_too_soon(operations: &[Operation], deq: Operation, source: usize) -> bool
     requires { source < length operations.now }
     ensures { (call : Operation) → IsAt operations.now source call → result ≡ (is_refused call || nat_lt deq.ret call.call) }
 {

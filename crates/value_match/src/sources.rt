@@ -1,7 +1,9 @@
-ghost use Rattle.std.specs.Prelude.{◌≤◌, IfOk, IfSome, IsTrue, Some, length};
+ghost use Rattle.std.specs.Prelude.{◌≤◌, IfOk, IfSome, IsTrue, MatchOption, Some, length, ⊤};
+ghost use Rattle.history_merge.specs.Complete.{AreComplete};
 ghost use Rattle.value_match.specs.Inner.Others.{HoldsNear, HoldsOthers};
-ghost use Rattle.value_match.specs.Inner.Sources.{HoldsSources, IsCallPlace, IsSourceOf};
+ghost use Rattle.value_match.specs.Inner.Sources.{AreSources, HoldsSources, IsCallPlace, IsSourceOf};
 
+use crate::fresh::comes_too_soon;
 use crate::matching::MAX_MATCHED;
 use crate::maybe_place::MaybePlace;
 use crate::names::Names;
@@ -9,8 +11,19 @@ use crate::others::{Call, is_called_at, named_place, others_of, place_among};
 use history_merge::{OpKind, Operation};
 use std::alloc::{AllocError, Global};
 
-/// How far from the call for the value dequeued last the call for the next is looked for.
+/// How far from the call for the value dequeued last the call for the next is looked for, where no name tells it.
 const REACH: usize = 64;
+
+/// How far it is looked for before any name is.
+const SHORT_REACH: usize = 16;
+
+/// For each dequeue the place of the call that enqueued its value, accepted or refused, if there is one.
+#[derive(Drop)]
+pub(crate) struct Sources {
+    pub(crate) places: Vec<MaybePlace>,
+    /// Whether it was seen that each value was there when it was dequeued.
+    pub(crate) all_in_time: bool,
+}
 
 /// Sources, of which some may not be found yet.
 #[derive(Drop)]
@@ -19,11 +32,53 @@ struct NearSources {
     all_found: bool,
 }
 
-/// For each dequeue the place of the call that enqueued its value, accepted or refused, if there is one.
+/// The sources of all dequeues.
 ///
 /// Time O(n) for n operations where the values have a recorder's names, or leave nearly in the order of their calls. Else
 /// the calls of the other values are sorted by value, and each of their dequeues costs a look-up, O(n log n).
-pub fn sources_of(alloc: Global, operations: &[Operation]) -> Result<Vec<MaybePlace>, AllocError>
+pub(crate) fn sources_of(alloc: Global, operations: &[Operation]) -> Result<Sources, AllocError>
+    requires complete { AreComplete operations.now }
+    requires few { length operations.now ≤ MAX_MATCHED }
+    ensures { IfOk result (AreSources operations.now) }
+{
+    match close_sources(alloc, operations)? {
+        Some(sources) => Ok(sources),
+        None => Ok(Sources {
+            places: far_sources(alloc, operations)?,
+            all_in_time: false,
+        }),
+    }
+}
+
+/// The sources, if each is close to that of the dequeue before.
+fn close_sources(alloc: Global, operations: &[Operation]) -> Result<Option<Sources>, AllocError>
+    requires complete { AreComplete operations.now }
+    requires few { length operations.now ≤ MAX_MATCHED }
+    ensures { IfOk result (λ found. MatchOption found ⊤ (AreSources operations.now)) }
+{
+    let mut places = Vec::with_capacity(alloc, operations.len())?;
+    let mut all_in_time = true;
+    let mut next = 0;
+    for operation in operations {
+        let OpKind::Deq(value) = operation.kind else {
+            places.push(MaybePlace::none())?;
+            continue;
+        };
+        let Some(place) = near_place(operations, value, next, SHORT_REACH) else {
+            return Ok(None);
+        };
+        all_in_time = all_in_time && !comes_too_soon(operations, *operation, place);
+        next = place + 1;
+        places.push(MaybePlace::some(place))?;
+    }
+    Ok(Some(Sources {
+        places,
+        all_in_time,
+    }))
+}
+
+/// The sources, by the names of the values, near by or among the calls sorted by value.
+fn far_sources(alloc: Global, operations: &[Operation]) -> Result<Vec<MaybePlace>, AllocError>
     requires { length operations.now ≤ MAX_MATCHED }
     ensures { IfOk result (λ sources. HoldsSources operations.now sources.items) }
 {
@@ -73,20 +128,21 @@ fn guessed_place(operations: &[Operation], names: &Names, value: u64, from: usiz
 {
     match named_place(operations, names, value) {
         Some(place) => Some(place),
-        None => near_place(operations, value, from),
+        None => near_place(operations, value, from, REACH),
     }
 }
 
-/// The place of the call for this value, where it is near this place.
-fn near_place(operations: &[Operation], value: u64, from: usize) -> Option<usize>
+/// The place of the call for this value, where it is so near this place.
+#[inline(always)]
+fn near_place(operations: &[Operation], value: u64, from: usize, reach: usize) -> Option<usize>
     ensures { IfSome result (λ place. IsCallPlace operations.now value (Some place)) }
 {
-    for distance in 0..REACH {
+    for distance in 0..reach {
         let after = from.saturating_add(distance);
         if is_called_at(operations, value, after) {
             return Some(after);
         }
-        let before = from.saturating_sub(distance + 1);
+        let before = from.saturating_sub(distance).saturating_sub(1);
         if is_called_at(operations, value, before) {
             return Some(before);
         }

@@ -9,7 +9,7 @@ ghost use Rattle.value_match.specs.Inner.Sources.{HoldsDequeues};
 ghost use Rattle.value_match.specs.Violations.{IsClear};
 
 use crate::accepted::Pair;
-use crate::fresh::find_fresh;
+use crate::fresh::first_fresh;
 use crate::matching::{FilledMatching, MAX_MATCHED, Matchable, Matched, Matching, SortedOut};
 use crate::maybe_place::MaybePlace;
 use crate::repeat::find_repeat;
@@ -97,16 +97,16 @@ fn find(alloc: Global, operations: &[Operation]) -> Result<MatchOutcome, AllocEr
     ensures { IfOk result (IsMatchOutcomeOf operations.now) }
 {
     let sources = sources_of(alloc, operations)?;
-    if let Some(violation) = find_fresh(operations, sources.as_slice()) {
+    if let Some(violation) = first_fresh(operations, &sources) {
         return Ok(MatchOutcome::Fresh(violation));
     }
-    match takers_of(alloc, sources.as_slice())? {
+    match takers_of(alloc, sources.places.as_slice())? {
         Some(dequeues) => {
             let sorted = sorted_out(alloc, operations, dequeues.as_slice())?;
             Ok(MatchOutcome::Clear(sorted))
         }
         None => {
-            let violation = find_repeat(alloc, operations, sources.as_slice())?;
+            let violation = find_repeat(alloc, operations, sources.places.as_slice())?;
             Ok(MatchOutcome::Repeat(violation))
         }
     }

@@ -1,11 +1,12 @@
 -- A chosen violation decides a history, and so does a chosen order that is legal.
-use Rattle.std.proofs.Common.{◌≡◌, ◌⊎◌, ◌<◌, ℕ, List, Option, None, Some, length, map, refl, subst, inl, inr}
+use Rattle.std.proofs.Common.{◌≡◌, ◌⊎◌, ◌<◌, ℕ, List, length, map, subst, inl, inr}
 use Rattle.std.specs.Prelude.{All}
 use Rattle.std.proofs.lemmas.List.Elements.{All-map}
 use Rattle.history_merge.specs.declared.operation.Operation.{Operation}
 use Rattle.history_merge.specs.Complete.{AreComplete}
 use Rattle.history_merge.specs.Initial.{filled}
-use Rattle.history_merge.proofs.Filled.{linearizable_from_exactly}
+use Rattle.history_merge.specs.Operations.{operations_of}
+use Rattle.history_merge.proofs.Filled.{filled_are_complete, linearizable_from_exactly}
 use Rattle.value_match.specs.declared.violation.Violation.{Violation}
 use Rattle.value_match.specs.declared.violation.Violation.TheVariants as violation
 use Rattle.value_match.specs.declared.violation.CoverStep.{CoverStep}
@@ -14,13 +15,15 @@ use Rattle.value_match.specs.declared.matching.Matched.{Matched}
 use Rattle.value_match.specs.declared.matching.Matched.TheVariants as matched
 use Rattle.value_match.specs.Outcome.{IsChosenViolation, IsMatchedFrom}
 use Rattle.order_violation.specs.declared.pair.OrderPair.{OrderPair}
-use Rattle.order_violation.specs.Pairs.{IsChosenPair, IsOrderAnswerFrom}
+use Rattle.order_violation.specs.Pairs.{IsChosenPair}
 use Rattle.empty_witness.specs.declared.answer.WitnessAnswer.TheVariants as found
 use Rattle.empty_witness.specs.Answers.{IsWitnessAnswer}
 use Rattle.linearizer.specs.Order.{AreChosenAndLegalFrom}
 use Rattle.verdicts.specs.declared.shown.LinePlace.TheVariants as place
 use Rattle.verdicts.specs.declared.verdict.Verdict.TheVariants.{Yes, No}
+use Rattle.verdicts.specs.declared.verifying.Claimed.TheVariants as claimed
 use Rattle.verdicts.specs.Claiming.{IsPlaceWithin}
+use Rattle.verdicts.specs.Laws.{TrueClaimDecides}
 use Rattle.verdicts.specs.Decided.{IsDecidedFrom}
 use Rattle.verdicts.specs.Shown.{violation_places}
 use Rattle.verdicts.specs.Verdicts.{IsChosenFrom}
@@ -83,3 +86,12 @@ pub refused_is_decided : (initial : List ℕ) (operations : List Operation) (ans
     → (answer ≡ matched.Fresh violation) ⊎ (answer ≡ matched.Repeat violation) → IsDecidedFrom initial operations (No violation)
 refused_is_decided initial operations answer violation complete is refused =
     no_is_decided initial operations violation complete (refused_is_chosen initial operations answer violation is refused)
+
+-- a true claim decides: a linearization that it lists exists, and a violation that it shows leaves none
+pub true_claim_decides : TrueClaimDecides
+true_claim_decides initial events (claimed.Yes lines) complete few legal = (lines, legal)
+true_claim_decides initial events (claimed.No kind lines) complete few shows =
+    let operations = operations_of events in
+    let full = shows.2.0 in
+    λ exists. violation_excludes_order (filled initial operations) full (filled_are_complete initial events complete few) shows.2.3
+    ((linearizable_from_exactly initial operations).0 exists)

@@ -1,12 +1,13 @@
 -- From each dequeue to the call that enqueued its value, and back.
-use Rattle.std.specs.Prelude.{◌≡◌, ◌≢◌, ℕ, ◌<◌, All, AllPairs, List, length, slice_get, slice_index_or, Option, Some, None, Contains}
+use Rattle.std.specs.Prelude.{◌≡◌, ◌≢◌, ℕ, ◌<◌, All, AllPairs, List, length, slice_get, slice_index_or, Option, Some, None, Contains, IsTrue}
 use Rattle.std.specs.List.Sorted.{IsNonDecreasingBy}
 use Rattle.history_merge.specs.declared.operation.Operation.{Operation}
 use Rattle.history_merge.specs.declared.operation.OpKind.{OpKind}
 use Rattle.history_merge.specs.declared.operation.OpKind.TheVariants.{Enq, Deq}
 use Rattle.history_merge.specs.Operations.{IsAt, NoneDid, enqueued_value}
 use Rattle.value_match.specs.Lives.{IsMaybeAt}
-use Rattle.value_match.specs.Violations.{IsFreshViolation}
+use Rattle.value_match.specs.Violations.{IsFreshViolation, NoFreshViolation}
+use Rattle.value_match.specs.declared.sources.Sources.{Sources}
 
 -- the place is that of an operation that called to enqueue this value; there is none only where none did
 abbrev pub IsCallPlace : List Operation → ℕ → Option ℕ → Type 0
@@ -22,6 +23,11 @@ IsSourceOf operations _ source = source ≡ None
 pub record HoldsSources (operations : List Operation) (sources : List (Option ℕ)) : Type 0 where
   pub one_each : length sources ≡ length operations
   pub each : (i : ℕ) (o : Operation) → IsAt operations i o → IsSourceOf operations o.kind (slice_index_or sources i None)
+
+-- the places are the sources; if all were seen to be in time, no dequeue is of a value that was not there
+pub record AreSources (operations : List Operation) (sources : Sources) : Type 0 where
+  pub holds : HoldsSources operations sources.places.items
+  pub in_time : IsTrue sources.all_in_time → NoFreshViolation operations
 
 -- the operation is a dequeue of a value that was not there; the call for its value, if there is one, is at the place
 abbrev pub IsFreshFrom : List Operation → Option ℕ → Operation → Type 0

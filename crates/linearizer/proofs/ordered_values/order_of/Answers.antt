@@ -1,7 +1,4 @@
-use Rattle.std.proofs.Common.{◌≡◌, ◌≤◌, length, sym, subst}
-use Rattle.std.proofs.lemmas.List.Elements.{All-contains_itself, All-weaker}
-use Rattle.value_match.specs.declared.life.TheConstants.{NEVER}
-use Rattle.value_match.specs.Lives.{entered_by}
+use Rattle.std.proofs.Common.{subst}
 use Rattle.linearizer.specs.Inner.Placement.{AreCalledInTime, AreEnqueueGaps, IsOrderOfPlaces, lives_at}
 use Rattle.linearizer.specs.Inner.Sweep.{IsInOrder}
 use Rattle.linearizer.proofs.Choosing.{places_in_order}

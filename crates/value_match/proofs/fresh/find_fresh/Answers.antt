@@ -22,7 +22,7 @@ loop-place-preserved c = first_more_at _ _ _ nowhere _ _ _ c.loop-place-test.tru
 
 pub returns-in_err-deq : goal.returns-in_err-deq
 returns-in_err-deq c =
-    let none = none_fresh _ c.args.sources.now _ c.loop-place-test.false
+    let none = none_fresh _ _ c.loop-place-test.false
     (subst (IsFirstFresh c.args.operations.now c.args.sources.now c.loop-place.place) c.in_err-deq.was c.loop-place.invariant) in
     rw c.from_residual.ensures none
 

@@ -1,4 +1,4 @@
-use Rattle.value_match.proofs.sources.sources_of.Goals as goal
+use Rattle.value_match.proofs.sources.far_sources.Goals as goal
 
 pub find_others-requires-clause-near : goal.find_others-requires-clause-near
 find_others-requires-clause-near c = rw c.as_mut_slice.ensures.value c.in_ok-near.ensures.near
