@@ -1,8 +1,10 @@
-ghost use Rattle.std.specs.Prelude.{◌≡◌, ◌<◌, All, Contains, IfOk, length, take};
-ghost use Rattle.linearizer.specs.Inner.Sweep.{AreByTime, IsFirstLeft, IsLeft, IsTaken, time_at};
+ghost use Rattle.std.specs.Prelude.{◌<◌, All, Contains, IfOk, IsPermutation, length, take};
+ghost use Rattle.std.specs.List.Sorted.{IsNonDecreasingBy};
+ghost use Rattle.value_match.specs.Lives.{dequeue_return, entered_by};
+ghost use Rattle.linearizer.specs.Inner.Sweep.{AreByTime, IsFirstLeft, IsLeft, IsTaken};
 
 use std::alloc::{AllocError, Global};
-use value_match::{Life, Values, presort};
+use value_match::{Values, presort};
 
 /// A value by its place, and one of its times.
 #[derive(Clone, Copy)]
@@ -11,43 +13,42 @@ pub(crate) struct Timed {
     pub(crate) place: usize,
 }
 
-/// Which of a value's times is meant.
-#[derive(Clone, Copy)]
-pub(crate) enum Moment {
-    /// That by which it has entered.
-    Entry,
-    /// That at which its dequeue returned.
-    Dequeue,
+/// The values by when each has entered, and by when each was dequeued.
+#[derive(Drop)]
+pub(crate) struct ByTime {
+    pub(crate) entries: Vec<Timed>,
+    pub(crate) dequeues: Vec<Timed>,
 }
 
-impl Moment {
-    fn of(self, life: &Life) -> u64
-        ensures { result ≡ time_at self life.now }
-    {
-        match self {
-            Moment::Entry => life.entered_by(),
-            Moment::Dequeue => life.dequeue_return(),
-        }
-    }
-}
-
-/// The values by their times of one sort.
-pub(crate) fn by_time(
-    alloc: Global,
-    values: &Values,
-    moment: Moment,
-) -> Result<Vec<Timed>, AllocError>
-    ensures { IfOk result (λ entries. AreByTime (time_at moment) values.now entries.items) }
+/// The values by their times of both sorts.
+pub(crate) fn by_time(alloc: Global, values: &Values) -> Result<ByTime, AllocError>
+    ensures entries { IfOk result (λ by. AreByTime entered_by values.now by.entries.items) }
+    ensures dequeues { IfOk result (λ by. AreByTime dequeue_return values.now by.dequeues.items) }
 {
     let mut entries = Vec::with_capacity(alloc, values.len())?;
+    let mut dequeues = Vec::with_capacity(alloc, values.len())?;
     for place in 0..values.len() {
-        let value = values.get(place);
-        let time = moment.of(&value.life);
-        entries.push(Timed { time, place })?;
+        let life = values.get(place).life;
+        let entry = life.entered_by();
+        let dequeue = life.dequeue_return();
+        entries.push(Timed { time: entry, place })?;
+        dequeues.push(Timed {
+            time: dequeue,
+            place,
+        })?;
     }
-    presort(&mut entries, &|entry: &Timed| entry.time);
-    entries.sort_unstable_by_key(|entry| entry.time);
-    Ok(entries)
+    sort_by_time(&mut entries);
+    sort_by_time(&mut dequeues);
+    Ok(ByTime { entries, dequeues })
+}
+
+/// Sorts values by their times, which are nearly in order.
+fn sort_by_time(times: &mut Vec<Timed>)
+    ensures moved { IsPermutation times.old.items times.new.items }
+    ensures rise { IsNonDecreasingBy (λ timed. timed.time) times.new.items }
+{
+    presort(times, &|timed: &Timed| timed.time);
+    times.sort_unstable_by_key(|timed| timed.time);
 }
 
 /// The place of the first entry whose value is left, where all before the place `from` are taken.

@@ -3,22 +3,15 @@ use Rattle.std.specs.Prelude.{◌≡◌, ℕ, ◌<◌, ◌≤◌, ◌⊎◌, Boo
 use Rattle.std.specs.List.Sorted.{IsNonDecreasingBy}
 use Rattle.value_match.specs.declared.life.Life.{Life}
 use Rattle.value_match.specs.declared.life.MatchedValue.{MatchedValue}
-use Rattle.value_match.specs.Lives.{dequeue_return, enqueue_call, entered_by, leaves_from}
+use Rattle.value_match.specs.Lives.{enqueue_call, entered_by, leaves_from}
 use Rattle.linearizer.specs.Values.{EachIsChoice, IsChoice}
-use Rattle.linearizer.specs.Inner.Placement.{AreCalledInTime, AreEnqueueGaps, elements_at, lives_in}
+use Rattle.linearizer.specs.Inner.Placement.{AreCalledInTime, AreGapsOf, elements_at, lives_in}
 use Rattle.linearizer.specs.declared.choice.InOrder.{InOrder}
-use Rattle.linearizer.specs.declared.timed.Moment.{Moment}
-use Rattle.linearizer.specs.declared.timed.Moment.TheVariants.{Entry, Dequeue}
 use Rattle.linearizer.specs.declared.timed.Timed.{Timed}
 
 -- the time is this number of the value at the place
 abbrev pub IsTimeOf : (Life → ℕ) → List MatchedValue → Timed → Type 0
 IsTimeOf number values timed = IsSomeAnd (slice_get values timed.place) (λ m. timed.time ≡ number m.life)
-
--- a time of a value: when it has entered, or when its dequeue returned
-abbrev pub time_at : Moment → Life → ℕ
-time_at Entry = entered_by
-time_at Dequeue = dequeue_return
 
 -- each value by its time and its place, by times that never fall
 pub record AreByTime (number : Life → ℕ) (values : List MatchedValue) (entries : List Timed) : Type 0 where
@@ -47,12 +40,12 @@ TakesOneOf values first_in first_out place =
     (m : MatchedValue) → slice_get values first_in.place ≡ Some m
     → ((first_out.time < leaves_from m.life) × (place ≡ first_out.place)) ⊎ ((leaves_from m.life ≤ first_out.time) × (place ≡ first_in.place))
 
--- the values in their chosen order, each once and by its place, with the gap of each enqueue, which comes after its call
+-- the values in their chosen order, each once and by its place, with their gaps, of which that of an enqueue comes after its call
 pub record IsInOrder (values : List MatchedValue) (order : InOrder) : Type 0 where
   pub within : All (λ place. place < length values) order.places.items
   pub holds_each_once : IsPermutation values (elements_at values order.places.items)
   pub each_is_choice : EachIsChoice (lives_in (elements_at values order.places.items))
-  pub gaps : AreEnqueueGaps (lives_in (elements_at values order.places.items)) order.gaps.items
+  pub gaps : AreGapsOf (lives_in (elements_at values order.places.items)) order.gaps.items
   pub in_time : AreCalledInTime (lives_in (elements_at values order.places.items))
 
 -- the next of some of the values is called when another of them has entered

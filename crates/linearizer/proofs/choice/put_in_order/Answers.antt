@@ -1,9 +1,9 @@
-use Rattle.std.proofs.Common.{◌≡◌, ◌∙◌, ◌<◌, ◌≤◌, ap, arith, false, length, replicate, rules}
+use Rattle.std.proofs.Common.{◌≡◌, ◌∙◌, ◌<◌, ◌≤◌, ap, arith, false, length, max, replicate, rules}
 use Rattle.std.proofs.lemmas.List.Elements.{All-contains}
 use Rattle.std.proofs.lemmas.Option.{get_or_from_slice_get, slice_get_within}
 use Rattle.history_merge.proofs.Distinct.{contains_at}
 use Rattle.value_match.specs.declared.life.TheConstants.{NEVER}
-use Rattle.value_match.specs.Lives.{dequeue_return, enqueue_call, entered_by}
+use Rattle.value_match.specs.Lives.{dequeue_return, enqueue_call, entered_by, leaves_from}
 use Rattle.linearizer.specs.Inner.Sweep.{IsFirstLeft}
 use Rattle.linearizer.proofs.Sweeping.{IsLeastLeft, IsNext, least_read, next_at, place_within}
 use Rattle.linearizer.proofs.Choosing.{all_swept, flags_within, nothing_swept, passed_over, some_left, swept_more}
@@ -13,58 +13,58 @@ use Rattle.linearizer.proofs.choice.put_in_order.Goals.{After-first_left-first_i
 pub loop-entries-init : goal.loop-entries-init
 loop-entries-init c =
     let flags : c.in_ok-taken.taken.items ≡ replicate (length c.args.values.now) false = search rules in
-    rw (flags, c.in_ok-places.ensures.items, c.in_ok-gaps.ensures.items) (nothing_swept c.args.values.now c.in_ok-entries.entries.items c.in_ok-dequeues.dequeues.items)
+    rw (flags, c.in_ok-places.ensures.items, c.in_ok-gaps.ensures.items) (nothing_swept c.args.values.now c.in_ok-entries.field-0.entries.items c.in_ok-entries.field-0.dequeues.items)
 
 pub first_left-first_in-requires-clause-flagged : goal.first_left-first_in-requires-clause-flagged
 first_left-first_in-requires-clause-flagged c =
     rw (c.deref.ensures.value, c.deref-in-loop-entries.ensures.value)
-    (flags_within entered_by c.args.values.now c.in_ok-entries.entries.items c.loop-entries.taken.items c.in_ok-entries.ensures
+    (flags_within entered_by c.args.values.now c.in_ok-entries.field-0.entries.items c.loop-entries.taken.items c.in_ok-entries.ensures.entries
     c.loop-entries.invariant.one_flag_each)
 
 pub first_left-first_in-requires-clause-some_left : goal.first_left-first_in-requires-clause-some_left
 first_left-first_in-requires-clause-some_left c =
     rw (c.deref.ensures.value, c.deref-in-loop-entries.ensures.value)
-    (some_left entered_by c.args.values.now c.in_ok-entries.entries.items c.loop-entries.taken.items c.loop-entries.places.items c.loop-entries.gaps.items
-    c.in_ok-entries.ensures c.loop-entries.invariant.within c.loop-entries.invariant.so_far (search rules))
+    (some_left entered_by c.args.values.now c.in_ok-entries.field-0.entries.items c.loop-entries.taken.items c.loop-entries.places.items c.loop-entries.gaps.items
+    c.loop-entries.left c.in_ok-entries.ensures.entries c.loop-entries.invariant.within c.loop-entries.invariant.so_far (search rules))
 
 pub first_left-first_out-requires-clause-flagged : goal.first_left-first_out-requires-clause-flagged
 first_left-first_out-requires-clause-flagged c =
     rw (c.deref-in-loop-entries-2.ensures.value, c.deref-in-loop-entries-3.ensures.value)
-    (flags_within dequeue_return c.args.values.now c.in_ok-dequeues.dequeues.items c.loop-entries.taken.items c.in_ok-dequeues.ensures
+    (flags_within dequeue_return c.args.values.now c.in_ok-entries.field-0.dequeues.items c.loop-entries.taken.items c.in_ok-entries.ensures.dequeues
     c.loop-entries.invariant.one_flag_each)
 
 pub first_left-first_out-requires-clause-some_left : goal.first_left-first_out-requires-clause-some_left
 first_left-first_out-requires-clause-some_left c =
     rw (c.deref-in-loop-entries-2.ensures.value, c.deref-in-loop-entries-3.ensures.value)
-    (some_left dequeue_return c.args.values.now c.in_ok-dequeues.dequeues.items c.loop-entries.taken.items c.loop-entries.places.items c.loop-entries.gaps.items
-    c.in_ok-dequeues.ensures c.loop-entries.invariant.within c.loop-entries.invariant.so_far (search rules))
+    (some_left dequeue_return c.args.values.now c.in_ok-entries.field-0.dequeues.items c.loop-entries.taken.items c.loop-entries.places.items c.loop-entries.gaps.items
+    c.loop-entries.left c.in_ok-entries.ensures.dequeues c.loop-entries.invariant.within c.loop-entries.invariant.so_far (search rules))
 
 -- the cursors stand at the first that is left of each list
-entered : (c : After-first_left-first_in) → IsFirstLeft c.in_ok-entries.entries.items c.loop-entries.taken.items c.first_left-first_in.result
+entered : (c : After-first_left-first_in) → IsFirstLeft c.in_ok-entries.field-0.entries.items c.loop-entries.taken.items c.first_left-first_in.result
 entered c = rw (c.deref.ensures.value, c.deref-in-loop-entries.ensures.value) at c.first_left-first_in.ensures
 
-dequeued : (c : After-first_left-first_out) → IsFirstLeft c.in_ok-dequeues.dequeues.items c.loop-entries.taken.items c.first_left-first_out.result
+dequeued : (c : After-first_left-first_out) → IsFirstLeft c.in_ok-entries.field-0.dequeues.items c.loop-entries.taken.items c.first_left-first_out.result
 dequeued c = rw (c.deref-in-loop-entries-2.ensures.value, c.deref-in-loop-entries-3.ensures.value) at c.first_left-first_out.ensures
 
 pub index-entry-requires : goal.index-entry-requires
 index-entry-requires c = let first = entered ((goal.at.index-entry-requires c).After-first_left-first_in) in
-    let inside : c.first_left-first_in.result < length c.in_ok-entries.entries.items = slice_get_within _ _ _ first.is_at in search rules
+    let inside : c.first_left-first_in.result < length c.in_ok-entries.field-0.entries.items = slice_get_within _ _ _ first.is_at in search rules
 
 pub index-requires : goal.index-requires
 index-requires c = let first = dequeued ((goal.at.index-requires c).After-first_left-first_out) in
-    let inside : c.first_left-first_out.result < length c.in_ok-dequeues.dequeues.items = slice_get_within _ _ _ first.is_at in search rules
+    let inside : c.first_left-first_out.result < length c.in_ok-entries.field-0.dequeues.items = slice_get_within _ _ _ first.is_at in search rules
 
 pub choice-next-requires : goal.choice-next-requires
-choice-next-requires c = place_within entered_by c.args.values.now c.in_ok-entries.entries.items c.loop-entries.taken.items
-    c.first_left-first_in.result c.index-entry.result.now c.in_ok-entries.ensures (entered ((goal.at.choice-next-requires c).After-first_left-first_in))
+choice-next-requires c = place_within entered_by c.args.values.now c.in_ok-entries.field-0.entries.items c.loop-entries.taken.items
+    c.first_left-first_in.result c.index-entry.result.now c.in_ok-entries.ensures.entries (entered ((goal.at.choice-next-requires c).After-first_left-first_in))
     (search rules)
 
 -- the choice of this turn
 next : (c : After-choice-next) → IsNext c.args.values.now c.loop-entries.taken.items c.choice-next.result
 next c =
-    next_at c.args.values.now c.in_ok-entries.entries.items c.in_ok-dequeues.dequeues.items c.loop-entries.taken.items c.first_left-first_in.result
+    next_at c.args.values.now c.in_ok-entries.field-0.entries.items c.in_ok-entries.field-0.dequeues.items c.loop-entries.taken.items c.first_left-first_in.result
     c.first_left-first_out.result c.index-entry.result.now c.index.result.now c.choice-next.result
-    c.in_ok-entries.ensures c.in_ok-dequeues.ensures (rw (c.deref.ensures.value, c.deref-in-loop-entries.ensures.value) at c.first_left-first_in.ensures)
+    c.in_ok-entries.ensures.entries c.in_ok-entries.ensures.dequeues (rw (c.deref.ensures.value, c.deref-in-loop-entries.ensures.value) at c.first_left-first_in.ensures)
     (rw (c.deref-in-loop-entries-2.ensures.value, c.deref-in-loop-entries-3.ensures.value) at c.first_left-first_out.ensures) (search rules)
     (search rules) c.choice-next.ensures
 
@@ -80,8 +80,8 @@ get-requires c = within ((goal.at.get-requires c).After-choice-next)
 
 -- the entry at the cursor is the least of those that are left, and is in range
 least : (c : After-choice-next) → IsLeastLeft entered_by c.args.values.now c.loop-entries.taken.items c.index-entry.result.now
-least c = least_read entered_by c.args.values.now c.in_ok-entries.entries.items c.loop-entries.taken.items c.first_left-first_in.result
-    c.index-entry.result.now c.in_ok-entries.ensures (rw (c.deref.ensures.value, c.deref-in-loop-entries.ensures.value) at c.first_left-first_in.ensures)
+least c = least_read entered_by c.args.values.now c.in_ok-entries.field-0.entries.items c.loop-entries.taken.items c.first_left-first_in.result
+    c.index-entry.result.now c.in_ok-entries.ensures.entries (rw (c.deref.ensures.value, c.deref-in-loop-entries.ensures.value) at c.first_left-first_in.ensures)
     (search rules)
 
 bounded : (c : After-choice-next) → entered_by (least c).value.life ≤ NEVER
@@ -93,19 +93,24 @@ returns-then-entry-enqueue_call c =
     let turn = (goal.at.returns-then-entry-enqueue_call c).After-choice-next in
     let read = c.get.ensures ∙ get_or_from_slice_get c.args.values.now c.choice-next.result (next turn).value c.get.result (next turn).is_at in
     let called = c.enqueue_call.ensures ∙ ap (λ m. enqueue_call m.life) read in
-    passed_over c.args.values.now c.loop-entries.taken.items _ _ c.choice-next.result c.index-entry.result.now (next turn)
+    passed_over c.args.values.now c.loop-entries.taken.items _ _ _ c.choice-next.result c.index-entry.result.now (next turn)
     c.loop-entries.invariant.so_far (least turn) (omega (arith, called, c.if-entry-enqueue_call.true))
+
+pub gaps_at-requires : goal.gaps_at-requires
+gaps_at-requires c = omega (arith, c.if-entry-enqueue_call.false)
 
 pub loop-entries-preserved : goal.loop-entries-preserved
 loop-entries-preserved c =
     let turn = (goal.at.loop-entries-preserved c).After-choice-next in
     let read = c.get.ensures ∙ get_or_from_slice_get c.args.values.now c.choice-next.result (next turn).value c.get.result (next turn).is_at in
     let called = c.enqueue_call.ensures ∙ ap (λ m. enqueue_call m.life) read in
+    let leaves = c.max-left.ensures ∙ ap (λ n. max n c.loop-entries.left) (c.leaves_from.ensures ∙ ap (λ m. leaves_from m.life) read) in
     rw (c.in_ok-push.ensures.items, c.in_ok-push-2.ensures.items)
-    (swept_more c.args.values.now c.in_ok-entries.entries.items c.in_ok-dequeues.dequeues.items c.loop-entries.taken.items _ _ _ _
-    c.loop-entries.places.items c.loop-entries.gaps.items c.choice-next.result c.index-entry.result.now (next turn) c.loop-entries.invariant
+    (swept_more c.args.values.now c.in_ok-entries.field-0.entries.items c.in_ok-entries.field-0.dequeues.items c.loop-entries.taken.items _ _ _ _
+    c.loop-entries.left c.max-left.result c.loop-entries.places.items c.loop-entries.gaps.items c.choice-next.result c.index-entry.result.now
+    c.gaps_at.result (next turn) c.loop-entries.invariant
     (entered ((goal.at.loop-entries-preserved c).After-first_left-first_in)) (dequeued ((goal.at.loop-entries-preserved c).After-first_left-first_out))
-    (least turn) (bounded turn) (omega (arith, called, c.if-entry-enqueue_call.false)))
+    (least turn) (bounded turn) (omega (arith, called, c.if-entry-enqueue_call.false)) leaves c.gaps_at.ensures)
 
 pub returns : goal.returns
-returns c = all_swept _ _ _ _ _ _ _ c.loop-entries.invariant (search rules)
+returns c = all_swept _ _ _ _ _ _ _ _ c.loop-entries.invariant (search rules)
