@@ -1,7 +1,7 @@
 -- The values are put in order by repeated choice.
-use Rattle.std.proofs.Common.{◌≡◌, ℕ, ◌+◌, ◌-◌, ◌<◌, ◌≤◌, max, Bool, true, false, List, [], ◌∷◌, ◌++◌, length, replicate, set, take, Option, None, Some}
+use Rattle.std.proofs.Common.{◌≡◌, ℕ, ◌+◌, ◌-◌, ◌<◌, ◌≤◌, max, Bool, true, false, List, [], ◌∷◌, ◌++◌, length, replicate, set, take}
 use Rattle.std.proofs.Common.{refl, sym, ◌∙◌, ap, subst, arith}
-use Rattle.std.specs.Prelude.{All, Contains, IsPermutation, IsSomeAnd, slice_get}
+use Rattle.std.specs.Prelude.{All, Contains, IsPermutation, slice_get}
 use Rattle.std.proofs.lemmas.List.{append_assoc, append-nil, length-append, length-map, length-replicate, length-set, length_push, map-append, nil_from_length}
 use Rattle.std.proofs.lemmas.List.Elements.{All-nil, All-push, All-weaker, Contains-append_right}
 use Rattle.std.proofs.lemmas.List.Sorted.{IsPermutation-cons, IsPermutation-map, IsPermutation-pop_more, IsPermutation-refl, IsPermutation-trans}
@@ -15,10 +15,9 @@ use Rattle.value_match.specs.Lives.{HoldsLives, enqueue_call, entered_by, leaves
 use Rattle.value_match.proofs.Lists.{mapped_to}
 use Rattle.linearizer.specs.declared.choice.InOrder.{InOrder}
 use Rattle.linearizer.specs.declared.choice.ValueGaps.{ValueGaps}
-use Rattle.linearizer.specs.declared.timed.Timed.{Timed}
 use Rattle.linearizer.specs.Values.{EachIsChoice, IsChoice, IsLeastBy, greatest_leaves_from}
 use Rattle.linearizer.specs.Inner.Placement.{AreCalledInTime, AreGapsOf, IsOrderOfPlaces, elements_at, lives_in}
-use Rattle.linearizer.specs.Inner.Sweep.{AreByTime, IsFirstLeft, IsInOrder, IsLeft, IsPassedOver, IsTaken, IsTimeOf}
+use Rattle.linearizer.specs.Inner.Sweep.{AreByTime, IsFirstLeft, IsInOrder, IsLeft, IsPassedOver, IsTaken}
 use Rattle.linearizer.proofs.LeastEntries.{HaveGaps, all_gaps, greatest_of_more, least_is, no_gaps, one_gap_more}
 use Rattle.linearizer.proofs.OrderedPlaces.{elements_long, elements_push, lives_are}
 use Rattle.linearizer.proofs.Sweeping.{IsLeastLeft, IsNext, all_left, flag_stays, left_of, left_where, one_taken, place_left}
@@ -75,7 +74,7 @@ ordered_more values done left left' x first time gaps leaves leaves' more so_far
         (IsPermutation-cons x.life (lives_in left') rest other)
 
 -- all before the cursors are taken, and those taken are in order
-pub record IsSwept (values : List MatchedValue) (entries dequeues : List Timed) (taken : List Bool) (first_in first_out leaves : ℕ) (ordered : List ℕ)
+pub record IsSwept (values : List MatchedValue) (entries dequeues : List ℕ) (taken : List Bool) (first_in first_out leaves : ℕ) (ordered : List ℕ)
     (gaps : List ValueGaps) : Type 0 where
   pub one_flag_each : length taken ≡ length values
   pub entries_before : All (IsTaken taken) (take first_in entries)
@@ -84,7 +83,7 @@ pub record IsSwept (values : List MatchedValue) (entries dequeues : List Timed) 
   pub so_far : IsOrderedSoFar values (elements_at values ordered) (left_of values taken) gaps leaves
 
 -- nothing is swept at first
-pub nothing_swept : (values : List MatchedValue) (entries dequeues : List Timed) → IsSwept values entries dequeues (replicate (length values) false) 0 0 0 [] []
+pub nothing_swept : (values : List MatchedValue) (entries dequeues : List ℕ) → IsSwept values entries dequeues (replicate (length values) false) 0 0 0 [] []
 nothing_swept values entries dequeues = record {
   one_flag_each = length-replicate (length values) false;
   entries_before = All-nil (IsTaken (replicate (length values) false));
@@ -94,59 +93,51 @@ nothing_swept values entries dequeues = record {
 }
 
 -- while not all are in order, some value is left
-pub some_left : (number : Life → ℕ) (values : List MatchedValue) (entries : List Timed) (taken : List Bool) (ordered : List ℕ)
+pub some_left : (number : Life → ℕ) (values : List MatchedValue) (entries : List ℕ) (taken : List Bool) (ordered : List ℕ)
     (gaps : List ValueGaps) (leaves : ℕ) → AreByTime number values entries → All (λ place. place < length values) ordered
     → IsOrderedSoFar values (elements_at values ordered) (left_of values taken) gaps leaves → length ordered < length values
-    → (timed : Timed) × Contains entries timed × IsLeft taken timed
+    → (place : ℕ) × Contains entries place × IsLeft taken place
 some_left number values entries taken ordered gaps leaves are within so_far fewer = from_rest (left_of values taken) refl
   where
     count : length (elements_at values ordered ++ left_of values taken) ≡ length values
     count = length_permutation values (elements_at values ordered ++ left_of values taken) so_far.holds_each_once
 
-    from_rest : (rest : List MatchedValue) → left_of values taken ≡ rest → (timed : Timed) × Contains entries timed × IsLeft taken timed
+    from_rest : (rest : List MatchedValue) → left_of values taken ≡ rest → (place : ℕ) × Contains entries place × IsLeft taken place
     from_rest [] is = absurd (let same = ap length is in let long = elements_long values ordered within in
         omega (arith, count, length-append (elements_at values ordered) (left_of values taken), same))
     from_rest (y ∷ rest) is =
         let place = place_left values taken 0 y (ap (λ ys. slice_get ys 0) is) in
-        let entry = are.has_each place.0 (slice_get_within values place.0 y place.1) in
-        (entry.0, entry.1, ap (slice_get taken) entry.2 ∙ place.2)
+        (place.0, are.has_each place.0 (slice_get_within values place.0 y place.1), place.2)
 
--- each entry has its flag
-pub flags_within : (number : Life → ℕ) (values : List MatchedValue) (entries : List Timed) (taken : List Bool) → AreByTime number values entries
-    → length taken ≡ length values → All (λ timed. timed.place < length taken) entries
-flags_within number values entries taken are same =
-    All-weaker (IsTimeOf number values) (λ timed. timed.place < length taken)
-    (λ timed is. subst (λ n. timed.place < n) (sym same) (within timed (slice_get values timed.place) refl is)) entries are.are_timed
-  where
-    within : (timed : Timed) (o : Option MatchedValue) → slice_get values timed.place ≡ o → IsSomeAnd o (λ m. timed.time ≡ number m.life)
-        → timed.place < length values
-    within timed None at is = absurd is
-    within timed (Some m) at is = slice_get_within values timed.place m at
+-- each place has its flag
+pub flags_within : (number : Life → ℕ) (values : List MatchedValue) (entries : List ℕ) (taken : List Bool) → AreByTime number values entries
+    → length taken ≡ length values → All (λ place. place < length taken) entries
+flags_within number values entries taken are same = subst (λ n. All (λ place. place < n) entries) (sym same) are.within
 
 -- one value more is swept
-pub swept_more : (values : List MatchedValue) (entries dequeues : List Timed) (taken : List Bool) (i j first_in first_out leaves leaves' : ℕ) (ordered : List ℕ)
-    (gaps : List ValueGaps) (place : ℕ) (entry : Timed) (more : ValueGaps) (next : IsNext values taken place)
+pub swept_more : (values : List MatchedValue) (entries dequeues : List ℕ) (taken : List Bool) (i j first_in first_out leaves leaves' : ℕ) (ordered : List ℕ)
+    (gaps : List ValueGaps) (place first : ℕ) (more : ValueGaps) (next : IsNext values taken place)
     → IsSwept values entries dequeues taken i j leaves ordered gaps
-    → IsFirstLeft entries taken first_in → IsFirstLeft dequeues taken first_out → (least : IsLeastLeft entered_by values taken entry)
-    → entered_by least.value.life ≤ NEVER → enqueue_call next.value.life < entry.time
-    → leaves' ≡ max (leaves_from next.value.life) leaves → (more.enqueue ≡ entry.time - 1) × (more.dequeue ≡ max leaves' (entry.time - 1))
+    → IsFirstLeft entries taken first_in → IsFirstLeft dequeues taken first_out → (least : IsLeastLeft entered_by values taken first)
+    → entered_by least.value.life ≤ NEVER → enqueue_call next.value.life < entered_by least.value.life
+    → leaves' ≡ max (leaves_from next.value.life) leaves → (more.enqueue ≡ entered_by least.value.life - 1) × (more.dequeue ≡ max leaves' (entered_by least.value.life - 1))
     → IsSwept values entries dequeues (set taken place true) first_in first_out leaves' (ordered ++ place ∷ []) (gaps ++ more ∷ [])
-swept_more values entries dequeues taken i j first_in first_out leaves leaves' ordered gaps place entry more next swept a b least bound called leaves_more are = record {
+swept_more values entries dequeues taken i j first_in first_out leaves leaves' ordered gaps place first more next swept a b least bound called leaves_more are = record {
   one_flag_each = length-set taken place true ∙ swept.one_flag_each;
-  entries_before = All-weaker (IsTaken taken) (IsTaken (set taken place true)) (λ timed is. flag_stays taken place timed.place is)
+  entries_before = All-weaker (IsTaken taken) (IsTaken (set taken place true)) (λ other is. flag_stays taken place other is)
       (take first_in entries) a.before;
-  dequeues_before = All-weaker (IsTaken taken) (IsTaken (set taken place true)) (λ timed is. flag_stays taken place timed.place is)
+  dequeues_before = All-weaker (IsTaken taken) (IsTaken (set taken place true)) (λ other is. flag_stays taken place other is)
       (take first_out dequeues) b.before;
   within = All-push (λ place. place < length values) ordered place swept.within (slice_get_within values place next.value next.is_at);
   so_far =
       subst (λ done. IsOrderedSoFar values done (left_of values (set taken place true)) (gaps ++ more ∷ []) leaves')
       (sym (elements_push values ordered place next.value next.is_at))
-      (ordered_more values (elements_at values ordered) (left_of values taken) (left_of values (set taken place true)) next.value least.value.life entry.time
-      gaps leaves leaves' more swept.so_far (one_taken values taken place next.value next.is_at next.is_left) next.is_choice least.is_least bound least.time_is called leaves_more are);
+      (ordered_more values (elements_at values ordered) (left_of values taken) (left_of values (set taken place true)) next.value least.value.life (entered_by least.value.life)
+      gaps leaves leaves' more swept.so_far (one_taken values taken place next.value next.is_at next.is_left) next.is_choice least.is_least bound refl called leaves_more are);
 }
 
 -- all values are swept
-pub all_swept : (values : List MatchedValue) (entries dequeues : List Timed) (taken : List Bool) (i j leaves : ℕ) (order : InOrder)
+pub all_swept : (values : List MatchedValue) (entries dequeues : List ℕ) (taken : List Bool) (i j leaves : ℕ) (order : InOrder)
     → IsSwept values entries dequeues taken i j leaves order.places.items order.gaps.items → length values ≤ length order.places.items → IsInOrder values order
 all_swept values entries dequeues taken i j leaves order swept all = record {
   within = swept.within;
@@ -173,10 +164,10 @@ all_swept values entries dequeues taken i j leaves order swept all = record {
         (subst (λ lives. HaveGaps lives order.gaps.items) (append-nil (lives_in done)) (so_far.have_gaps [] (IsPermutation-refl [])))
 
 -- the choice among those left is called after one of these has entered
-pub passed_over : (values : List MatchedValue) (taken : List Bool) (done : List MatchedValue) (gaps : List ValueGaps) (leaves place : ℕ) (entry : Timed)
-    (next : IsNext values taken place) → IsOrderedSoFar values done (left_of values taken) gaps leaves → (least : IsLeastLeft entered_by values taken entry)
-    → entry.time ≤ enqueue_call next.value.life → IsPassedOver values
-passed_over values taken done gaps leaves place entry next so_far least late = record {
+pub passed_over : (values : List MatchedValue) (taken : List Bool) (done : List MatchedValue) (gaps : List ValueGaps) (leaves place first : ℕ)
+    (next : IsNext values taken place) → IsOrderedSoFar values done (left_of values taken) gaps leaves → (least : IsLeastLeft entered_by values taken first)
+    → entered_by least.value.life ≤ enqueue_call next.value.life → IsPassedOver values
+passed_over values taken done gaps leaves place first next so_far least late = record {
   remaining = lives_in (left_of values taken);
   among = λ life in_left. Contains-permutation (lives_in done ++ lives_in (left_of values taken)) (lives_in values) life
       (IsPermutation-sym (lives_in values) (lives_in done ++ lives_in (left_of values taken)) all)
@@ -186,7 +177,7 @@ passed_over values taken done gaps leaves place entry next so_far least late = r
   next_is_left = mapped_to (λ m. m.life) (left_of values taken) next.value (left_where values taken place next.value next.is_at next.is_left);
   entered = least.value.life;
   is_left = least.is_least.0;
-  too_late = omega (arith, late, least.time_is);
+  too_late = late;
 }
   where
     all : IsPermutation (lives_in values) (lives_in done ++ lives_in (left_of values taken))

@@ -3,7 +3,7 @@ ghost use Rattle.value_match.specs.declared.life.TheConstants.{NEVER};
 ghost use Rattle.value_match.specs.Lives.{entered_by};
 ghost use Rattle.linearizer.specs.Inner.Sweep.{IsInOrder, IsPassedOver, TakesOneOf};
 
-use crate::timed::{ByTime, Timed, by_time, first_left};
+use crate::timed::{Moment, by_time, first_left};
 use std::alloc::{AllocError, Global};
 use value_match::Values;
 
@@ -34,23 +34,25 @@ pub(crate) fn put_in_order(alloc: Global, values: &Values) -> Result<Option<InOr
     let mut places = Vec::with_capacity(alloc, values.len())?;
     let mut gaps = Vec::with_capacity(alloc, values.len())?;
     let mut taken = vec![in alloc; false; values.len()]?;
-    let ByTime { entries, dequeues } = by_time(alloc, values)?;
+    let entries = by_time(alloc, values, Moment::Entry)?;
+    let dequeues = by_time(alloc, values, Moment::Dequeue)?;
     let mut first_in = 0;
     let mut first_out = 0;
     let mut left = 0;
     while places.len() < values.len() {
         first_in = first_left(&entries, &taken, first_in);
         first_out = first_left(&dequeues, &taken, first_out);
-        let entry = entries[first_in];
-        let next = choice(values, entry, dequeues[first_out]);
+        let first = entries[first_in];
+        let next = choice(values, first, dequeues[first_out]);
+        let entry = values.get(first).life.entered_by();
         let life = values.get(next).life;
-        if entry.time <= life.enqueue_call() {
+        if entry <= life.enqueue_call() {
             return Ok(None);
         }
         taken[next] = true;
         left = life.leaves_from().max(left);
         places.push(next)?;
-        gaps.push(gaps_at(entry.time, left))?;
+        gaps.push(gaps_at(entry, left))?;
     }
     Ok(Some(InOrder { places, gaps }))
 }
@@ -69,12 +71,14 @@ fn gaps_at(entry: u64, left: u64) -> ValueGaps
 }
 
 /// The place of the choice among values of which the one entered first, and the other was dequeued first.
-fn choice(values: &Values, first_in: Timed, first_out: Timed) -> usize
-    requires { first_in.place < length values.now }
+fn choice(values: &Values, first_in: usize, first_out: usize) -> usize
+    requires first_in { first_in < length values.now }
+    requires first_out { first_out < length values.now }
     ensures { TakesOneOf values.now first_in first_out result }
 {
-    if first_out.time < values.get(first_in.place).life.leaves_from() {
-        return first_out.place;
+    let left = values.get(first_in).life.leaves_from();
+    if values.get(first_out).life.dequeue_return() < left {
+        return first_out;
     }
-    first_in.place
+    first_in
 }

@@ -1,24 +1,26 @@
-use Rattle.std.proofs.Common.{arith, length, refl}
+use Rattle.std.proofs.Common.{rules, arith, length, refl}
+use Rattle.std.specs.Prelude.{◌≡◌, map}
+use Rattle.std.proofs.lemmas.List.Sorted.{IsNonDecreasingBy-from_sort_by_key, IsPermutation-trans}
 use Rattle.std.proofs.lemmas.Option.{slice_get_read}
-use Rattle.value_match.specs.Lives.{dequeue_return, entered_by}
+use Rattle.std.proofs.lemmas.Result.{IfOk-weaker}
+use Rattle.linearizer.specs.Inner.Sweep.{AreByTime, time_at}
 use Rattle.linearizer.proofs.Sweeping.{one_more_timed, sorted_by_time}
 use Rattle.linearizer.proofs.timed.by_time.Goals as goal
 
 pub loop-place-preserved : goal.loop-place-preserved
 loop-place-preserved c =
-    let at = slice_get_read c.args.values.now (length c.args.values.now) c.loop-place.place _ refl
-    (omega (arith, c.loop-place-test.true, c.len-place-end.ensures)) c.get.ensures in
-    rw (c.in_ok-push.ensures.items, c.in_ok-push-2.ensures.items) (
-      one_more_timed entered_by c.args.values.now c.loop-place.place c.entered_by-entry.result c.loop-place.entries.items c.get.result
-          c.loop-place.invariant.0 at c.entered_by-entry.ensures,
-      one_more_timed dequeue_return c.args.values.now c.loop-place.place c.dequeue_return-dequeue.result c.loop-place.dequeues.items c.get.result
-          c.loop-place.invariant.1 at c.dequeue_return-dequeue.ensures,
-    )
+    rw c.in_ok-push.ensures.items
+    (one_more_timed (time_at c.args.moment) c.args.values.now c.loop-place.place c.of-time.result c.loop-place.times.items c.get-value.result
+    c.loop-place.invariant
+    (slice_get_read c.args.values.now (length c.args.values.now) c.loop-place.place _ refl
+    (omega (arith, c.loop-place-test.true, c.len-place-end.ensures)) c.get-value.ensures) c.of-time.ensures)
 
-pub returns-clause-entries : goal.returns-clause-entries
-returns-clause-entries c = sorted_by_time entered_by c.args.values.now c.loop-place.place c.loop-place.entries.items _ c.loop-place.invariant.0
-    (omega (arith, c.loop-place-test.false, c.len-place-end.ensures)) c.sort_by_time.ensures.moved c.sort_by_time.ensures.rise
-
-pub returns-clause-dequeues : goal.returns-clause-dequeues
-returns-clause-dequeues c = sorted_by_time dequeue_return c.args.values.now c.loop-place.place c.loop-place.dequeues.items _ c.loop-place.invariant.1
-    (omega (arith, c.loop-place-test.false, c.len-place-end.ensures)) c.sort_by_time-2.ensures.moved c.sort_by_time-2.ensures.rise
+pub returns : goal.returns
+returns c =
+    let sorted = sorted_by_time (time_at c.args.moment) c.args.values.now c.loop-place.place c.loop-place.times.items c.sort_unstable_by_key.new.self.items
+    c.loop-place.invariant (omega (arith, c.loop-place-test.false, c.len-place-end.ensures))
+    (IsPermutation-trans _ _ _ c.presort.ensures c.sort_unstable_by_key.ensures.permutation)
+    (IsNonDecreasingBy-from_sort_by_key (λ timed. timed.time) _ c.sort_unstable_by_key.ensures.sorted (λ a r q k. search rules)) in
+    IfOk-weaker c.places_of.result (λ places. places.items ≡ map (λ timed. timed.place) c.deref.result.now)
+    (λ places. AreByTime (time_at c.args.moment) c.args.values.now places.items)
+    (λ places is. rw (is, c.deref.ensures.value) sorted) c.places_of.ensures

@@ -1,9 +1,0 @@
-use Rattle.std.proofs.Common.{rules}
-use Rattle.std.proofs.lemmas.List.Sorted.{IsNonDecreasingBy-from_sort_by_key, IsPermutation-trans}
-use Rattle.linearizer.proofs.timed.sort_by_time.Goals as goal
-
-pub returns-clause-moved : goal.returns-clause-moved
-returns-clause-moved c = IsPermutation-trans _ _ _ c.presort.ensures c.sort_unstable_by_key.ensures.permutation
-
-pub returns-clause-rise : goal.returns-clause-rise
-returns-clause-rise c = IsNonDecreasingBy-from_sort_by_key (λ timed. timed.time) _ c.sort_unstable_by_key.ensures.sorted (λ a r q k. search rules)
