@@ -1,28 +1,14 @@
 -- What a loop adds with one more element.
-use Rattle.std.proofs.Common.{◌≡◌, ℕ, zero, suc, ◌+◌, ◌<◌, List, [], ◌∷◌, ◌++◌, map, length, take, get_or, ap, sym, ◌∙◌, add-one, zero-add}
+use Rattle.std.proofs.Common.{◌≡◌, ℕ, ◌+◌, ◌<◌, List, [], ◌∷◌, ◌++◌, map, length, take, get_or, ap, sym, ◌∙◌, zero-add}
 use Rattle.std.proofs.Common.{append-nil, append_assoc, arith, max, length-take-le, cond, Bool, true, false, drop, Some, refl}
 use Rattle.std.specs.List.{range_with_len, flat_map, filter, find, enumerate_from}
-use Rattle.std.proofs.lemmas.List.{map-append, take_more, at_drop_more}
-use Rattle.std.proofs.lemmas.List.Elements.{filter-append}
+use Rattle.std.proofs.lemmas.List.{map-append, map-id, take_more, at_drop_more}
+use Rattle.std.proofs.lemmas.List.FromFn.{filter_of_map_range_with_len_more, map-range_with_len_more}
 use Rattle.std.proofs.lemmas.Grind.{flat_map-append}
 use Rattle.std.proofs.lemmas.List.Sums.{fold_more, fold-append}
 use Rattle.history_merge.specs.declared.operation.Operation.{Operation}
 use Rattle.drawing.specs.Layout.{threads_below, has_operations, point, greatest_call}
 use Rattle.drawing.specs.Words.{Word, placed, with_words}
-
-range_suc : (a n : ℕ) → range_with_len a (suc n) ≡ range_with_len a n ++ (a + n) ∷ []
-range_suc a zero = let e : a ≡ a + 0 = omega arith in ap (λ (x : ℕ). x ∷ []) e
-range_suc a (suc n) =
-    let e : a + 1 + n ≡ a + suc n = omega arith in
-    ap (λ (xs : List ℕ). a ∷ xs) (range_suc (a + 1) n ∙ ap (λ (x : ℕ). range_with_len (a + 1) n ++ x ∷ []) e)
-
--- one number more
-pub range_more : (n : ℕ) → range_with_len 0 (n + 1) ≡ range_with_len 0 n ++ n ∷ []
-range_more n = ap (range_with_len 0) (add-one n) ∙ range_suc 0 n ∙ ap (λ (x : ℕ). range_with_len 0 n ++ x ∷ []) (zero-add n)
-
--- what is made of one number more
-pub map_range_more : {A : Type 0} (f : ℕ → A) (n : ℕ) → map f (range_with_len 0 (n + 1)) ≡ map f (range_with_len 0 n) ++ f n ∷ []
-map_range_more f n = ap (map f) (range_more n) ∙ map-append f (range_with_len 0 n) (n ∷ [])
 
 -- what is found from one element on is that element, or is found from the next one on
 pub find_step : {X : Type 0} (p : X → Bool) (xs : List X) (i : ℕ) (d : X) → i < length xs
@@ -36,10 +22,12 @@ passed_over p xs i d within before fails =
     before ∙ find_step p xs i d within ∙ ap (λ (b : Bool). cond b (Some (get_or xs i d)) (find p (drop (i + 1) xs))) fails
 
 -- the threads that have operations, with one thread more
-pub threads_more : (operations : List Operation) (n : ℕ) → threads_below operations (n + 1) ≡ threads_below operations n ++ cond (has_operations operations n) (n ∷ []) []
+threads_more : (operations : List Operation) (n : ℕ) → threads_below operations (n + 1) ≡ threads_below operations n ++ cond (has_operations operations n) (n ∷ []) []
 unfolding threads_below
 threads_more operations n =
-    ap (filter (has_operations operations)) (range_more n) ∙ filter-append (has_operations operations) (range_with_len 0 n) (n ∷ [])
+    ap (filter (has_operations operations)) (sym (map-id (range_with_len 0 (n + 1))))
+    ∙ filter_of_map_range_with_len_more (has_operations operations) (λ k. k) 0 n n (zero-add n)
+    ∙ ap (λ (xs : List ℕ). filter (has_operations operations) xs ++ cond (has_operations operations n) (n ∷ []) []) (map-id (range_with_len 0 n))
 
 -- a thread with operations is one more
 pub threads_yes : (operations : List Operation) (n : ℕ) → has_operations operations n ≡ true → threads_below operations (n + 1) ≡ threads_below operations n ++ n ∷ []
@@ -98,7 +86,7 @@ words_enumerated_more f line xs i d within =
 -- the words of one number more
 pub words_range_more : (f : ℕ → Word) (line : List ℕ) (n : ℕ)
     → with_words line (map f (range_with_len 0 (n + 1))) ≡ placed (with_words line (map f (range_with_len 0 n))) (f n)
-words_range_more f line n = ap (with_words line) (map_range_more f n) ∙ words_push line (map f (range_with_len 0 n)) (f n)
+words_range_more f line n = ap (with_words line) (map-range_with_len_more f 0 n n (zero-add n)) ∙ words_push line (map f (range_with_len 0 n)) (f n)
 
 -- a word of one element more, with its place, was added
 pub words_enumerated_step : {X : Type 0} (f : ℕ × X → Word) (line : List ℕ) (xs : List X) (i : ℕ) (d : X) (old new : List ℕ) → i < length xs

@@ -4,9 +4,8 @@ ghost use Rattle.svg_picture.specs.Markup.{text_of};
 ghost use Rattle.svg_picture.specs.Layout.{page_on};
 ghost use Rattle.svg_picture.specs.Picture.{thread_name, lane_names, threads, row_pattern, patterns, background};
 
-use crate::elements::{Rect, push_hatch, push_rect, push_text_at};
+use crate::elements::{Rect, push_hatch, push_pattern, push_rect, push_text_at};
 use crate::layout::{bottom, height, thread_x, top, width};
-use crate::markup::Attribute::{Number, Words};
 use crate::markup::{push_end, push_number, push_start};
 use crate::sheet::{Measures, Sheet};
 use drawing::Added;
@@ -48,25 +47,13 @@ pub(crate) fn push_threads(text: &mut Vec<u8>, sheet: &Sheet<'_>) -> Added
 fn push_row_pattern(text: &mut Vec<u8>, m: Measures) -> Added
     ensures { OnOk result (text.new.items ≡ text.old.items ++ text_of (row_pattern m)) }
 {
-    let wide = width(m);
     let tint = Rect {
         x: 0,
         y: 0,
-        width: wide,
+        width: width(m),
         height: 20,
     };
-    push_start(
-        text,
-        b"pattern",
-        &[
-            Words(b"id", b"rows"),
-            Number(b"x", 0),
-            Number(b"y", top(m)),
-            Number(b"width", wide),
-            Number(b"height", 40),
-            Words(b"patternUnits", b"userSpaceOnUse"),
-        ],
-    )?;
+    push_pattern(text, b"rows", top(m), width(m), 40)?;
     push_rect(text, b"row", 0, tint)?;
     push_end(text, b"pattern")
 }
