@@ -62,38 +62,20 @@ enumerated_more xs i d within =
     ap (enumerate_from 0) (take_more xs i d within) ∙ enumerated-append 0 (take i xs) (get_or xs i d)
     ∙ ap (λ (k : ℕ). enumerate_from 0 (take i xs) ++ (k, get_or xs i d) ∷ []) e
 
--- the pieces of one element more, with its place
-pub flat_map_enumerated_more : {X A : Type 0} (f : ℕ × X → List A) (xs : List X) (i : ℕ) (d : X) → i < length xs
-    → flat_map f (enumerate_from 0 (take (i + 1) xs)) ≡ flat_map f (enumerate_from 0 (take i xs)) ++ f (i, get_or xs i d)
-flat_map_enumerated_more f xs i d within =
-    ap (flat_map f) (enumerated_more xs i d within) ∙ flat_map-append f (enumerate_from 0 (take i xs)) ((i, get_or xs i d) ∷ [])
-    ∙ ap (λ (r : List _). flat_map f (enumerate_from 0 (take i xs)) ++ r) (append-nil (f (i, get_or xs i d)))
-
 -- ---- words of a line
 
 -- a word more
 pub words_push : (line : List ℕ) (words : List Word) (word : Word) → with_words line (words ++ word ∷ []) ≡ placed (with_words line words) word
 words_push line words word = fold-append placed line words (word ∷ [])
 
--- the words of one element more, with its place
-pub words_enumerated_more : {X : Type 0} (f : ℕ × X → Word) (line : List ℕ) (xs : List X) (i : ℕ) (d : X) → i < length xs
-    → with_words line (map f (enumerate_from 0 (take (i + 1) xs))) ≡ placed (with_words line (map f (enumerate_from 0 (take i xs)))) (f (i, get_or xs i d))
-words_enumerated_more f line xs i d within =
-    ap (λ (r : List _). with_words line (map f r)) (enumerated_more xs i d within)
-    ∙ ap (with_words line) (map-append f (enumerate_from 0 (take i xs)) ((i, get_or xs i d) ∷ []))
-    ∙ words_push line (map f (enumerate_from 0 (take i xs))) (f (i, get_or xs i d))
-
--- the words of one number more
-pub words_range_more : (f : ℕ → Word) (line : List ℕ) (n : ℕ)
-    → with_words line (map f (range_with_len 0 (n + 1))) ≡ placed (with_words line (map f (range_with_len 0 n))) (f n)
-words_range_more f line n = ap (with_words line) (map-range_with_len_more f 0 n n (zero-add n)) ∙ words_push line (map f (range_with_len 0 n)) (f n)
-
 -- a word of one element more, with its place, was added
 pub words_enumerated_step : {X : Type 0} (f : ℕ × X → Word) (line : List ℕ) (xs : List X) (i : ℕ) (d : X) (old new : List ℕ) → i < length xs
     → old ≡ with_words line (map f (enumerate_from 0 (take i xs))) → new ≡ placed old (f (i, get_or xs i d))
     → new ≡ with_words line (map f (enumerate_from 0 (take (i + 1) xs)))
 words_enumerated_step f line xs i d old new within before now =
-    now ∙ ap (λ (l : List ℕ). placed l (f (i, get_or xs i d))) before ∙ sym (words_enumerated_more f line xs i d within)
+    now ∙ ap (λ (l : List ℕ). placed l (f (i, get_or xs i d))) before ∙ sym (ap (λ (r : List _). with_words line (map f r)) (enumerated_more xs i d within)
+    ∙ ap (with_words line) (map-append f (enumerate_from 0 (take i xs)) ((i, get_or xs i d) ∷ []))
+    ∙ words_push line (map f (enumerate_from 0 (take i xs))) (f (i, get_or xs i d)))
 
 -- a piece of one element more, with its place, was added
 pub flat_map_enumerated_step : {X A : Type 0} (f : ℕ × X → List A) (text : List A) (xs : List X) (i : ℕ) (d : X) (old new : List A) → i < length xs
@@ -101,9 +83,10 @@ pub flat_map_enumerated_step : {X A : Type 0} (f : ℕ × X → List A) (text : 
     → new ≡ text ++ flat_map f (enumerate_from 0 (take (i + 1) xs))
 flat_map_enumerated_step f text xs i d old new within before now =
     now ∙ ap (λ (t : List _). t ++ f (i, get_or xs i d)) before ∙ append_assoc text _ _
-    ∙ ap (λ (t : List _). text ++ t) (sym (flat_map_enumerated_more f xs i d within))
+    ∙ ap (λ (t : List _). text ++ t) (sym (ap (flat_map f) (enumerated_more xs i d within) ∙ flat_map-append f (enumerate_from 0 (take i xs)) ((i, get_or xs i d) ∷ [])
+    ∙ ap (λ (r : List _). flat_map f (enumerate_from 0 (take i xs)) ++ r) (append-nil (f (i, get_or xs i d)))))
 
 -- a word of one number more was added
 pub words_range_step : (f : ℕ → Word) (line : List ℕ) (n : ℕ) (old new : List ℕ) → old ≡ with_words line (map f (range_with_len 0 n))
     → new ≡ placed old (f n) → new ≡ with_words line (map f (range_with_len 0 (n + 1)))
-words_range_step f line n old new before now = now ∙ ap (λ (l : List ℕ). placed l (f n)) before ∙ sym (words_range_more f line n)
+words_range_step f line n old new before now = now ∙ ap (λ (l : List ℕ). placed l (f n)) before ∙ sym (ap (with_words line) (map-range_with_len_more f 0 n n (zero-add n)) ∙ words_push line (map f (range_with_len 0 n)) (f n))

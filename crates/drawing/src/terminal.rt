@@ -257,27 +257,6 @@ fn call_label(
     }
 }
 
-/// An initial value after its number.
-fn initial_told(
-    alloc: Global,
-    claimed: &Claimed,
-    row: Row,
-    value: u64,
-) -> Result<Vec<u8>, AllocError>
-    requires { count_of_lines claimed.now ≤ MOST_DRAWN }
-    ensures { IfOk result (λ word. word.items
-        ≡ numbered (digits (count_of_lines claimed.now)) (number_at (place_in (shown_by claimed.now) row)) (initial_label value)) }
-{
-    let label = initial_label(alloc, value)?;
-    let number = number_at(alloc, place_in(shown_by(claimed), row))?;
-    numbered(
-        alloc,
-        digits(count_of_lines(claimed) as u64),
-        number.as_slice(),
-        label.as_slice(),
-    )
-}
-
 /// Adds the words right of the bands or of the lanes.
 fn place_told(line: &mut Vec<u8>, sheet: &Sheet<'_>, row: Row) -> Added
     ensures { OnOk result (line.new.items ≡ placed line.old.items (told_word sheet.now.columns (scene_in sheet.now) row)) }
@@ -286,7 +265,10 @@ fn place_told(line: &mut Vec<u8>, sheet: &Sheet<'_>, row: Row) -> Added
     match row {
         Row::Head => place(line, sheet.columns.lanes, b"in the queue first"),
         Row::Initial(_, value) => {
-            let word = initial_told(sheet.alloc, claimed, row, value)?;
+            let label = initial_label(sheet.alloc, value)?;
+            let number = number_at(sheet.alloc, place_in(shown_by(claimed), row))?;
+            let wide = digits(count_of_lines(claimed) as u64);
+            let word = numbered(sheet.alloc, wide, number.as_slice(), label.as_slice())?;
             place(line, sheet.columns.lanes, word.as_slice())
         }
         Row::Ticket(ticket) => {
@@ -364,16 +346,6 @@ fn place_lane_names(line: &mut Vec<u8>, sheet: &Sheet<'_>, tens: bool) -> Added
     Ok(())
 }
 
-#[tactic(auto, unfolding(crate::specs::Terminal::thread_words))]
-fn thread_bytes(sheet: &Sheet<'_>) -> Result<Vec<u8>, AllocError>
-    ensures { IfOk result (λ bytes. bytes.items ≡ line_of (thread_words sheet.now.columns (length (scene_in sheet.now).bands))) }
-{
-    let mut bytes = Vec::new(sheet.alloc);
-    place_strokes(&mut bytes, sheet, sheet.scene.bands.len())?;
-    place(&mut bytes, sheet.columns.lanes, b"thread")?;
-    Ok(bytes)
-}
-
 fn order_word(claimed: &Claimed) -> &'static [u8]
     ensures { result.now ≡ order_word claimed.now }
 {
@@ -415,12 +387,14 @@ fn name_bytes(sheet: &Sheet<'_>) -> Result<Vec<u8>, AllocError>
 }
 
 /// Adds the heads: those of the bands, and those of the tickets and the lanes.
-#[tactic(auto, unfolding(crate::specs::Terminal::heads))]
+#[tactic(auto, unfolding(crate::specs::Terminal::heads, crate::specs::Terminal::thread_words))]
 fn push_heads(text: &mut Vec<u8>, sheet: &Sheet<'_>) -> Added
     ensures { OnOk result (text.new.items ≡ text.old.items ++ heads sheet.now.columns (scene_in sheet.now)) }
 {
     push_band_heads(text, sheet)?;
-    let threads = thread_bytes(sheet)?;
+    let mut threads = Vec::new(sheet.alloc);
+    place_strokes(&mut threads, sheet, sheet.scene.bands.len())?;
+    place(&mut threads, sheet.columns.lanes, b"thread")?;
     push_line(text, threads.as_slice())?;
     push_tens_line(text, sheet)?;
     let names = name_bytes(sheet)?;
