@@ -81,14 +81,10 @@ unfoldable pub one_of_cover : ℕ → ClaimLine → ClaimLine → List ℕ
 one_of_cover number enq deq =
     cover_from number enq ++ concat (codes ") to " ∷ moment_text (line_call deq) ∷ codes " (" ∷ decimal (number + 1) ∷ line (codes ")") ∷ [])
 
--- from when on the last value of a cover definitely was in the queue
-unfoldable pub last_of_cover : ℕ → ClaimLine → List ℕ
-last_of_cover number enq = cover_from number enq ++ line (codes ") on")
-
 -- the lines of the values of a cover, numbered from here on
 abbrev pub cover_caption : ℕ → List ClaimLine → List ℕ
 cover_caption number [] = []
-cover_caption number (enq ∷ []) = last_of_cover number enq
+cover_caption number (enq ∷ []) = cover_from number enq ++ line (codes ") on")
 cover_caption number (enq ∷ deq ∷ rest) = one_of_cover number enq deq ++ cover_caption (number + 2) rest
 
 -- the first lines of the caption of an empty answer

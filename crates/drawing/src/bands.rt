@@ -3,7 +3,7 @@ ghost use Rattle.std.specs.Prelude.{◌≡◌, ◌++◌, ◌∷◌, ◌+◌, ◌
 ghost use Rattle.drawing.specs.Claim.{count_of_lines, line_call, line_kind, line_return};
 ghost use Rattle.drawing.specs.Names.{value_text};
 ghost use Rattle.std.specs.List.{concat};
-ghost use Rattle.drawing.specs.Bands.{line_value, sure_until, time_of, call_if_taken, enqueue_call, first_call, cover_bands, fresh_bands};
+ghost use Rattle.drawing.specs.Bands.{line_value, sure_until, time_of, enqueue_call, first_call, cover_bands, fresh_bands};
 ghost use Rattle.drawing.specs.Bands.{order_bands, witness_bands, repeat_bands, bands_of, head_text, form_words, has_begun, goes_on, form_at};
 
 use crate::claim::{line_call, line_kind, line_return};
@@ -65,21 +65,15 @@ fn time_of(head: Head, first: Option<u64>, last: Option<u64>) -> Band
     Band { head, first, last }
 }
 
-fn call_if_taken(line: ClaimLine) -> Option<u64>
-    ensures { result ≡ call_if_taken line (line_kind line) }
-{
-    match line_kind(line) {
-        OpKind::Enq(_) => line_call(line),
-        _ => None,
-    }
-}
-
 fn enqueue_call(lines: &[ClaimLine]) -> Option<u64>
     ensures { result ≡ enqueue_call lines.now }
 {
     match lines {
         [] => None,
-        [enq, ..] => call_if_taken(*enq),
+        [enq, ..] => match line_kind(*enq) {
+            OpKind::Enq(_) => line_call(*enq),
+            _ => None,
+        },
     }
 }
 

@@ -2,7 +2,7 @@
 ghost use Rattle.std.specs.Prelude.{◌≡◌, ◌++◌, ◌+◌, ◌≤◌, OnOk, length};
 ghost use Rattle.drawing.specs.Claim.{count_of_lines};
 ghost use Rattle.drawing.specs.Captions.{headline, fresh_reason, fresh_words, fresh_caption, repeat_words, repeat_caption, before_words};
-ghost use Rattle.drawing.specs.Captions.{overtaking_caption, order_caption, cover_from, one_of_cover, last_of_cover, cover_caption};
+ghost use Rattle.drawing.specs.Captions.{overtaking_caption, order_caption, cover_from, one_of_cover, cover_caption};
 ghost use Rattle.drawing.specs.Captions.{witness_words, witness_caption, caption};
 
 use crate::bands::{line_value, push_named};
@@ -151,14 +151,6 @@ fn push_cover_from(text: &mut Vec<u8>, number: u64, enq: ClaimLine) -> Added
     )
 }
 
-#[tactic(auto, unfolding(crate::specs::Captions::last_of_cover))]
-fn push_last_of_cover(text: &mut Vec<u8>, number: u64, enq: ClaimLine) -> Added
-    ensures { OnOk result (text.new.items ≡ text.old.items ++ last_of_cover number enq) }
-{
-    push_cover_from(text, number, enq)?;
-    text.extend_from_slice(b") on\n")
-}
-
 #[tactic(auto, unfolding(crate::specs::Captions::one_of_cover))]
 fn push_one_of_cover(text: &mut Vec<u8>, number: u64, enq: ClaimLine, deq: ClaimLine) -> Added
     requires { number ≤ MOST_DRAWN }
@@ -184,7 +176,10 @@ fn push_cover_caption(text: &mut Vec<u8>, number: u64, lines: &[ClaimLine]) -> A
 {
     match lines {
         [] => Ok(()),
-        [enq] => push_last_of_cover(text, number, *enq),
+        [enq] => {
+            push_cover_from(text, number, *enq)?;
+            text.extend_from_slice(b") on\n")
+        }
         [enq, deq, rest @ ..] => {
             push_one_of_cover(text, number, *enq, *deq)?;
             push_cover_caption(text, number + 2, rest)

@@ -82,14 +82,6 @@ fn push_effect_rows(rows: &mut Vec<Row>, order: &[Operation], ticket: u64) -> Ad
     Ok(())
 }
 
-/// Adds the row of an event, and those of the effects after it.
-fn push_event_rows(rows: &mut Vec<Row>, order: &[Operation], event: Event) -> Added
-    ensures { OnOk result (rows.new.items ≡ rows.old.items ++ event_rows order.now event) }
-{
-    rows.push(Row::Ticket(event.ticket))?;
-    push_effect_rows(rows, order, event.ticket)
-}
-
 fn has_row(drawn: &[Operation], ticket: u64) -> bool
     ensures { result ≡ has_row drawn.now ticket }
 {
@@ -119,7 +111,8 @@ fn push_rows_of_events(
     for event in events {
         if has_row(drawn, event.ticket) {
             push_left_out(rows, count, last)?;
-            push_event_rows(rows, order, *event)?;
+            rows.push(Row::Ticket(event.ticket))?;
+            push_effect_rows(rows, order, event.ticket)?;
             count = 0;
         } else {
             count += 1;
