@@ -145,8 +145,8 @@ name it, 6 * 2^32 + 11, and `init:3` is 2^38 + 3.
 With `NO` only the operations that show it and those that overlap one of them
 are drawn; a row `... 250 events ...` stands for what is left out between. With
 `--around 20` so are the 20 events before and after each operation that shows
-it, and all that is pending meanwhile: in characters with `(`, `)` and `:`. With
-`--all` everything is drawn.
+it, and all that is pending meanwhile; in characters what overlaps no numbered
+operation has `(`, `)` and `:`. With `--all` everything is drawn.
 
 More than 400 operations to be drawn, values that the queue holds first, or
 lines of the verdict are `REFUSED Size`: shrink the history first. Lines count

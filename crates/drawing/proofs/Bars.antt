@@ -1,7 +1,7 @@
 -- The bars in the lanes are the operations.
-use Rattle.std.proofs.Common.{◌≡◌, ℕ, ◌<◌, ◌≤◌, inl, inr, Bool, true, false, cond, List, [], ◌∷◌, Some, refl, sym, ap, subst, ◌∙◌, arith, eq-eqb}
+use Rattle.std.proofs.Common.{◌≡◌, ℕ, ◌<◌, ◌≤◌, inl, inr, Bool, true, false, List, [], ◌∷◌, Some, refl, sym, ap, subst, ◌∙◌, arith, eq-eqb}
 use Rattle.std.specs.Prelude.{Contains, find, slice_get}
-use Rattle.std.proofs.lemmas.Bool.{cases_lt}
+use Rattle.std.proofs.lemmas.Bool.{cases_lt, cond_both}
 use Rattle.std.proofs.lemmas.Bool.Decides.{nat_tests}
 use Rattle.event_records.specs.declared.event.Event.{Event}
 use Rattle.history_merge.specs.declared.operation.Operation.{Operation}
@@ -20,14 +20,10 @@ use Rattle.drawing.proofs.Nearness.{among_operations}
 -- where an element passes, one is found
 pub found : {X : Type 0} (p : X → Bool) (xs : List X) (x : X) → Contains xs x → p x ≡ true → (r : X) × (find p xs ≡ Some r)
 found p [] x among passes = absurd (not_in_none x among)
-found p (y ∷ ys) x among passes = join (p y) refl (λ there. found p ys x there passes)
-  where
-    join : (b : Bool) → p y ≡ b → (Contains ys x → (r : _) × (find p ys ≡ Some r)) → (r : _) × (cond b (Some y) (find p ys) ≡ Some r)
-    join true is later = (y, refl)
-    join false is later = elim (contains_cons y ys x among) [
-      | inl here ↦ let clash : false ≡ true = sym is ∙ ap p here ∙ passes in cc
-      | inr there ↦ later there
-    ]
+found p (y ∷ ys) x among passes = cond_both (p y) (Some y) (find p ys) (λ f. (r : _) × (f ≡ Some r)) (λ is. (y, refl)) (λ is. elim (contains_cons y ys x among) [
+  | inl here ↦ let clash : false ≡ true = sym is ∙ ap p here ∙ passes in cc
+  | inr there ↦ found p ys x there passes
+])
 
 -- what the test of a bar means
 under_way_tells : (thread ticket : ℕ) (o : Operation) → is_under_way thread ticket o ≡ true → (o.thread ≡ thread) × (o.call ≤ ticket) × (ticket ≤ o.ret)

@@ -1,6 +1,7 @@
 -- How many elements pass a test, where another test lets more of them pass.
 use Rattle.std.proofs.Common.{◌≡◌, ℕ, ◌+◌, ◌≤◌, Bool, true, false, inl, inr, List, [], ◌∷◌, arith, cond, subst, sym, refl}
 use Rattle.std.specs.Prelude.{Contains, count_by}
+use Rattle.std.proofs.lemmas.Bool.{cond_both}
 use Rattle.std.proofs.lemmas.List.Sums.{sum_by-cons}
 use Rattle.history_merge.proofs.Distinct.{contains_cons, not_in_none}
 
@@ -9,11 +10,7 @@ module _ {X : Type 0} (p q : X → Bool) (more : (x : X) → p x ≡ true → q 
   first_of r x xs = sum_by-cons (λ y. cond (r y) 1 0) x xs
 
   not_more : (x : X) → cond (p x) 1 0 ≤ cond (q x) 1 0
-  not_more x = join (p x) refl
-    where
-      join : (b : Bool) → p x ≡ b → cond b 1 0 ≤ cond (q x) 1 0
-      join true is = subst (λ c. 1 ≤ cond c 1 0) (sym (more x is)) (omega arith)
-      join false is = omega arith
+  not_more x = cond_both (p x) 1 0 (λ n. n ≤ cond (q x) 1 0) (λ is. subst (λ c. 1 ≤ cond c 1 0) (sym (more x is)) (omega arith)) (λ is. omega arith)
 
   -- no more pass the first
   pub fewer : (xs : List X) → count_by p xs ≤ count_by q xs

@@ -1,8 +1,9 @@
 -- The lines of evidence are operations and initial values of the history.
-use Rattle.std.proofs.Common.{◌≡◌, ℕ, ◌+◌, ◌*◌, ◌&&◌, inl, inr, Bool, true, false, List, [], ◌∷◌, length, map, Some, None, Option, MatchOption}
-use Rattle.std.proofs.Common.{refl, sym, ap, subst, ◌∙◌, arith, cond}
+use Rattle.std.proofs.Common.{◌≡◌, ℕ, ◌+◌, ◌*◌, ◌&&◌, inl, inr, List, [], ◌∷◌, length, map, Some, None, Option, MatchOption}
+use Rattle.std.proofs.Common.{refl, sym, ap, subst, ◌∙◌, arith}
 use Rattle.std.specs.Prelude.{Contains, flat_map, nat_le, option_to_list}
 use Rattle.std.proofs.lemmas.List.Elements.{Contains-append_cases}
+use Rattle.std.proofs.lemmas.Option.{cond_some}
 use Rattle.event_records.specs.declared.limits.TheConstants.{MAX_TICKET}
 use Rattle.history_merge.specs.declared.operation.Operation.{Operation}
 use Rattle.history_merge.specs.declared.operation.OpKind.TheVariants.{Deq}
@@ -92,23 +93,17 @@ stands : (initial : List ℕ) (lines : List ClaimLine) (shown : List Operation) 
 stands initial [] shown l same among = absurd (not_in_none l among)
 stands initial (m ∷ lines) [] l same among = absurd (cc)
 stands initial (m ∷ lines) (x ∷ shown) l same among = elim (contains_cons m lines l among) [
-  | inl here ↦ let first : stands_for initial m ≡ Some x = cc in (x, contains_first, ap (stands_for initial) (sym here) ∙ first)
+  | inl here ↦ let first : stands_for initial m ≡ Some x = cc in
+      (x, contains_at (x ∷ shown) 0 x refl, ap (stands_for initial) (sym here) ∙ first)
   | inr there ↦
       let later : map (stands_for initial) lines ≡ map (λ o. Some o) shown = cc in
       let found = stands initial lines shown l later there in
       (found.0, one_deeper x shown found.0 found.1, found.2)
 ]
-  where
-    contains_first : Contains (x ∷ shown) x
-    contains_first = contains_at (x ∷ shown) 0 x refl
 
 -- an operation that stands for another is that, earlier
 stands_later : (n : ℕ) (o x : Operation) → in_filled n o ≡ Some x → later_by (2 * n) o ≡ x
-stands_later n o x is = go (nat_le o.call MAX_TICKET && nat_le o.ret MAX_TICKET) is
-  where
-    go : (b : Bool) → cond b (Some (later_by (2 * n) o)) None ≡ Some x → later_by (2 * n) o ≡ x
-    go true same = cc
-    go false same = cc
+stands_later n o x is = (cond_some (nat_le o.call MAX_TICKET && nat_le o.ret MAX_TICKET) (later_by (2 * n) o) x is).1
 
 -- the lines of evidence are of the history
 pub lines_are_of_history : LinesAreOfHistory

@@ -1,9 +1,11 @@
 -- Lanes of different threads stand apart.
-use Rattle.std.proofs.Common.{◌≡◌, ℕ, ◌+◌, ◌<◌, ◌≤◌, List, true, arith}
+use Rattle.std.proofs.Common.{◌≡◌, ℕ, ◌+◌, ◌*◌, ◌/◌, ◌==◌, ◌<◌, ◌≤◌, List, true, false, cond, subst, sym, eqb-true, arith}
 use Rattle.std.specs.Prelude.{Contains, nat_lt}
 use Rattle.std.proofs.Math.Nat.{mul-le-mul_left}
+use Rattle.std.proofs.lemmas.Bool.{cond_both}
 use Rattle.std.proofs.lemmas.Bool.Decides.{nat_tests}
 use Rattle.drawing.specs.Scene.{lanes_before}
+use Rattle.drawing.specs.Terminal.{lane_place}
 use Rattle.drawing.specs.Laws.{LanesAreApart}
 use Rattle.drawing.proofs.Below.{one_fewer}
 
@@ -17,8 +19,19 @@ more_before threads thread higher among less =
     one_fewer (λ t. nat_lt t thread) (λ t. nat_lt t higher) (λ x lower. is_lower x thread higher less lower) threads thread among
     (grind (arith, nat_tests)) (grind (arith, nat_tests))
 
+-- a lane ends before those with more lanes to their left begin
+place_rises : (lane m n : ℕ) → m + 1 ≤ n → lane_place lane m + lane ≤ lane_place lane n
+place_rises lane m n more = cond_both (lane == 1) (m + m / 4) (lane * m) (λ x. x + lane ≤ lane_place lane n)
+    (λ is. narrow is) (λ is. wide is)
+  where
+    narrow : (lane == 1) ≡ true → m + m / 4 + lane ≤ lane_place lane n
+    narrow is = subst (λ b. m + m / 4 + lane ≤ cond b (n + n / 4) (lane * n)) (sym is) (let one : lane ≡ 1 = eqb-true lane 1 is in omega arith)
+
+    wide : (lane == 1) ≡ false → lane * m + lane ≤ lane_place lane n
+    wide is = subst (λ b. lane * m + lane ≤ cond b (n + n / 4) (lane * n)) (sym is) (let far = mul-le-mul_left lane more in omega arith)
+
 -- lanes of different threads stand apart
 pub lanes_are_apart : LanesAreApart
 lanes_are_apart threads columns thread higher among less =
-    let wide = mul-le-mul_left columns.lane (more_before threads thread higher among less) in
+    let far = place_rises columns.lane _ _ (more_before threads thread higher among less) in
     omega arith

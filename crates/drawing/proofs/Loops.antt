@@ -1,28 +1,14 @@
 -- What a loop adds with one more element.
-use Rattle.std.proofs.Common.{◌≡◌, ℕ, zero, suc, ◌+◌, ◌<◌, List, [], ◌∷◌, ◌++◌, map, length, take, get_or, ap, sym, ◌∙◌, add-one, zero-add}
+use Rattle.std.proofs.Common.{◌≡◌, ℕ, ◌+◌, ◌<◌, List, [], ◌∷◌, ◌++◌, map, length, take, get_or, ap, sym, ◌∙◌, zero-add}
 use Rattle.std.proofs.Common.{append-nil, append_assoc, arith, max, length-take-le, cond, Bool, true, false, drop, Some, refl}
 use Rattle.std.specs.List.{range_with_len, flat_map, filter, find, enumerate_from}
-use Rattle.std.proofs.lemmas.List.{map-append, take_more, at_drop_more}
-use Rattle.std.proofs.lemmas.List.Elements.{filter-append}
+use Rattle.std.proofs.lemmas.List.{map-append, map-id, take_more, at_drop_more}
+use Rattle.std.proofs.lemmas.List.FromFn.{filter_of_map_range_with_len_more, map-range_with_len_more}
 use Rattle.std.proofs.lemmas.Grind.{flat_map-append}
 use Rattle.std.proofs.lemmas.List.Sums.{fold_more, fold-append}
 use Rattle.history_merge.specs.declared.operation.Operation.{Operation}
 use Rattle.drawing.specs.Layout.{threads_below, has_operations, point, greatest_call}
 use Rattle.drawing.specs.Words.{Word, placed, with_words}
-
-range_suc : (a n : ℕ) → range_with_len a (suc n) ≡ range_with_len a n ++ (a + n) ∷ []
-range_suc a zero = let e : a ≡ a + 0 = omega arith in ap (λ (x : ℕ). x ∷ []) e
-range_suc a (suc n) =
-    let e : a + 1 + n ≡ a + suc n = omega arith in
-    ap (λ (xs : List ℕ). a ∷ xs) (range_suc (a + 1) n ∙ ap (λ (x : ℕ). range_with_len (a + 1) n ++ x ∷ []) e)
-
--- one number more
-pub range_more : (n : ℕ) → range_with_len 0 (n + 1) ≡ range_with_len 0 n ++ n ∷ []
-range_more n = ap (range_with_len 0) (add-one n) ∙ range_suc 0 n ∙ ap (λ (x : ℕ). range_with_len 0 n ++ x ∷ []) (zero-add n)
-
--- what is made of one number more
-pub map_range_more : {A : Type 0} (f : ℕ → A) (n : ℕ) → map f (range_with_len 0 (n + 1)) ≡ map f (range_with_len 0 n) ++ f n ∷ []
-map_range_more f n = ap (map f) (range_more n) ∙ map-append f (range_with_len 0 n) (n ∷ [])
 
 -- what is found from one element on is that element, or is found from the next one on
 pub find_step : {X : Type 0} (p : X → Bool) (xs : List X) (i : ℕ) (d : X) → i < length xs
@@ -36,10 +22,12 @@ passed_over p xs i d within before fails =
     before ∙ find_step p xs i d within ∙ ap (λ (b : Bool). cond b (Some (get_or xs i d)) (find p (drop (i + 1) xs))) fails
 
 -- the threads that have operations, with one thread more
-pub threads_more : (operations : List Operation) (n : ℕ) → threads_below operations (n + 1) ≡ threads_below operations n ++ cond (has_operations operations n) (n ∷ []) []
+threads_more : (operations : List Operation) (n : ℕ) → threads_below operations (n + 1) ≡ threads_below operations n ++ cond (has_operations operations n) (n ∷ []) []
 unfolding threads_below
 threads_more operations n =
-    ap (filter (has_operations operations)) (range_more n) ∙ filter-append (has_operations operations) (range_with_len 0 n) (n ∷ [])
+    ap (filter (has_operations operations)) (sym (map-id (range_with_len 0 (n + 1))))
+    ∙ filter_of_map_range_with_len_more (has_operations operations) (λ k. k) 0 n n (zero-add n)
+    ∙ ap (λ (xs : List ℕ). filter (has_operations operations) xs ++ cond (has_operations operations n) (n ∷ []) []) (map-id (range_with_len 0 n))
 
 -- a thread with operations is one more
 pub threads_yes : (operations : List Operation) (n : ℕ) → has_operations operations n ≡ true → threads_below operations (n + 1) ≡ threads_below operations n ++ n ∷ []
@@ -74,38 +62,20 @@ enumerated_more xs i d within =
     ap (enumerate_from 0) (take_more xs i d within) ∙ enumerated-append 0 (take i xs) (get_or xs i d)
     ∙ ap (λ (k : ℕ). enumerate_from 0 (take i xs) ++ (k, get_or xs i d) ∷ []) e
 
--- the pieces of one element more, with its place
-pub flat_map_enumerated_more : {X A : Type 0} (f : ℕ × X → List A) (xs : List X) (i : ℕ) (d : X) → i < length xs
-    → flat_map f (enumerate_from 0 (take (i + 1) xs)) ≡ flat_map f (enumerate_from 0 (take i xs)) ++ f (i, get_or xs i d)
-flat_map_enumerated_more f xs i d within =
-    ap (flat_map f) (enumerated_more xs i d within) ∙ flat_map-append f (enumerate_from 0 (take i xs)) ((i, get_or xs i d) ∷ [])
-    ∙ ap (λ (r : List _). flat_map f (enumerate_from 0 (take i xs)) ++ r) (append-nil (f (i, get_or xs i d)))
-
 -- ---- words of a line
 
 -- a word more
 pub words_push : (line : List ℕ) (words : List Word) (word : Word) → with_words line (words ++ word ∷ []) ≡ placed (with_words line words) word
 words_push line words word = fold-append placed line words (word ∷ [])
 
--- the words of one element more, with its place
-pub words_enumerated_more : {X : Type 0} (f : ℕ × X → Word) (line : List ℕ) (xs : List X) (i : ℕ) (d : X) → i < length xs
-    → with_words line (map f (enumerate_from 0 (take (i + 1) xs))) ≡ placed (with_words line (map f (enumerate_from 0 (take i xs)))) (f (i, get_or xs i d))
-words_enumerated_more f line xs i d within =
-    ap (λ (r : List _). with_words line (map f r)) (enumerated_more xs i d within)
-    ∙ ap (with_words line) (map-append f (enumerate_from 0 (take i xs)) ((i, get_or xs i d) ∷ []))
-    ∙ words_push line (map f (enumerate_from 0 (take i xs))) (f (i, get_or xs i d))
-
--- the words of one number more
-pub words_range_more : (f : ℕ → Word) (line : List ℕ) (n : ℕ)
-    → with_words line (map f (range_with_len 0 (n + 1))) ≡ placed (with_words line (map f (range_with_len 0 n))) (f n)
-words_range_more f line n = ap (with_words line) (map_range_more f n) ∙ words_push line (map f (range_with_len 0 n)) (f n)
-
 -- a word of one element more, with its place, was added
 pub words_enumerated_step : {X : Type 0} (f : ℕ × X → Word) (line : List ℕ) (xs : List X) (i : ℕ) (d : X) (old new : List ℕ) → i < length xs
     → old ≡ with_words line (map f (enumerate_from 0 (take i xs))) → new ≡ placed old (f (i, get_or xs i d))
     → new ≡ with_words line (map f (enumerate_from 0 (take (i + 1) xs)))
 words_enumerated_step f line xs i d old new within before now =
-    now ∙ ap (λ (l : List ℕ). placed l (f (i, get_or xs i d))) before ∙ sym (words_enumerated_more f line xs i d within)
+    now ∙ ap (λ (l : List ℕ). placed l (f (i, get_or xs i d))) before ∙ sym (ap (λ (r : List _). with_words line (map f r)) (enumerated_more xs i d within)
+    ∙ ap (with_words line) (map-append f (enumerate_from 0 (take i xs)) ((i, get_or xs i d) ∷ []))
+    ∙ words_push line (map f (enumerate_from 0 (take i xs))) (f (i, get_or xs i d)))
 
 -- a piece of one element more, with its place, was added
 pub flat_map_enumerated_step : {X A : Type 0} (f : ℕ × X → List A) (text : List A) (xs : List X) (i : ℕ) (d : X) (old new : List A) → i < length xs
@@ -113,9 +83,10 @@ pub flat_map_enumerated_step : {X A : Type 0} (f : ℕ × X → List A) (text : 
     → new ≡ text ++ flat_map f (enumerate_from 0 (take (i + 1) xs))
 flat_map_enumerated_step f text xs i d old new within before now =
     now ∙ ap (λ (t : List _). t ++ f (i, get_or xs i d)) before ∙ append_assoc text _ _
-    ∙ ap (λ (t : List _). text ++ t) (sym (flat_map_enumerated_more f xs i d within))
+    ∙ ap (λ (t : List _). text ++ t) (sym (ap (flat_map f) (enumerated_more xs i d within) ∙ flat_map-append f (enumerate_from 0 (take i xs)) ((i, get_or xs i d) ∷ [])
+    ∙ ap (λ (r : List _). flat_map f (enumerate_from 0 (take i xs)) ++ r) (append-nil (f (i, get_or xs i d)))))
 
 -- a word of one number more was added
 pub words_range_step : (f : ℕ → Word) (line : List ℕ) (n : ℕ) (old new : List ℕ) → old ≡ with_words line (map f (range_with_len 0 n))
     → new ≡ placed old (f n) → new ≡ with_words line (map f (range_with_len 0 (n + 1)))
-words_range_step f line n old new before now = now ∙ ap (λ (l : List ℕ). placed l (f n)) before ∙ sym (words_range_more f line n)
+words_range_step f line n old new before now = now ∙ ap (λ (l : List ℕ). placed l (f n)) before ∙ sym (ap (with_words line) (map-range_with_len_more f 0 n n (zero-add n)) ∙ words_push line (map f (range_with_len 0 n)) (f n))

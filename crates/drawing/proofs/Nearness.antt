@@ -4,6 +4,7 @@ use Rattle.std.proofs.Common.{get_or, take, filter, Some, None, Option, refl, sy
 use Rattle.std.specs.Prelude.{Contains, nat_lt, nat_le, count_by, flat_map}
 use Rattle.std.specs.List.{list_any}
 use Rattle.std.proofs.lemmas.Bool.{cases_lt}
+use Rattle.std.proofs.lemmas.List.Folds.{Any-from_list_any, list_any-from_Any}
 use Rattle.std.proofs.lemmas.Bool.Decides.{nat_tests}
 use Rattle.std.proofs.lemmas.Option.{slice_get-get_or}
 use Rattle.std.specs.List.Sorted.{IsPartitionedBy, IsNonDecreasingBy}
@@ -22,9 +23,7 @@ use Rattle.verdicts.specs.declared.verifying.ClaimLine.{ClaimLine}
 use Rattle.verdicts.specs.declared.verifying.ClaimLine.TheVariants.{Op, Initial}
 use Rattle.verdicts.specs.declared.verifying.Claimed.{Claimed}
 use Rattle.verdicts.specs.declared.verifying.Claimed.TheVariants.{Yes, No}
-use Rattle.drawing.specs.Drawn.{events_before, are_near, operation_in, operations_in, drawn_operations}
-use Rattle.drawing.specs.Inner.Drawn.{standing_of, stand_near}
-use Rattle.drawing.specs.declared.drawn.Standing.{Standing}
+use Rattle.drawing.specs.Drawn.{events_before, standing_of, stand_near, is_near_any, operation_in, operations_in, drawn_operations}
 use Rattle.drawing.specs.Laws.{OverlappingAreDrawn, NoOthersAreDrawn, LinesAreDrawn}
 use Rattle.drawing.proofs.Below.{fewer, one_fewer}
 
@@ -38,45 +37,25 @@ in_flat_map f (y ∷ ys) x a among here = elim (contains_cons y ys x among) [
   | inr there ↦ Contains-append_right (f y) (flat_map f ys) a (in_flat_map f ys x a there here)
 ]
 
-pub or_true : (b : Bool) → (b || true) ≡ true
-or_true true = refl
-or_true false = refl
-
 -- an element that passes is found
 pub any_of : {X : Type 0} (p : X → Bool) (xs : List X) (x : X) → Contains xs x → p x ≡ true → list_any p xs ≡ true
-any_of p [] x among passes = absurd (not_in_none x among)
-any_of p (y ∷ ys) x among passes = elim (contains_cons y ys x among) [
-  | inl here ↦ ap (λ (b : Bool). b || list_any p ys) (ap p here ∙ passes)
-  | inr there ↦ ap (λ (b : Bool). p y || b) (any_of p ys x there passes) ∙ or_true (p y)
-]
+any_of p xs x among passes = list_any-from_Any p xs (among.0, x, among.1, among.2, passes)
 
 -- one that is found passes
 some_passes : {X : Type 0} (p : X → Bool) (xs : List X) → list_any p xs ≡ true → (x : X) × Contains xs x × (p x ≡ true)
-some_passes p [] is = cc
-some_passes p (y ∷ ys) is = join (p y) refl is (λ found. some_passes p ys found)
-  where
-    join : (b : Bool) → p y ≡ b → (b || list_any p ys) ≡ true → (list_any p ys ≡ true → (x : _) × Contains ys x × (p x ≡ true))
-        → (x : _) × Contains (y ∷ ys) x × (p x ≡ true)
-    join true passes found later = (y, contains_at (y ∷ ys) 0 y refl, passes)
-    join false fails found later = let there = later found in (there.0, one_deeper y ys there.0 there.1, there.2)
+some_passes p xs is = let one = Any-from_list_any p xs is in (one.1, (one.0, one.2, one.3), one.4)
 
 -- a test of what elements are made into
 any_mapped : {X Y : Type 0} (p : Y → Bool) (f : X → Y) (xs : List X) → list_any p (map f xs) ≡ list_any (λ x. p (f x)) xs
 any_mapped p f [] = refl
 any_mapped p f (x ∷ xs) = ap (λ (b : Bool). p (f x) || b) (any_mapped p f xs)
 
--- what is near of one operation more
-pub near_step : (events : List Event) (n : ℕ) (lines operations : List Operation) (i : ℕ) (d : Operation) (listed : List Standing) (standing : Standing) (b : Bool)
-    (old new : List Operation) → i < length operations → listed ≡ map (standing_of events) lines → standing ≡ standing_of events (get_or operations i d)
-    → b ≡ list_any (stand_near n standing) listed → old ≡ filter (λ o. list_any (are_near events n o) lines) (take i operations)
-    → new ≡ old ++ cond b (get_or operations i d ∷ []) [] → new ≡ filter (λ o. list_any (are_near events n o) lines) (take (i + 1) operations)
-near_step events n lines operations i d listed standing b old new within stand here tells before now =
-    let x = get_or operations i d in
-    let p = λ (o : Operation). list_any (are_near events n o) lines in
-    let passes : b ≡ p x = tells ∙ ap (λ (s : Standing). list_any (stand_near n s) listed) here
-    ∙ ap (list_any (stand_near n (standing_of events x))) stand ∙ any_mapped (stand_near n (standing_of events x)) (standing_of events) lines in
-    now ∙ ap (λ (c : Bool). old ++ cond c (x ∷ []) []) passes ∙ ap (λ (l : List Operation). l ++ cond (p x) (x ∷ []) []) before
-    ∙ sym (filter_more p operations i d within)
+-- one element more, if it passes
+pub filter_step : {X : Type 0} (p : X → Bool) (xs : List X) (i : ℕ) (d : X) (b : Bool) (old new : List X) → i < length xs → b ≡ p (get_or xs i d)
+    → old ≡ filter p (take i xs) → new ≡ old ++ cond b (get_or xs i d ∷ []) [] → new ≡ filter p (take (i + 1) xs)
+filter_step p xs i d b old new within tells before now =
+    now ∙ ap (λ (c : Bool). old ++ cond c (get_or xs i d ∷ []) []) tells ∙ ap (λ (l : List _). l ++ cond (p (get_or xs i d)) (get_or xs i d ∷ []) []) before
+    ∙ sym (filter_more p xs i d within)
 
 -- as many pass as stand before the first that fails, if none passes after it
 pub counted_up_to : {X : Type 0} (p : X → Bool) (xs : List X) (i : ℕ) → i ≤ length xs → ((k : ℕ) (d : X) → k < i → p (get_or xs k d) ≡ true)
@@ -126,7 +105,7 @@ pub among_operations : (history : HistoryView) (claimed : Claimed) (around : Opt
 among_operations history (Yes order) around o among = among
 among_operations history (No kind lines) None o among = among
 among_operations history (No kind lines) (Some n) o among =
-    (passed_filter (λ x. list_any (are_near history.events n x) (operations_in lines)) (operations_of history.events) o among).0
+    (passed_filter (is_near_any history.events n (operations_in lines)) (operations_of history.events) o among).0
 
 -- no fewer events come before a later ticket
 before_rises : (events : List Event) (s t : ℕ) → s ≤ t → events_before events s ≤ events_before events t
@@ -167,15 +146,17 @@ overlapping_are_drawn history kind lines (Some n) x y in_x listed apart apart' =
     let events = history.events in
     let first = before_rises events y.call x.ret (omega (arith, apart)) in
     let second = before_rises events x.call y.ret (omega (arith, apart')) in
-    passes_filter (λ o. list_any (are_near events n o) (operations_in lines)) (operations_of events) x
-    (any_of (are_near events n x) (operations_in lines) y (in_operations lines y listed)
+    passes_filter (is_near_any events n (operations_in lines)) (operations_of events) x
+    (any_mapped (stand_near n (standing_of events x)) (standing_of events) (operations_in lines)
+    ∙ any_of (λ o. stand_near n (standing_of events x) (standing_of events o)) (operations_in lines) y (in_operations lines y listed)
     (near_if n (events_before events y.call) (events_before events x.ret) (events_before events x.call) (events_before events y.ret) first second)) in_x
 
 pub no_others_are_drawn : NoOthersAreDrawn
 no_others_are_drawn history kind lines x all_among drawn =
     let events = history.events in
-    let passed = passed_filter (λ o. list_any (are_near events 0 o) (operations_in lines)) (operations_of events) x drawn in
-    let some = some_passes (are_near events 0 x) (operations_in lines) passed.1 in
+    let passed = passed_filter (is_near_any events 0 (operations_in lines)) (operations_of events) x drawn in
+    let mapped = any_mapped (stand_near 0 (standing_of events x)) (standing_of events) (operations_in lines) in
+    let some = some_passes (λ o. stand_near 0 (standing_of events x) (standing_of events o)) (operations_in lines) (sym mapped ∙ passed.1) in
     let y = some.0 in
     let listed = from_operations lines y some.1 in
     let tells = near_tells (events_before events y.call) (events_before events x.ret) (events_before events x.call) (events_before events y.ret) some.2 in (

@@ -1,40 +1,30 @@
 -- The numbers of a claim.
-use Rattle.std.proofs.Common.{◌≡◌, ℕ, ◌+◌, ◌<◌, Bool, true, false, List, [], ◌∷◌, length, get_or, map, Some, None, Option, arith}
+use Rattle.std.proofs.Common.{◌≡◌, ℕ, ◌+◌, Bool, true, List, [], ◌∷◌, get_or, map, Some, None, Option}
 use Rattle.std.proofs.Common.{refl, sym, ap, subst, ◌∙◌, cond, eq-eqb, eqb-true}
-use Rattle.std.specs.Prelude.{Contains, nat_eq, nat_lt, not, option_map, slice_get}
-use Rattle.std.specs.List.{position, position_or_len, find}
+use Rattle.std.specs.Prelude.{Contains, nat_eq, not, option_map, slice_get}
+use Rattle.std.specs.List.{position, position_or_len}
 use Rattle.std.proofs.lemmas.List.Folds.{find_at}
-use Rattle.std.proofs.lemmas.Bool.{ltb-true, lt-ltb}
-use Rattle.std.proofs.lemmas.Bool.Decides.{nat_tests}
+use Rattle.std.proofs.lemmas.List.Quantifiers.{position-Some}
+use Rattle.std.proofs.lemmas.Bool.{lt-ltb}
 use Rattle.std.proofs.lemmas.List.{length-map}
 use Rattle.std.proofs.lemmas.Option.{slice_get-get_or, slice_get_within}
 use Rattle.history_merge.specs.declared.operation.Operation.{Operation}
 use Rattle.history_merge.specs.Operations.{operations_of}
 use Rattle.history_merge.proofs.Completeness.{operations_are_complete}
-use Rattle.history_merge.proofs.Distinct.{contains_at, same_call, found_first}
+use Rattle.history_merge.proofs.Distinct.{contains_at, same_call}
 use Rattle.verdicts.specs.declared.verifying.ClaimLine.{ClaimLine}
 use Rattle.verdicts.specs.declared.verifying.ClaimLine.TheVariants.{Op, Initial}
 use Rattle.value_match.specs.Filling.{filling_at}
 use Rattle.verdicts.specs.Claims.{filling_of}
-use Rattle.drawing.specs.Layout.{is_line_of, is_line_of_initial}
+use Rattle.drawing.specs.Layout.{stands_in}
+use Rattle.drawing.specs.declared.scene.Row.{Row}
+use Rattle.drawing.specs.declared.scene.Row.TheVariants as row
 use Rattle.drawing.specs.Laws.{NumbersAreOfLines, LinesHaveNumbers, InitialNumbersAreOfLines, InitialLinesHaveNumbers}
 use Rattle.drawing.proofs.Bars.{found}
 
 -- the first place at which an element passes, where it is within the list
 place_if : {X : Type 0} (d : X) (xs : List X) (p : X → Bool) (i : ℕ) → position p xs ≡ Some i → (x : X) × (slice_get xs i ≡ Some x) × (p x ≡ true)
-place_if d xs p i at = join (nat_lt (position_or_len p xs) (length xs)) refl at
-  where
-    one : (k : ℕ) → k ≡ position_or_len p xs → k < length xs → (x : _) × (slice_get xs k ≡ Some x) × (p x ≡ true)
-    one k is within =
-        let here : slice_get xs k ≡ Some (get_or xs k d) = slice_get-get_or xs k _ within in
-        let found_here : find p xs ≡ Some (get_or xs k d) = find_at p xs ∙ ap (slice_get xs) (sym is) ∙ here in
-        (get_or xs k d, here, (found_first p xs (get_or xs k d) found_here).passes)
-
-    join : (b : Bool) → nat_lt (position_or_len p xs) (length xs) ≡ b → cond b (Some (position_or_len p xs)) None ≡ Some i
-        → (x : _) × (slice_get xs i ≡ Some x) × (p x ≡ true)
-    join true is here = let same : position_or_len p xs ≡ i = cc in
-        one i (sym same) (let less : position_or_len p xs < length xs = ltb-true _ _ is in omega arith)
-    join false is here = cc
+place_if d xs p i at = let first = position-Some p xs i d at in (get_or xs i d, slice_get-get_or xs i d first.0, first.1)
 
 -- where a line passes, there is a first place at which one does
 place_of_one : (lines : List ClaimLine) (p : ClaimLine → Bool) (x : ClaimLine) → Contains lines x → p x ≡ true → (i : ℕ) × (position p lines ≡ Some i)
@@ -46,9 +36,9 @@ place_of_one lines p x among passes =
 
 -- a number is that of the line
 pub numbers_are_of_lines : NumbersAreOfLines
-numbers_are_of_lines events lines o i complete all_among among at = let h = place_if (Initial 0) lines (is_line_of o) i at in same_line h.0 h.1 h.2
+numbers_are_of_lines events lines o i complete all_among among at = let h = place_if (Initial 0) lines (stands_in (row.Ticket o.call)) i at in same_line h.0 h.1 h.2
   where
-    same_line : (x : ClaimLine) → slice_get lines i ≡ Some x → is_line_of o x ≡ true → slice_get lines i ≡ Some (Op o)
+    same_line : (x : ClaimLine) → slice_get lines i ≡ Some x → stands_in (row.Ticket o.call) x ≡ true → slice_get lines i ≡ Some (Op o)
     same_line (Op listed) here passes =
         let line_among = all_among listed (contains_at lines i (Op listed) here) in
         let same = same_call (operations_of events) listed o (operations_are_complete events complete) line_among among (eqb-true listed.call o.call passes) in
@@ -57,41 +47,29 @@ numbers_are_of_lines events lines o i complete all_among among at = let h = plac
 
 -- each line of an operation has a number
 pub lines_have_numbers : LinesHaveNumbers
-lines_have_numbers lines o among = place_of_one lines (is_line_of o) (Op o) among (eq-eqb o.call o.call refl)
+lines_have_numbers lines o among = place_of_one lines (stands_in (row.Ticket o.call)) (Op o) among (eq-eqb o.call o.call refl)
 
 -- the number of an initial value is that of its line
 pub initial_numbers_are_of_lines : InitialNumbersAreOfLines
-initial_numbers_are_of_lines lines v i at = let h = place_if (Initial 0) lines (is_line_of_initial v) i at in same_line h.0 h.1 h.2
+initial_numbers_are_of_lines lines j v i at = let h = place_if (Initial 0) lines (stands_in (row.Initial j v)) i at in same_line h.0 h.1 h.2
   where
-    same_line : (x : ClaimLine) → slice_get lines i ≡ Some x → is_line_of_initial v x ≡ true → slice_get lines i ≡ Some (Initial v)
+    same_line : (x : ClaimLine) → slice_get lines i ≡ Some x → stands_in (row.Initial j v) x ≡ true → slice_get lines i ≡ Some (Initial v)
     same_line (Op o) here passes = cc
     same_line (Initial listed) here passes = here ∙ ap (λ (x : ℕ). Some (Initial x)) (eqb-true listed v passes)
 
 -- each line of an initial value has a number
 pub initial_lines_have_numbers : InitialLinesHaveNumbers
-initial_lines_have_numbers lines v among = place_of_one lines (is_line_of_initial v) (Initial v) among (eq-eqb v v refl)
+initial_lines_have_numbers lines j v among = place_of_one lines (stands_in (row.Initial j v)) (Initial v) among (eq-eqb v v refl)
 
 -- ---- the order of a `YES`
 
-order_place : (order : List Operation) (o : Operation)
-    → position_or_len (is_line_of o) (map Op order) ≡ position_or_len (λ listed. nat_eq listed.call o.call) order
-order_place [] o = refl
-order_place (x ∷ order) o = ap (λ (n : ℕ). cond (not (nat_eq x.call o.call)) (1 + n) 0) (order_place order o)
+order_place : (order : List Operation) (r : Row) → position_or_len (stands_in r) (map Op order) ≡ position_or_len (λ o. stands_in r (Op o)) order
+order_place [] r = refl
+order_place (x ∷ order) r = ap (λ (n : ℕ). cond (not (stands_in r (Op x))) (1 + n) 0) (order_place order r)
 
 -- the place of an operation among the lines of an order is that in the order
-pub place_in_order : (order : List Operation) (o : Operation) → position (is_line_of o) (map Op order) ≡ position (λ listed. nat_eq listed.call o.call) order
-place_in_order order o = rw (order_place order o, length-map order Op) refl
-
-past_order : (order : List Operation) (v : ℕ) → position_or_len (is_line_of_initial v) (map Op order) ≡ length (map Op order)
-past_order [] v = refl
-past_order (x ∷ order) v = omega (arith, past_order order v)
-
-not_below : (n : ℕ) → nat_lt n n ≡ false
-not_below n = grind (arith, nat_tests)
-
--- no initial value is a line of an order
-pub no_initial_place : (order : List Operation) (v : ℕ) → position (is_line_of_initial v) (map Op order) ≡ None
-no_initial_place order v = rw (past_order order v, not_below (length (map Op order))) refl
+pub place_in_order : (order : List Operation) (r : Row) → position (stands_in r) (map Op order) ≡ position (λ o. stands_in r (Op o)) order
+place_in_order order r = rw (order_place order r, length-map order Op) refl
 
 -- ---- evidence
 

@@ -1,10 +1,9 @@
 -- Rows stand in the order of time.
-use Rattle.std.proofs.Common.{◌≡◌, ℕ, zero, suc, ◌+◌, ◌<◌, ◌≤◌, Bool, true, false, ◌&&◌, ◌||◌, ◌⊎◌, inl, inr, cond, List, [], ◌∷◌, ◌++◌, length, Some}
-use Rattle.std.proofs.Common.{refl, sym, ap, subst, ◌∙◌, arith}
-use Rattle.std.proofs.Common.{eq-eqb, eqb-true, zero-add}
+use Rattle.std.proofs.Common.{◌≡◌, ℕ, zero, suc, ◌+◌, ◌<◌, ◌≤◌, Bool, true, false, ◌&&◌, ◌||◌, ◌⊎◌, inl, inr, List, [], ◌∷◌, ◌++◌, length, Some}
+use Rattle.std.proofs.Common.{refl, sym, ap, subst, ◌∙◌, arith, eq-eqb, eqb-true, zero-add}
 use Rattle.std.specs.Prelude.{Contains, ◌==◌, nat_lt, nat_eq, slice_get, sum_by}
 use Rattle.std.specs.List.{flat_map, enumerate_from}
-use Rattle.std.proofs.lemmas.Bool.{cases_lt}
+use Rattle.std.proofs.lemmas.Bool.{cases_lt, cond_both}
 use Rattle.std.proofs.lemmas.Bool.Decides.{nat_tests}
 use Rattle.std.proofs.lemmas.List.Elements.{Contains-append_left, Contains-append_right}
 use Rattle.std.proofs.lemmas.List.Sums.{sum_by-append, sum_by-cons}
@@ -19,15 +18,13 @@ use Rattle.verdicts.specs.declared.verifying.Claimed.TheVariants.{Yes}
 use Rattle.drawing.specs.Claim.{order_of}
 use Rattle.drawing.specs.Layout.{point}
 use Rattle.drawing.specs.Scene.{initial_row, initial_rows, effect_row_if, effect_if, effect_rows, event_rows, has_row, left_out_rows}
-use Rattle.drawing.specs.Scene.{rows_after, rows_of, row_time, row_turn, stands_above}
-use Rattle.drawing.specs.Scene.{row_number}
+use Rattle.drawing.specs.Scene.{rows_after, rows_of, row_time, row_turn, stands_above, row_number}
 use Rattle.drawing.specs.declared.scene.Row.{Row}
 use Rattle.drawing.specs.declared.scene.Row.TheVariants.{Head, Initial, Ticket, LeftOut, Effect}
 use Rattle.drawing.specs.Laws.{RowsRise, InitialValuesHaveRows, OperationsHaveRows, EffectsHaveRows, InitialRowsAreFirst, RowsTellPrecedence}
-use Rattle.drawing.specs.Laws.{EventsAreCounted, events_in}
-use Rattle.drawing.specs.Laws.{EffectRowsAreInBars, EffectRowsRise}
+use Rattle.drawing.specs.Laws.{EventsAreCounted, EffectRowsAreInBars, EffectRowsRise, events_in}
 use Rattle.drawing.proofs.Below.{fewer, one_fewer}
-use Rattle.drawing.proofs.Nearness.{any_of, in_flat_map, or_true}
+use Rattle.drawing.proofs.Nearness.{any_of, in_flat_map}
 use Rattle.drawing.proofs.Effects.{effects_are_in_bars, effects_rise, point_is_a_call}
 
 -- ---- numbers rise
@@ -97,22 +94,18 @@ module _ (drawn order : List Operation) (e : Event) (r : Row) (own : has_row dra
   in_rows_after : (count last : ℕ) (events : List Event) → Contains events e → Contains (rows_after drawn order count last events) r
   in_rows_after count last [] among = absurd (not_in_none e among)
   in_rows_after count last (x ∷ later) among =
-      join (has_row drawn x.ticket) refl (λ there. in_rows_after 0 last later there) (λ there. in_rows_after (count + 1) x.ticket later there)
-    where
-      join : (b : Bool) → has_row drawn x.ticket ≡ b → (Contains later e → Contains (rows_after drawn order 0 last later) r)
-          → (Contains later e → Contains (rows_after drawn order (count + 1) x.ticket later) r)
-          → Contains (cond b (left_out_rows count last ++ (event_rows order x ++ rows_after drawn order 0 last later))
-          (rows_after drawn order (count + 1) x.ticket later)) r
-      join true is shown hidden = Contains-append_right (left_out_rows count last) (event_rows order x ++ rows_after drawn order 0 last later) r
-          (elim (contains_cons x later e among) [
-            | inl same ↦ Contains-append_left (event_rows order x) (rows_after drawn order 0 last later) r
-                (subst (λ y. Contains (event_rows order y) r) (sym same) here)
-            | inr there ↦ Contains-append_right (event_rows order x) (rows_after drawn order 0 last later) r (shown there)
-          ])
-      join false is shown hidden = elim (contains_cons x later e among) [
+      cond_both (has_row drawn x.ticket) (left_out_rows count last ++ (event_rows order x ++ rows_after drawn order 0 last later))
+      (rows_after drawn order (count + 1) x.ticket later) (λ rows. Contains rows r)
+      (λ is. Contains-append_right (left_out_rows count last) (event_rows order x ++ rows_after drawn order 0 last later) r
+      (elim (contains_cons x later e among) [
+        | inl same ↦ Contains-append_left (event_rows order x) (rows_after drawn order 0 last later) r
+            (subst (λ y. Contains (event_rows order y) r) (sym same) here)
+        | inr there ↦ Contains-append_right (event_rows order x) (rows_after drawn order 0 last later) r (in_rows_after 0 last later there)
+      ]))
+      (λ is. elim (contains_cons x later e among) [
         | inl same ↦ let clash : false ≡ true = sym is ∙ ap (λ (y : Event). has_row drawn y.ticket) same ∙ own in cc
-        | inr there ↦ hidden there
-      ]
+        | inr there ↦ in_rows_after (count + 1) x.ticket later there
+      ])
 
 with_event : (history : HistoryView) (claimed : Claimed) (drawn : List Operation) (e : Event) (r : Row) → Contains history.events e
     → has_row drawn e.ticket ≡ true → Contains (event_rows (order_of claimed) e) r → Contains (rows_of history claimed drawn) r
@@ -126,8 +119,8 @@ has_own : (drawn : List Operation) (o : Operation) (ticket : ℕ) → Contains d
 has_own drawn o ticket among at = any_of (λ o. nat_eq o.call ticket || nat_eq o.ret ticket) drawn o among (passes o.call o.ret at)
   where
     passes : (call ret : ℕ) → (call ≡ ticket) ⊎ (ret ≡ ticket) → (nat_eq call ticket || nat_eq ret ticket) ≡ true
-    passes call ret (inl called) = ap (λ (b : Bool). b || nat_eq ret ticket) (eq-eqb call ticket called)
-    passes call ret (inr returned) = ap (λ (b : Bool). nat_eq call ticket || b) (eq-eqb ret ticket returned) ∙ or_true (nat_eq call ticket)
+    passes call ret (inl called) = grind (arith, nat_tests)
+    passes call ret (inr returned) = grind (arith, nat_tests)
 
 pub operations_have_rows : OperationsHaveRows
 operations_have_rows history claimed drawn o among drawn_too =
@@ -152,11 +145,8 @@ none_in_all f none (x ∷ xs) =
     omega (arith, sum_by-append events_in (f x) (flat_map f xs))
 
 counted_left_out : (count last : ℕ) → sum_by events_in (left_out_rows count last) ≡ count
-counted_left_out count last = join (count == 0) refl
-  where
-    join : (b : Bool) → (count == 0) ≡ b → sum_by events_in (cond b [] (LeftOut count last ∷ [])) ≡ count
-    join true none = sym (eqb-true count 0 none)
-    join false some = omega (arith, sum_by-cons events_in (LeftOut count last) [])
+counted_left_out count last = cond_both (count == 0) [] (LeftOut count last ∷ []) (λ rows. sum_by events_in rows ≡ count)
+    (λ none. sym (eqb-true count 0 none)) (λ some. omega (arith, sum_by-cons events_in (LeftOut count last) []))
 
 counted_with_event : (order : List Operation) (e : Event) → sum_by events_in (event_rows order e) ≡ 1
 unfolding effect_rows
@@ -172,21 +162,15 @@ counted_after : (drawn order : List Operation) (count last : ℕ) (events : List
     → sum_by events_in (rows_after drawn order count last events) ≡ count + length events
 counted_after drawn order count last [] = let here = counted_left_out count last in omega arith
 counted_after drawn order count last (e ∷ later) =
-    join (has_row drawn e.ticket) (counted_after drawn order 0 last later) (counted_after drawn order (count + 1) e.ticket later)
-  where
-    join : (b : Bool) → sum_by events_in (rows_after drawn order 0 last later) ≡ 0 + length later
-        → sum_by events_in (rows_after drawn order (count + 1) e.ticket later) ≡ count + 1 + length later
-        → sum_by events_in (cond b (left_out_rows count last ++ (event_rows order e ++ rows_after drawn order 0 last later))
-        (rows_after drawn order (count + 1) e.ticket later)) ≡ count + length (e ∷ later)
-    join true shown hidden =
-        let here = counted_left_out count last in
-        let own = counted_with_event order e in
-        omega (
-          arith,
-          sum_by-append events_in (left_out_rows count last) (event_rows order e ++ rows_after drawn order 0 last later),
-          sum_by-append events_in (event_rows order e) (rows_after drawn order 0 last later),
-        )
-    join false shown hidden = omega arith
+    cond_both (has_row drawn e.ticket) (left_out_rows count last ++ (event_rows order e ++ rows_after drawn order 0 last later))
+    (rows_after drawn order (count + 1) e.ticket later) (λ rows. sum_by events_in rows ≡ count + length (e ∷ later))
+    (λ shown. let after = counted_after drawn order 0 last later in let here = counted_left_out count last in let own = counted_with_event order e in
+    omega (
+      arith,
+      sum_by-append events_in (left_out_rows count last) (event_rows order e ++ rows_after drawn order 0 last later),
+      sum_by-append events_in (event_rows order e) (rows_after drawn order 0 last later),
+    ))
+    (λ hidden. let after = counted_after drawn order (count + 1) e.ticket later in omega arith)
 
 pub events_are_counted : EventsAreCounted
 unfolding rows_of

@@ -1,5 +1,5 @@
 -- Bands beside the lanes of a `NO`: when a value definitely was in the queue, or was not, and the time that contradicts it.
-use Rattle.std.specs.Prelude.{ℕ, ◌&&◌, Bool, true, false, nat_lt, nat_le, Option, Some, None, List, [], ◌∷◌, ◌++◌, codes}
+use Rattle.std.specs.Prelude.{ℕ, ◌&&◌, if◌then◌else◌, Bool, true, false, nat_lt, nat_le, Option, Some, None, List, [], ◌∷◌, ◌++◌, codes}
 use Rattle.std.specs.List.{concat}
 use Rattle.history_merge.specs.declared.operation.OpKind.{OpKind}
 use Rattle.history_merge.specs.declared.operation.OpKind.TheVariants as kind
@@ -33,14 +33,20 @@ sure_until enq last = record { head = SurelyIn (line_value enq); first = line_re
 abbrev pub time_of : Head → Option ℕ → Option ℕ → Band
 time_of head first last = record { head = head; first = first; last = last }
 
--- the value definitely isn't in the queue before this call; never, where there is none
-abbrev pub absent_until : ℕ → Option ℕ → Band
-absent_until value last = record { head = NotIn value; first = None; last = last }
-
 -- the call of an enqueue that was taken
 abbrev pub call_if_taken : ClaimLine → OpKind → Option ℕ
 call_if_taken line (kind.Enq v) = line_call line
 call_if_taken line _ = None
+
+-- the same of the first of these lines
+abbrev pub enqueue_call : List ClaimLine → Option ℕ
+enqueue_call [] = None
+enqueue_call (enq ∷ rest) = call_if_taken enq (line_kind enq)
+
+-- the call of the first of these lines
+abbrev pub first_call : List ClaimLine → Option ℕ
+first_call [] = None
+first_call (line ∷ rest) = line_call line
 
 -- a value for each enqueue of a cover, which its dequeue follows if it has one
 abbrev pub cover_bands : List ClaimLine → List Band
@@ -48,20 +54,16 @@ cover_bands [] = []
 cover_bands (enq ∷ []) = sure_until enq None ∷ []
 cover_bands (enq ∷ deq ∷ rest) = sure_until enq (line_call deq) ∷ cover_bands rest
 
--- when the value of a dequeue definitely was not in the queue, and when it was dequeued
+-- when the value of a dequeue definitely was not in the queue, before any call of its enqueue, and when it was dequeued
 abbrev pub fresh_bands : List ClaimLine → List Band
 fresh_bands [] = []
-fresh_bands (deq ∷ []) =
-    absent_until (line_value deq) None ∷ time_of (Dequeued (line_value deq)) (line_call deq) (line_return deq) ∷ []
-fresh_bands (deq ∷ enq ∷ rest) =
-    absent_until (line_value deq) (call_if_taken enq (line_kind enq)) ∷ time_of (Dequeued (line_value deq)) (line_call deq) (line_return deq) ∷ []
+fresh_bands (deq ∷ rest) =
+    time_of (NotIn (line_value deq)) None (enqueue_call rest) ∷ time_of (Dequeued (line_value deq)) (line_call deq) (line_return deq) ∷ []
 
 -- when a definitely was in the queue, and when b went in and out
 abbrev pub order_bands : List ClaimLine → List Band
-order_bands (enq_a ∷ enq_b ∷ deq_b ∷ []) =
-    sure_until enq_a None ∷ time_of (InAndOut (line_value enq_b)) (line_call enq_b) (line_return deq_b) ∷ []
-order_bands (enq_a ∷ enq_b ∷ deq_b ∷ deq_a ∷ rest) =
-    sure_until enq_a (line_call deq_a) ∷ time_of (InAndOut (line_value enq_b)) (line_call enq_b) (line_return deq_b) ∷ []
+order_bands (enq_a ∷ enq_b ∷ deq_b ∷ rest) =
+    sure_until enq_a (first_call rest) ∷ time_of (InAndOut (line_value enq_b)) (line_call enq_b) (line_return deq_b) ∷ []
 order_bands _ = []
 
 -- when the values of the cover definitely were in the queue, and when it was said to be empty
@@ -72,7 +74,7 @@ witness_bands (empty ∷ cover) = cover_bands cover ++ time_of SaidEmpty (line_c
 -- a value that was dequeued twice: a column for its words, with no band
 abbrev pub repeat_bands : List ClaimLine → List Band
 repeat_bands [] = []
-repeat_bands (enq ∷ rest) = record { head = InOrOut (line_value enq); first = None; last = None } ∷ []
+repeat_bands (enq ∷ rest) = time_of (InOrOut (line_value enq)) None None ∷ []
 
 -- the bands of a claim, left to right
 abbrev pub bands_of : Claimed → List Band
@@ -101,10 +103,6 @@ form_words (InAndOut v) sure absent time = time
 form_words SaidEmpty sure absent time = time
 form_words (InOrOut v) sure absent time = []
 
--- the form of a band in a row
-abbrev pub form : Head → List ℕ
-form head = form_words head (codes "###") (codes "xxx") (codes ":::")
-
 -- the band has begun at this gap: that just after a ticket, or none for that before all tickets
 abbrev pub has_begun : Option ℕ → Option ℕ → Bool
 has_begun None gap = true
@@ -117,6 +115,7 @@ goes_on None gap = true
 goes_on (Some last) None = true
 goes_on (Some last) (Some ticket) = nat_lt ticket last
 
--- the band holds this gap
-abbrev pub holds_gap : Band → Option ℕ → Bool
-holds_gap band gap = has_begun band.first gap && goes_on band.last gap
+-- the form of a band in a row that stands for this gap; nothing where the band doesn't hold it
+abbrev pub form_at : Band → Option ℕ → List ℕ
+form_at band gap =
+    if has_begun band.first gap && goes_on band.last gap then form_words band.head (codes "###") (codes "xxx") (codes ":::") else []

@@ -12,6 +12,7 @@ use Rattle.text_lines.specs.Lines.{line}
 use Rattle.drawing.specs.Claim.{line_kind, line_call, line_return}
 use Rattle.drawing.specs.Names.{value_text}
 use Rattle.drawing.specs.Bands.{line_value}
+use Rattle.drawing.specs.declared.captions.TheConstants.{WITNESS_WORDS, YES_CAPTION}
 
 -- what a picture shows, in a line
 abbrev pub headline : Claimed → List ℕ
@@ -30,11 +31,15 @@ abbrev pub fresh_reason : OpKind → List ℕ
 fresh_reason (kind.Enq v) = line (codes " was dequeued (1), but its enqueue (2) was called only afterwards.")
 fresh_reason _ = line (codes " was dequeued (1), but its enqueue (2) was not taken.")
 
+-- the same, where these lines show its enqueue, or none
+abbrev pub fresh_words : List ClaimLine → List ℕ
+fresh_words [] = line (codes " was dequeued (1), but nobody ever enqueued it.")
+fresh_words (enq ∷ rest) = fresh_reason (line_kind enq)
+
 -- the caption of a value that was not there
 abbrev pub fresh_caption : List ClaimLine → List ℕ
 fresh_caption [] = []
-fresh_caption (deq ∷ []) = concat (line_text deq ∷ line (codes " was dequeued (1), but nobody ever enqueued it.") ∷ [])
-fresh_caption (deq ∷ enq ∷ rest) = concat (line_text deq ∷ fresh_reason (line_kind enq) ∷ [])
+fresh_caption (deq ∷ rest) = concat (line_text deq ∷ fresh_words rest ∷ [])
 
 -- how a value came in that was dequeued twice
 abbrev pub repeat_words : ClaimLine → List ℕ
@@ -76,35 +81,24 @@ unfoldable pub one_of_cover : ℕ → ClaimLine → ClaimLine → List ℕ
 one_of_cover number enq deq =
     cover_from number enq ++ concat (codes ") to " ∷ moment_text (line_call deq) ∷ codes " (" ∷ decimal (number + 1) ∷ line (codes ")") ∷ [])
 
--- from when on the last value of a cover definitely was in the queue
-unfoldable pub last_of_cover : ℕ → ClaimLine → List ℕ
-last_of_cover number enq = cover_from number enq ++ line (codes ") on")
-
 -- the lines of the values of a cover, numbered from here on
 abbrev pub cover_caption : ℕ → List ClaimLine → List ℕ
 cover_caption number [] = []
-cover_caption number (enq ∷ []) = last_of_cover number enq
+cover_caption number (enq ∷ []) = cover_from number enq ++ line (codes ") on")
 cover_caption number (enq ∷ deq ∷ rest) = one_of_cover number enq deq ++ cover_caption (number + 2) rest
 
 -- the first lines of the caption of an empty answer
 unfoldable pub witness_words : List ℕ
-witness_words =
-    concat (line (codes "A dequeue found the queue empty (1), but at each moment of it") ∷ line (codes "some value surely was in the queue:") ∷ [])
+witness_words = WITNESS_WORDS.now
 
 -- the caption of an empty answer
 abbrev pub witness_caption : List ClaimLine → List ℕ
 witness_caption [] = []
 witness_caption (empty ∷ cover) = witness_words ++ cover_caption 2 cover
 
--- the caption of a `YES`
-unfoldable pub yes_caption : List ℕ
-yes_caption =
-    concat (line (codes "The numbers give one order in which the operations can have taken")
-    ∷ line (codes "effect. They rise from top to bottom, and each stands within its bar.") ∷ [])
-
 -- what a claim says, in sentences
 unfoldable pub caption : Claimed → List ℕ
-caption (Yes order) = yes_caption
+caption (Yes order) = YES_CAPTION.now
 caption (No VFresh lines) = fresh_caption lines
 caption (No VRepeat lines) = repeat_caption lines
 caption (No VOrd lines) = order_caption lines

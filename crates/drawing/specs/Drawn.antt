@@ -1,5 +1,5 @@
 -- Which operations of a history are drawn: all of them, or of a `NO` those that it lists, those that overlap one of these, and those near by.
-use Rattle.std.specs.Prelude.{ℕ, ◌-◌, ◌&&◌, not, nat_lt, nat_le, Bool, false, Option, Some, None, List, [], ◌∷◌, filter, flat_map, count_by}
+use Rattle.std.specs.Prelude.{ℕ, ◌-◌, ◌&&◌, not, nat_lt, nat_le, Bool, false, Option, Some, None, List, [], ◌∷◌, filter, flat_map, map, count_by}
 use Rattle.std.specs.List.{list_any}
 use Rattle.event_records.specs.declared.event.Event.{Event}
 use Rattle.history_merge.specs.Initial.{HistoryView}
@@ -9,15 +9,23 @@ use Rattle.verdicts.specs.declared.verifying.ClaimLine.{ClaimLine}
 use Rattle.verdicts.specs.declared.verifying.ClaimLine.TheVariants.{Op, Initial}
 use Rattle.verdicts.specs.declared.verifying.Claimed.{Claimed}
 use Rattle.verdicts.specs.declared.verifying.Claimed.TheVariants.{Yes, No}
+use Rattle.drawing.specs.declared.drawn.Standing.{Standing}
 
 -- how many events come before a ticket
 abbrev pub events_before : List Event → ℕ → ℕ
 events_before events ticket = count_by (λ e. nat_lt e.ticket ticket) events
 
+-- where an operation stands among the events: how many come before its call, and before its return
+abbrev pub standing_of : List Event → Operation → Standing
+standing_of events o = record { call = events_before events o.call; ret = events_before events o.ret }
+
 -- at most n events lie from the return of each of two operations to the call of the other: none, if they overlap
-abbrev pub are_near : List Event → ℕ → Operation → Operation → Bool
-are_near events n x y =
-    nat_le (events_before events y.call - n) (events_before events x.ret) && nat_le (events_before events x.call - n) (events_before events y.ret)
+abbrev pub stand_near : ℕ → Standing → Standing → Bool
+stand_near n x y = nat_le (y.call - n) x.ret && nat_le (x.call - n) y.ret
+
+-- an operation is near one of these
+abbrev pub is_near_any : List Event → ℕ → List Operation → Operation → Bool
+is_near_any events n listed o = list_any (stand_near n (standing_of events o)) (map (standing_of events) listed)
 
 -- the operation of a line, if it is one
 abbrev pub operation_in : ClaimLine → List Operation
@@ -33,7 +41,7 @@ abbrev pub drawn_operations : HistoryView → Claimed → Option ℕ → List Op
 drawn_operations history (Yes order) around = operations_of history.events
 drawn_operations history (No kind lines) None = operations_of history.events
 drawn_operations history (No kind lines) (Some n) =
-    filter (λ o. list_any (are_near history.events n o) (operations_in lines)) (operations_of history.events)
+    filter (is_near_any history.events n (operations_in lines)) (operations_of history.events)
 
 -- an operation and that of a line overlap: neither precedes the other
 abbrev pub overlaps_line : Operation → ClaimLine → Bool

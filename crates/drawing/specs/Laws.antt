@@ -15,7 +15,7 @@ use Rattle.verdicts.specs.Claims.{IsTrueClaim}
 use Rattle.drawing.specs.declared.columns.Columns.{Columns}
 use Rattle.drawing.specs.Drawn.{drawn_operations}
 use Rattle.drawing.specs.Names.{value_text}
-use Rattle.drawing.specs.Layout.{initial_label, under_way, place_in, initial_place_in, point}
+use Rattle.drawing.specs.Layout.{initial_label, under_way, place_in, point}
 use Rattle.drawing.specs.Scene.{rows_of, row_number, stands_above}
 use Rattle.drawing.specs.Terminal.{lane_column}
 use Rattle.drawing.specs.declared.scene.Row.{Row}
@@ -169,19 +169,19 @@ InitialValuesHaveTheirNames = (v w : ℕ) → v < 2 ^ 64 → w < 2 ^ 64 → init
 abbrev pub NumbersAreOfLines : Type 0
 NumbersAreOfLines =
     (events : List Event) (lines : List ClaimLine) (o : Operation) (i : ℕ) → IsCompleteHistory events → AreOperationsOf (operations_of events) lines
-    → Contains (operations_of events) o → place_in lines o ≡ Some i → slice_get lines i ≡ Some (Op o)
+    → Contains (operations_of events) o → place_in lines (row.Ticket o.call) ≡ Some i → slice_get lines i ≡ Some (Op o)
 
 -- each line of an operation has a number
 abbrev pub LinesHaveNumbers : Type 0
-LinesHaveNumbers = (lines : List ClaimLine) (o : Operation) → Contains lines (Op o) → (i : ℕ) × (place_in lines o ≡ Some i)
+LinesHaveNumbers = (lines : List ClaimLine) (o : Operation) → Contains lines (Op o) → (i : ℕ) × (place_in lines (row.Ticket o.call) ≡ Some i)
 
 -- an initial value with a number is the line of that number
 abbrev pub InitialNumbersAreOfLines : Type 0
-InitialNumbersAreOfLines = (lines : List ClaimLine) (v i : ℕ) → initial_place_in lines v ≡ Some i → slice_get lines i ≡ Some (Initial v)
+InitialNumbersAreOfLines = (lines : List ClaimLine) (j v i : ℕ) → place_in lines (row.Initial j v) ≡ Some i → slice_get lines i ≡ Some (Initial v)
 
 -- each line of an initial value has a number
 abbrev pub InitialLinesHaveNumbers : Type 0
-InitialLinesHaveNumbers = (lines : List ClaimLine) (v : ℕ) → Contains lines (Initial v) → (i : ℕ) × (initial_place_in lines v ≡ Some i)
+InitialLinesHaveNumbers = (lines : List ClaimLine) (j v : ℕ) → Contains lines (Initial v) → (i : ℕ) × (place_in lines (row.Initial j v) ≡ Some i)
 
 -- the lines of evidence are operations and initial values of the history, so each has its bar or its row
 abbrev pub LinesAreOfHistory : Type 0

@@ -1,8 +1,7 @@
 -- What stands in a picture: labels, threads, tickets, the operations in rows, numbers and points of effect.
-use Rattle.std.specs.Prelude.{ℕ, ◌+◌, ◌-◌, ◌++◌, codes, max, ◌&&◌, nat_le, nat_eq, Bool, false, Option, Some, None, List, [], filter, find}
-use Rattle.std.specs.Prelude.{length, take, decimal, slice_get, fold}
+use Rattle.std.specs.Prelude.{ℕ, ◌+◌, ◌-◌, ◌++◌, codes, max, ◌&&◌, if◌then◌else◌, nat_le, nat_eq, Bool, false, Option, Some, None, List, [], filter, find}
+use Rattle.std.specs.Prelude.{length, take, decimal, replicate, fold}
 use Rattle.std.specs.List.{list_any, range_with_len, position}
-use Rattle.event_records.specs.declared.event.Event.{Event}
 use Rattle.event_records.specs.declared.limits.TheConstants.{MAX_THREAD}
 use Rattle.history_merge.specs.declared.operation.Operation.{Operation}
 use Rattle.history_merge.specs.declared.operation.OpKind.{OpKind}
@@ -11,6 +10,8 @@ use Rattle.verdicts.specs.declared.verifying.ClaimLine.{ClaimLine}
 use Rattle.verdicts.specs.declared.verifying.ClaimLine.TheVariants.{Op, Initial}
 use Rattle.verdicts.specs.declared.verifying.Claimed.{Claimed}
 use Rattle.drawing.specs.Claim.{lines_in}
+use Rattle.drawing.specs.declared.scene.Row.{Row}
+use Rattle.drawing.specs.declared.scene.Row.TheVariants as row
 use Rattle.drawing.specs.Names.{value_text, name_of, initial_text}
 
 -- ---- words
@@ -19,16 +20,24 @@ use Rattle.drawing.specs.Names.{value_text, name_of, initial_text}
 abbrev pub digits : ℕ → ℕ
 digits n = length (decimal n)
 
+-- a value in full, or by its name
+abbrev pub value_in : Bool → ℕ → List ℕ
+value_in full v = if full then decimal v else value_text v
+
+-- what an operation did, and its value in full, or by its name
+abbrev pub told : Bool → OpKind → List ℕ
+told full (kind.Enq v) = codes "enq " ++ value_in full v
+told full (kind.Deq v) = codes "deq " ++ value_in full v
+told full (kind.Not v) = codes "not " ++ value_in full v
+told full kind.Empty = codes "empty"
+
 -- what an operation did, and its value by its name
 abbrev pub label : OpKind → List ℕ
-label (kind.Enq v) = codes "enq " ++ value_text v
-label (kind.Deq v) = codes "deq " ++ value_text v
-label (kind.Not v) = codes "not " ++ value_text v
-label kind.Empty = codes "empty"
+label kind = told false kind
 
--- the same after its number
-abbrev pub numbered_label : ℕ → OpKind → List ℕ
-numbered_label number kind = decimal number ++ (codes " " ++ label kind)
+-- words after a number at the right of a column of this width; blanks, where there is no number
+abbrev pub numbered : ℕ → List ℕ → List ℕ → List ℕ
+numbered wide number words = replicate (wide - length number) 32 ++ (number ++ (codes " " ++ words))
 
 -- an initial value by its name
 abbrev pub initial_label : ℕ → List ℕ
@@ -48,16 +57,7 @@ threads_below operations n = filter (has_operations operations) (range_with_len 
 abbrev pub threads_of : List Operation → List ℕ
 threads_of operations = threads_below operations (MAX_THREAD + 1)
 
--- ---- tickets and labels
-
--- the ticket of an event, or 0 where there is none
-abbrev pub ticket_or_zero : Option Event → ℕ
-ticket_or_zero None = 0
-ticket_or_zero (Some e) = e.ticket
-
--- the ticket of the last event
-abbrev pub last_ticket : List Event → ℕ
-last_ticket events = ticket_or_zero (slice_get events (length events - 1))
+-- ---- labels
 
 -- the length of the longest label of initial values, or of `empty`
 abbrev pub initial_width : List ℕ → ℕ
@@ -83,40 +83,24 @@ called_at operations ticket = find (λ o. nat_eq o.call ticket) operations
 
 -- ---- the claim
 
--- the line is that of this operation; operations differ in their calls
-abbrev pub is_line_of : Operation → ClaimLine → Bool
-is_line_of o (Op listed) = nat_eq listed.call o.call
-is_line_of o (Initial v) = false
+-- a line stands in a row: an operation in that of its call, an initial value in its own; operations differ in their calls
+abbrev pub stands_in : Row → ClaimLine → Bool
+stands_in (row.Ticket ticket) (Op listed) = nat_eq listed.call ticket
+stands_in (row.Initial place v) (Initial listed) = nat_eq listed v
+stands_in r line = false
 
--- the line is that of this initial value
-abbrev pub is_line_of_initial : ℕ → ClaimLine → Bool
-is_line_of_initial v (Op o) = false
-is_line_of_initial v (Initial listed) = nat_eq listed v
+-- the place of the line in a row among these lines, from 0, where there is one
+abbrev pub place_in : List ClaimLine → Row → Option ℕ
+place_in lines r = position (stands_in r) lines
 
--- the place of an operation among these lines, from 0, where it is there
-abbrev pub place_in : List ClaimLine → Operation → Option ℕ
-place_in lines o = position (is_line_of o) lines
-
--- the place of an initial value among these lines, from 0, where it is there
-abbrev pub initial_place_in : List ClaimLine → ℕ → Option ℕ
-initial_place_in lines v = position (is_line_of_initial v) lines
-
--- the place of an operation in a claim
-abbrev pub place_of : Claimed → Operation → Option ℕ
-place_of claimed o = place_in (lines_in claimed) o
-
--- the place of an initial value in a claim
-abbrev pub initial_place_of : Claimed → ℕ → Option ℕ
-initial_place_of claimed v = initial_place_in (lines_in claimed) v
+-- its place in a claim
+abbrev pub place_of : Claimed → Row → Option ℕ
+place_of claimed r = place_in (lines_in claimed) r
 
 -- the number of a place, from 1, in its digits
 abbrev pub number_at : Option ℕ → List ℕ
 number_at None = []
 number_at (Some place) = decimal (place + 1)
-
--- the number of an operation among these lines; nothing where it isn't there
-abbrev pub number_in : List ClaimLine → Operation → List ℕ
-number_in lines o = number_at (place_in lines o)
 
 -- the greatest call of these operations
 abbrev pub greatest_call : List Operation → ℕ

@@ -1,6 +1,6 @@
 -- The scene of a picture, which characters and pixels draw alike: its rows from top to bottom, and its lanes side by side.
 use Rattle.std.specs.Prelude.{ℕ, ◌+◌, ◌==◌, ◌&&◌, ◌||◌, if◌then◌else◌, max, fold, length, decimal, nat_lt, nat_eq, Bool, true, false, Option, Some, None, List, [], ◌∷◌, ◌++◌, count_by, codes}
-use Rattle.std.specs.List.{flat_map, enumerate_from, list_any}
+use Rattle.std.specs.List.{concat, find, flat_map, enumerate_from, list_any}
 use Rattle.event_records.specs.declared.event.Event.{Event}
 use Rattle.history_merge.specs.Initial.{HistoryView}
 use Rattle.history_merge.specs.declared.operation.Operation.{Operation}
@@ -10,8 +10,8 @@ use Rattle.verdicts.specs.declared.verifying.ClaimLine.{ClaimLine}
 use Rattle.verdicts.specs.declared.verifying.Claimed.{Claimed}
 use Rattle.verdicts.specs.declared.verifying.Claimed.TheVariants.{No}
 use Rattle.verdicts.specs.declared.verifying.ViolationKind.TheVariants.{VRepeat}
-use Rattle.drawing.specs.Claim.{order_of}
-use Rattle.drawing.specs.Layout.{digits, threads_of, last_ticket, point, place_in, initial_place_in}
+use Rattle.drawing.specs.Claim.{order_of, line_kind}
+use Rattle.drawing.specs.Layout.{threads_of, point, stands_in}
 use Rattle.drawing.specs.Bands.{bands_of}
 use Rattle.drawing.specs.declared.bands.Band.{Band}
 use Rattle.drawing.specs.declared.scene.Row.{Row}
@@ -26,7 +26,6 @@ pub record SceneView : Type 0 where
   pub threads : List ℕ
   pub bands : List Band
   pub rows : List Row
-  pub last_ticket : ℕ
 
 -- the scene that a value of the program stands for
 abbrev pub scene_on : Scene → SceneView
@@ -37,7 +36,6 @@ scene_on scene = record {
   threads = scene.threads.items;
   bands = scene.bands.items;
   rows = scene.rows.items;
-  last_ticket = scene.last_ticket;
 }
 
 -- ---- rows
@@ -96,18 +94,26 @@ scene_of history claimed drawn = record {
   threads = threads_of drawn;
   bands = bands_of claimed;
   rows = rows_of history claimed drawn;
-  last_ticket = last_ticket history.events;
 }
 
 -- ---- where a row stands
 
--- the time of a row: 0 of initial values, which were there before all tickets
+-- the gap that a row stands for: that just after a ticket, or none for that before all tickets
+abbrev pub gap_of : Row → Option ℕ
+gap_of Head = None
+gap_of (Initial place v) = None
+gap_of (Ticket ticket) = Some ticket
+gap_of (LeftOut count last) = Some last
+gap_of (Effect o number point) = Some point
+
+-- the time of a gap: 0 before all tickets
+abbrev pub time_of : Option ℕ → ℕ
+time_of None = 0
+time_of (Some ticket) = ticket + 1
+
+-- the time of a row
 abbrev pub row_time : Row → ℕ
-row_time Head = 0
-row_time (Initial place v) = 0
-row_time (Ticket ticket) = ticket + 1
-row_time (LeftOut count last) = last + 1
-row_time (Effect o number point) = point + 1
+row_time r = time_of (gap_of r)
 
 -- its turn among the rows of that time
 abbrev pub row_turn : Row → ℕ
@@ -125,51 +131,36 @@ stands_above other row = nat_lt (row_time other) (row_time row) || (nat_eq (row_
 unfoldable pub row_number : List Row → Row → ℕ
 row_number rows row = count_by (λ other. stands_above other row) rows
 
--- the words in place of events that are left out
-abbrev pub left_out_words : ℕ → List ℕ
-left_out_words count = codes "... " ++ (decimal count ++ (if count == 1 then codes " event ..." else codes " events ..."))
+-- ---- words of a row
 
--- how much room a row wants in the column of tickets for such words
-abbrev pub left_out_width : Row → ℕ
-left_out_width (LeftOut count last) = length (left_out_words count)
-left_out_width r = 0
+-- the words of a row in the column of tickets: its ticket, or how many events are left out
+abbrev pub ticket_words : Row → List ℕ
+ticket_words (Ticket ticket) = decimal ticket
+ticket_words (LeftOut count last) =
+    concat (codes "... " ∷ decimal count ∷ (if count == 1 then codes " event ..." else codes " events ...") ∷ [])
+ticket_words r = []
 
--- how wide the column of tickets is: for the word above it, the last ticket, and words in place of events
-abbrev pub ticket_width : SceneView → ℕ
-ticket_width scene = fold (λ widest r. max widest (left_out_width r)) (max 6 (digits scene.last_ticket)) scene.rows
-
--- how many lanes stand to the left of a thread's
-abbrev pub lanes_before : List ℕ → ℕ → ℕ
-lanes_before threads thread = count_by (λ lower. nat_lt lower thread) threads
-
--- ---- values that were dequeued twice
+-- how wide that column is: for the word above it, and for what stands in it
+abbrev pub ticket_width : List Row → ℕ
+ticket_width rows = fold (λ widest r. max widest (length (ticket_words r))) 6 rows
 
 -- whether a value goes in or out
 abbrev pub way : OpKind → List ℕ
 way (kind.Enq v) = codes "in"
 way _ = codes "out"
 
--- the word of an operation at this place of a claim
-abbrev pub way_at : OpKind → Option ℕ → List ℕ
-way_at kind None = []
-way_at kind (Some place) = way kind
+-- whether the value of a line does
+abbrev pub way_of : Option ClaimLine → List ℕ
+way_of None = []
+way_of (Some line) = way (line_kind line)
 
--- the word of an operation, where the lines have it
-abbrev pub way_of : List ClaimLine → Option Operation → List ℕ
-way_of lines None = []
-way_of lines (Some o) = way_at o.kind (place_in lines o)
+-- the word of the line in a row, where its value was dequeued twice
+abbrev pub way_in : Claimed → Row → List ℕ
+way_in (No VRepeat lines) r = way_of (find (stands_in r) lines)
+way_in _ r = []
 
--- the word `in` or `out`, where its value was dequeued twice
-abbrev pub way_word : Claimed → Option Operation → List ℕ
-way_word (No VRepeat lines) called = way_of lines called
-way_word _ called = []
+-- ---- lanes
 
--- the word of an initial value at this place of a claim
-abbrev pub in_at : Option ℕ → List ℕ
-in_at None = []
-in_at (Some place) = codes "in"
-
--- the word `in`, where the value was dequeued twice
-abbrev pub initial_way : Claimed → ℕ → List ℕ
-initial_way (No VRepeat lines) v = in_at (initial_place_in lines v)
-initial_way _ v = []
+-- how many lanes stand to the left of a thread's
+abbrev pub lanes_before : List ℕ → ℕ → ℕ
+lanes_before threads thread = count_by (λ lower. nat_lt lower thread) threads

@@ -1,6 +1,7 @@
 -- A scene as lines of characters: a line for each row.
-use Rattle.std.specs.Prelude.{ℕ, ◌+◌, ◌-◌, ◌*◌, ◌%◌, ◌==◌, ◌&&◌, nat_lt, max, Bool, true, false, if◌then◌else◌, Option, Some, None, List, [], ◌∷◌, ◌++◌, map, length, codes, decimal}
-use Rattle.std.specs.List.{concat, flat_map, range_with_len, enumerate_from}
+use Rattle.std.specs.Prelude.{ℕ, ◌+◌, ◌-◌, ◌*◌, ◌/◌, ◌%◌, ◌==◌, ◌&&◌, nat_lt, max, Bool, true, false, if◌then◌else◌, Option, Some, None, List, [], ◌∷◌, ◌++◌, map}
+use Rattle.std.specs.Prelude.{length, codes, decimal, unwrap_or}
+use Rattle.std.specs.List.{flat_map, range_with_len, enumerate_from}
 use Rattle.history_merge.specs.declared.operation.Operation.{Operation}
 use Rattle.verdicts.specs.declared.verifying.ClaimLine.{ClaimLine}
 use Rattle.verdicts.specs.declared.verifying.Claimed.{Claimed}
@@ -10,11 +11,10 @@ use Rattle.drawing.specs.Claim.{count_of_lines, shown_by}
 use Rattle.drawing.specs.declared.columns.Columns.{Columns}
 use Rattle.drawing.specs.declared.bands.Band.{Band}
 use Rattle.drawing.specs.declared.bands.Head.{Head}
-use Rattle.drawing.specs.Layout.{digits, label, numbered_label, initial_label, label_width, under_way, called_at}
-use Rattle.drawing.specs.Layout.{initial_place_in, number_at, number_in}
-use Rattle.drawing.specs.Bands.{head_text, form, holds_gap}
+use Rattle.drawing.specs.Layout.{digits, label, numbered, initial_label, label_width, under_way, called_at, place_in, number_at}
+use Rattle.drawing.specs.Bands.{head_text, form_at}
 use Rattle.drawing.specs.Drawn.{is_away}
-use Rattle.drawing.specs.Scene.{SceneView, lanes_before, left_out_words, ticket_width, way_word, initial_way}
+use Rattle.drawing.specs.Scene.{SceneView, gap_of, ticket_words, ticket_width, way_in, lanes_before}
 use Rattle.drawing.specs.declared.scene.Row.{Row}
 use Rattle.drawing.specs.declared.scene.Row.TheVariants as row
 use Rattle.drawing.specs.Words.{Word, line_of}
@@ -22,7 +22,8 @@ use Rattle.drawing.specs.Captions.{headline, caption}
 use Rattle.drawing.specs.Signs.{signs_of, meaning}
 use Rattle.drawing.specs.declared.signs.Sign.{Sign}
 use Rattle.drawing.specs.declared.signs.Sign.TheVariants.{First, InOrder, OfOperations, OfValues, Present, Absent, Away}
-use Rattle.drawing.specs.declared.columns.TheConstants.{ROWS_UNDER_HEADS}
+use Rattle.drawing.specs.declared.columns.TheConstants.{ROWS_UNDER_HEADS, WIDE_LANES}
+use Rattle.drawing.specs.declared.terminal.TheConstants.{LANE_MEANINGS}
 
 -- ---- columns
 
@@ -31,6 +32,14 @@ abbrev pub room_beside : Claimed → ℕ → ℕ → ℕ
 room_beside (Yes order) widest_label bands = digits (length order) + widest_label + 3
 room_beside (No kind lines) widest_label bands = 5 * bands
 
+-- a lane has room for a bracket with a number; where there are many, for one character
+abbrev pub lane_width : ℕ → ℕ → ℕ
+lane_width lanes lines = if nat_lt WIDE_LANES lanes then 1 else max 2 (digits lines) + 2
+
+-- where a lane stands, right of this many: those of one character stand in groups of four
+abbrev pub lane_place : ℕ → ℕ → ℕ
+lane_place lane before = if lane == 1 then before + before / 4 else lane * before
+
 -- the columns, where tickets, the room beside them and lanes are so wide, and there are this many lanes
 abbrev pub columns_for : ℕ → ℕ → ℕ → ℕ → Columns
 columns_for ticket room lane lanes = record {
@@ -38,138 +47,94 @@ columns_for ticket room lane lanes = record {
   beside = ticket + 2;
   lanes = ticket + 2 + room;
   lane = lane;
-  label = ticket + 2 + room + 2 + max 6 (lane * lanes);
+  label = ticket + 2 + room + 2 + max 6 (lane_place lane lanes);
 }
 
--- the columns of a scene: tickets are at least as wide as the word above them, a lane has room for a bracket with a number
+-- the columns of a scene
 abbrev pub columns_of : SceneView → Columns
 columns_of scene =
-    columns_for (ticket_width scene) (room_beside scene.claimed (label_width scene.initial scene.operations) (length scene.bands))
-    (max 2 (digits (count_of_lines scene.claimed)) + 2) (length scene.threads)
+    columns_for (ticket_width scene.rows) (room_beside scene.claimed (label_width scene.initial scene.operations) (length scene.bands))
+    (lane_width (length scene.threads) (count_of_lines scene.claimed)) (length scene.threads)
 
 -- a thread's lane stands to the right of those of lower threads
 abbrev pub lane_column : Columns → List ℕ → ℕ → ℕ
-lane_column columns threads thread = columns.lanes + columns.lane * lanes_before threads thread
+lane_column columns threads thread = columns.lanes + lane_place columns.lane (lanes_before threads thread)
 
--- ---- words of a line
+-- ---- lanes
 
--- a ticket, at the right of its column
-abbrev pub ticket_word : Columns → ℕ → Word
-ticket_word columns ticket = record { column = columns.ticket - digits ticket; bytes = decimal ticket }
+-- a sign that is round, if it is of an operation away from those that show a `NO`
+abbrev pub one_of : Bool → List ℕ → List ℕ → List ℕ
+one_of away round square = if away then round else square
+
+-- what stands in a lane in the row of an event: a call with its number, a return, or that an operation is under way
+abbrev pub event_sign : List ClaimLine → Bool → ℕ → Operation → List ℕ
+event_sign shown away ticket o =
+    if o.call == ticket then one_of away (codes "(") (codes "[") ++ number_at (place_in shown (row.Ticket o.call))
+    else (if o.ret == ticket then one_of away (codes ")") (codes "]") else one_of away (codes ":") (codes "|"))
+
+-- what stands in a lane in the row of an effect: the sign of the operation that takes effect, or that another is under way
+abbrev pub effect_sign : List ℕ → Operation → ℕ → Operation → List ℕ
+effect_sign here effect point o = if o.call == effect.call then here else (if o.ret == point then [] else codes "|")
+
+-- what stands in a lane in a row, where this operation is under way: numbers where lanes have room for them
+abbrev pub lane_sign : Bool → Claimed → Row → Option Operation → List ℕ
+lane_sign narrow claimed (row.Ticket ticket) (Some o) = event_sign (if narrow then [] else shown_by claimed) (is_away claimed o) ticket o
+lane_sign narrow claimed (row.LeftOut count last) (Some o) = one_of (is_away claimed o) (codes ":") (codes "|")
+lane_sign narrow claimed (row.Effect effect number point) (Some o) = effect_sign (if narrow then codes "*" else decimal number) effect point o
+lane_sign narrow claimed r under = []
+
+-- the words in the lanes in a row
+abbrev pub lane_words : Columns → SceneView → Row → List Word
+lane_words columns scene r =
+    map (λ thread. record {
+      column = lane_column columns scene.threads thread;
+      bytes = lane_sign (columns.lane == 1) scene.claimed r (under_way scene.operations thread (unwrap_or (gap_of r) 0));
+    }) scene.threads
+
+-- ---- rows
 
 -- where band i stands
 abbrev pub band_column : Columns → ℕ → ℕ
 band_column columns i = columns.beside + 5 * i
 
--- a band at a column, where it holds a gap: that just after a ticket, or none for that before all tickets
-abbrev pub band_at : ℕ → Band → Option ℕ → Word
-band_at column band gap = record { column = column; bytes = if holds_gap band gap then form band.head else [] }
-
 -- band i, where it holds a gap
 abbrev pub band_word : Columns → Option ℕ → ℕ × Band → Word
-band_word columns gap (i, band) = band_at (band_column columns i) band gap
+band_word columns gap (i, band) = record { column = band_column columns i; bytes = form_at band gap }
 
 -- the bands that hold a gap
 abbrev pub band_words : Columns → List Band → Option ℕ → List Word
 band_words columns bands gap = map (band_word columns gap) (enumerate_from 0 bands)
 
--- a call; that of an operation away from those that show a `NO` is round
-abbrev pub call_sign : Bool → List ℕ
-call_sign true = codes "("
-call_sign false = codes "["
+-- the words beside the tickets: the number and the label of what takes effect, or whether a value goes in or out
+abbrev pub beside_words : Claimed → Row → List ℕ
+beside_words claimed (row.Effect effect number point) = numbered (digits (count_of_lines claimed)) (decimal number) (label effect.kind)
+beside_words claimed r = way_in claimed r
 
--- a return
-abbrev pub return_sign : Bool → List ℕ
-return_sign true = codes ")"
-return_sign false = codes "]"
+-- the label of what is called, where something is; after its number, where lanes have no room for that
+abbrev pub call_label : Bool → List ClaimLine → Option Operation → List ℕ
+call_label narrow shown None = []
+call_label narrow shown (Some o) =
+    if narrow then numbered (digits (length shown)) (number_at (place_in shown (row.Ticket o.call))) (label o.kind) else label o.kind
 
--- that an operation is under way
-abbrev pub under_sign : Bool → List ℕ
-under_sign true = codes ":"
-under_sign false = codes "|"
-
--- what stands in a lane in the row of an event: a call with its number, a return, or that an operation is under way
-abbrev pub event_sign : List ClaimLine → Bool → ℕ → Operation → List ℕ
-event_sign shown away ticket o =
-    if o.call == ticket then call_sign away ++ number_in shown o else (if o.ret == ticket then return_sign away else under_sign away)
-
--- what stands in a lane in the row of an effect: the number of the operation that takes effect, or that another is under way
-abbrev pub effect_sign : Operation → ℕ → ℕ → Operation → List ℕ
-effect_sign effect number point o =
-    if o.call == effect.call then decimal number else (if o.ret == point then [] else codes "|")
-
--- what stands in a lane in a row, where this operation is under way
-abbrev pub lane_sign : Claimed → Row → Option Operation → List ℕ
-lane_sign claimed (row.Ticket ticket) (Some o) = event_sign (shown_by claimed) (is_away claimed o) ticket o
-lane_sign claimed (row.LeftOut count last) (Some o) = under_sign (is_away claimed o)
-lane_sign claimed (row.Effect effect number point) (Some o) = effect_sign effect number point o
-lane_sign claimed r under = []
-
--- the words in the lanes in a row just after a ticket
-abbrev pub lane_words : Columns → SceneView → Row → ℕ → List Word
-lane_words columns scene r ticket =
-    map (λ thread. record {
-      column = lane_column columns scene.threads thread;
-      bytes = lane_sign scene.claimed r (under_way scene.operations thread ticket);
-    }) scene.threads
-
--- the label of an operation, where there is one
-abbrev pub label_if : Option Operation → List ℕ
-label_if None = []
-label_if (Some o) = label o.kind
-
--- ---- rows
-
--- the words in the row of an event: its ticket, the bands, what its thread and the others do, and the label of what is called
-unfoldable pub event_words : Columns → SceneView → ℕ → List Word
-event_words columns scene ticket =
-    ticket_word columns ticket ∷ record { column = columns.beside; bytes = way_word scene.claimed (called_at scene.operations ticket) }
-    ∷ (band_words columns scene.bands (Some ticket) ++ (lane_words columns scene (row.Ticket ticket) ticket
-    ++ record { column = columns.label; bytes = label_if (called_at scene.operations ticket) } ∷ []))
-
--- the words in the row of events that are left out: how many, the bands, and what the threads do
-unfoldable pub left_out_line : Columns → SceneView → ℕ → ℕ → List Word
-left_out_line columns scene count last =
-    record { column = columns.ticket - length (left_out_words count); bytes = left_out_words count }
-    ∷ (band_words columns scene.bands (Some last) ++ lane_words columns scene (row.LeftOut count last) last)
-
--- the number and the label of what takes effect, of this many
-abbrev pub effect_word : Columns → ℕ → Operation → ℕ → Word
-effect_word columns count effect number =
-    record { column = columns.beside + (digits count - digits number); bytes = numbered_label number effect.kind }
-
--- the words in the row of an effect
-unfoldable pub effect_words : Columns → SceneView → Operation → ℕ → ℕ → List Word
-effect_words columns scene effect number point =
-    effect_word columns (count_of_lines scene.claimed) effect number ∷ lane_words columns scene (row.Effect effect number point) point
-
--- the words above the rows of the initial values, and the bands from the top on
-unfoldable pub first_words : Columns → SceneView → List Word
-first_words columns scene =
-    band_words columns scene.bands None ++ record { column = columns.lanes; bytes = codes "in the queue first" } ∷ []
-
--- the number of an initial value among the lines that show a `NO`, at the right of a column that ends here
-abbrev pub initial_number : ℕ → List ℕ → Word
-initial_number end number = record { column = end - length number; bytes = number }
-
--- where the numbers of initial values end
-abbrev pub numbers_end : Columns → Claimed → ℕ
-numbers_end columns claimed = columns.lanes + digits (count_of_lines claimed)
-
--- the words in the row of an initial value: the bands from the top on, its number, if a `NO` names it, and its label
-unfoldable pub initial_words : Columns → SceneView → ℕ → List Word
-initial_words columns scene v =
-    record { column = columns.beside; bytes = initial_way scene.claimed v } ∷ (band_words columns scene.bands None
-    ++ (initial_number (numbers_end columns scene.claimed) (number_at (initial_place_in (shown_by scene.claimed) v))
-    ∷ record { column = numbers_end columns scene.claimed + 1; bytes = initial_label v } ∷ []))
+-- the words right of the bands or of the lanes: the head of the initial values, such a value with its number, or a label
+abbrev pub told_word : Columns → SceneView → Row → Word
+told_word columns scene row.Head = record { column = columns.lanes; bytes = codes "in the queue first" }
+told_word columns scene (row.Initial place v) = record {
+  column = columns.lanes;
+  bytes = numbered (digits (count_of_lines scene.claimed)) (number_at (place_in (shown_by scene.claimed) (row.Initial place v))) (initial_label v);
+}
+told_word columns scene (row.Ticket ticket) = record {
+  column = columns.label;
+  bytes = call_label (columns.lane == 1) (shown_by scene.claimed) (called_at scene.operations ticket);
+}
+told_word columns scene r = record { column = columns.label; bytes = [] }
 
 -- the words in a row
-abbrev pub row_words : Columns → SceneView → Row → List Word
-row_words columns scene row.Head = first_words columns scene
-row_words columns scene (row.Initial place v) = initial_words columns scene v
-row_words columns scene (row.Ticket ticket) = event_words columns scene ticket
-row_words columns scene (row.LeftOut count last) = left_out_line columns scene count last
-row_words columns scene (row.Effect effect number point) = effect_words columns scene effect number point
+unfoldable pub row_words : Columns → SceneView → Row → List Word
+row_words columns scene r =
+    record { column = columns.ticket - length (ticket_words r); bytes = ticket_words r }
+    ∷ record { column = columns.beside; bytes = beside_words scene.claimed r }
+    ∷ (band_words columns scene.bands (gap_of r) ++ (lane_words columns scene r ++ told_word columns scene r ∷ []))
 
 -- ---- heads
 
@@ -198,20 +163,32 @@ abbrev pub order_word : Claimed → List ℕ
 order_word (Yes order) = codes "order"
 order_word (No kind lines) = []
 
+-- what stands of a thread's number in a line above its lane: all of it, or where lanes are narrow its tens or its units
+abbrev pub thread_digits : Bool → Bool → ℕ → List ℕ
+thread_digits narrow true thread = if nat_lt thread 10 then [] else decimal (thread / 10)
+thread_digits narrow false thread = decimal (if narrow then thread % 10 else thread)
+
 -- the numbers of the threads above their lanes
-abbrev pub lane_names : Columns → List ℕ → List ℕ → List Word
-lane_names columns all threads = map (λ thread. record { column = lane_column columns all thread; bytes = decimal thread }) threads
+abbrev pub lane_names : Columns → List ℕ → Bool → List ℕ → List Word
+lane_names columns all tens threads =
+    map (λ thread. record { column = lane_column columns all thread; bytes = thread_digits (columns.lane == 1) tens thread }) threads
+
+-- the line of their tens, where lanes are narrow
+abbrev pub tens_line : Columns → SceneView → List ℕ
+tens_line columns scene =
+    if columns.lane == 1 then line (line_of (strokes columns (length scene.bands) ++ lane_names columns scene.threads true scene.threads)) else []
 
 -- the word above the tickets, that above the order of a `YES`, and the numbers of the threads
 unfoldable pub name_words : Columns → SceneView → List Word
 name_words columns scene =
     record { column = columns.ticket - 6; bytes = codes "ticket" } ∷ record { column = columns.beside; bytes = order_word scene.claimed }
-    ∷ (strokes columns (length scene.bands) ++ lane_names columns scene.threads scene.threads)
+    ∷ (strokes columns (length scene.bands) ++ lane_names columns scene.threads false scene.threads)
 
 -- the heads: those of the bands, and those of the tickets and the lanes
 unfoldable pub heads : Columns → SceneView → List ℕ
 heads columns scene =
-    head_lines columns scene.bands ++ (line (line_of (thread_words columns (length scene.bands))) ++ line (line_of (name_words columns scene)))
+    head_lines columns scene.bands ++ (line (line_of (thread_words columns (length scene.bands)))
+    ++ (tens_line columns scene ++ line (line_of (name_words columns scene))))
 
 -- ---- the picture
 
@@ -242,19 +219,21 @@ sign_text sign = codes ":::  "
 abbrev pub sign_line : Sign → List ℕ
 sign_line sign = line (sign_text sign ++ meaning sign)
 
--- what the forms in the lanes mean
-unfoldable pub lane_meanings : List ℕ
-lane_meanings = concat (line (codes "[    call of an operation") ∷ line (codes "]    its return") ∷ [])
+-- the sign of an effect, where lanes have no room for its number
+abbrev pub effect_meaning : Bool → Claimed → List ℕ
+effect_meaning true (Yes order) = line (codes "*    the number of its row, within its bar")
+effect_meaning narrow claimed = []
 
 -- how to read the picture
-unfoldable pub legend : SceneView → List ℕ
-legend scene = lane_meanings ++ flat_map sign_line (signs_of scene)
+unfoldable pub legend : Columns → SceneView → List ℕ
+legend columns scene =
+    LANE_MEANINGS.now ++ (effect_meaning (columns.lane == 1) scene.claimed ++ flat_map sign_line (signs_of scene))
 
 -- what stands above the rows
-unfoldable pub words : SceneView → List ℕ
-words scene =
-    line (headline scene.claimed) ++ (caption scene.claimed ++ (line [] ++ (legend scene ++ line [])))
+unfoldable pub words : Columns → SceneView → List ℕ
+words columns scene =
+    line (headline scene.claimed) ++ (caption scene.claimed ++ (line [] ++ (legend columns scene ++ line [])))
 
 -- the picture of a scene in lines of characters
 unfoldable pub terminal_picture : SceneView → List ℕ
-terminal_picture scene = words scene ++ lines (columns_of scene) scene
+terminal_picture scene = words (columns_of scene) scene ++ lines (columns_of scene) scene

@@ -3,11 +3,11 @@ ghost use Rattle.std.specs.Prelude.{◌≡◌, ◌++◌, ◌∷◌, ◌+◌, ◌
 ghost use Rattle.drawing.specs.Claim.{count_of_lines, line_call, line_kind, line_return};
 ghost use Rattle.drawing.specs.Names.{value_text};
 ghost use Rattle.std.specs.List.{concat};
-ghost use Rattle.drawing.specs.Bands.{value_of, line_value, sure_until, time_of, absent_until, call_if_taken, cover_bands, fresh_bands};
-ghost use Rattle.drawing.specs.Bands.{order_bands, witness_bands, repeat_bands, bands_of, head_text, form_words, form, has_begun, goes_on, holds_gap};
+ghost use Rattle.drawing.specs.Bands.{line_value, sure_until, time_of, enqueue_call, first_call, cover_bands, fresh_bands};
+ghost use Rattle.drawing.specs.Bands.{order_bands, witness_bands, repeat_bands, bands_of, head_text, form_words, has_begun, goes_on, form_at};
 
 use crate::claim::{line_call, line_kind, line_return};
-use crate::line::{Added, Piece, push_all};
+use crate::line::{Added, Piece, push_all, push_two};
 use history_merge::OpKind;
 use std::alloc::{AllocError, Global};
 use verdicts::{ClaimLine, Claimed, ViolationKind};
@@ -39,20 +39,14 @@ pub struct Band {
     pub last: Option<u64>,
 }
 
-pub(crate) fn value_of(kind: OpKind) -> u64
-    ensures { result ≡ value_of kind }
-{
-    match kind {
-        OpKind::Enq(value) | OpKind::Deq(value) | OpKind::Not(value) => value,
-        OpKind::Empty => 0,
-    }
-}
-
 /// The value of a line.
 pub(crate) fn line_value(line: ClaimLine) -> u64
     ensures { result ≡ line_value line }
 {
-    value_of(line_kind(line))
+    match line_kind(line) {
+        OpKind::Enq(value) | OpKind::Deq(value) | OpKind::Not(value) => value,
+        OpKind::Empty => 0,
+    }
 }
 
 fn sure_until(enq: ClaimLine, last: Option<u64>) -> Band
@@ -71,34 +65,25 @@ fn time_of(head: Head, first: Option<u64>, last: Option<u64>) -> Band
     Band { head, first, last }
 }
 
-fn call_if_taken(line: ClaimLine) -> Option<u64>
-    ensures { result ≡ call_if_taken line (line_kind line) }
+fn enqueue_call(lines: &[ClaimLine]) -> Option<u64>
+    ensures { result ≡ enqueue_call lines.now }
 {
-    match line_kind(line) {
-        OpKind::Enq(_) => line_call(line),
-        _ => None,
+    match lines {
+        [] => None,
+        [enq, ..] => match line_kind(*enq) {
+            OpKind::Enq(_) => line_call(*enq),
+            _ => None,
+        },
     }
 }
 
-/// Adds two bands.
-fn push_two(bands: &mut Vec<Band>, left: Band, right: Band) -> Added
-    ensures bands { OnOk result (bands.new.items ≡ bands.old.items ++ (left ∷ right ∷ [])) }
-    ensures few { OnOk result (vec_len bands.new ≤ vec_len bands.old + 2) }
+fn first_call(lines: &[ClaimLine]) -> Option<u64>
+    ensures { result ≡ first_call lines.now }
 {
-    bands.push(left)?;
-    bands.push(right)?;
-    Ok(())
-}
-
-fn push_fresh(bands: &mut Vec<Band>, deq: ClaimLine, last: Option<u64>) -> Added
-    ensures bands { OnOk result (bands.new.items ≡ bands.old.items ++ (absent_until (line_value deq) last ∷ time_of (Head.Dequeued (line_value deq))
-        (line_call deq) (line_return deq) ∷ [])) }
-    ensures few { OnOk result (vec_len bands.new ≤ vec_len bands.old + 2) }
-{
-    let value = line_value(deq);
-    let absent = time_of(Head::NotIn(value), None, last);
-    let time = time_of(Head::Dequeued(value), line_call(deq), line_return(deq));
-    push_two(bands, absent, time)
+    match lines {
+        [] => None,
+        [line, ..] => line_call(*line),
+    }
 }
 
 fn push_fresh_bands(bands: &mut Vec<Band>, lines: &[ClaimLine]) -> Added
@@ -107,25 +92,13 @@ fn push_fresh_bands(bands: &mut Vec<Band>, lines: &[ClaimLine]) -> Added
 {
     match lines {
         [] => Ok(()),
-        [deq] => push_fresh(bands, *deq, None),
-        [deq, enq, ..] => push_fresh(bands, *deq, call_if_taken(*enq)),
+        [deq, rest @ ..] => {
+            let value = line_value(*deq);
+            let absent = time_of(Head::NotIn(value), None, enqueue_call(rest));
+            let time = time_of(Head::Dequeued(value), line_call(*deq), line_return(*deq));
+            push_two(bands, absent, time)
+        }
     }
-}
-
-fn push_order(
-    bands: &mut Vec<Band>,
-    enq_a: ClaimLine,
-    last: Option<u64>,
-    enq_b: ClaimLine,
-    deq_b: ClaimLine,
-) -> Added
-    ensures bands { OnOk result (bands.new.items ≡ bands.old.items ++ (sure_until enq_a last ∷ time_of (Head.InAndOut (line_value enq_b))
-        (line_call enq_b) (line_return deq_b) ∷ [])) }
-    ensures few { OnOk result (vec_len bands.new ≤ vec_len bands.old + 2) }
-{
-    let head = Head::InAndOut(line_value(enq_b));
-    let time = time_of(head, line_call(enq_b), line_return(deq_b));
-    push_two(bands, sure_until(enq_a, last), time)
 }
 
 fn push_order_bands(bands: &mut Vec<Band>, lines: &[ClaimLine]) -> Added
@@ -133,9 +106,10 @@ fn push_order_bands(bands: &mut Vec<Band>, lines: &[ClaimLine]) -> Added
     ensures few { OnOk result (vec_len bands.new ≤ vec_len bands.old + 2) }
 {
     match lines {
-        [enq_a, enq_b, deq_b] => push_order(bands, *enq_a, None, *enq_b, *deq_b),
-        [enq_a, enq_b, deq_b, deq_a, ..] => {
-            push_order(bands, *enq_a, line_call(*deq_a), *enq_b, *deq_b)
+        [enq_a, enq_b, deq_b, rest @ ..] => {
+            let head = Head::InAndOut(line_value(*enq_b));
+            let time = time_of(head, line_call(*enq_b), line_return(*deq_b));
+            push_two(bands, sure_until(*enq_a, first_call(rest)), time)
         }
         _ => Ok(()),
     }
@@ -207,7 +181,7 @@ pub fn bands_of(alloc: Global, claimed: &Claimed) -> Result<Vec<Band>, AllocErro
 }
 
 /// Adds a value, and words after it.
-fn push_named(text: &mut Vec<u8>, value: u64, words: &[u8]) -> Added
+pub(crate) fn push_named(text: &mut Vec<u8>, value: u64, words: &[u8]) -> Added
     ensures { OnOk result (text.new.items ≡ text.old.items ++ concat (value_text value ∷ words.now ∷ [])) }
 {
     push_all(text, &[Piece::Value(value), Piece::Words(words)])
@@ -254,20 +228,15 @@ pub fn form_words(
     }
 }
 
-/// The form of a band in a row of characters.
-pub(crate) fn form(head: Head) -> &'static [u8]
-    ensures { result.now ≡ form head }
-{
-    form_words(head, b"###", b"xxx", b":::")
-}
-
 fn has_begun(first: Option<u64>, gap: Option<u64>) -> bool
     ensures { result ≡ has_begun first gap }
 {
-    match (first, gap) {
-        (None, _) => true,
-        (Some(_), None) => false,
-        (Some(first), Some(ticket)) => first <= ticket,
+    match first {
+        None => true,
+        Some(first) => match gap {
+            None => false,
+            Some(ticket) => first <= ticket,
+        },
     }
 }
 
@@ -280,9 +249,13 @@ fn goes_on(last: Option<u64>, gap: Option<u64>) -> bool
     }
 }
 
-/// Whether a band holds the gap just after this ticket, or for none that before all tickets.
-pub(crate) fn holds_gap(band: Band, gap: Option<u64>) -> bool
-    ensures { result ≡ holds_gap band gap }
+/// The form of a band in a row of characters that stands for this gap; nothing where the band doesn't hold it.
+pub(crate) fn form_at(band: Band, gap: Option<u64>) -> &'static [u8]
+    ensures { result.now ≡ form_at band gap }
 {
-    has_begun(band.first, gap) && goes_on(band.last, gap)
+    if has_begun(band.first, gap) && goes_on(band.last, gap) {
+        form_words(band.head, b"###", b"xxx", b":::")
+    } else {
+        b""
+    }
 }

@@ -1,16 +1,26 @@
 //! The words of a picture.
 ghost use Rattle.std.specs.Prelude.{◌≡◌, ◌++◌, ◌+◌, ◌≤◌, OnOk, length};
 ghost use Rattle.drawing.specs.Claim.{count_of_lines};
-ghost use Rattle.drawing.specs.Captions.{headline, fresh_reason, fresh_caption, repeat_words, repeat_caption, before_words, overtaking_caption};
-ghost use Rattle.drawing.specs.Captions.{order_caption, cover_from, one_of_cover, last_of_cover, cover_caption, witness_words, witness_caption, yes_caption};
-ghost use Rattle.drawing.specs.Captions.{caption};
+ghost use Rattle.drawing.specs.Captions.{headline, fresh_reason, fresh_words, fresh_caption, repeat_words, repeat_caption, before_words};
+ghost use Rattle.drawing.specs.Captions.{overtaking_caption, order_caption, cover_from, one_of_cover, cover_caption};
+ghost use Rattle.drawing.specs.Captions.{witness_words, witness_caption, caption};
 
-use crate::bands::line_value;
+use crate::bands::{line_value, push_named};
 use crate::claim::{line_call, line_kind, line_return};
 use crate::columns::MOST_DRAWN;
 use crate::line::{Added, Piece, push_all};
 use history_merge::OpKind;
 use verdicts::{ClaimLine, Claimed, ViolationKind};
+
+/// The caption of a `YES`.
+pub(crate) const YES_CAPTION: &[u8] =
+    b"The numbers give one order in which the operations can have taken\n\
+effect. They rise from top to bottom, and each stands within its bar.\n";
+
+/// The first lines of the caption of an empty answer.
+pub(crate) const WITNESS_WORDS: &[u8] =
+    b"A dequeue found the queue empty (1), but at each moment of it\n\
+some value surely was in the queue:\n";
 
 /// What a picture shows, in a line.
 pub fn headline(claimed: &Claimed) -> &'static [u8]
@@ -36,25 +46,21 @@ fn fresh_reason(kind: OpKind) -> &'static [u8]
     }
 }
 
+fn fresh_words(lines: &[ClaimLine]) -> &'static [u8]
+    ensures { result.now ≡ fresh_words lines.now }
+{
+    match lines {
+        [] => b" was dequeued (1), but nobody ever enqueued it.\n",
+        [enq, ..] => fresh_reason(line_kind(*enq)),
+    }
+}
+
 fn push_fresh_caption(text: &mut Vec<u8>, lines: &[ClaimLine]) -> Added
     ensures { OnOk result (text.new.items ≡ text.old.items ++ fresh_caption lines.now) }
 {
     match lines {
         [] => Ok(()),
-        [deq] => push_all(
-            text,
-            &[
-                Piece::Value(line_value(*deq)),
-                Piece::Words(b" was dequeued (1), but nobody ever enqueued it.\n"),
-            ],
-        ),
-        [deq, enq, ..] => push_all(
-            text,
-            &[
-                Piece::Value(line_value(*deq)),
-                Piece::Words(fresh_reason(line_kind(*enq))),
-            ],
-        ),
+        [deq, rest @ ..] => push_named(text, line_value(*deq), fresh_words(rest)),
     }
 }
 
@@ -72,13 +78,7 @@ fn push_repeat_caption(text: &mut Vec<u8>, lines: &[ClaimLine]) -> Added
 {
     match lines {
         [] => Ok(()),
-        [enq, ..] => push_all(
-            text,
-            &[
-                Piece::Value(line_value(*enq)),
-                Piece::Words(repeat_words(*enq)),
-            ],
-        ),
+        [enq, ..] => push_named(text, line_value(*enq), repeat_words(*enq)),
     }
 }
 
@@ -91,6 +91,7 @@ fn before_words(a: ClaimLine) -> &'static [u8]
     }
 }
 
+#[tactic(auto, unfolding(crate::specs::Captions::overtaking_caption))]
 fn push_overtaking_caption<'x>(
     text: &mut Vec<u8>,
     a: ClaimLine,
@@ -100,19 +101,17 @@ fn push_overtaking_caption<'x>(
 ) -> Added
     ensures { OnOk result (text.new.items ≡ text.old.items ++ overtaking_caption a b between.now end.now) }
 {
-    let first = line_value(a);
-    let second = line_value(b);
     push_all(
         text,
         &[
-            Piece::Value(first),
+            Piece::Value(line_value(a)),
             Piece::Words(before_words(a)),
-            Piece::Value(second),
+            Piece::Value(line_value(b)),
             Piece::Words(b" (2),\n"),
             Piece::Words(b"but "),
-            Piece::Value(second),
+            Piece::Value(line_value(b)),
             Piece::Words(between),
-            Piece::Value(first),
+            Piece::Value(line_value(a)),
             Piece::Words(end),
         ],
     )
@@ -152,14 +151,6 @@ fn push_cover_from(text: &mut Vec<u8>, number: u64, enq: ClaimLine) -> Added
     )
 }
 
-#[tactic(auto, unfolding(crate::specs::Captions::last_of_cover))]
-fn push_last_of_cover(text: &mut Vec<u8>, number: u64, enq: ClaimLine) -> Added
-    ensures { OnOk result (text.new.items ≡ text.old.items ++ last_of_cover number enq) }
-{
-    push_cover_from(text, number, enq)?;
-    text.extend_from_slice(b") on\n")
-}
-
 #[tactic(auto, unfolding(crate::specs::Captions::one_of_cover))]
 fn push_one_of_cover(text: &mut Vec<u8>, number: u64, enq: ClaimLine, deq: ClaimLine) -> Added
     requires { number ≤ MOST_DRAWN }
@@ -178,13 +169,17 @@ fn push_one_of_cover(text: &mut Vec<u8>, number: u64, enq: ClaimLine, deq: Claim
     )
 }
 
+#[tactic(auto, using(crate::proofs::Chains::covers))]
 fn push_cover_caption(text: &mut Vec<u8>, number: u64, lines: &[ClaimLine]) -> Added
     requires { number + length lines.now ≤ MOST_DRAWN + 1 }
     ensures { OnOk result (text.new.items ≡ text.old.items ++ cover_caption number lines.now) }
 {
     match lines {
         [] => Ok(()),
-        [enq] => push_last_of_cover(text, number, *enq),
+        [enq] => {
+            push_cover_from(text, number, *enq)?;
+            text.extend_from_slice(b") on\n")
+        }
         [enq, deq, rest @ ..] => {
             push_one_of_cover(text, number, *enq, *deq)?;
             push_cover_caption(text, number + 2, rest)
@@ -196,8 +191,7 @@ fn push_cover_caption(text: &mut Vec<u8>, number: u64, lines: &[ClaimLine]) -> A
 fn witness_words() -> &'static [u8]
     ensures { result.now ≡ witness_words }
 {
-    b"A dequeue found the queue empty (1), but at each moment of it\n\
-some value surely was in the queue:\n"
+    WITNESS_WORDS
 }
 
 fn push_witness_caption(text: &mut Vec<u8>, lines: &[ClaimLine]) -> Added
@@ -213,14 +207,6 @@ fn push_witness_caption(text: &mut Vec<u8>, lines: &[ClaimLine]) -> Added
     }
 }
 
-#[tactic(auto, unfolding(crate::specs::Captions::yes_caption))]
-fn yes_caption() -> &'static [u8]
-    ensures { result.now ≡ yes_caption }
-{
-    b"The numbers give one order in which the operations can have taken\n\
-effect. They rise from top to bottom, and each stands within its bar.\n"
-}
-
 /// Adds what a claim says, in sentences, each line with its line feed.
 #[tactic(auto, unfolding(crate::specs::Captions::caption))]
 pub fn push_caption(text: &mut Vec<u8>, claimed: &Claimed) -> Added
@@ -228,7 +214,7 @@ pub fn push_caption(text: &mut Vec<u8>, claimed: &Claimed) -> Added
     ensures { OnOk result (text.new.items ≡ text.old.items ++ caption claimed.now) }
 {
     match claimed {
-        Claimed::Yes(_) => text.extend_from_slice(yes_caption()),
+        Claimed::Yes(_) => text.extend_from_slice(YES_CAPTION),
         Claimed::No(kind, lines) => {
             let lines = lines.as_slice();
             match kind {

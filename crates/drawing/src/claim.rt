@@ -26,7 +26,7 @@ pub fn order_of(claimed: &Claimed) -> &[Operation]
 }
 
 /// The lines that show a `NO`.
-pub(crate) fn shown_by(claimed: &Claimed) -> &[ClaimLine]
+pub fn shown_by(claimed: &Claimed) -> &[ClaimLine]
     ensures value { result.now ≡ shown_by claimed.now }
     ensures few { length result.now ≤ count_of_lines claimed.now }
 {

@@ -1,7 +1,7 @@
 //! Columns, and what they make room for.
 ghost use Rattle.std.specs.Prelude.{◌≡◌, ◌+◌, ◌*◌, ◌≤◌, IfOk, length, vec_len};
-ghost use Rattle.drawing.specs.Layout.{digits, label, has_operations, threads_of, last_ticket, initial_width, label_width};
-ghost use Rattle.drawing.specs.Terminal.{room_beside, columns_of};
+ghost use Rattle.drawing.specs.Layout.{digits, label, has_operations, threads_of, initial_width, label_width};
+ghost use Rattle.drawing.specs.Terminal.{room_beside, lane_width, lane_place, columns_of};
 ghost use Rattle.drawing.specs.Scene.{scene_on};
 ghost use Rattle.drawing.specs.Claim.{count_of_lines};
 
@@ -27,6 +27,9 @@ pub fn events_of(alloc: Global, history: &History) -> Result<Vec<Event>, AllocEr
 {
     history.events().collect(alloc)
 }
+
+/// The most lanes that have room for a number: where there are more, a lane is one character wide.
+pub(crate) const WIDE_LANES: usize = 16;
 
 /// The greatest column where lanes begin.
 pub(crate) const MAX_LANES: usize = 47 + 5 * (MOST_DRAWN + 2);
@@ -111,16 +114,6 @@ pub fn label_width(initial: &[u64], operations: &[Operation]) -> usize
     widest
 }
 
-/// The ticket of the last event, or 0 where there is none.
-pub fn last_ticket(events: &[Event]) -> u64
-    ensures { result ≡ last_ticket events.now }
-{
-    match events.last() {
-        Some(event) => event.ticket,
-        None => 0,
-    }
-}
-
 /// How much room the order of a `YES` takes, or this many bands of a `NO`.
 fn room_beside(claimed: &Claimed, widest_label: usize, bands: usize) -> usize
     requires label { widest_label ≤ 46 }
@@ -134,6 +127,32 @@ fn room_beside(claimed: &Claimed, widest_label: usize, bands: usize) -> usize
     }
 }
 
+/// How wide a lane is, of this many, for a claim of this many lines.
+fn lane_width(lanes: usize, lines: usize) -> usize
+    ensures value { result ≡ lane_width lanes lines }
+    ensures few { result ≤ 22 }
+{
+    if lanes > WIDE_LANES {
+        1
+    } else {
+        digits(lines as u64).max(2) + 2
+    }
+}
+
+/// Where a lane of this width stands, right of this many: those of one character stand in groups of four.
+pub(crate) fn lane_place(lane: usize, before: usize) -> usize
+    requires lane { lane ≤ 22 }
+    requires few { before ≤ MAX_THREADS }
+    ensures value { result ≡ lane_place lane before }
+    ensures few { result ≤ 22 * MAX_THREADS }
+{
+    if lane == 1 {
+        before + before / 4
+    } else {
+        lane * before
+    }
+}
+
 /// The columns of a scene.
 pub(crate) fn columns_of(scene: &Scene<'_>) -> Columns
     requires { count_of_lines scene.now.claimed.now ≤ MOST_DRAWN }
@@ -144,15 +163,16 @@ pub(crate) fn columns_of(scene: &Scene<'_>) -> Columns
     ensures lane { result.lane ≤ 22 }
     ensures wide { 6 ≤ result.ticket }
 {
-    let ticket = ticket_width(scene);
+    let ticket = ticket_width(scene.rows.as_slice());
     let widest_label = label_width(scene.initial, scene.operations.as_slice());
     let room = room_beside(scene.claimed, widest_label, scene.bands.len());
-    let lane = digits(count_of_lines(scene.claimed) as u64).max(2) + 2;
+    let lanes = scene.threads.len();
+    let lane = lane_width(lanes, count_of_lines(scene.claimed));
     Columns {
         ticket,
         beside: ticket + 2,
         lanes: ticket + 2 + room,
         lane,
-        label: ticket + 2 + room + 2 + (lane * scene.threads.len()).max(6),
+        label: ticket + 2 + room + 2 + lane_place(lane, lanes).max(6),
     }
 }

@@ -3,8 +3,8 @@ ghost use Rattle.std.specs.Prelude.{◌≡◌, ◌++◌, IfOk, OnOk, filter, map
 ghost use Rattle.std.specs.List.{list_any};
 ghost use Rattle.event_records.specs.Turns.{TicketsRise};
 ghost use Rattle.history_merge.specs.Operations.{operations_of};
-ghost use Rattle.drawing.specs.Drawn.{events_before, are_near, operations_in, drawn_operations, overlaps_line, is_away};
-ghost use Rattle.drawing.specs.Inner.Drawn.{standing_of, stand_near};
+ghost use Rattle.drawing.specs.Drawn.{events_before, standing_of, stand_near, is_near_any, operations_in, drawn_operations, overlaps_line};
+ghost use Rattle.drawing.specs.Drawn.{is_away};
 
 use crate::columns::events_of;
 use event_records::Event;
@@ -14,7 +14,7 @@ use verdicts::{ClaimLine, Claimed};
 
 /// How many events come before the call of an operation, and before its return.
 #[derive(Clone, Copy, Debug)]
-pub(crate) struct Standing {
+pub struct Standing {
     call: usize,
     ret: usize,
 }
@@ -77,8 +77,7 @@ fn near_operations(
     around: usize,
 ) -> Result<Vec<Operation>, AllocError>
     requires { TicketsRise events.now }
-    ensures { IfOk result (λ near. near.items
-        ≡ filter (λ o. list_any (are_near events.now around o) (operations_in lines.now)) operations.now) }
+    ensures { IfOk result (λ near. near.items ≡ filter (is_near_any events.now around (operations_in lines.now)) operations.now) }
 {
     let listed = standings_in(alloc, events, lines)?;
     let mut near = Vec::new(alloc);

@@ -14,6 +14,7 @@ pub fn what_matters_is_drawn()
 
 /// The bars in the lanes are the operations that are drawn, each in the lane of its thread, from its call to its return. The laws are the
 /// contract; the body is empty.
+#[tactic(auto, using(crate::proofs::Bars::bars_are_of_operations, crate::proofs::Bars::no_other_bars))]
 pub fn bars_are_the_operations()
     ensures each { BarsAreOfOperations }
     ensures none_else { NoOtherBars }
@@ -29,6 +30,7 @@ pub fn effects_rise_within_bars()
 /// Rows stand in the order of time: initial values, front first, then events by their tickets, each of an operation that is drawn in
 /// a row of its own and all others counted in rows between, and of a `YES` the effects in its order,
 /// each within its bar. Returns stand above calls as operations precede one another. The laws are the contract; the body is empty.
+#[tactic(auto, using(crate::proofs::Rows::rows_rise, crate::proofs::Rows::initial_values_have_rows, crate::proofs::Rows::operations_have_rows, crate::proofs::Rows::events_are_counted, crate::proofs::Rows::effects_have_rows, crate::proofs::Rows::initial_rows_are_first, crate::proofs::Rows::rows_tell_precedence, crate::proofs::Rows::effect_rows_are_in_bars, crate::proofs::Rows::effect_rows_rise))]
 pub fn rows_stand_in_time()
     ensures rise { RowsRise }
     ensures initial { InitialValuesHaveRows }
@@ -62,6 +64,7 @@ pub fn lines_of_evidence_are_drawn()
 {}
 
 /// Two values never have one name, and no two initial values one label. The laws are the contract; the body is empty.
+#[tactic(auto, using(crate::proofs::Naming::values_have_their_names, crate::proofs::Naming::initial_values_have_their_names))]
 pub fn names_are_of_one_value()
     ensures values { ValuesHaveTheirNames }
     ensures initial { InitialValuesHaveTheirNames }

@@ -6,7 +6,6 @@ mod captions;
 mod claim;
 mod columns;
 mod drawn;
-mod initial;
 mod laws;
 mod line;
 mod lookup;
@@ -18,7 +17,7 @@ mod terminal;
 
 pub use bands::{Band, Head, bands_of, form_words, head_words, push_head};
 pub use captions::{headline, push_caption};
-pub use claim::{count_of_lines, order_of};
+pub use claim::{count_of_lines, order_of, shown_by};
 pub use columns::{Columns, MOST_DRAWN, digits, label_width};
 pub use drawn::{drawn_operations, is_away};
 pub use laws::{
@@ -27,11 +26,9 @@ pub use laws::{
     rows_stand_in_time, what_matters_is_drawn,
 };
 pub use line::{Added, push_line};
-pub use lookup::{called_at, initial_place_of, place_of};
-pub use names::push_initial_label;
-pub use scene::{
-    Row, initial_way, lanes_before, left_out_words, row_number, scene_of, ticket_width, way_word,
-};
+pub use lookup::{place_in, place_of};
+pub use names::initial_label;
+pub use scene::{Row, lanes_before, row_number, scene_of, ticket_width, ticket_words, way_in};
 pub use sheet::Scene;
 pub use signs::{Sign, meaning, signs_of};
-pub use terminal::{numbered_label, push_label, terminal_picture};
+pub use terminal::{label_of, numbered, push_told, terminal_picture};

@@ -1,10 +1,10 @@
 //! Which operation is in a row, and its number in the claim.
-ghost use Rattle.std.specs.Prelude.{◌≡◌, ◌<◌, IfSome, length, nat_eq};
-ghost use Rattle.std.specs.List.{position};
-ghost use Rattle.drawing.specs.Layout.{is_under_way, under_way, called_at, is_line_of, is_line_of_initial, place_in, initial_place_in, place_of};
-ghost use Rattle.drawing.specs.Layout.{initial_place_of};
+ghost use Rattle.std.specs.Prelude.{◌≡◌, ◌<◌, IfSome, length};
+ghost use Rattle.std.specs.List.{find, position};
+ghost use Rattle.drawing.specs.Layout.{is_under_way, under_way, called_at, stands_in, place_in, place_of};
 ghost use Rattle.drawing.specs.Claim.{count_of_lines};
 
+use crate::scene::Row;
 use history_merge::Operation;
 use verdicts::{ClaimLine, Claimed};
 
@@ -38,69 +38,53 @@ pub fn called_at(operations: &[Operation], ticket: u64) -> Option<Operation>
     None
 }
 
-fn is_line_of(operation: Operation, line: ClaimLine) -> bool
-    ensures { result ≡ is_line_of operation line }
+/// Whether a line of a claim stands in a row: an operation in that of its call, an initial value in its own.
+fn stands_in(row: Row, line: ClaimLine) -> bool
+    ensures { result ≡ stands_in row line }
 {
-    match line {
-        ClaimLine::Op(listed) => listed.call == operation.call,
-        ClaimLine::Initial(_) => false,
+    match (row, line) {
+        (Row::Ticket(ticket), ClaimLine::Op(listed)) => listed.call == ticket,
+        (Row::Initial(_, value), ClaimLine::Initial(listed)) => listed == value,
+        _ => false,
     }
 }
 
-fn is_line_of_initial(value: u64, line: ClaimLine) -> bool
-    ensures { result ≡ is_line_of_initial value line }
+/// The line in a row.
+pub(crate) fn line_in(lines: &[ClaimLine], row: Row) -> Option<ClaimLine>
+    ensures { result ≡ find (stands_in row) lines.now }
 {
-    match line {
-        ClaimLine::Op(_) => false,
-        ClaimLine::Initial(listed) => listed == value,
+    for line in lines {
+        if stands_in(row, *line) {
+            return Some(*line);
+        }
     }
+    None
 }
 
-/// The place of an operation among these lines, from 0.
-pub(crate) fn place_in(lines: &[ClaimLine], operation: Operation) -> Option<usize>
-    ensures value { result ≡ place_in lines.now operation }
+/// The place of the line in a row among these lines, from 0.
+pub fn place_in(lines: &[ClaimLine], row: Row) -> Option<usize>
+    ensures value { result ≡ place_in lines.now row }
     ensures within { IfSome result (λ place. place < length lines.now) }
 {
-    lines.iter().position(|line| is_line_of(operation, *line))
+    lines.iter().position(|line| stands_in(row, *line))
 }
 
-/// The place of an initial value among these lines, from 0.
-pub(crate) fn initial_place_in(lines: &[ClaimLine], value: u64) -> Option<usize>
-    ensures value { result ≡ initial_place_in lines.now value }
-    ensures within { IfSome result (λ place. place < length lines.now) }
-{
-    lines
-        .iter()
-        .position(|line| is_line_of_initial(value, *line))
-}
-
-fn place_in_order(order: &[Operation], operation: Operation) -> Option<usize>
-    ensures value { result ≡ position (λ listed. nat_eq listed.call operation.call) order.now }
+fn place_in_order(order: &[Operation], row: Row) -> Option<usize>
+    ensures value { result ≡ position (λ o. stands_in row (ClaimLine.Op o)) order.now }
     ensures within { IfSome result (λ place. place < length order.now) }
 {
     order
         .iter()
-        .position(|listed| listed.call == operation.call)
+        .position(|listed| stands_in(row, ClaimLine::Op(*listed)))
 }
 
-/// The place of an operation in a claim, from 0.
-pub fn place_of(claimed: &Claimed, operation: Operation) -> Option<usize>
-    ensures value { result ≡ place_of claimed.now operation }
+/// The place of the line in a row in a claim, from 0.
+pub fn place_of(claimed: &Claimed, row: Row) -> Option<usize>
+    ensures value { result ≡ place_of claimed.now row }
     ensures within { IfSome result (λ place. place < count_of_lines claimed.now) }
 {
     match claimed {
-        Claimed::Yes(order) => place_in_order(order.as_slice(), operation),
-        Claimed::No(_, lines) => place_in(lines.as_slice(), operation),
-    }
-}
-
-/// The place of an initial value in a claim, from 0.
-pub fn initial_place_of(claimed: &Claimed, value: u64) -> Option<usize>
-    ensures value { result ≡ initial_place_of claimed.now value }
-    ensures within { IfSome result (λ place. place < count_of_lines claimed.now) }
-{
-    match claimed {
-        Claimed::Yes(_) => None,
-        Claimed::No(_, lines) => initial_place_in(lines.as_slice(), value),
+        Claimed::Yes(order) => place_in_order(order.as_slice(), row),
+        Claimed::No(_, lines) => place_in(lines.as_slice(), row),
     }
 }

@@ -1,11 +1,12 @@
 //! Values by their names.
-ghost use Rattle.std.specs.Prelude.{◌≡◌, ◌++◌, ◌≤◌, OnOk, length};
+ghost use Rattle.std.specs.Prelude.{◌≡◌, ◌++◌, ◌≤◌, IfOk, OnOk, length};
 ghost use Rattle.drawing.specs.Layout.{initial_label};
-ghost use Rattle.drawing.specs.Names.{name_of, name_text, value_text, initial_text};
+ghost use Rattle.drawing.specs.Names.{name_of, name_text, value_text};
 
 use crate::columns::digits;
 use crate::line::{Added, push_number};
 use event_records::{MAX_THREADS, NAMES_OF_A_THREAD};
+use std::alloc::{AllocError, Global};
 
 /// The name of a value, as recorders give it.
 #[derive(Clone, Copy, Debug, PartialEq, Eq)]
@@ -58,29 +59,18 @@ pub(crate) fn push_value(text: &mut Vec<u8>, value: u64) -> Added
     push_name(text, name_of(value))
 }
 
-/// Adds an initial value by its name.
-pub fn push_initial_label(text: &mut Vec<u8>, value: u64) -> Added
-    ensures { OnOk result (text.new.items ≡ text.old.items ++ initial_label value) }
+/// An initial value by its name.
+pub fn initial_label(alloc: Global, value: u64) -> Result<Vec<u8>, AllocError>
+    ensures { IfOk result (λ label. label.items ≡ initial_label value) }
 {
+    let mut label = Vec::new(alloc);
     let name = name_of(value);
     match name {
-        Name::OfInitial(_) => push_name(text, name),
-        _ => {
-            text.extend_from_slice(b"init ")?;
-            push_name(text, name)
-        }
+        Name::OfInitial(_) => {}
+        _ => label.extend_from_slice(b"init ")?,
     }
-}
-
-fn name_len(name: Name) -> usize
-    ensures value { result ≡ length (name_text name) }
-    ensures few { result ≤ 41 }
-{
-    match name {
-        Name::OfThread(thread, number) => digits(thread) + 1 + digits(number),
-        Name::OfInitial(number) => 5 + digits(number),
-        Name::Plain(value) => digits(value),
-    }
+    push_name(&mut label, name)?;
+    Ok(label)
 }
 
 /// How many characters the name of a value has.
@@ -88,16 +78,10 @@ pub(crate) fn value_len(value: u64) -> usize
     ensures value { result ≡ length (value_text value) }
     ensures few { result ≤ 41 }
 {
-    name_len(name_of(value))
-}
-
-fn initial_name_len(name: Name) -> usize
-    ensures value { result ≡ length (initial_text name) }
-    ensures few { result ≤ 46 }
-{
-    match name {
-        Name::OfInitial(_) => name_len(name),
-        _ => 5 + name_len(name),
+    match name_of(value) {
+        Name::OfThread(thread, number) => digits(thread) + 1 + digits(number),
+        Name::OfInitial(number) => 5 + digits(number),
+        Name::Plain(value) => digits(value),
     }
 }
 
@@ -106,5 +90,8 @@ pub(crate) fn initial_label_len(value: u64) -> usize
     ensures value { result ≡ length (initial_label value) }
     ensures few { result ≤ 46 }
 {
-    initial_name_len(name_of(value))
+    match name_of(value) {
+        Name::OfInitial(_) => value_len(value),
+        _ => 5 + value_len(value),
+    }
 }

@@ -2,14 +2,14 @@
 ghost use Rattle.std.specs.Prelude.{if◌then◌else◌, codes, ◌≡◌, ◌==◌, ◌++◌, ◌≤◌, ◌+◌, ◌^◌, OnOk, IfOk, length, vec_len};
 ghost use Rattle.std.specs.List.{flat_map, enumerate_from};
 ghost use Rattle.drawing.specs.Scene.{scene_on, initial_row, initial_rows, effect_row_if, effect_rows, event_rows, has_row, left_out_rows};
-ghost use Rattle.drawing.specs.Scene.{rows_after, rows_of, scene_of, left_out_words, left_out_width, ticket_width};
-ghost use Rattle.drawing.specs.Scene.{row_time, row_turn, stands_above, row_number, lanes_before, way, way_of, way_word, initial_way};
+ghost use Rattle.drawing.specs.Scene.{rows_after, rows_of, scene_of, gap_of, row_time, row_turn, stands_above, row_number};
+ghost use Rattle.drawing.specs.Scene.{ticket_words, ticket_width, lanes_before, way_of, way_in};
 
 use crate::bands::bands_of;
-use crate::claim::order_of;
-use crate::columns::{digits, events_of, last_ticket, threads_of};
-use crate::line::{Added, Piece, push_all};
-use crate::lookup::{initial_place_in, place_in};
+use crate::claim::{line_kind, order_of};
+use crate::columns::{digits, events_of, threads_of};
+use crate::line::{Added, Piece, push_all, push_number};
+use crate::lookup::line_in;
 use crate::sheet::Scene;
 use event_records::{Event, MAX_THREADS};
 use history_merge::{History, OpKind, Operation};
@@ -82,14 +82,6 @@ fn push_effect_rows(rows: &mut Vec<Row>, order: &[Operation], ticket: u64) -> Ad
     Ok(())
 }
 
-/// Adds the row of an event, and those of the effects after it.
-fn push_event_rows(rows: &mut Vec<Row>, order: &[Operation], event: Event) -> Added
-    ensures { OnOk result (rows.new.items ≡ rows.old.items ++ event_rows order.now event) }
-{
-    rows.push(Row::Ticket(event.ticket))?;
-    push_effect_rows(rows, order, event.ticket)
-}
-
 fn has_row(drawn: &[Operation], ticket: u64) -> bool
     ensures { result ≡ has_row drawn.now ticket }
 {
@@ -119,7 +111,8 @@ fn push_rows_of_events(
     for event in events {
         if has_row(drawn, event.ticket) {
             push_left_out(rows, count, last)?;
-            push_event_rows(rows, order, *event)?;
+            rows.push(Row::Ticket(event.ticket))?;
+            push_effect_rows(rows, order, event.ticket)?;
             count = 0;
         } else {
             count += 1;
@@ -171,17 +164,25 @@ pub fn scene_of<'a>(
         threads,
         bands,
         rows,
-        last_ticket: last_ticket(events.as_slice()),
     })
+}
+
+/// The gap that a row stands for: that just after this ticket, or none for that before all tickets.
+pub(crate) fn gap_of(row: Row) -> Option<u64>
+    ensures { result ≡ gap_of row }
+{
+    match row {
+        Row::Head | Row::Initial(_, _) => None,
+        Row::Ticket(ticket) | Row::LeftOut(_, ticket) | Row::Effect(_, _, ticket) => Some(ticket),
+    }
 }
 
 fn row_time(row: Row) -> u128
     ensures { result ≡ row_time row }
 {
-    match row {
-        Row::Head | Row::Initial(_, _) => 0,
-        Row::Ticket(ticket) | Row::LeftOut(_, ticket) => u128::from(ticket) + 1,
-        Row::Effect(_, _, point) => u128::from(point) + 1,
+    match gap_of(row) {
+        None => 0,
+        Some(ticket) => u128::from(ticket) + 1,
     }
 }
 
@@ -207,22 +208,13 @@ fn stands_above(other: Row, row: Row) -> bool
 pub fn row_number(rows: &[Row], row: Row) -> usize
     ensures { result ≡ row_number rows.now row }
 {
-    rows.iter()
-        .filter(|other| stands_above(**other, row))
-        .count()
-}
-
-/// The words in place of this number of events.
-pub fn left_out_words(alloc: Global, count: usize) -> Result<Vec<u8>, AllocError>
-    ensures { IfOk result (λ words. words.items ≡ left_out_words count) }
-{
-    let mut words = Vec::new(alloc);
-    push_all(
-        &mut words,
-        &[Piece::Words(b"... "), Piece::Number(count as u64)],
-    )?;
-    words.extend_from_slice(events_word(count))?;
-    Ok(words)
+    let mut number = 0;
+    for other in rows {
+        if stands_above(*other, row) {
+            number += 1;
+        }
+    }
+    number
 }
 
 fn events_word(count: usize) -> &'static [u8]
@@ -235,26 +227,48 @@ fn events_word(count: usize) -> &'static [u8]
     }
 }
 
-fn left_out_width(row: Row) -> usize
-    ensures value { result ≡ left_out_width row }
+/// The words of a row in the column of tickets: its ticket, or how many events are left out.
+pub fn ticket_words(alloc: Global, row: Row) -> Result<Vec<u8>, AllocError>
+    ensures { IfOk result (λ words. words.items ≡ ticket_words row) }
+{
+    let mut words = Vec::new(alloc);
+    match row {
+        Row::Ticket(ticket) => push_number(&mut words, ticket)?,
+        Row::LeftOut(count, _) => {
+            push_all(
+                &mut words,
+                &[
+                    Piece::Words(b"... "),
+                    Piece::Number(count as u64),
+                    Piece::Words(events_word(count)),
+                ],
+            )?
+        }
+        _ => {}
+    }
+    Ok(words)
+}
+
+fn ticket_words_len(row: Row) -> usize
+    ensures value { result ≡ length (ticket_words row) }
     ensures few { result ≤ 35 }
 {
     match row {
+        Row::Ticket(ticket) => digits(ticket),
         Row::LeftOut(count, _) => 4 + digits(count as u64) + events_word(count).len(),
         _ => 0,
     }
 }
 
 /// How wide the column of tickets is, in characters.
-pub fn ticket_width(scene: &Scene<'_>) -> usize
-    ensures value { result ≡ ticket_width (scene_on scene.now) }
+pub fn ticket_width(rows: &[Row]) -> usize
+    ensures value { result ≡ ticket_width rows.now }
     ensures few { result ≤ 35 }
     ensures wide { 6 ≤ result }
 {
-    let mut widest = digits(scene.last_ticket).max(6);
-    let rows = scene.rows.as_slice();
+    let mut widest = 6;
     for row in rows {
-        widest = widest.max(left_out_width(*row));
+        widest = widest.max(ticket_words_len(*row));
     }
     widest
 }
@@ -265,52 +279,33 @@ pub fn lanes_before(threads: &[u8], thread: u8) -> usize
     ensures value { result ≡ lanes_before threads.now thread }
     ensures few { result ≤ MAX_THREADS }
 {
-    threads.iter().filter(|lower| **lower < thread).count()
-}
-
-/// Whether a value goes in or out.
-fn way(kind: OpKind) -> &'static [u8]
-    ensures { result.now ≡ way kind }
-{
-    match kind {
-        OpKind::Enq(_) => b"in",
-        _ => b"out",
+    let mut before = 0;
+    for lower in threads {
+        if *lower < thread {
+            before += 1;
+        }
     }
+    before
 }
 
-fn way_of(lines: &[ClaimLine], operation: Option<Operation>) -> &'static [u8]
-    ensures { result.now ≡ way_of lines.now operation }
+fn way_of(line: Option<ClaimLine>) -> &'static [u8]
+    ensures { result.now ≡ way_of line }
 {
-    match operation {
+    match line {
         None => b"",
-        Some(operation) => match place_in(lines, operation) {
-            None => b"",
-            Some(_) => way(operation.kind),
+        Some(line) => match line_kind(line) {
+            OpKind::Enq(_) => b"in",
+            _ => b"out",
         },
     }
 }
 
-/// The word `in` or `out` of an operation, where its value was dequeued twice.
-pub fn way_word(claimed: &Claimed, operation: Option<Operation>) -> &'static [u8]
-    ensures { result.now ≡ way_word claimed.now operation }
+/// The word `in` or `out` of the line in a row, where a value was dequeued twice.
+pub fn way_in(claimed: &Claimed, row: Row) -> &'static [u8]
+    ensures { result.now ≡ way_in claimed.now row }
 {
     match claimed {
-        Claimed::No(ViolationKind::VRepeat, lines) => way_of(lines.as_slice(), operation),
-        _ => b"",
-    }
-}
-
-/// The word `in` of an initial value, where it was dequeued twice.
-pub fn initial_way(claimed: &Claimed, value: u64) -> &'static [u8]
-    ensures { result.now ≡ initial_way claimed.now value }
-{
-    match claimed {
-        Claimed::No(ViolationKind::VRepeat, lines) => {
-            match initial_place_in(lines.as_slice(), value) {
-                None => b"",
-                Some(_) => b"in",
-            }
-        }
+        Claimed::No(ViolationKind::VRepeat, lines) => way_of(line_in(lines.as_slice(), row)),
         _ => b"",
     }
 }

@@ -25,8 +25,6 @@ pub struct Scene<'a> {
     pub bands: Vec<Band>,
     /// From top to bottom.
     pub rows: Vec<Row>,
-    /// The ticket of the last event, or 0 where there is none.
-    pub last_ticket: u64,
     ghost few_threads: { vec_len threads ≤ MAX_THREADS },
     ghost few_bands: { vec_len bands ≤ count_of_lines claimed.now + 2 },
 }

@@ -4,7 +4,7 @@ ghost use Rattle.drawing.specs.Signs.{initial_signs, number_sign, band_signs, aw
 ghost use Rattle.drawing.specs.Scene.{scene_on};
 
 use crate::drawn::is_any_away;
-use crate::line::Added;
+use crate::line::{Added, push_two};
 use crate::sheet::Scene;
 use history_merge::Operation;
 use std::alloc::{AllocError, Global};
@@ -57,14 +57,6 @@ fn number_sign(claimed: &Claimed, initial: &[u64]) -> Sign
             [_, ..] => Sign::OfValues,
         },
     }
-}
-
-fn push_two(signs: &mut Vec<Sign>, first: Sign, second: Sign) -> Added
-    ensures { OnOk result (signs.new.items ≡ signs.old.items ++ (first ∷ second ∷ [])) }
-{
-    signs.push(first)?;
-    signs.push(second)?;
-    Ok(())
 }
 
 fn push_band_signs(signs: &mut Vec<Sign>, claimed: &Claimed) -> Added

@@ -1,27 +1,26 @@
 //! A picture as lines of characters.
-ghost use Rattle.std.specs.Prelude.{◌≡◌, ◌≤◌, ◌++◌, Some, IfOk, OnOk, length, codes, decimal};
+ghost use Rattle.std.specs.Prelude.{if◌then◌else◌, ◌==◌, ◌≡◌, ◌≤◌, ◌++◌, [], IfOk, IfSome, OnOk, length, unwrap_or, codes, decimal};
 ghost use Rattle.std.specs.List.{flat_map, enumerate_from};
-ghost use Rattle.drawing.specs.Claim.{count_of_lines};
+ghost use Rattle.drawing.specs.Claim.{count_of_lines, shown_by};
 ghost use Rattle.text_lines.specs.Lines.{line};
-ghost use Rattle.drawing.specs.Layout.{label, numbered_label, number_in};
+ghost use Rattle.drawing.specs.Layout.{digits, value_in, told, label, numbered, number_at, place_in, initial_label};
 ghost use Rattle.drawing.specs.Scene.{scene_on};
 ghost use Rattle.drawing.specs.Inner.Words.{scene_in};
 ghost use Rattle.drawing.specs.Words.{placed, with_words, line_of};
-ghost use Rattle.drawing.specs.Terminal.{ticket_word, call_sign, return_sign, under_sign, event_sign, effect_sign, lane_sign, lane_column, lane_words};
-ghost use Rattle.drawing.specs.Terminal.{label_if, band_at, band_words, left_out_line};
-ghost use Rattle.drawing.specs.Terminal.{event_words, effect_words, row_words, strokes, head_words, head_lines, thread_words, order_word, lane_names};
-ghost use Rattle.drawing.specs.Terminal.{name_words, heads, heads_again, numbered_row, lines, sign_text, sign_line, lane_meanings, legend, words};
-ghost use Rattle.drawing.specs.Terminal.{terminal_picture};
+ghost use Rattle.drawing.specs.Terminal.{one_of, event_sign, effect_sign, lane_sign, lane_column, lane_words, band_words, beside_words, call_label};
+ghost use Rattle.drawing.specs.Terminal.{told_word, row_words, strokes, head_words, head_lines, thread_words, order_word, thread_digits};
+ghost use Rattle.drawing.specs.Terminal.{lane_names, tens_line, name_words, heads, heads_again, numbered_row, sign_text, sign_line};
+ghost use Rattle.drawing.specs.Terminal.{effect_meaning, legend, words, terminal_picture};
 
-use crate::bands::{Band, Head, form, head_words, holds_gap};
+use crate::bands::{Head, form_at, head_words};
 use crate::captions::{headline, push_caption};
 use crate::claim::{count_of_lines, shown_by};
-use crate::columns::{Columns, MOST_DRAWN, ROWS_UNDER_HEADS, columns_of, digits};
+use crate::columns::{MOST_DRAWN, ROWS_UNDER_HEADS, columns_of, digits, lane_place};
 use crate::drawn::is_away;
-use crate::initial::{first_line, initial_line};
-use crate::line::{Added, Piece, place, push_all, push_line};
+use crate::line::{Added, place, push_line, push_number};
 use crate::lookup::{called_at, place_in, under_way};
-use crate::scene::{Row, lanes_before, left_out_words, way_word};
+use crate::names::{initial_label, push_value};
+use crate::scene::{Row, gap_of, lanes_before, ticket_words, way_in};
 use crate::sheet::{Scene, Sheet};
 use crate::signs::{Sign, meaning, signs_of};
 use history_merge::{OpKind, Operation};
@@ -29,58 +28,77 @@ use itoa::Buffer;
 use std::alloc::{AllocError, Global};
 use verdicts::{ClaimLine, Claimed};
 
-/// Adds a number to a line at a column.
-fn place_number(line: &mut Vec<u8>, column: usize, number: u64) -> Added
-    ensures { OnOk result (line.new.items ≡ placed line.old.items (record { column = column; bytes = decimal number })) }
+/// What the forms in the lanes mean.
+pub(crate) const LANE_MEANINGS: &[u8] = b"[    call of an operation\n]    its return\n";
+
+fn push_valued(text: &mut Vec<u8>, word: &[u8], full: bool, value: u64) -> Added
+    ensures { OnOk result (text.new.items ≡ text.old.items ++ (word.now ++ value_in full value)) }
 {
-    let mut buffer = Buffer::new();
-    place(line, column, buffer.format(number).as_bytes())
+    text.extend_from_slice(word)?;
+    if full {
+        push_number(text, value)
+    } else {
+        push_value(text, value)
+    }
 }
 
-fn place_ticket(line: &mut Vec<u8>, columns: Columns, ticket: u64) -> Added
-    ensures { OnOk result (line.new.items ≡ placed line.old.items (ticket_word columns ticket)) }
+/// Adds what an operation did, and its value in full, or by its name.
+pub fn push_told(text: &mut Vec<u8>, full: bool, kind: OpKind) -> Added
+    ensures { OnOk result (text.new.items ≡ text.old.items ++ told full kind) }
 {
-    let column = columns.ticket.saturating_sub(digits(ticket));
-    place_number(line, column, ticket)
+    match kind {
+        OpKind::Enq(value) => push_valued(text, b"enq ", full, value),
+        OpKind::Deq(value) => push_valued(text, b"deq ", full, value),
+        OpKind::Not(value) => push_valued(text, b"not ", full, value),
+        OpKind::Empty => text.extend_from_slice(b"empty"),
+    }
 }
 
-fn call_sign(away: bool) -> &'static [u8]
-    ensures { result.now ≡ call_sign away }
+/// What an operation did, and its value by its name.
+pub fn label_of(alloc: Global, kind: OpKind) -> Result<Vec<u8>, AllocError>
+    ensures { IfOk result (λ word. word.items ≡ label kind) }
 {
-    if away { b"(" } else { b"[" }
+    let mut word = Vec::new(alloc);
+    push_told(&mut word, false, kind)?;
+    Ok(word)
 }
 
-fn return_sign(away: bool) -> &'static [u8]
-    ensures { result.now ≡ return_sign away }
+fn number_at(alloc: Global, place: Option<usize>) -> Result<Vec<u8>, AllocError>
+    requires { IfSome place (λ place. place ≤ MOST_DRAWN) }
+    ensures { IfOk result (λ word. word.items ≡ number_at place) }
 {
-    if away { b")" } else { b"]" }
-}
-
-fn under_sign(away: bool) -> &'static [u8]
-    ensures { result.now ≡ under_sign away }
-{
-    if away { b":" } else { b"|" }
-}
-
-/// A bracket, and after it the number of an operation in a claim.
-fn numbered_call(
-    alloc: Global,
-    shown: &[ClaimLine],
-    away: bool,
-    operation: Operation,
-) -> Result<Vec<u8>, AllocError>
-    requires { length shown.now ≤ MOST_DRAWN }
-    ensures { IfOk result (λ word. word.items ≡ call_sign away ++ number_in shown.now operation) }
-{
-    let mut word = Vec::from_slice(alloc, call_sign(away))?;
-    if let Some(place) = place_in(shown, operation) {
-        let mut buffer = Buffer::new();
-        word.extend_from_slice(buffer.format(place as u64 + 1).as_bytes())?;
+    let mut word = Vec::new(alloc);
+    if let Some(place) = place {
+        push_number(&mut word, place as u64 + 1)?;
     }
     Ok(word)
 }
 
-/// What stands in a lane in the row of an event.
+/// Words after a number at the right of a column of this width; blanks, where there is no number.
+pub fn numbered(
+    alloc: Global,
+    wide: usize,
+    number: &[u8],
+    words: &[u8],
+) -> Result<Vec<u8>, AllocError>
+    ensures { IfOk result (λ word. word.items ≡ numbered wide number.now words.now) }
+{
+    let mut word = Vec::new(alloc);
+    word.resize(wide.saturating_sub(number.len()), b' ')?;
+    word.extend_from_slice(number)?;
+    word.extend_from_slice(b" ")?;
+    word.extend_from_slice(words)?;
+    Ok(word)
+}
+
+/// A sign that is round, if it is of an operation away from those that show a `NO`.
+fn one_of(away: bool, round: &'static [u8], square: &'static [u8]) -> &'static [u8]
+    ensures { result.now ≡ one_of away round.now square.now }
+{
+    if away { round } else { square }
+}
+
+/// A call with its number, a return, or that an operation is under way.
 fn event_sign(
     alloc: Global,
     shown: &[ClaimLine],
@@ -92,27 +110,29 @@ fn event_sign(
     ensures { IfOk result (λ word. word.items ≡ event_sign shown.now away ticket operation) }
 {
     if operation.call == ticket {
-        numbered_call(alloc, shown, away, operation)
+        let number = number_at(alloc, place_in(shown, Row::Ticket(operation.call)))?;
+        let mut word = Vec::from_slice(alloc, one_of(away, b"(", b"["))?;
+        word.extend_from_slice(number.as_slice())?;
+        Ok(word)
     } else if operation.ret == ticket {
-        Vec::from_slice(alloc, return_sign(away))
+        Vec::from_slice(alloc, one_of(away, b")", b"]"))
     } else {
-        Vec::from_slice(alloc, under_sign(away))
+        Vec::from_slice(alloc, one_of(away, b":", b"|"))
     }
 }
 
-/// What stands in a lane in the row of an effect.
+/// The sign of the operation that takes effect, or that another is under way.
 fn effect_sign(
     alloc: Global,
+    here: &[u8],
     effect: Operation,
-    number: u64,
     point: u64,
     operation: Operation,
 ) -> Result<Vec<u8>, AllocError>
-    ensures { IfOk result (λ word. word.items ≡ effect_sign effect number point operation) }
+    ensures { IfOk result (λ word. word.items ≡ effect_sign here.now effect point operation) }
 {
     if operation.call == effect.call {
-        let mut buffer = Buffer::new();
-        Vec::from_slice(alloc, buffer.format(number).as_bytes())
+        Vec::from_slice(alloc, here)
     } else if operation.ret == point {
         Ok(Vec::new(alloc))
     } else {
@@ -123,23 +143,31 @@ fn effect_sign(
 /// What stands in a lane in a row, where this operation is under way.
 fn lane_sign(
     alloc: Global,
+    narrow: bool,
     claimed: &Claimed,
     row: Row,
     under: Option<Operation>,
 ) -> Result<Vec<u8>, AllocError>
     requires { count_of_lines claimed.now ≤ MOST_DRAWN }
-    ensures { IfOk result (λ word. word.items ≡ lane_sign claimed.now row under) }
+    ensures { IfOk result (λ word. word.items ≡ lane_sign narrow claimed.now row under) }
 {
     match (row, under) {
         (Row::Ticket(ticket), Some(operation)) => {
+            let shown = if narrow { &[] } else { shown_by(claimed) };
             let away = is_away(claimed, operation);
-            event_sign(alloc, shown_by(claimed), away, ticket, operation)
+            event_sign(alloc, shown, away, ticket, operation)
         }
         (Row::LeftOut(_, _), Some(operation)) => {
-            Vec::from_slice(alloc, under_sign(is_away(claimed, operation)))
+            Vec::from_slice(alloc, one_of(is_away(claimed, operation), b":", b"|"))
         }
         (Row::Effect(effect, number, point), Some(operation)) => {
-            effect_sign(alloc, effect, number, point, operation)
+            let mut buffer = Buffer::new();
+            let here = if narrow {
+                b"*"
+            } else {
+                buffer.format(number).as_bytes()
+            };
+            effect_sign(alloc, here, effect, point, operation)
         }
         _ => Ok(Vec::new(alloc)),
     }
@@ -149,130 +177,112 @@ fn lane_sign(
 fn lane_column(sheet: &Sheet<'_>, thread: u8) -> usize
     ensures { result ≡ lane_column sheet.now.columns (scene_in sheet.now).threads thread }
 {
-    sheet.columns.lanes + sheet.columns.lane * lanes_before(sheet.scene.threads.as_slice(), thread)
+    let before = lanes_before(sheet.scene.threads.as_slice(), thread);
+    sheet.columns.lanes + lane_place(sheet.columns.lane, before)
 }
 
-/// The words in the lanes in a row just after a ticket.
-fn place_lanes(line: &mut Vec<u8>, sheet: &Sheet<'_>, row: Row, ticket: u64) -> Added
-    ensures { OnOk result (line.new.items ≡ with_words line.old.items (lane_words sheet.now.columns (scene_in sheet.now) row ticket)) }
+/// The words in the lanes in a row.
+fn place_lanes(line: &mut Vec<u8>, sheet: &Sheet<'_>, row: Row) -> Added
+    ensures { OnOk result (line.new.items ≡ with_words line.old.items (lane_words sheet.now.columns (scene_in sheet.now) row)) }
 {
     let operations = sheet.scene.operations.as_slice();
     let threads = sheet.scene.threads.as_slice();
+    let narrow = sheet.columns.lane == 1;
+    let ticket = gap_of(row).unwrap_or(0);
     for thread in threads {
         let operation = under_way(operations, *thread, ticket);
-        let word = lane_sign(sheet.alloc, sheet.scene.claimed, row, operation)?;
+        let word = lane_sign(sheet.alloc, narrow, sheet.scene.claimed, row, operation)?;
         place(line, lane_column(sheet, *thread), word.as_slice())?;
     }
     Ok(())
 }
 
-/// Adds what an operation did, and its value by its name.
-pub fn push_label(text: &mut Vec<u8>, kind: OpKind) -> Added
-    ensures { OnOk result (text.new.items ≡ text.old.items ++ label kind) }
-{
-    match kind {
-        OpKind::Enq(value) => push_all(text, &[Piece::Words(b"enq "), Piece::Value(value)]),
-        OpKind::Deq(value) => push_all(text, &[Piece::Words(b"deq "), Piece::Value(value)]),
-        OpKind::Not(value) => push_all(text, &[Piece::Words(b"not "), Piece::Value(value)]),
-        OpKind::Empty => text.extend_from_slice(b"empty"),
-    }
-}
-
-fn label_if(alloc: Global, operation: Option<Operation>) -> Result<Vec<u8>, AllocError>
-    ensures { IfOk result (λ word. word.items ≡ label_if operation) }
-{
-    let mut word = Vec::new(alloc);
-    if let Some(operation) = operation {
-        push_label(&mut word, operation.kind)?;
-    }
-    Ok(word)
-}
-
-/// A band at a column, where it holds a gap.
-fn place_band(line: &mut Vec<u8>, column: usize, band: Band, gap: Option<u64>) -> Added
-    ensures { OnOk result (line.new.items ≡ placed line.old.items (band_at column band gap)) }
-{
-    if holds_gap(band, gap) {
-        place(line, column, form(band.head))
-    } else {
-        Ok(())
-    }
-}
-
 /// The bands that hold a gap: that just after a ticket, or for none that before all tickets.
-#[tactic(auto, using(crate::proofs::Loops::words_enumerated_more))]
-pub(crate) fn place_bands(line: &mut Vec<u8>, sheet: &Sheet<'_>, gap: Option<u64>) -> Added
+fn place_bands(line: &mut Vec<u8>, sheet: &Sheet<'_>, gap: Option<u64>) -> Added
     ensures { OnOk result (line.new.items ≡ with_words line.old.items (band_words sheet.now.columns (scene_in sheet.now).bands gap)) }
 {
     let bands = sheet.scene.bands.as_slice();
     for (i, band) in bands.iter().enumerate() {
-        place_band(line, sheet.columns.beside + 5 * i, *band, gap)?;
+        place(line, sheet.columns.beside + 5 * i, form_at(*band, gap))?;
     }
     Ok(())
 }
 
-/// The line of an event.
-#[tactic(auto, unfolding(crate::specs::Terminal::event_words))]
-fn event_line(sheet: &Sheet<'_>, ticket: u64) -> Result<Vec<u8>, AllocError>
-    ensures { IfOk result (λ bytes. bytes.items ≡ line_of
-        (event_words sheet.now.columns (scene_in sheet.now) ticket)) }
+/// The words beside the tickets.
+fn beside_words(alloc: Global, claimed: &Claimed, row: Row) -> Result<Vec<u8>, AllocError>
+    ensures { IfOk result (λ word. word.items ≡ beside_words claimed.now row) }
 {
-    let mut bytes = Vec::new(sheet.alloc);
-    let called = called_at(sheet.scene.operations.as_slice(), ticket);
-    place_ticket(&mut bytes, sheet.columns, ticket)?;
-    place(
-        &mut bytes,
-        sheet.columns.beside,
-        way_word(sheet.scene.claimed, called),
-    )?;
-    place_bands(&mut bytes, sheet, Some(ticket))?;
-    place_lanes(&mut bytes, sheet, Row::Ticket(ticket), ticket)?;
-    let label = label_if(sheet.alloc, called)?;
-    place(&mut bytes, sheet.columns.label, label.as_slice())?;
-    Ok(bytes)
+    match row {
+        Row::Effect(effect, number, _) => {
+            let mut buffer = Buffer::new();
+            let label = label_of(alloc, effect.kind)?;
+            let number = buffer.format(number).as_bytes();
+            numbered(
+                alloc,
+                digits(count_of_lines(claimed) as u64),
+                number,
+                label.as_slice(),
+            )
+        }
+        _ => Vec::from_slice(alloc, way_in(claimed, row)),
+    }
 }
 
-/// The line of events that are left out.
-#[tactic(auto, unfolding(crate::specs::Terminal::left_out_line))]
-fn left_out_line(sheet: &Sheet<'_>, count: usize, last: u64) -> Result<Vec<u8>, AllocError>
-    ensures { IfOk result (λ bytes. bytes.items ≡ line_of (left_out_line sheet.now.columns (scene_in sheet.now) count last)) }
-{
-    let mut bytes = Vec::new(sheet.alloc);
-    let words = left_out_words(sheet.alloc, count)?;
-    let column = sheet.columns.ticket.saturating_sub(words.len());
-    place(&mut bytes, column, words.as_slice())?;
-    place_bands(&mut bytes, sheet, Some(last))?;
-    place_lanes(&mut bytes, sheet, Row::LeftOut(count, last), last)?;
-    Ok(bytes)
-}
-
-/// What an operation did, and its value by its name, after its number.
-pub fn numbered_label(alloc: Global, number: u64, kind: OpKind) -> Result<Vec<u8>, AllocError>
-    ensures { IfOk result (λ word. word.items ≡ numbered_label number kind) }
-{
-    let mut word = Vec::new(alloc);
-    push_all(&mut word, &[Piece::Number(number), Piece::Words(b" ")])?;
-    push_label(&mut word, kind)?;
-    Ok(word)
-}
-
-/// The line of an effect.
-#[tactic(auto, unfolding(crate::specs::Terminal::effect_words))]
-fn effect_line(
-    sheet: &Sheet<'_>,
-    effect: Operation,
-    number: u64,
-    point: u64,
+/// The label of what is called, where something is; after its number, where lanes have no room for that.
+fn call_label(
+    alloc: Global,
+    narrow: bool,
+    shown: &[ClaimLine],
+    called: Option<Operation>,
 ) -> Result<Vec<u8>, AllocError>
-    ensures { IfOk result (λ bytes. bytes.items ≡ line_of (effect_words sheet.now.columns (scene_in sheet.now) effect number point)) }
+    requires { length shown.now ≤ MOST_DRAWN }
+    ensures { IfOk result (λ word. word.items ≡ call_label narrow shown.now called) }
 {
-    let mut bytes = Vec::new(sheet.alloc);
-    let word = numbered_label(sheet.alloc, number, effect.kind)?;
-    let count = count_of_lines(sheet.scene.claimed) as u64;
-    let blanks = digits(count).saturating_sub(digits(number));
-    place(&mut bytes, sheet.columns.beside + blanks, word.as_slice())?;
-    place_lanes(&mut bytes, sheet, Row::Effect(effect, number, point), point)?;
-    Ok(bytes)
+    match called {
+        None => Ok(Vec::new(alloc)),
+        Some(operation) => {
+            let label = label_of(alloc, operation.kind)?;
+            if narrow {
+                let number = number_at(alloc, place_in(shown, Row::Ticket(operation.call)))?;
+                numbered(
+                    alloc,
+                    digits(shown.len() as u64),
+                    number.as_slice(),
+                    label.as_slice(),
+                )
+            } else {
+                Ok(label)
+            }
+        }
+    }
+}
+
+/// Adds the words right of the bands or of the lanes.
+fn place_told(line: &mut Vec<u8>, sheet: &Sheet<'_>, row: Row) -> Added
+    ensures { OnOk result (line.new.items ≡ placed line.old.items (told_word sheet.now.columns (scene_in sheet.now) row)) }
+{
+    let claimed = sheet.scene.claimed;
+    match row {
+        Row::Head => place(line, sheet.columns.lanes, b"in the queue first"),
+        Row::Initial(_, value) => {
+            let label = initial_label(sheet.alloc, value)?;
+            let number = number_at(sheet.alloc, place_in(shown_by(claimed), row))?;
+            let wide = digits(count_of_lines(claimed) as u64);
+            let word = numbered(sheet.alloc, wide, number.as_slice(), label.as_slice())?;
+            place(line, sheet.columns.lanes, word.as_slice())
+        }
+        Row::Ticket(ticket) => {
+            let called = called_at(sheet.scene.operations.as_slice(), ticket);
+            let word = call_label(
+                sheet.alloc,
+                sheet.columns.lane == 1,
+                shown_by(claimed),
+                called,
+            )?;
+            place(line, sheet.columns.label, word.as_slice())
+        }
+        _ => Ok(()),
+    }
 }
 
 /// A stroke under the head of each of this many bands.
@@ -309,25 +319,31 @@ fn push_band_heads(text: &mut Vec<u8>, sheet: &Sheet<'_>) -> Added
     Ok(())
 }
 
-fn place_lane_names(line: &mut Vec<u8>, sheet: &Sheet<'_>) -> Added
-    ensures { OnOk result (line.new.items ≡ with_words line.old.items
-        (lane_names sheet.now.columns (scene_in sheet.now).threads (scene_in sheet.now).threads)) }
+/// What stands of a thread's number in a line above its lane: all of it, or where lanes are narrow its tens or its units.
+fn thread_digits(alloc: Global, narrow: bool, tens: bool, thread: u8) -> Result<Vec<u8>, AllocError>
+    ensures { IfOk result (λ word. word.items ≡ thread_digits narrow tens thread) }
 {
-    let threads = sheet.scene.threads.as_slice();
-    for thread in threads {
-        place_number(line, lane_column(sheet, *thread), u64::from(*thread))?;
+    let mut word = Vec::new(alloc);
+    if !tens {
+        let number = if narrow { thread % 10 } else { thread };
+        push_number(&mut word, u64::from(number))?;
+    } else if thread >= 10 {
+        push_number(&mut word, u64::from(thread / 10))?;
     }
-    Ok(())
+    Ok(word)
 }
 
-#[tactic(auto, unfolding(crate::specs::Terminal::thread_words))]
-fn thread_bytes(sheet: &Sheet<'_>) -> Result<Vec<u8>, AllocError>
-    ensures { IfOk result (λ bytes. bytes.items ≡ line_of (thread_words sheet.now.columns (length (scene_in sheet.now).bands))) }
+fn place_lane_names(line: &mut Vec<u8>, sheet: &Sheet<'_>, tens: bool) -> Added
+    ensures { OnOk result (line.new.items ≡ with_words line.old.items
+        (lane_names sheet.now.columns (scene_in sheet.now).threads tens (scene_in sheet.now).threads)) }
 {
-    let mut bytes = Vec::new(sheet.alloc);
-    place_strokes(&mut bytes, sheet, sheet.scene.bands.len())?;
-    place(&mut bytes, sheet.columns.lanes, b"thread")?;
-    Ok(bytes)
+    let threads = sheet.scene.threads.as_slice();
+    let narrow = sheet.columns.lane == 1;
+    for thread in threads {
+        let word = thread_digits(sheet.alloc, narrow, tens, *thread)?;
+        place(line, lane_column(sheet, *thread), word.as_slice())?;
+    }
+    Ok(())
 }
 
 fn order_word(claimed: &Claimed) -> &'static [u8]
@@ -337,6 +353,19 @@ fn order_word(claimed: &Claimed) -> &'static [u8]
         Claimed::Yes(_) => b"order",
         Claimed::No(_, _) => b"",
     }
+}
+
+/// Adds the line of the tens of the threads' numbers, where lanes are narrow.
+fn push_tens_line(text: &mut Vec<u8>, sheet: &Sheet<'_>) -> Added
+    ensures { OnOk result (text.new.items ≡ text.old.items ++ tens_line sheet.now.columns (scene_in sheet.now)) }
+{
+    if sheet.columns.lane == 1 {
+        let mut bytes = Vec::new(sheet.alloc);
+        place_strokes(&mut bytes, sheet, sheet.scene.bands.len())?;
+        place_lane_names(&mut bytes, sheet, true)?;
+        push_line(text, bytes.as_slice())?;
+    }
+    Ok(())
 }
 
 #[tactic(auto, unfolding(crate::specs::Terminal::name_words))]
@@ -353,18 +382,21 @@ fn name_bytes(sheet: &Sheet<'_>) -> Result<Vec<u8>, AllocError>
         order_word(sheet.scene.claimed),
     )?;
     place_strokes(&mut bytes, sheet, sheet.scene.bands.len())?;
-    place_lane_names(&mut bytes, sheet)?;
+    place_lane_names(&mut bytes, sheet, false)?;
     Ok(bytes)
 }
 
 /// Adds the heads: those of the bands, and those of the tickets and the lanes.
-#[tactic(auto, unfolding(crate::specs::Terminal::heads))]
+#[tactic(auto, unfolding(crate::specs::Terminal::heads, crate::specs::Terminal::thread_words))]
 fn push_heads(text: &mut Vec<u8>, sheet: &Sheet<'_>) -> Added
     ensures { OnOk result (text.new.items ≡ text.old.items ++ heads sheet.now.columns (scene_in sheet.now)) }
 {
     push_band_heads(text, sheet)?;
-    let threads = thread_bytes(sheet)?;
+    let mut threads = Vec::new(sheet.alloc);
+    place_strokes(&mut threads, sheet, sheet.scene.bands.len())?;
+    place(&mut threads, sheet.columns.lanes, b"thread")?;
     push_line(text, threads.as_slice())?;
+    push_tens_line(text, sheet)?;
     let names = name_bytes(sheet)?;
     push_line(text, names.as_slice())
 }
@@ -380,25 +412,21 @@ fn push_heads_again(text: &mut Vec<u8>, sheet: &Sheet<'_>, i: usize) -> Added
     }
 }
 
-/// The line of a row.
-fn row_line(sheet: &Sheet<'_>, row: Row) -> Result<Vec<u8>, AllocError>
-    ensures { IfOk result (λ bytes. bytes.items ≡ line_of (row_words sheet.now.columns (scene_in sheet.now) row)) }
-{
-    match row {
-        Row::Head => first_line(sheet),
-        Row::Initial(_, value) => initial_line(sheet, value),
-        Row::Ticket(ticket) => event_line(sheet, ticket),
-        Row::LeftOut(count, last) => left_out_line(sheet, count, last),
-        Row::Effect(effect, number, point) => effect_line(sheet, effect, number, point),
-    }
-}
-
 /// Adds row i.
+#[tactic(auto, unfolding(crate::specs::Terminal::row_words))]
 fn push_numbered(text: &mut Vec<u8>, sheet: &Sheet<'_>, i: usize, row: Row) -> Added
     ensures { OnOk result (text.new.items ≡ text.old.items ++ numbered_row sheet.now.columns (scene_in sheet.now) (i, row)) }
 {
     push_heads_again(text, sheet, i)?;
-    let bytes = row_line(sheet, row)?;
+    let mut bytes = Vec::new(sheet.alloc);
+    let tickets = ticket_words(sheet.alloc, row)?;
+    let column = sheet.columns.ticket.saturating_sub(tickets.len());
+    place(&mut bytes, column, tickets.as_slice())?;
+    let beside = beside_words(sheet.alloc, sheet.scene.claimed, row)?;
+    place(&mut bytes, sheet.columns.beside, beside.as_slice())?;
+    place_bands(&mut bytes, sheet, gap_of(row))?;
+    place_lanes(&mut bytes, sheet, row)?;
+    place_told(&mut bytes, sheet, row)?;
     push_line(text, bytes.as_slice())
 }
 
@@ -411,14 +439,6 @@ fn push_each_row(text: &mut Vec<u8>, sheet: &Sheet<'_>) -> Added
         push_numbered(text, sheet, i, *row)?;
     }
     Ok(())
-}
-
-#[tactic(auto, unfolding(crate::specs::Terminal::lines))]
-fn push_lines(text: &mut Vec<u8>, sheet: &Sheet<'_>) -> Added
-    ensures { OnOk result (text.new.items ≡ text.old.items ++ lines sheet.now.columns (scene_in sheet.now)) }
-{
-    push_heads(text, sheet)?;
-    push_each_row(text, sheet)
 }
 
 fn sign_text(sign: Sign) -> &'static [u8]
@@ -451,34 +471,35 @@ fn push_signs(text: &mut Vec<u8>, signs: &[Sign]) -> Added
     Ok(())
 }
 
-#[tactic(auto, unfolding(crate::specs::Terminal::lane_meanings))]
-fn lane_meanings() -> &'static [u8]
-    ensures { result.now ≡ lane_meanings }
+fn effect_meaning(narrow: bool, claimed: &Claimed) -> &'static [u8]
+    ensures { result.now ≡ effect_meaning narrow claimed.now }
 {
-    b"[    call of an operation\n\
-]    its return\n"
+    match claimed {
+        Claimed::Yes(_) if narrow => b"*    the number of its row, within its bar\n",
+        _ => b"",
+    }
 }
 
 /// Adds how to read the picture.
 #[tactic(auto, unfolding(crate::specs::Terminal::legend))]
-fn push_legend(alloc: Global, text: &mut Vec<u8>, scene: &Scene<'_>) -> Added
-    ensures { OnOk result (text.new.items ≡ text.old.items ++ legend (scene_on scene.now)) }
+fn push_legend(text: &mut Vec<u8>, sheet: &Sheet<'_>) -> Added
+    ensures { OnOk result (text.new.items ≡ text.old.items ++ legend sheet.now.columns (scene_in sheet.now)) }
 {
-    let signs = signs_of(alloc, scene)?;
-    text.extend_from_slice(lane_meanings())?;
+    let signs = signs_of(sheet.alloc, sheet.scene)?;
+    text.extend_from_slice(LANE_MEANINGS)?;
+    text.extend_from_slice(effect_meaning(sheet.columns.lane == 1, sheet.scene.claimed))?;
     push_signs(text, signs.as_slice())
 }
 
 /// Adds what stands above the rows: what the picture shows, and how to read it.
 #[tactic(auto, unfolding(crate::specs::Terminal::words))]
-fn push_words(alloc: Global, text: &mut Vec<u8>, scene: &Scene<'_>) -> Added
-    requires { count_of_lines scene.now.claimed.now ≤ MOST_DRAWN }
-    ensures { OnOk result (text.new.items ≡ text.old.items ++ words (scene_on scene.now)) }
+fn push_words(text: &mut Vec<u8>, sheet: &Sheet<'_>) -> Added
+    ensures { OnOk result (text.new.items ≡ text.old.items ++ words sheet.now.columns (scene_in sheet.now)) }
 {
-    push_line(text, headline(scene.claimed))?;
-    push_caption(text, scene.claimed)?;
+    push_line(text, headline(sheet.scene.claimed))?;
+    push_caption(text, sheet.scene.claimed)?;
     push_line(text, b"")?;
-    push_legend(alloc, text, scene)?;
+    push_legend(text, sheet)?;
     push_line(text, b"")
 }
 
@@ -501,7 +522,7 @@ fn push_words(alloc: Global, text: &mut Vec<u8>, scene: &Scene<'_>) -> Added
 /// The claim need not be evidence: what stands in the picture follows its lines. Time O(n t n) for n operations of t threads, and
 /// O(k m) for k initial values and m lines; memory for the text, of O(n t + k m) bytes. `AllocError` comes only where a growth was
 /// refused.
-#[tactic(auto, unfolding(crate::specs::Terminal::terminal_picture))]
+#[tactic(auto, unfolding(crate::specs::Terminal::terminal_picture, crate::specs::Terminal::lines))]
 pub fn terminal_picture(alloc: Global, scene: &Scene<'_>) -> Result<Vec<u8>, AllocError>
     // The claim has few enough lines to be drawn.
     requires { count_of_lines scene.now.claimed.now ≤ MOST_DRAWN }
@@ -513,7 +534,8 @@ pub fn terminal_picture(alloc: Global, scene: &Scene<'_>) -> Result<Vec<u8>, All
         scene,
     };
     let mut text = Vec::new(alloc);
-    push_words(alloc, &mut text, scene)?;
-    push_lines(&mut text, &sheet)?;
+    push_words(&mut text, &sheet)?;
+    push_heads(&mut text, &sheet)?;
+    push_each_row(&mut text, &sheet)?;
     Ok(text)
 }

@@ -11,6 +11,9 @@ around (Ok x) old one two last a b c h k l =
     l ∙ ap (λ (t : List _). t ++ c) k ∙ append_assoc one b c ∙ ap (λ (t : List _). t ++ (b ++ c)) h ∙ append_assoc old a (b ++ c)
 around (Err e) old one two last a b c h k l = tt
 
+-- pieces in turn
+pub ruleset pieces = (append_assoc, append-nil)
+
 -- a first piece, and three more
 pub four_pieces : (a b c d one two three four : List ℕ) → one ≡ a → two ≡ one ++ b → three ≡ two ++ c → four ≡ three ++ d
     → four ≡ concat (a ∷ b ∷ c ∷ d ∷ [])

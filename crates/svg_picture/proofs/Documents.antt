@@ -1,6 +1,5 @@
 -- A picture is a well-formed document.
-use Rattle.std.proofs.Common.{◌≡◌, ℕ, true, false, Bool, cond, ◌&&◌, List, [], ◌∷◌, refl, ap₂}
-use Rattle.std.specs.Prelude.{decimal}
+use Rattle.std.proofs.Common.{◌≡◌, ℕ, true, false, Bool, cond, ◌&&◌, List, [], ◌∷◌, refl, ap₂, rules}
 use Rattle.svg_picture.specs.Markup.{Tag, Svg, Title, Desc, Style, Defs, Pattern, Group, Text, Rect, Line, tag_name, tag_attributes}
 use Rattle.svg_picture.specs.Markup.{Content, Nothing, Words, Element, Then, is_plain, plain_byte, plain_words, text_of}
 use Rattle.svg_picture.specs.Picture.{page_content, inside, page_of, svg_picture}
@@ -20,46 +19,20 @@ made_plain : (bytes : List ℕ) → are_plain (plain_words bytes) ≡ true
 made_plain [] = refl
 made_plain (b ∷ bytes) = ap₂ ◌&&◌ (byte_plain b) (made_plain bytes)
 
-digits_plain : (n : ℕ) → are_plain (plain_words (decimal n)) ≡ true
-digits_plain n = made_plain (decimal n)
-
 -- ---- tags
 
 -- each tag is one
 tag_is : (tag : Tag) → IsTag (tag_name tag) (tag_attributes tag)
-tag_is (Svg w h box) = record {
-  named = refl;
-  distinct = refl;
-  each = ((refl, refl), ((refl, refl), ((refl, digits_plain w), ((refl, digits_plain h), ((refl, made_plain box), ((refl, refl), tt))))));
-}
-tag_is Title = record { named = refl; distinct = refl; each = tt }
-tag_is Desc = record { named = refl; distinct = refl; each = tt }
-tag_is Style = record { named = refl; distinct = refl; each = tt }
-tag_is Defs = record { named = refl; distinct = refl; each = tt }
-tag_is (Pattern id y w h) = record {
-  named = refl;
-  distinct = refl;
-  each = ((refl, made_plain id), ((refl, digits_plain 0), ((refl, digits_plain y), ((refl, digits_plain w), ((refl, digits_plain h), ((refl, refl), tt))))));
-}
-tag_is (Group class) = record { named = refl; distinct = refl; each = ((refl, made_plain class), tt) }
-tag_is (Text x y w class) = record {
-  named = refl;
-  distinct = refl;
-  each = ((refl, digits_plain x), ((refl, digits_plain y), ((refl, digits_plain w), ((refl, made_plain class), tt))));
-}
-tag_is (Rect x y w h round class) = record {
-  named = refl;
-  distinct = refl;
-  each = (
-    (refl, digits_plain x),
-    ((refl, digits_plain y), ((refl, digits_plain w), ((refl, digits_plain h), ((refl, digits_plain round), ((refl, made_plain class), tt))))),
-  );
-}
-tag_is (Line x1 y1 x2 y2 class) = record {
-  named = refl;
-  distinct = refl;
-  each = ((refl, digits_plain x1), ((refl, digits_plain y1), ((refl, digits_plain x2), ((refl, digits_plain y2), ((refl, made_plain class), tt)))));
-}
+tag_is (Svg w h box) = record { named = refl; distinct = refl; each = search (rules, made_plain) }
+tag_is Title = record { named = refl; distinct = refl; each = search (rules, made_plain) }
+tag_is Desc = record { named = refl; distinct = refl; each = search (rules, made_plain) }
+tag_is Style = record { named = refl; distinct = refl; each = search (rules, made_plain) }
+tag_is Defs = record { named = refl; distinct = refl; each = search (rules, made_plain) }
+tag_is (Pattern id y w h) = record { named = refl; distinct = refl; each = search (rules, made_plain) }
+tag_is (Group class) = record { named = refl; distinct = refl; each = search (rules, made_plain) }
+tag_is (Text x y w class) = record { named = refl; distinct = refl; each = search (rules, made_plain) }
+tag_is (Rect x y w h round class) = record { named = refl; distinct = refl; each = search (rules, made_plain) }
+tag_is (Line x1 y1 x2 y2 class) = record { named = refl; distinct = refl; each = search (rules, made_plain) }
 
 -- ---- documents
 

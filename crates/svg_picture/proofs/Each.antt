@@ -14,25 +14,12 @@ group_append (a ∷ cs) bs = ap (λ (t : List ℕ). text_of a ++ t) (group_appen
 pub group_more : (cs : List Content) (a : Content) → text_of (group (cs ++ a ∷ [])) ≡ text_of (group cs) ++ text_of a
 group_more cs a = group_append cs (a ∷ []) ∙ ap (λ (t : List ℕ). text_of (group cs) ++ t) (append-nil (text_of a))
 
--- the content of one element more
-pub each_more : {X : Type 0} (f : X → Content) (xs : List X) (i : ℕ) (d : X) → i < length xs
-    → text_of (each f (take (i + 1) xs)) ≡ text_of (each f (take i xs)) ++ text_of (f (get_or xs i d))
-each_more f xs i d within = ap (λ (cs : List Content). text_of (group cs)) (map_more f xs i d within) ∙ group_more (map f (take i xs)) (f (get_or xs i d))
-
 -- the content of one element more was added
 pub each_step : {X : Type 0} (f : X → Content) (text : List ℕ) (xs : List X) (i : ℕ) (d : X) (old new : List ℕ) → i < length xs
     → old ≡ text ++ text_of (each f (take i xs)) → new ≡ old ++ text_of (f (get_or xs i d)) → new ≡ text ++ text_of (each f (take (i + 1) xs))
 each_step f text xs i d old new within before now =
     now ∙ ap (λ (t : List ℕ). t ++ text_of (f (get_or xs i d))) before ∙ append_assoc text _ _
-    ∙ ap (λ (t : List ℕ). text ++ t) (sym (each_more f xs i d within))
-
--- the content of one element more, with its place
-pub each_enumerated_more : {X : Type 0} (f : ℕ × X → Content) (xs : List X) (i : ℕ) (d : X) → i < length xs
-    → text_of (each f (enumerate_from 0 (take (i + 1) xs))) ≡ text_of (each f (enumerate_from 0 (take i xs))) ++ text_of (f (i, get_or xs i d))
-each_enumerated_more f xs i d within =
-    ap (λ (cs : List _). text_of (each f cs)) (enumerated_more xs i d within)
-    ∙ ap (λ (cs : List Content). text_of (group cs)) (map-append f (enumerate_from 0 (take i xs)) ((i, get_or xs i d) ∷ []))
-    ∙ group_more (map f (enumerate_from 0 (take i xs))) (f (i, get_or xs i d))
+    ∙ ap (λ (t : List ℕ). text ++ t) (sym (ap (λ (cs : List Content). text_of (group cs)) (map_more f xs i d within) ∙ group_more (map f (take i xs)) (f (get_or xs i d))))
 
 -- the content of one element more, with its place, was added
 pub each_enumerated_step : {X : Type 0} (f : ℕ × X → Content) (text : List ℕ) (xs : List X) (i : ℕ) (d : X) (old new : List ℕ) → i < length xs
@@ -40,4 +27,6 @@ pub each_enumerated_step : {X : Type 0} (f : ℕ × X → Content) (text : List 
     → new ≡ text ++ text_of (each f (enumerate_from 0 (take (i + 1) xs)))
 each_enumerated_step f text xs i d old new within before now =
     now ∙ ap (λ (t : List ℕ). t ++ text_of (f (i, get_or xs i d))) before ∙ append_assoc text _ _
-    ∙ ap (λ (t : List ℕ). text ++ t) (sym (each_enumerated_more f xs i d within))
+    ∙ ap (λ (t : List ℕ). text ++ t) (sym (ap (λ (cs : List _). text_of (each f cs)) (enumerated_more xs i d within)
+    ∙ ap (λ (cs : List Content). text_of (group cs)) (map-append f (enumerate_from 0 (take i xs)) ((i, get_or xs i d) ∷ []))
+    ∙ group_more (map f (enumerate_from 0 (take i xs))) (f (i, get_or xs i d))))

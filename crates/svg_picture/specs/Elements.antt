@@ -2,7 +2,7 @@
 use Rattle.std.specs.Prelude.{ℕ, ◌+◌, ◌*◌, List, [], ◌∷◌, length, codes}
 use Rattle.svg_picture.specs.Markup.{Content, Nothing, Words, Element, Then, Style, Pattern, Text, Rect, Line, group}
 use Rattle.svg_picture.specs.Layout.{parts}
-use Rattle.svg_picture.specs.Words.{light, dark}
+use Rattle.svg_picture.specs.declared.words.TheConstants.{LIGHT, DARK}
 
 -- words of a class from this point on, this many pixels for each character
 unfoldable pub text_at : ℕ → List ℕ → ℕ → ℕ → List ℕ → Content
@@ -47,4 +47,4 @@ hatch = Element (Pattern (codes "hatch") 0 8 8) (stroke (codes "hatch") 0 8 8 0)
 
 -- the fonts and the colours
 unfoldable pub style_element : Content
-style_element = Element Style (group (Words light ∷ Words dark ∷ []))
+style_element = Element Style (group (Words LIGHT.now ∷ Words DARK.now ∷ []))

@@ -27,13 +27,13 @@ shown m = 18 + 7 * m.ticket
 abbrev pub band_x : Measures → ℕ → ℕ
 band_x m i = shown m + 36 * i
 
--- how much room the order of a `YES` takes, or the bands of a `NO`
-abbrev pub beside_width : Measures → ℕ
-beside_width m = 12 + (if m.is_yes then 7 * (m.number + 1 + m.label) else 36 * m.heads)
-
--- where the lanes begin
+-- where the lanes begin: right of the order of a `YES`, or of the bands of a `NO`
 abbrev pub left : Measures → ℕ
-left m = shown m + beside_width m
+left m = shown m + 12 + (if m.is_yes then 7 * (m.number + 1 + m.label) else 36 * m.heads)
+
+-- how far from the beginning of its lane the number of an operation stands, right of its label
+abbrev pub number_x : Measures → ℕ
+number_x m = 15 + 7 * m.label
 
 -- a bar has room for the longest label and for a number
 abbrev pub bar_width : Measures → ℕ
@@ -51,13 +51,9 @@ lane_x m before = left m + lane_width m * before
 unfoldable pub thread_x : Page → ℕ → ℕ
 thread_x page thread = lane_x page.measures (lanes_before page.scene.threads thread)
 
--- where the lanes end, with a gap
-abbrev pub right : Measures → ℕ
-right m = lane_x m m.lanes + 12
-
 -- wide enough for the fixed words, for the caption, for the lanes, and for the heads of the bands
 unfoldable pub width : Measures → ℕ
-width m = 6 + max (max 582 (6 + 8 * m.caption)) (max (right m) (band_x m m.heads + 7 * m.head))
+width m = 6 + max (max 582 (6 + 8 * m.caption)) (max (lane_x m m.lanes + 12) (band_x m m.heads + 7 * m.head))
 
 -- ---- from top to bottom
 

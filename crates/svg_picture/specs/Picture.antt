@@ -1,30 +1,31 @@
 -- The picture of a history and what is claimed of it: the whole as a tree of elements, and its text.
-use Rattle.std.specs.Prelude.{ℕ, ◌+◌, ◌-◌, ◌*◌, max, Bool, true, false, if◌then◌else◌, Option, Some, None, List, [], ◌∷◌, ◌++◌, length, map, codes, decimal}
+use Rattle.std.specs.Prelude.{ℕ, ◌+◌, ◌-◌, ◌*◌, not, Bool, true, false, if◌then◌else◌, Option, Some, None, List, [], ◌∷◌, ◌++◌, length, map, codes, decimal}
 use Rattle.std.specs.List.{concat, enumerate_from}
 use Rattle.history_merge.specs.declared.operation.Operation.{Operation}
-use Rattle.history_merge.specs.declared.operation.OpKind.{OpKind}
 use Rattle.history_merge.specs.declared.operation.OpKind.TheVariants as kind
 use Rattle.verdicts.specs.declared.verifying.Claimed.{Claimed}
 use Rattle.verdicts.specs.declared.verifying.Claimed.TheVariants.{Yes, No}
-use Rattle.drawing.specs.Claim.{count_of_lines}
+use Rattle.drawing.specs.Claim.{count_of_lines, shown_by}
 use Rattle.drawing.specs.declared.bands.Band.{Band}
 use Rattle.drawing.specs.declared.bands.Head.{Head as BandHead}
 use Rattle.drawing.specs.declared.bands.Head.TheVariants as band_head
-use Rattle.drawing.specs.Layout.{digits, label, numbered_label, initial_label, label_width, called_at, place_of, initial_place_of}
+use Rattle.drawing.specs.Layout.{digits, told, label, numbered, initial_label, label_width, place_in, place_of}
 use Rattle.drawing.specs.Bands.{head_text}
 use Rattle.drawing.specs.Captions.{headline, caption}
 use Rattle.drawing.specs.Drawn.{is_away}
-use Rattle.drawing.specs.Scene.{SceneView, left_out_words, ticket_width, way_word, initial_way}
+use Rattle.drawing.specs.Scene.{SceneView, ticket_words, ticket_width, way_in}
 use Rattle.drawing.specs.declared.scene.Row.{Row}
-use Rattle.drawing.specs.declared.scene.Row.TheVariants.{Head, Initial, Ticket, LeftOut, Effect}
+use Rattle.drawing.specs.declared.scene.Row.TheVariants.{Head, Initial, Ticket, Effect}
 use Rattle.drawing.specs.Signs.{signs_of, meaning}
 use Rattle.drawing.specs.declared.signs.Sign.{Sign}
 use Rattle.drawing.specs.declared.signs.Sign.TheVariants.{First, InOrder, OfOperations, OfValues, Present, Absent, Away}
+use Rattle.svg_picture.specs.declared.bars.Bar.{Bar}
 use Rattle.svg_picture.specs.declared.sheet.Measures.{Measures}
 use Rattle.svg_picture.specs.Markup.{Content, Nothing, Words, Element, Svg, Title, Desc, Defs, Pattern, Group, each, group, document}
-use Rattle.svg_picture.specs.Layout.{Page, shown, left, bar_width, thread_x, band_x, width, legend_y, top, row_y, call_y, ret_y, bottom, height}
+use Rattle.svg_picture.specs.Layout.{Page, shown, left, number_x, bar_width, thread_x, band_x, width, legend_y, top, row_y, call_y, ret_y, bottom, height}
 use Rattle.svg_picture.specs.Layout.{line_count, parts, longest}
-use Rattle.svg_picture.specs.Words.{kind_word, corner, form_class, reading}
+use Rattle.svg_picture.specs.Words.{kind_word, corner, form_class}
+use Rattle.svg_picture.specs.declared.words.TheConstants.{READING}
 use Rattle.svg_picture.specs.Elements.{text_at, rect, stroke, lines_at, samples, hatch, style_element}
 
 -- ---- what is claimed of an operation
@@ -43,17 +44,10 @@ abbrev pub number_words : Option ℕ → List ℕ
 number_words None = []
 number_words (Some place) = codes ", number " ++ decimal (place + 1)
 
--- what an operation did, and its value in full
-abbrev pub told : OpKind → List ℕ
-told (kind.Enq v) = codes "enq " ++ decimal v
-told (kind.Deq v) = codes "deq " ++ decimal v
-told (kind.Not v) = codes "not " ++ decimal v
-told kind.Empty = codes "empty"
-
 -- the title of a bar: its thread, what it did, its tickets, and its number
 unfoldable pub bar_words : Operation → Option ℕ → List ℕ
 bar_words o place =
-    concat (codes "thread " ∷ decimal o.thread ∷ codes ": " ∷ told o.kind ∷ codes ", tickets " ∷ decimal o.call ∷ codes " to " ∷ decimal o.ret
+    concat (codes "thread " ∷ decimal o.thread ∷ codes ": " ∷ told true o.kind ∷ codes ", tickets " ∷ decimal o.call ∷ codes " to " ∷ decimal o.ret
     ∷ number_words place ∷ [])
 
 -- a number in a pill
@@ -61,33 +55,36 @@ unfoldable pub pill : ℕ → ℕ → ℕ → Content
 pill x y n =
     group (rect (codes "pill") 8 x y (10 + 7 * digits n) 16 ∷ text_at 7 (codes "pick") (x + 5) (y + 12) (decimal n) ∷ [])
 
--- the number of an operation at this place of a `NO`, beside its label; those of a `YES` stand where it takes effect
-unfoldable pub bar_number : Page → Claimed → Operation → Option ℕ → Content
-bar_number page (No kind lines) o (Some place) =
-    pill (thread_x page o.thread + (15 + 7 * page.measures.label)) (row_y page (Ticket o.call) + 12) (place + 1)
-bar_number page _ o place = Nothing
+-- the number of a place in a `NO`, beside the label of a bar whose lane begins here
+unfoldable pub bar_number : Measures → ℕ → ℕ → Option ℕ → Content
+bar_number m x y None = Nothing
+bar_number m x y (Some place) = pill (x + number_x m) y (place + 1)
 
--- the bar itself, from its call to its return
-unfoldable pub bar_rect : Page → Operation → Content
-bar_rect page o =
-    rect (kind_word o.kind) (corner o.kind) (thread_x page o.thread + 3) (call_y page o.call) (bar_width page.measures) (ret_y page o.ret - call_y page o.call)
+-- a bar with its mark, its title, its label and its number
+unfoldable pub marked_bar : Measures → List ℕ → List ℕ → List ℕ → Bar → Content
+marked_bar m class title words b =
+    Element (Group class) (group (Element Title (Words title) ∷ rect (kind_word b.kind) (corner b.kind) (b.x + 3) b.y (bar_width m) b.height
+    ∷ text_at 7 (codes "label") (b.x + 9) b.base words ∷ bar_number m b.x (b.base - 12) b.place ∷ []))
 
--- the label of a bar
-unfoldable pub bar_label : Page → Operation → Content
-bar_label page o = text_at 7 (codes "label") (thread_x page o.thread + 9) (row_y page (Ticket o.call) + 24) (label o.kind)
-
--- what stands within the group of a bar
-unfoldable pub bar_parts : Page → Operation → Option ℕ → Content
-bar_parts page o place =
-    group (Element Title (Words (bar_words o place)) ∷ bar_rect page o ∷ bar_label page o ∷ bar_number page page.scene.claimed o place ∷ [])
+-- where the bar of an operation stands, from its call to its return; the number of a `YES` stands where it takes effect
+abbrev pub bar_of : Page → Operation → Bar
+bar_of page o = record {
+  x = thread_x page o.thread;
+  y = call_y page o.call;
+  height = ret_y page o.ret - call_y page o.call;
+  base = row_y page (Ticket o.call) + 24;
+  kind = o.kind;
+  place = place_in (shown_by page.scene.claimed) (Ticket o.call);
+}
 
 -- the bar of an operation at this place of the claim
-unfoldable pub placed_bar : Page → Operation → Option ℕ → Content
-placed_bar page o place = Element (Group (mark page.scene.claimed (is_away page.scene.claimed o) place)) (bar_parts page o place)
+abbrev pub placed_bar : Page → Operation → Option ℕ → Content
+placed_bar page o place =
+    marked_bar page.measures (mark page.scene.claimed (is_away page.scene.claimed o) place) (bar_words o place) (label o.kind) (bar_of page o)
 
 -- the bar of an operation
-abbrev pub bar : Page → Operation → Content
-bar page o = placed_bar page o (place_of page.scene.claimed o)
+unfoldable pub bar : Page → Operation → Content
+bar page o = placed_bar page o (place_of page.scene.claimed (Ticket o.call))
 
 -- the bars of the operations
 unfoldable pub bars : Page → Content
@@ -102,32 +99,29 @@ is_time (band_head.InAndOut v) = true
 is_time band_head.SaidEmpty = true
 is_time _ = false
 
+-- an edge of a band: in the row of a call, or of a return; or here, where no event makes it
+abbrev pub edge_y : Page → Bool → ℕ → Option ℕ → ℕ
+edge_y page is_call here None = here
+edge_y page is_call here (Some ticket) = if is_call then call_y page ticket else ret_y page ticket
+
 -- the upper edge of a band: the time begins at a call, a value definitely is in from a return on
-abbrev pub first_y : Page → BandHead → Option ℕ → ℕ
-first_y page head None = top page.measures
-first_y page head (Some ticket) = if is_time head then call_y page ticket else ret_y page ticket
+abbrev pub first_y : Page → Band → ℕ
+first_y page band = edge_y page (is_time band.head) (top page.measures) band.first
 
 -- the lower edge of a band: the time ends at a return, a value definitely is in up to a call
-abbrev pub last_y : Page → BandHead → Option ℕ → ℕ
-last_y page head None = bottom page.measures
-last_y page head (Some ticket) = if is_time head then ret_y page ticket else call_y page ticket
+abbrev pub last_y : Page → Band → ℕ
+last_y page band = edge_y page (not (is_time band.head)) (bottom page.measures) band.last
 
 -- a dotted line from a band to the lanes, where an event makes an edge of it
 unfoldable pub guide : Measures → List ℕ → ℕ → ℕ → Option ℕ → Content
 guide m class x y None = Nothing
 guide m class x y (Some ticket) = stroke class x y (left m) y
 
--- a thin line from the head of a band to it, and the band between its edges
-unfoldable pub band_between : List ℕ → ℕ → ℕ → ℕ → ℕ → Content
-band_between class x y first last =
-    group (stroke (codes "lead") x y x first ∷ rect class 0 x first 28 (last - first) ∷ [])
-
--- the band with its dotted lines, below its head
+-- the band between its edges, with its dotted lines, and a thin line from its head
 unfoldable pub drawn_band : Page → List ℕ → ℕ → ℕ → Band → Content
 drawn_band page class x y band =
-    group (guide page.measures class (x + 28) (first_y page band.head band.first) band.first
-    ∷ guide page.measures class (x + 28) (last_y page band.head band.last) band.last
-    ∷ band_between class x y (first_y page band.head band.first) (last_y page band.head band.last) ∷ [])
+    group (guide page.measures class (x + 28) (first_y page band) band.first ∷ guide page.measures class (x + 28) (last_y page band) band.last
+    ∷ stroke (codes "lead") x y x (first_y page band) ∷ rect class 0 x (first_y page band) 28 (last_y page band - first_y page band) ∷ [])
 
 -- the band, where its head has a form
 abbrev pub formed_band : Page → List ℕ → ℕ → ℕ → Band → Content
@@ -158,23 +152,18 @@ bands page = each (numbered_band page) (enumerate_from 0 page.scene.bands)
 unfoldable pub initial_words : ℕ → Option ℕ → List ℕ
 initial_words v place = concat (codes "init " ∷ decimal v ∷ codes ", in the queue first" ∷ number_words place ∷ [])
 
--- the number of an initial value at this place of the claim, in the row from this height on
-unfoldable pub initial_number : Measures → ℕ → Option ℕ → Content
-initial_number m y None = Nothing
-initial_number m y (Some place) = pill (left m + (15 + 7 * m.label)) (y + 2) (place + 1)
+-- where its bar stands, in line with the first lane, in the row from this height on
+abbrev pub initial_bar : Measures → ℕ → ℕ → Option ℕ → Bar
+initial_bar m y v place = record { x = left m; y = y + 2; height = 16; base = y + 14; kind = kind.Enq v; place = place }
 
--- its bar, in line with the first lane, with its label
-unfoldable pub initial_rect : Measures → ℕ → ℕ → Content
-initial_rect m y v =
-    group (rect (codes "enq") 0 (left m + 3) (y + 2) (bar_width m) 16 ∷ text_at 7 (codes "label") (left m + 9) (y + 14) (initial_label v) ∷ [])
+-- an initial value at this place of the lines that show a `NO`
+abbrev pub initial_at : Page → ℕ → ℕ → Option ℕ → Content
+initial_at page y v place =
+    marked_bar page.measures (mark page.scene.claimed false place) (initial_words v place) (initial_label v) (initial_bar page.measures y v place)
 
--- what stands within its group
-unfoldable pub initial_parts : Measures → ℕ → ℕ → Option ℕ → Content
-initial_parts m y v place = group (Element Title (Words (initial_words v place)) ∷ initial_rect m y v ∷ initial_number m y place ∷ [])
-
--- an initial value at this place of the claim
-unfoldable pub placed_initial : Page → ℕ → ℕ → Option ℕ → Content
-placed_initial page y v place = Element (Group (mark page.scene.claimed false place)) (initial_parts page.measures y v place)
+-- an initial value in its row
+unfoldable pub placed_initial : Page → ℕ → Row → ℕ → Content
+placed_initial page y r v = initial_at page y v (place_in (shown_by page.scene.claimed) r)
 
 -- ---- rows
 
@@ -184,48 +173,42 @@ way_at m y [] = Nothing
 way_at m y (b ∷ bytes) =
     group (text_at 7 (codes "name") (shown m) (y + 4) (b ∷ bytes) ∷ stroke (codes "time") (shown m + 28) y (left m) y ∷ [])
 
--- an initial value, with the word `in` where it was dequeued twice
-unfoldable pub initial_value : Page → ℕ → ℕ → Content
-initial_value page y v =
-    group (way_at page.measures (y + 10) (initial_way page.scene.claimed v) ∷ placed_initial page y v (initial_place_of page.scene.claimed v) ∷ [])
-
--- words at the right of the column of tickets
-unfoldable pub in_tickets : Page → ℕ → List ℕ → Content
-in_tickets page y words = text_at 7 (codes "dim") (6 + 7 * (page.measures.ticket - length words)) (y + 14) words
-
--- a ticket, with the word `in` or `out` of what is called, where its value was dequeued twice
-unfoldable pub event : Page → ℕ → ℕ → Content
-event page y ticket =
-    group (in_tickets page y (decimal ticket)
-    ∷ way_at page.measures (y + 20) (way_word page.scene.claimed (called_at page.scene.operations ticket)) ∷ [])
+-- words at the right of the column of tickets; nothing without words
+unfoldable pub in_tickets : Measures → ℕ → List ℕ → Content
+in_tickets m y [] = Nothing
+in_tickets m y (b ∷ bytes) = text_at 7 (codes "dim") (6 + 7 * (m.ticket - length (b ∷ bytes))) y (b ∷ bytes)
 
 -- the number and the label of an operation of a `YES`, beside the tickets, and the number in its bar
 unfoldable pub effect : Page → ℕ → Operation → ℕ → Content
 effect page y o number =
     group (text_at 7 (codes "label") (shown page.measures + 7 * (page.measures.number - digits number)) (y + 14)
-    (numbered_label number o.kind) ∷ pill (thread_x page o.thread + (15 + 7 * page.measures.label)) (y + 2) number ∷ [])
+    (numbered 0 (decimal number) (label o.kind)) ∷ pill (thread_x page o.thread + number_x page.measures) (y + 2) number ∷ [])
 
--- what stands in a row, from this height on
-abbrev pub row_parts : Page → ℕ → Row → Content
-row_parts page y Head = text_at 7 (codes "dim") (left page.measures + 3) (y + 14) (codes "in the queue first")
-row_parts page y (Initial place v) = initial_value page y v
-row_parts page y (Ticket ticket) = event page y ticket
-row_parts page y (LeftOut count last) = in_tickets page y (left_out_words count)
-row_parts page y (Effect o number point) = effect page y o number
+-- how far below the upper edge of a row the word for its value stands: a call is at the lower edge
+abbrev pub way_y : Row → ℕ
+way_y (Initial place v) = 10
+way_y r = 20
 
--- a row of the scene
-abbrev pub row_content : Page → Row → Content
-row_content page row = row_parts page (row_y page row) row
+-- what one kind of row alone has
+abbrev pub row_own : Page → ℕ → Row → Content
+row_own page y Head = text_at 7 (codes "dim") (left page.measures + 3) (y + 14) (codes "in the queue first")
+row_own page y (Initial place v) = placed_initial page y (Initial place v) v
+row_own page y (Effect o number point) = effect page y o number
+row_own page y r = Nothing
+
+-- what stands in a row: words in the column of tickets, the word `in` or `out` of a value that was dequeued twice, and its own
+unfoldable pub row_parts : Page → Row → Content
+row_parts page r =
+    group (in_tickets page.measures (row_y page r + 14) (ticket_words r)
+    ∷ way_at page.measures (row_y page r + way_y r) (way_in page.scene.claimed r) ∷ row_own page (row_y page r) r ∷ [])
 
 -- the rows, under the words above their columns, and the word below them
 unfoldable pub rows : Page → Content
-rows page = each (row_content page) page.scene.rows
+rows page = each (row_parts page) page.scene.rows
 
 -- the words above and below the tickets
 unfoldable pub ticket_names : Measures → Content
-ticket_names m =
-    group (text_at 7 (codes "dim") (6 + 7 * (m.ticket - 6)) (top m - 8) (codes "ticket")
-    ∷ text_at 7 (codes "dim") (6 + 7 * (m.ticket - 3)) (bottom m - 6) (codes "end") ∷ [])
+ticket_names m = group (in_tickets m (top m - 8) (codes "ticket") ∷ in_tickets m (bottom m - 6) (codes "end") ∷ [])
 
 -- the word above the order of a `YES`
 unfoldable pub order_name : Measures → Claimed → Content
@@ -291,7 +274,7 @@ signs m list = each (numbered_sign m) (enumerate_from 0 list)
 unfoldable pub heading : Page → Content
 heading page =
     group (text_at 9 (codes "head") 6 26 (headline page.scene.claimed) ∷ lines_at 8 (codes "say") 46 (caption page.scene.claimed)
-    ∷ samples (legend_y page.measures) ∷ lines_at 7 (codes "dim") (legend_y page.measures + 35) reading
+    ∷ samples (legend_y page.measures) ∷ lines_at 7 (codes "dim") (legend_y page.measures + 35) READING.now
     ∷ signs page.measures (signs_of page.scene) ∷ [])
 
 -- the words for those who don't see the picture, and its style
@@ -304,15 +287,11 @@ about claimed =
 unfoldable pub view_box : Measures → List ℕ
 view_box m = concat (codes "0 0 " ∷ decimal (width m) ∷ codes " " ∷ decimal (height m) ∷ [])
 
--- what stands above and under the lanes
-unfoldable pub frame : Page → Content
-frame page =
-    group (about page.scene.claimed ∷ background page.measures ∷ heading page ∷ ticket_names page.measures
-    ∷ order_name page.measures page.scene.claimed ∷ threads page ∷ [])
-
--- what stands between the tags of the picture
+-- what stands between the tags of the picture: above and under the lanes, and in them
 unfoldable pub inside : Page → Content
-inside page = group (frame page ∷ bands page ∷ bars page ∷ rows page ∷ [])
+inside page =
+    group (about page.scene.claimed ∷ background page.measures ∷ heading page ∷ ticket_names page.measures
+    ∷ order_name page.measures page.scene.claimed ∷ threads page ∷ bands page ∷ bars page ∷ rows page ∷ [])
 
 -- the picture on a page
 unfoldable pub page_content : Page → Content
@@ -328,7 +307,7 @@ is_yes (No kind lines) = false
 -- how wide the parts of a picture are, in characters, and how many there are
 abbrev pub measures_of : SceneView → Measures
 measures_of scene = record {
-  ticket = ticket_width scene;
+  ticket = ticket_width scene.rows;
   number = digits (count_of_lines scene.claimed);
   label = label_width scene.initial scene.operations;
   lanes = length scene.threads;

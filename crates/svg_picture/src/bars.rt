@@ -2,15 +2,17 @@
 ghost use Rattle.std.specs.Prelude.{◌≡◌, ◌++◌, ◌≤◌, ◌^◌, OnOk, IfOk, IfSome, decimal};
 ghost use Rattle.svg_picture.specs.Markup.{text_of};
 ghost use Rattle.svg_picture.specs.Layout.{page_on};
-ghost use Rattle.svg_picture.specs.Picture.{mark, number_words, told, bar_words, pill, bar_number, bar_rect, bar_label, bar, bars};
+ghost use Rattle.svg_picture.specs.Picture.{mark, number_words, bar_words, pill, bar_number, marked_bar, bar, bars};
 
 use crate::elements::{Rect, push_rect, push_text_at};
-use crate::layout::{bar_width, call_y, ret_y, row_y, thread_x};
+use crate::layout::{bar_width, call_y, number_x, ret_y, row_y, thread_x};
 use crate::markup::Attribute::Words;
 use crate::markup::{push_element, push_end, push_number, push_start};
-use crate::sheet::Sheet;
+use crate::sheet::{Measures, Sheet};
 use crate::words::{corner, kind_word};
-use drawing::{Added, MOST_DRAWN, Row, digits, is_away, place_of, push_label};
+use drawing::{
+    Added, MOST_DRAWN, Row, digits, is_away, label_of, place_in, place_of, push_told, shown_by,
+};
 use history_merge::{OpKind, Operation};
 use itoa::Buffer;
 use std::alloc::{AllocError, Global};
@@ -41,25 +43,6 @@ pub(crate) fn push_number_words(text: &mut Vec<u8>, place: Option<usize>) -> Add
     }
 }
 
-fn push_done(text: &mut Vec<u8>, word: &[u8], value: u64) -> Added
-    ensures { OnOk result (text.new.items ≡ text.old.items ++ (word.now ++ decimal value)) }
-{
-    text.extend_from_slice(word)?;
-    push_number(text, u128::from(value))
-}
-
-/// Adds what an operation did, and its value in full.
-fn push_told(text: &mut Vec<u8>, kind: OpKind) -> Added
-    ensures { OnOk result (text.new.items ≡ text.old.items ++ told kind) }
-{
-    match kind {
-        OpKind::Empty => text.extend_from_slice(b"empty"),
-        OpKind::Enq(value) => push_done(text, b"enq ", value),
-        OpKind::Deq(value) => push_done(text, b"deq ", value),
-        OpKind::Not(value) => push_done(text, b"not ", value),
-    }
-}
-
 /// The title of a bar.
 #[tactic(auto, unfolding(crate::specs::Picture::bar_words))]
 fn bar_words(
@@ -72,7 +55,7 @@ fn bar_words(
     let mut words = Vec::from_slice(alloc, b"thread ")?;
     push_number(&mut words, u128::from(operation.thread))?;
     words.extend_from_slice(b": ")?;
-    push_told(&mut words, operation.kind)?;
+    push_told(&mut words, true, operation.kind)?;
     words.extend_from_slice(b", tickets ")?;
     push_number(&mut words, u128::from(operation.call))?;
     words.extend_from_slice(b" to ")?;
@@ -100,74 +83,88 @@ pub(crate) fn push_pill(text: &mut Vec<u8>, x: u128, y: u128, number: u64) -> Ad
     push_text_at(text, 7, b"pick", x + 5, y + 12, words)
 }
 
-/// Adds the number of an operation of a `NO`.
+/// Adds the number of a place in a `NO`, beside the label of a bar whose lane begins here.
 #[tactic(auto, unfolding(crate::specs::Picture::bar_number))]
-fn push_bar_number(
-    text: &mut Vec<u8>,
-    sheet: &Sheet<'_>,
-    operation: Operation,
-    place: Option<usize>,
-) -> Added
-    requires { IfSome place (λ place. place ≤ MOST_DRAWN) }
-    ensures { OnOk result (text.new.items ≡ text.old.items
-        ++ text_of (bar_number (page_on sheet.now) sheet.now.scene.now.claimed.now operation place)) }
+fn push_bar_number(text: &mut Vec<u8>, m: Measures, x: u128, y: u128, place: Option<usize>) -> Added
+    requires x { x ≤ 2 ^ 91 }
+    requires y { y ≤ 2 ^ 92 }
+    requires place { IfSome place (λ place. place ≤ MOST_DRAWN) }
+    ensures { OnOk result (text.new.items ≡ text.old.items ++ text_of (bar_number m x y place)) }
 {
-    match (sheet.scene.claimed, place) {
-        (Claimed::No(_, _), Some(place)) => {
-            let label = 15 + 7 * u128::from(sheet.measures.label);
-            let x = thread_x(sheet, operation.thread) + label;
-            let y = row_y(sheet, Row::Ticket(operation.call)) + 12;
-            push_pill(text, x, y, place as u64 + 1)
-        }
-        _ => Ok(()),
+    match place {
+        None => Ok(()),
+        Some(place) => push_pill(text, x + number_x(m), y, place as u64 + 1),
     }
 }
 
-#[tactic(auto, unfolding(crate::specs::Picture::bar_rect))]
-fn push_bar_rect(text: &mut Vec<u8>, sheet: &Sheet<'_>, operation: Operation) -> Added
-    ensures { OnOk result (text.new.items ≡ text.old.items ++ text_of (bar_rect (page_on sheet.now) operation)) }
+/// A bar: where its lane begins, its upper edge, its height, the base line of its label, what was done, and its place in a `NO`.
+#[derive(Clone, Copy)]
+pub struct Bar {
+    pub x: u128,
+    pub y: u128,
+    pub height: u128,
+    pub base: u128,
+    pub kind: OpKind,
+    pub place: Option<usize>,
+}
+
+/// Adds a bar with its mark, its title, its label and its number.
+#[tactic(auto, unfolding(crate::specs::Picture::marked_bar))]
+pub(crate) fn push_marked_bar(
+    text: &mut Vec<u8>,
+    m: Measures,
+    class: &[u8],
+    title: &[u8],
+    label: &[u8],
+    bar: Bar,
+) -> Added
+    requires x { bar.x ≤ 2 ^ 91 }
+    requires base { bar.base ≤ 2 ^ 92 }
+    requires place { IfSome bar.place (λ place. place ≤ MOST_DRAWN) }
+    ensures { OnOk result (text.new.items ≡ text.old.items ++ text_of (marked_bar m class.now title.now label.now bar)) }
 {
-    let y = call_y(sheet, operation.call);
+    push_start(text, b"g", &[Words(b"class", class)])?;
+    push_element(text, b"title", &[], title)?;
     let area = Rect {
-        x: thread_x(sheet, operation.thread) + 3,
-        y,
-        width: bar_width(sheet.measures),
-        height: ret_y(sheet, operation.ret).saturating_sub(y),
+        x: bar.x + 3,
+        y: bar.y,
+        width: bar_width(m),
+        height: bar.height,
     };
-    push_rect(
-        text,
-        kind_word(operation.kind),
-        corner(operation.kind),
-        area,
-    )
+    push_rect(text, kind_word(bar.kind), corner(bar.kind), area)?;
+    push_text_at(text, 7, b"label", bar.x + 9, bar.base, label)?;
+    push_bar_number(text, m, bar.x, bar.base.saturating_sub(12), bar.place)?;
+    push_end(text, b"g")
 }
 
-#[tactic(auto, unfolding(crate::specs::Picture::bar_label))]
-fn push_bar_label(text: &mut Vec<u8>, sheet: &Sheet<'_>, operation: Operation) -> Added
-    ensures { OnOk result (text.new.items ≡ text.old.items ++ text_of (bar_label (page_on sheet.now) operation)) }
-{
-    let mut label = Vec::new(sheet.alloc);
-    push_label(&mut label, operation.kind)?;
-    let x = thread_x(sheet, operation.thread) + 9;
-    let y = row_y(sheet, Row::Ticket(operation.call)) + 24;
-    push_text_at(text, 7, b"label", x, y, label.as_slice())
-}
-
-/// Adds the bar of an operation, with its title, its label and its number.
-#[tactic(auto, unfolding(crate::specs::Picture::placed_bar, crate::specs::Picture::bar_parts))]
+/// Adds the bar of an operation.
+#[tactic(auto, unfolding(crate::specs::Picture::bar))]
 fn push_bar(text: &mut Vec<u8>, sheet: &Sheet<'_>, operation: Operation) -> Added
     ensures { OnOk result (text.new.items ≡ text.old.items ++ text_of (bar (page_on sheet.now) operation)) }
 {
-    let place = place_of(sheet.scene.claimed, operation);
-    let away = is_away(sheet.scene.claimed, operation);
-    let class = mark(sheet.scene.claimed, away, place);
-    push_start(text, b"g", &[Words(b"class", class)])?;
-    let words = bar_words(sheet.alloc, operation, place)?;
-    push_element(text, b"title", &[], words.as_slice())?;
-    push_bar_rect(text, sheet, operation)?;
-    push_bar_label(text, sheet, operation)?;
-    push_bar_number(text, sheet, operation, place)?;
-    push_end(text, b"g")
+    let claimed = sheet.scene.claimed;
+    let row = Row::Ticket(operation.call);
+    let place = place_of(claimed, row);
+    let class = mark(claimed, is_away(claimed, operation), place);
+    let title = bar_words(sheet.alloc, operation, place)?;
+    let label = label_of(sheet.alloc, operation.kind)?;
+    let y = call_y(sheet, operation.call);
+    let bar = Bar {
+        x: thread_x(sheet, operation.thread),
+        y,
+        height: ret_y(sheet, operation.ret).saturating_sub(y),
+        base: row_y(sheet, row) + 24,
+        kind: operation.kind,
+        place: place_in(shown_by(claimed), row),
+    };
+    push_marked_bar(
+        text,
+        sheet.measures,
+        class,
+        title.as_slice(),
+        label.as_slice(),
+        bar,
+    )
 }
 
 /// Adds the bars of the operations.

@@ -3,7 +3,7 @@ ghost use Rattle.std.specs.Prelude.{◌≡◌, ◌++◌, ◌≤◌, ◌^◌, OnO
 ghost use Rattle.svg_picture.specs.Markup.{text_of};
 ghost use Rattle.svg_picture.specs.Layout.{page_on, call_y, ret_y};
 ghost use Rattle.svg_picture.specs.Words.{form_class};
-ghost use Rattle.svg_picture.specs.Picture.{is_time, first_y, last_y, guide, band_between, formed_band, head_y, band_at, bands};
+ghost use Rattle.svg_picture.specs.Picture.{is_time, edge_y, guide, formed_band, head_y, band_at, bands};
 
 use crate::elements::{Rect, push_rect, push_stroke, push_text_at};
 use crate::layout::{band_x, bottom, call_y, left, ret_y, top};
@@ -20,35 +20,14 @@ fn is_time(head: Head) -> bool
     }
 }
 
-/// An edge of a band: in the row of a call, or of a return.
-fn edge_y(sheet: &Sheet<'_>, is_call: bool, ticket: u64) -> u128
-    ensures call { IsTrue is_call → result ≡ call_y (page_on sheet.now) ticket }
-    ensures ret { is_call ≡ false → result ≡ ret_y (page_on sheet.now) ticket }
+/// An edge of a band: in the row of a call, or of a return; or here, where no event makes it.
+fn edge_y(sheet: &Sheet<'_>, is_call: bool, here: u128, edge: Option<u64>) -> u128
+    ensures { result ≡ edge_y (page_on sheet.now) is_call here edge }
 {
-    if is_call {
-        call_y(sheet, ticket)
-    } else {
-        ret_y(sheet, ticket)
-    }
-}
-
-/// The upper edge of a band.
-fn first_y(sheet: &Sheet<'_>, head: Head, first: Option<u64>) -> u128
-    ensures { result ≡ first_y (page_on sheet.now) head first }
-{
-    match first {
-        None => top(sheet.measures),
-        Some(ticket) => edge_y(sheet, is_time(head), ticket),
-    }
-}
-
-/// The lower edge of a band.
-fn last_y(sheet: &Sheet<'_>, head: Head, last: Option<u64>) -> u128
-    ensures { result ≡ last_y (page_on sheet.now) head last }
-{
-    match last {
-        None => bottom(sheet.measures),
-        Some(ticket) => edge_y(sheet, !is_time(head), ticket),
+    match edge {
+        None => here,
+        Some(ticket) if is_call => call_y(sheet, ticket),
+        Some(ticket) => ret_y(sheet, ticket),
     }
 }
 
@@ -70,27 +49,6 @@ fn push_guide(
     }
 }
 
-#[tactic(auto, unfolding(crate::specs::Picture::band_between))]
-fn push_band_between(
-    text: &mut Vec<u8>,
-    class: &[u8],
-    x: u128,
-    y: u128,
-    first: u128,
-    last: u128,
-) -> Added
-    ensures { OnOk result (text.new.items ≡ text.old.items ++ text_of (band_between class.now x y first last)) }
-{
-    push_stroke(text, b"lead", (x, y), (x, first))?;
-    let area = Rect {
-        x,
-        y: first,
-        width: 28,
-        height: last.saturating_sub(first),
-    };
-    push_rect(text, class, 0, area)
-}
-
 /// Adds a band with its dotted lines, where its head has a form.
 #[tactic(auto, unfolding(crate::specs::Picture::drawn_band))]
 fn push_formed_band(text: &mut Vec<u8>, sheet: &Sheet<'_>, x: u128, y: u128, band: Band) -> Added
@@ -102,11 +60,19 @@ fn push_formed_band(text: &mut Vec<u8>, sheet: &Sheet<'_>, x: u128, y: u128, ban
     match class {
         [] => Ok(()),
         [_, ..] => {
-            let first = first_y(sheet, band.head, band.first);
-            let last = last_y(sheet, band.head, band.last);
+            let time = is_time(band.head);
+            let first = edge_y(sheet, time, top(sheet.measures), band.first);
+            let last = edge_y(sheet, !time, bottom(sheet.measures), band.last);
+            let area = Rect {
+                x,
+                y: first,
+                width: 28,
+                height: last.saturating_sub(first),
+            };
             push_guide(text, sheet.measures, class, x + 28, first, band.first)?;
             push_guide(text, sheet.measures, class, x + 28, last, band.last)?;
-            push_band_between(text, class, x, y, first, last)
+            push_stroke(text, b"lead", (x, y), (x, first))?;
+            push_rect(text, class, 0, area)
         }
     }
 }

@@ -1,6 +1,6 @@
 //! The elements of a picture.
-ghost use Rattle.std.specs.Prelude.{◌≡◌, ◌+◌, ◌*◌, ◌++◌, ◌≤◌, ◌^◌, OnOk, length};
-ghost use Rattle.svg_picture.specs.Markup.{text_of, named};
+ghost use Rattle.std.specs.Prelude.{◌≡◌, ◌+◌, ◌*◌, ◌++◌, ◌≤◌, ◌^◌, OnOk, codes, length};
+ghost use Rattle.svg_picture.specs.Markup.{text_of, named, start_tag, tag_attributes, Pattern};
 ghost use Rattle.svg_picture.specs.Elements.{text_at, rect, stroke, line_at, lines_at, sample, samples, hatch};
 
 use crate::lines::split_line;
@@ -154,23 +154,37 @@ pub(crate) fn push_samples(text: &mut Vec<u8>, y: u128) -> Added
     push_sample(text, 441, y, b"not", 0, b"not taken")
 }
 
-/// Adds the pattern of a hatched band.
-#[tactic(auto, unfolding(crate::specs::Elements::hatch))]
-pub(crate) fn push_hatch(text: &mut Vec<u8>) -> Added
-    ensures { OnOk result (text.new.items ≡ text.old.items ++ text_of hatch) }
+/// Adds the tag that begins a pattern of this name, from this height on.
+pub(crate) fn push_pattern(
+    text: &mut Vec<u8>,
+    id: &[u8],
+    y: u128,
+    width: u128,
+    height: u128,
+) -> Added
+    ensures { OnOk result (text.new.items ≡ text.old.items
+        ++ start_tag (codes "pattern") (tag_attributes (Pattern id.now y width height))) }
 {
     push_start(
         text,
         b"pattern",
         &[
-            Words(b"id", b"hatch"),
+            Words(b"id", id),
             Number(b"x", 0),
-            Number(b"y", 0),
-            Number(b"width", 8),
-            Number(b"height", 8),
+            Number(b"y", y),
+            Number(b"width", width),
+            Number(b"height", height),
             Words(b"patternUnits", b"userSpaceOnUse"),
         ],
-    )?;
+    )
+}
+
+/// Adds the pattern of a hatched band.
+#[tactic(auto, unfolding(crate::specs::Elements::hatch))]
+pub(crate) fn push_hatch(text: &mut Vec<u8>) -> Added
+    ensures { OnOk result (text.new.items ≡ text.old.items ++ text_of hatch) }
+{
+    push_pattern(text, b"hatch", 0, 8, 8)?;
     push_stroke(text, b"hatch", (0, 8), (8, 0))?;
     push_end(text, b"pattern")
 }

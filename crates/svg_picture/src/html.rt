@@ -2,18 +2,14 @@
 ghost use Rattle.std.specs.Prelude.{◌≡◌, ◌≤◌, IfOk};
 ghost use Rattle.drawing.specs.Claim.{count_of_lines};
 ghost use Rattle.drawing.specs.Scene.{scene_on};
-ghost use Rattle.svg_picture.specs.Html.{page_start, page_aside, script_bars, script_marks, script_lines, script_heads, html_picture};
+ghost use Rattle.svg_picture.specs.Html.{page_head, page_foot, html_picture};
 
 use crate::picture::push_picture;
 use drawing::{MOST_DRAWN, Scene};
 use std::alloc::{AllocError, Global};
 
-/// The page up to what the script marks.
-#[tactic(auto, unfolding(crate::specs::Html::page_start))]
-fn page_start() -> &'static [u8]
-    ensures { result.now ≡ page_start }
-{
-    b"<!DOCTYPE html>\n\
+/// The page up to the picture: the colours of marks, and what the script fills in.
+pub(crate) const PAGE_HEAD: &[u8] = b"<!DOCTYPE html>\n\
 <html lang='en'>\n\
 <head>\n\
 <meta charset='utf-8'>\n\
@@ -25,15 +21,8 @@ fn page_start() -> &'static [u8]
 aside[hidden]{display:none} ol{padding-left:2.2em;max-height:60vh;overflow:auto} button{font:13px monospace}\n\
 textarea{width:100%;box-sizing:border-box;font:12px monospace} main{min-width:0;flex:1}\n\
 main svg{display:block} #heads{position:sticky;top:0;z-index:1}\n\
-@media(min-width:1000px){body{display:flex;align-items:flex-start}aside{position:sticky;top:0;width:250px;flex:none}}\n"
-}
-
-/// The colours of marks, and what the script fills in.
-#[tactic(auto, unfolding(crate::specs::Html::page_aside))]
-fn page_aside() -> &'static [u8]
-    ensures { result.now ≡ page_aside }
-{
-    b"g[tabindex]{cursor:pointer} g[data-how=one] rect:not(.pill){stroke-width:5}\n\
+@media(min-width:1000px){body{display:flex;align-items:flex-start}aside{position:sticky;top:0;width:250px;flex:none}}\n\
+g[tabindex]{cursor:pointer} g[data-how=one] rect:not(.pill){stroke-width:5}\n\
 g[data-how] text:not(.pick){fill:#1a1a1a}\n\
 g[data-how=before] rect:not(.pill),.before{fill:#d5ecd0;stroke:#2f6b1f;background:#d5ecd0;color:#1a1a1a}\n\
 g[data-how=beside] rect:not(.pill),.beside{fill:#fff0bf;stroke:#8f6a00;background:#fff0bf;color:#1a1a1a}\n\
@@ -52,15 +41,18 @@ g[data-how=after] rect:not(.pill),.after{fill:#e3daf5;stroke:#5b3f9e;background:
 <textarea id='text' rows='12' readonly aria-label='what is drawn, as text'></textarea>\n\
 <button id='copy'>copy</button></details>\n\
 </aside>\n\
-<main>\n"
+<main>\n";
+
+#[tactic(auto, unfolding(crate::specs::Html::page_head))]
+fn page_head() -> &'static [u8]
+    ensures { result.now ≡ page_head }
+{
+    PAGE_HEAD
 }
 
-/// The end of the picture, and the script: the bars by their titles.
-#[tactic(auto, unfolding(crate::specs::Html::script_bars))]
-fn script_bars() -> &'static [u8]
-    ensures { result.now ≡ script_bars }
-{
-    b"</main>\n\
+/// The end of the picture, and the script: the bars by their titles; what precedes an operation, overlaps it and follows it; the lines
+/// of the verdict, and the history as text; heads that stay, and zoom to fit.
+pub(crate) const PAGE_FOOT: &[u8] = b"</main>\n\
 <script>\n\
 (() => { const by = id => document.getElementById(id); const svg = document.querySelector('svg');\n\
 const bars = [], first = []; for (const g of svg.querySelectorAll('g')) {\n\
@@ -70,15 +62,8 @@ const o = /^thread ([0-9]+): (enq|deq|not|empty) ?([0-9]*), tickets ([0-9]+) to 
 const v = /^init ([0-9]+)/.exec(told); if (v) { first.push(v[1]);\n\
 bars.push({g, told, number, call: -1, ret: -1, line: v[0]}); } else {\n\
 const line = [o[4], o[5], o[1], o[2], o[3]].join(' ').trim();\n\
-bars.push({g, told, number, call: +o[4], ret: +o[5], thread: o[1], kind: o[2], value: o[3], line}); } }\n"
-}
-
-/// The script: what precedes an operation, overlaps it and follows it.
-#[tactic(auto, unfolding(crate::specs::Html::script_marks))]
-fn script_marks() -> &'static [u8]
-    ensures { result.now ≡ script_marks }
-{
-    b"const mark = one => { const count = {before: 0, beside: 0, after: 0}; for (const b of bars) {\n\
+bars.push({g, told, number, call: +o[4], ret: +o[5], thread: o[1], kind: o[2], value: o[3], line}); } }\n\
+const mark = one => { const count = {before: 0, beside: 0, after: 0}; for (const b of bars) {\n\
 const how = b === one ? 'one' : b.ret < one.call ? 'before' : one.ret < b.call ? 'after' : 'beside';\n\
 b.g.dataset.how = how; count[how]++; }\n\
 const counts = count.before + ' precede it, ' + count.beside + ' overlap it, ' + count.after + ' follow it.';\n\
@@ -88,15 +73,8 @@ by('say').textContent = 'Choose an operation to see what precedes it.'; }; svg.s
 for (const b of bars) { b.g.setAttribute('tabindex', '0'); b.g.setAttribute('role', 'button');\n\
 b.g.setAttribute('aria-label', b.told); b.g.addEventListener('click', () => mark(b));\n\
 b.g.addEventListener('keydown', e => { if (e.key === 'Enter' || e.key === ' ') { e.preventDefault(); mark(b);\n\
-} }); } document.addEventListener('keydown', e => e.key === 'Escape' && clear());\n"
-}
-
-/// The script: the lines of the verdict, and the history as text.
-#[tactic(auto, unfolding(crate::specs::Html::script_lines))]
-fn script_lines() -> &'static [u8]
-    ensures { result.now ≡ script_lines }
-{
-    b"for (const b of bars.filter(b => b.number).sort((a, b) => a.number - b.number)) {\n\
+} }); } document.addEventListener('keydown', e => e.key === 'Escape' && clear());\n\
+for (const b of bars.filter(b => b.number).sort((a, b) => a.number - b.number)) {\n\
 const line = document.createElement('li'); const button = document.createElement('button');\n\
 button.textContent = b.line; button.addEventListener('click', () => { mark(b);\n\
 b.g.scrollIntoView({block: 'center', inline: 'center'}); b.g.focus({preventScroll: true}); });\n\
@@ -108,15 +86,8 @@ events.sort((a, b) => a[0] - b[0]);\n\
 const head = first.length ? ['fifo-history 2', 'initial ' + first.length, ...first] : ['fifo-history 1'];\n\
 const texts = [...head, ...events.map(e => e.join(' ')), 'end ' + events.length, ''];\n\
 by('text').value = texts.join(String.fromCharCode(10)); by('copy').addEventListener('click', () => {\n\
-by('text').select(); document.execCommand('copy'); });\n"
-}
-
-/// The script: heads that stay, zoom to fit; and the end of the page.
-#[tactic(auto, unfolding(crate::specs::Html::script_heads))]
-fn script_heads() -> &'static [u8]
-    ensures { result.now ≡ script_heads }
-{
-    b"const wide = svg.getAttribute('width'); const names = [...svg.querySelectorAll('text')];\n\
+by('text').select(); document.execCommand('copy'); });\n\
+const wide = svg.getAttribute('width'); const names = [...svg.querySelectorAll('text')];\n\
 const lane = names.find(t => t.textContent.startsWith('thread ')); const heads = svg.cloneNode(false);\n\
 if (lane) { const y = lane.getAttribute('y'); heads.id = 'heads'; heads.setAttribute('aria-hidden', 'true');\n\
 heads.setAttribute('height', '24'); heads.setAttribute('viewBox', '0 ' + (y - 16) + ' ' + wide + ' 24');\n\
@@ -126,7 +97,13 @@ for (const s of [svg, heads]) { s.style.width = fit ? '100%' : ''; s.style.heigh
 by('fit').setAttribute('aria-pressed', fit); }); document.querySelector('aside').hidden = false; })();\n\
 </script>\n\
 </body>\n\
-</html>\n"
+</html>\n";
+
+#[tactic(auto, unfolding(crate::specs::Html::page_foot))]
+fn page_foot() -> &'static [u8]
+    ensures { result.now ≡ page_foot }
+{
+    PAGE_FOOT
 }
 
 /// The picture of a scene as one HTML page that needs nothing else: a fixed head, the picture of
@@ -139,12 +116,8 @@ pub fn html_picture(alloc: Global, scene: &Scene<'_>) -> Result<Vec<u8>, AllocEr
     requires { count_of_lines scene.now.claimed.now ≤ MOST_DRAWN }
     ensures { IfOk result (λ text. text.items ≡ html_picture (scene_on scene.now)) }
 {
-    let mut text = Vec::from_slice(alloc, page_start())?;
-    text.extend_from_slice(page_aside())?;
+    let mut text = Vec::from_slice(alloc, page_head())?;
     push_picture(alloc, &mut text, scene)?;
-    text.extend_from_slice(script_bars())?;
-    text.extend_from_slice(script_marks())?;
-    text.extend_from_slice(script_lines())?;
-    text.extend_from_slice(script_heads())?;
+    text.extend_from_slice(page_foot())?;
     Ok(text)
 }

@@ -4,29 +4,20 @@ ghost use Rattle.svg_picture.specs.Markup.{text_of};
 ghost use Rattle.svg_picture.specs.Layout.{page_on};
 ghost use Rattle.svg_picture.specs.Picture.{thread_name, lane_names, threads, row_pattern, patterns, background};
 
-use crate::elements::{Rect, push_hatch, push_rect, push_text_at};
+use crate::elements::{Rect, push_hatch, push_pattern, push_rect, push_text_at};
 use crate::layout::{bottom, height, thread_x, top, width};
-use crate::markup::Attribute::{Number, Words};
 use crate::markup::{push_end, push_number, push_start};
 use crate::sheet::{Measures, Sheet};
 use drawing::Added;
 use std::alloc::{AllocError, Global};
 
-#[tactic(auto, unfolding(crate::specs::Picture::thread_name))]
-fn thread_name(alloc: Global, thread: u8) -> Result<Vec<u8>, AllocError>
-    ensures { IfOk result (λ name. name.items ≡ thread_name thread) }
-{
-    let mut name = Vec::from_slice(alloc, b"thread ")?;
-    push_number(&mut name, u128::from(thread))?;
-    Ok(name)
-}
-
-#[tactic(auto, unfolding(crate::specs::Picture::lane_names))]
+#[tactic(auto, unfolding(crate::specs::Picture::lane_names, crate::specs::Picture::thread_name))]
 fn push_lane_names(text: &mut Vec<u8>, sheet: &Sheet<'_>, thread: u8) -> Added
     ensures { OnOk result (text.new.items ≡ text.old.items ++ text_of (lane_names (page_on sheet.now) thread)) }
 {
     let m = sheet.measures;
-    let name = thread_name(sheet.alloc, thread)?;
+    let mut name = Vec::from_slice(sheet.alloc, b"thread ")?;
+    push_number(&mut name, u128::from(thread))?;
     let x = thread_x(sheet, thread) + 3;
     push_text_at(text, 7, b"name", x, top(m) - 8, name.as_slice())?;
     push_text_at(text, 7, b"name", x, bottom(m) + 14, name.as_slice())
@@ -48,41 +39,19 @@ pub(crate) fn push_threads(text: &mut Vec<u8>, sheet: &Sheet<'_>) -> Added
 fn push_row_pattern(text: &mut Vec<u8>, m: Measures) -> Added
     ensures { OnOk result (text.new.items ≡ text.old.items ++ text_of (row_pattern m)) }
 {
-    let wide = width(m);
     let tint = Rect {
         x: 0,
         y: 0,
-        width: wide,
+        width: width(m),
         height: 20,
     };
-    push_start(
-        text,
-        b"pattern",
-        &[
-            Words(b"id", b"rows"),
-            Number(b"x", 0),
-            Number(b"y", top(m)),
-            Number(b"width", wide),
-            Number(b"height", 40),
-            Words(b"patternUnits", b"userSpaceOnUse"),
-        ],
-    )?;
+    push_pattern(text, b"rows", top(m), width(m), 40)?;
     push_rect(text, b"row", 0, tint)?;
     push_end(text, b"pattern")
 }
 
-#[tactic(auto, unfolding(crate::specs::Picture::patterns))]
-fn push_patterns(text: &mut Vec<u8>, m: Measures) -> Added
-    ensures { OnOk result (text.new.items ≡ text.old.items ++ text_of (patterns m)) }
-{
-    push_start(text, b"defs", &[])?;
-    push_hatch(text)?;
-    push_row_pattern(text, m)?;
-    push_end(text, b"defs")
-}
-
 /// Adds the background, and the rows.
-#[tactic(auto, unfolding(crate::specs::Picture::background))]
+#[tactic(auto, unfolding(crate::specs::Picture::background, crate::specs::Picture::patterns))]
 pub(crate) fn push_background(text: &mut Vec<u8>, m: Measures) -> Added
     ensures { OnOk result (text.new.items ≡ text.old.items ++ text_of (background m)) }
 {
@@ -98,7 +67,10 @@ pub(crate) fn push_background(text: &mut Vec<u8>, m: Measures) -> Added
         width: width(m),
         height: bottom(m).saturating_sub(top(m)),
     };
-    push_patterns(text, m)?;
+    push_start(text, b"defs", &[])?;
+    push_hatch(text)?;
+    push_row_pattern(text, m)?;
+    push_end(text, b"defs")?;
     push_rect(text, b"page", 0, page)?;
     push_rect(text, b"rows", 0, rows)
 }

@@ -1,6 +1,6 @@
 //! Where things stand in a picture, in pixels.
 ghost use Rattle.std.specs.Prelude.{◌≡◌, ◌≤◌, ◌^◌};
-ghost use Rattle.svg_picture.specs.Layout.{page_on, shown, band_x, beside_width, left, bar_width, lane_width, lane_x, thread_x, right, width};
+ghost use Rattle.svg_picture.specs.Layout.{page_on, shown, band_x, left, number_x, bar_width, lane_x, thread_x, width};
 ghost use Rattle.svg_picture.specs.Layout.{legend_y, top, row_y, call_y, ret_y, bottom, height};
 
 use crate::sheet::{Measures, Sheet};
@@ -22,25 +22,26 @@ pub(crate) fn band_x(m: Measures, i: usize) -> u128
     shown(m) + 36 * i as u128
 }
 
-fn beside_width(m: Measures) -> u128
-    ensures value { result ≡ beside_width m }
-    ensures small { result ≤ 2 ^ 85 }
-{
-    let room = if m.is_yes {
-        7 * (u128::from(m.number) + 1 + u128::from(m.label))
-    } else {
-        36 * m.heads as u128
-    };
-    12 + room
-}
-
 /// Where the lanes begin.
 pub(crate) fn left(m: Measures) -> u128
     ensures value { result ≡ left m }
     ensures small { result ≤ 2 ^ 86 }
     ensures room { 12 ≤ result }
 {
-    shown(m) + beside_width(m)
+    let room = if m.is_yes {
+        7 * (u128::from(m.number) + 1 + u128::from(m.label))
+    } else {
+        36 * m.heads as u128
+    };
+    shown(m) + 12 + room
+}
+
+/// How far from the beginning of its lane the number of an operation stands, right of its label.
+pub(crate) fn number_x(m: Measures) -> u128
+    ensures value { result ≡ number_x m }
+    ensures small { result ≤ 10000 }
+{
+    15 + 7 * u128::from(m.label)
 }
 
 /// How wide a bar is.
@@ -69,14 +70,6 @@ pub(crate) fn thread_x(sheet: &Sheet<'_>, thread: u8) -> u128
     lane_x(sheet.measures, before)
 }
 
-/// Where the lanes end, with a gap.
-fn right(m: Measures) -> u128
-    ensures value { result ≡ right m }
-    ensures small { result ≤ 2 ^ 91 }
-{
-    lane_x(m, m.lanes) + 12
-}
-
 /// How wide the picture is.
 #[tactic(auto, unfolding(crate::specs::Layout::width))]
 pub(crate) fn width(m: Measures) -> u128
@@ -85,7 +78,7 @@ pub(crate) fn width(m: Measures) -> u128
 {
     let words = (6 + 8 * m.caption as u128).max(582);
     let heads = band_x(m, m.heads) + 7 * m.head as u128;
-    6 + words.max(right(m).max(heads))
+    6 + words.max((lane_x(m, m.lanes) + 12).max(heads))
 }
 
 /// Where the samples of bars stand.

@@ -45,34 +45,26 @@ pub(crate) fn push_number(text: &mut Vec<u8>, number: u128) -> Added
     text.extend_from_slice(buffer.format(number).as_bytes())
 }
 
-fn push_value(text: &mut Vec<u8>, attribute: Attribute<'_>) -> Added
-    ensures { OnOk result (text.new.items ≡ text.old.items ++ (named attribute.entry).value) }
+fn push_named(text: &mut Vec<u8>, name: &[u8], value: &[u8]) -> Added
+    ensures { OnOk result (text.new.items ≡ text.old.items ++ attribute_text (record { name = name.now; value = plain_words value.now })) }
 {
-    match attribute {
-        Attribute::Number(_, number) => {
-            let mut buffer = Buffer::new();
-            push_plain(text, buffer.format(number).as_bytes())
-        }
-        Attribute::Words(_, words) => push_plain(text, words),
-    }
-}
-
-fn name_of<'a>(attribute: Attribute<'a>) -> &'a [u8]
-    ensures { result.now ≡ (named attribute.entry).name }
-{
-    match attribute {
-        Attribute::Number(name, _) | Attribute::Words(name, _) => name,
-    }
+    text.extend_from_slice(b" ")?;
+    text.extend_from_slice(name)?;
+    text.extend_from_slice(b"=\"")?;
+    push_plain(text, value)?;
+    text.extend_from_slice(b"\"")
 }
 
 fn push_attribute(text: &mut Vec<u8>, attribute: Attribute<'_>) -> Added
     ensures { OnOk result (text.new.items ≡ text.old.items ++ attribute_text (named attribute.entry)) }
 {
-    text.extend_from_slice(b" ")?;
-    text.extend_from_slice(name_of(attribute))?;
-    text.extend_from_slice(b"=\"")?;
-    push_value(text, attribute)?;
-    text.extend_from_slice(b"\"")
+    match attribute {
+        Attribute::Number(name, number) => {
+            let mut buffer = Buffer::new();
+            push_named(text, name, buffer.format(number).as_bytes())
+        }
+        Attribute::Words(name, words) => push_named(text, name, words),
+    }
 }
 
 fn push_attributes(text: &mut Vec<u8>, attributes: &[Attribute<'_>]) -> Added

@@ -5,7 +5,7 @@ ghost use Rattle.drawing.specs.Scene.{scene_on};
 ghost use Rattle.drawing.specs.Captions.{caption};
 ghost use Rattle.svg_picture.specs.Markup.{text_of};
 ghost use Rattle.svg_picture.specs.Layout.{page_on};
-ghost use Rattle.svg_picture.specs.Picture.{about, frame, heading, inside, is_yes, measures_of, page_content, page_of, svg_picture, view_box};
+ghost use Rattle.svg_picture.specs.Picture.{about, heading, inside, measures_of, page_content, page_of, svg_picture, view_box};
 
 use crate::bars::push_bars;
 use crate::beside::push_bands;
@@ -18,7 +18,7 @@ use crate::markup::{push_element, push_end, push_number, push_start};
 use crate::rows::{push_order_name, push_rows, push_ticket_names};
 use crate::sheet::{Measures, Sheet};
 use crate::signs::push_signs;
-use crate::words::{push_style, reading};
+use crate::words::{READING, push_style};
 use drawing::{
     Added, MOST_DRAWN, Scene, count_of_lines, digits, headline, label_width, push_caption,
     signs_of, ticket_width,
@@ -45,7 +45,7 @@ fn push_heading(text: &mut Vec<u8>, sheet: &Sheet<'_>) -> Added
     let caption = caption_of(sheet.alloc, sheet.scene.claimed)?;
     push_lines_at(text, 8, b"say", 46, caption.as_slice())?;
     push_samples(text, y)?;
-    push_lines_at(text, 7, b"dim", y + 35, reading())?;
+    push_lines_at(text, 7, b"dim", y + 35, READING)?;
     let signs = signs_of(sheet.alloc, sheet.scene)?;
     push_signs(text, sheet.measures, signs.as_slice())
 }
@@ -62,24 +62,17 @@ fn push_about(alloc: Global, text: &mut Vec<u8>, claimed: &Claimed) -> Added
     push_style(text)
 }
 
-/// Adds what stands above and under the lanes.
-#[tactic(auto, unfolding(crate::specs::Picture::frame))]
-fn push_frame(text: &mut Vec<u8>, sheet: &Sheet<'_>) -> Added
-    ensures { OnOk result (text.new.items ≡ text.old.items ++ text_of (frame (page_on sheet.now))) }
+/// Adds what stands between the tags of the picture.
+#[tactic(auto, using(crate::proofs::Chains::pieces), unfolding(crate::specs::Picture::inside))]
+fn push_inside(text: &mut Vec<u8>, sheet: &Sheet<'_>) -> Added
+    ensures { OnOk result (text.new.items ≡ text.old.items ++ text_of (inside (page_on sheet.now))) }
 {
     push_about(sheet.alloc, text, sheet.scene.claimed)?;
     push_background(text, sheet.measures)?;
     push_heading(text, sheet)?;
     push_ticket_names(text, sheet.measures)?;
     push_order_name(text, sheet.measures, sheet.scene.claimed)?;
-    push_threads(text, sheet)
-}
-
-#[tactic(auto, unfolding(crate::specs::Picture::inside))]
-fn push_inside(text: &mut Vec<u8>, sheet: &Sheet<'_>) -> Added
-    ensures { OnOk result (text.new.items ≡ text.old.items ++ text_of (inside (page_on sheet.now))) }
-{
-    push_frame(text, sheet)?;
+    push_threads(text, sheet)?;
     push_bands(text, sheet)?;
     push_bars(text, sheet)?;
     push_rows(text, sheet)
@@ -118,12 +111,6 @@ fn push_page(text: &mut Vec<u8>, sheet: &Sheet<'_>) -> Added
     push_end(text, b"svg")
 }
 
-fn is_yes(claimed: &Claimed) -> bool
-    ensures { result ≡ is_yes claimed.now }
-{
-    matches!(claimed, Claimed::Yes(_))
-}
-
 /// How wide the parts of a picture are, and how many there are.
 fn measures_of(alloc: Global, scene: &Scene<'_>) -> Result<Measures, AllocError>
     requires { count_of_lines scene.now.claimed.now ≤ MOST_DRAWN }
@@ -132,7 +119,7 @@ fn measures_of(alloc: Global, scene: &Scene<'_>) -> Result<Measures, AllocError>
     let caption = caption_of(alloc, scene.claimed)?;
     let signs = signs_of(alloc, scene)?;
     Ok(Measures {
-        ticket: ticket_width(scene) as u8,
+        ticket: ticket_width(scene.rows.as_slice()) as u8,
         number: digits(count_of_lines(scene.claimed) as u64) as u8,
         label: label_width(scene.initial, scene.operations.as_slice()) as u8,
         lanes: scene.threads.len(),
@@ -142,7 +129,7 @@ fn measures_of(alloc: Global, scene: &Scene<'_>) -> Result<Measures, AllocError>
         captions: line_count(caption.as_slice()),
         caption: longest_line(caption.as_slice()),
         legend: 2 + signs.len(),
-        is_yes: is_yes(scene.claimed),
+        is_yes: matches!(scene.claimed, Claimed::Yes(_)),
     })
 }
 

@@ -1,16 +1,16 @@
-use Rattle.std.proofs.Common.{◌∙◌, ap, append-nil, sym, true, false, arith}
-use Rattle.drawing.specs.Drawn.{operations_in}
-use Rattle.drawing.proofs.Nearness.{near_step}
-use Rattle.drawing.proofs.drawn.near_operations.Goals as goal
+use Rattle.std.proofs.Common.{true, false, ap, sym, ◌∙◌, append-nil}
+use Rattle.drawing.specs.Drawn.{is_near_any, operations_in}
+use Rattle.drawing.proofs.Nearness.{filter_step}
 use Rattle.drawing.proofs.drawn.near_operations.Goals.{then-is_near_any+in_ok-push, else-is_near_any}
+use Rattle.drawing.proofs.drawn.near_operations.Goals as goal
 
 pub loop-operation-preserved : goal.loop-operation-preserved
 loop-operation-preserved c =
+    let near = is_near_any c.args.events.now c.args.around (operations_in c.args.lines.now) in
+    let tells = rw (c.standing_of.ensures, c.as_slice.ensures.value, c.in_ok-listed.ensures) at c.is_near_any.ensures in
     elim c.if-is_near_any.branch [
-      | then-is_near_any+in_ok-push w ↦ near_step c.args.events.now c.args.around (operations_in c.args.lines.now) c.args.operations.now _ _ _ _ true _ _
-          (omega arith) (c.as_slice.ensures.value ∙ c.in_ok-listed.ensures) c.standing_of.ensures (sym w.if-is_near_any.true ∙ c.is_near_any.ensures)
+      | then-is_near_any+in_ok-push w ↦ filter_step near _ _ _ true _ _ c.loop-operation-test.true (sym w.if-is_near_any.true ∙ tells)
           c.loop-operation.invariant (ap (λ v. v.items) w.near-is ∙ w.in_ok-push.ensures.items)
-      | else-is_near_any w ↦ near_step c.args.events.now c.args.around (operations_in c.args.lines.now) c.args.operations.now _ _ _ _ false _ _
-          (omega arith) (c.as_slice.ensures.value ∙ c.in_ok-listed.ensures) c.standing_of.ensures (sym w.if-is_near_any.false ∙ c.is_near_any.ensures)
+      | else-is_near_any w ↦ filter_step near _ _ _ false _ _ c.loop-operation-test.true (sym w.if-is_near_any.false ∙ tells)
           c.loop-operation.invariant (ap (λ v. v.items) w.near-is ∙ sym (append-nil _))
     ]

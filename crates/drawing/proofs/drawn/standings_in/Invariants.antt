@@ -1,6 +1,5 @@
 use Rattle.std.proofs.Common.{◌≡◌, map, take}
-use Rattle.drawing.specs.Drawn.{operations_in}
-use Rattle.drawing.specs.Inner.Drawn.{standing_of}
+use Rattle.drawing.specs.Drawn.{operations_in, standing_of}
 use Rattle.drawing.proofs.drawn.standings_in.Given as goal
 
 abbrev pub invariant-loop-line : goal.invariant-loop-line

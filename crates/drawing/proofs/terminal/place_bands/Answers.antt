@@ -5,4 +5,4 @@ use Rattle.drawing.proofs.terminal.place_bands.Goals as goal
 pub loop-i-preserved : goal.loop-i-preserved
 loop-i-preserved c =
     words_enumerated_step (band_word c.args.sheet.now.columns c.args.gap) c.args.line.now.items _ c.loop-i.i _ _ _ c.loop-i-test.true
-    c.loop-i.invariant c.in_ok-place_band.ensures
+    c.loop-i.invariant (rw c.form_at.ensures at c.in_ok-place.ensures)

@@ -7,4 +7,4 @@ use Rattle.drawing.proofs.terminal.place_lane_names.Given as goal
 abbrev pub invariant-loop-thread : goal.invariant-loop-thread
 invariant-loop-thread l =
     l.line.items ≡ with_words l.fn.line.items
-    (lane_names l.sheet.columns (scene_in l.sheet).threads (take l.thread-index l.threads))
+    (lane_names l.sheet.columns (scene_in l.sheet).threads l.tens (take l.thread-index l.threads))
