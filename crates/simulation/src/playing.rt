@@ -13,7 +13,7 @@ use recorder_core::{Machine, Step, StepRefused};
 use std::alloc::{AllocError, Global};
 
 /// A refused step: its place in the schedule, from 1, and why it is refused.
-#[derive(Clone, Copy, PartialEq, Eq)]
+#[derive(Clone, Copy, Debug, PartialEq, Eq)]
 pub struct Rejection {
     pub step: u64,
     pub reason: StepRefused,
